@@ -1,5 +1,5 @@
 -- A written type means the type of its row's node.
-use Rattle.std.proofs.Common.{◌≡◌, ℕ, List, Option, Some, None, refl, sym, ap, ◌∙◌, subst}
+use Rattle.std.proofs.Common.{◌≡◌, ℕ, List, Option, Some, refl, sym, ap, ◌∙◌, subst}
 use Rattle.std.specs.Prelude.{true, false, codes}
 use Rattle.std.specs.Option.{option_map}
 use Rattle.std.proofs.lemmas.Bool.{false≢true}
@@ -26,6 +26,7 @@ use Rattle.name_rules.specs.Meanings.{class_named, MeansBase, an_int, a_boolean,
 use Rattle.name_rules.specs.Resolves.{un_op, bin_op}
 use Rattle.written_tree.specs.Names.{row_name, written_base, written_type, prefix_mark, infix_mark}
 use Rattle.rebuild_model.specs.Renaming.{Places, reclassed, retyped}
+use Rattle.rebuild_model.proofs.Reclassed.{reclassed_plain}
 
 -- operators are read as they are written
 pub prefix_read : (o : UnOp) → un_op (prefix_mark o) ≡ o
@@ -78,12 +79,7 @@ module _ (O P : Plain) (H : Hierarchy) (T : Places) (type : (n : ℕ) → is_liv
   new n = option_map T.type_of n
 
   plain : (n : Option ℕ) (b : TyBase) → is_class b ≡ false → b ≡ reclassed (new n) b
-  plain None b e = refl
-  plain (Some a) Int e = refl
-  plain (Some a) Boolean e = refl
-  plain (Some a) Char e = refl
-  plain (Some a) Str e = refl
-  plain (Some a) (Class c) e = absurd (false≢true (sym e))
+  plain n b e = sym (reclassed_plain (new n) b e)
 
   class_is : (x : List ℕ) (k : ℕ) (d : TyBase) → is_text_type x ≡ false → class_named O x ≡ Some k → MeansBase O (bases.Named x) d → d ≡ Class (class_id k)
   class_is x k d f e (a_text t) = absurd (false≢true (sym f ∙ t))

@@ -233,51 +233,22 @@ module _ (T : List (List Bool)) (w : ℕ) (cs : List Concept) (lattice : IsLatti
     pub order_orders : IsPartialOrder (order_of (map pair_of cs))
     order_orders = order_partial T w widths (map pair_of cs) lattice.all
 
+-- a hierarchy of its parts
+abbrev of_parts : Ordered → List (Option NodeId) → List NodeId → List (List ℕ) → List (List ℕ) → List (Option ClassId) → List (List Bool) → Hierarchy
+of_parts o cs rs ts ms os T = record { order = o; columns = cs; rows = rs; types = ts; members = ms; origins = os; table = T }
+
 -- two hierarchies with the same parts are one
 pub same_parts : (o o2 : Ordered) (cs cs2 : List (Option NodeId)) (rs rs2 : List NodeId) (ts ts2 ms ms2 : List (List ℕ))
     (os os2 : List (Option ClassId)) (T T2 : List (List Bool)) → o ≡ o2 → cs ≡ cs2 → rs ≡ rs2 → ts ≡ ts2 → ms ≡ ms2 → os ≡ os2 → T ≡ T2
-    → (let h : Hierarchy = record { order = o; columns = cs; rows = rs; types = ts; members = ms; origins = os; table = T } in h)
-    ≡ record { order = o2; columns = cs2; rows = rs2; types = ts2; members = ms2; origins = os2; table = T2 }
+    → of_parts o cs rs ts ms os T ≡ of_parts o2 cs2 rs2 ts2 ms2 os2 T2
 same_parts o o2 cs cs2 rs rs2 ts ts2 ms ms2 os os2 T T2 e1 e2 e3 e4 e5 e6 e7 =
-    ap (λ (x : Ordered). let h : Hierarchy = record { order = x; columns = cs; rows = rs; types = ts; members = ms; origins = os; table = T } in h) e1
-    ∙ ap (λ (x : List (Option NodeId)). let h : Hierarchy = record {
-      order = o2;
-      columns = x;
-      rows = rs;
-      types = ts;
-      members = ms;
-      origins = os;
-      table = T;
-    } in h) e2
-    ∙ ap (λ (x : List NodeId). let h : Hierarchy = record { order = o2; columns = cs2; rows = x; types = ts; members = ms; origins = os; table = T } in h) e3
-    ∙ ap (λ (x : List (List ℕ)). let h : Hierarchy = record { order = o2; columns = cs2; rows = rs2; types = x; members = ms; origins = os; table = T } in h) e4
-    ∙ ap (λ (x : List (List ℕ)). let h : Hierarchy = record {
-      order = o2;
-      columns = cs2;
-      rows = rs2;
-      types = ts2;
-      members = x;
-      origins = os;
-      table = T;
-    } in h) e5
-    ∙ ap (λ (x : List (Option ClassId)). let h : Hierarchy = record {
-      order = o2;
-      columns = cs2;
-      rows = rs2;
-      types = ts2;
-      members = ms2;
-      origins = x;
-      table = T;
-    } in h) e6
-    ∙ ap (λ (x : List (List Bool)). let h : Hierarchy = record {
-      order = o2;
-      columns = cs2;
-      rows = rs2;
-      types = ts2;
-      members = ms2;
-      origins = os2;
-      table = x;
-    } in h) e7
+    ap (λ x. of_parts x cs rs ts ms os T) e1
+    ∙ ap (λ x. of_parts o2 x rs ts ms os T) e2
+    ∙ ap (λ x. of_parts o2 cs2 x ts ms os T) e3
+    ∙ ap (λ x. of_parts o2 cs2 rs2 x ms os T) e4
+    ∙ ap (λ x. of_parts o2 cs2 rs2 ts2 x os T) e5
+    ∙ ap (λ x. of_parts o2 cs2 rs2 ts2 ms2 x T) e6
+    ∙ ap (λ x. of_parts o2 cs2 rs2 ts2 ms2 os2 x) e7
 
 -- the names of members and types
 member_names-length : (F : Facts) (n : ℕ) → length (member_names F n) ≡ n

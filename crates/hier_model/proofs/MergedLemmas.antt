@@ -29,6 +29,12 @@ when_true b x h = rw h refl
 pub when_false : {B : Type 0} (b : Bool) (x : B) → b ≡ false → when b x ≡ None
 when_false b x h = rw h refl
 
+-- the first node that passes a test, where it is found
+pub found_node : {k : ℕ} (n : ℕ) (q : ℕ → Bool) → first_below k (λ j. when (q j) (node j)) ≡ None → q k ≡ true → k < n
+    → Some (node k) ≡ first_below n (λ j. when (q j) (node j))
+found_node {k = k} n q none here lt =
+    sym (first_below_found (λ j. when (q j) (node j)) k n (node k) lt none (when_true (q k) (node k) here))
+
 not_true : (b : Bool) → not b ≡ true → b ≡ false
 not_true true h = absurd (false≢true h)
 not_true false h = refl

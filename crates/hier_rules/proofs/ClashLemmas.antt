@@ -176,12 +176,18 @@ module _ (F : Facts) (H : Hierarchy) where
         (cases_Bool (clash F H c d))
 
   module _ (C : ℕ) (xs : List ClashPair) (A : AreClashes F H C C xs) where
-    pub second_below : (x : ClashPair) → Contains xs x → x.second < C
+    second_below : (x : ClashPair) → Contains xs x → x.second < C
     second_below x m = ⊎_elim (λ lt. lt) (λ ge. let w = A.within x m in let e : x.second ≡ C = omega (arith, w, ge) in let l = A.last x m e in
         let o = A.order x m in absurd (omega (arith, l, o, e))) (cases_lt x.second C)
 
-    pub first_below_all : (x : ClashPair) → Contains xs x → x.first < C
+    first_below_all : (x : ClashPair) → Contains xs x → x.first < C
     first_below_all x m = let s = second_below x m in let o = A.order x m in omega (arith, s, o)
+
+    pub both_below : (i : ℕ) → i < length xs → ((get_or xs i (pair 0 0)).first < C) × ((get_or xs i (pair 0 0)).second < C)
+    both_below i lt =
+        let x = get_or xs i (pair 0 0) in
+        let m = Contains-get_or xs i (pair 0 0) lt in
+        (first_below_all x m, second_below x m)
 
     module _ (n i : ℕ) (none : (j : ℕ) (x : ClashPair) → j < i → j < length xs → offers_both H n (get_or xs j x) ≡ false) where
       -- a column is not confused where its clashes are among those that are not offered

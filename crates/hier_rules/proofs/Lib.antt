@@ -9,3 +9,4 @@ pub mod OutcomeLemmas
 pub mod NeedLemmas
 pub mod ChainLemmas
 pub mod Worked
+pub mod FoundLemmas

@@ -6,4 +6,5 @@ pub mod Namesakes
 pub mod Takens
 pub mod Chains
 pub mod First
-pub mod Places
+pub mod Given
+pub mod Words

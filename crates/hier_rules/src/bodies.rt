@@ -1,25 +1,21 @@
 //! B4, B5 and B6: the bodies that calls and super calls run, and bodies at one node.
 
 ghost use Rattle.std.specs.Prelude.{◌≡◌, ℕ, ◌<◌, ◌↔◌, ◌==◌, ◌++◌, ◌∷◌, [], true, cond, length, IfOk, OnOk, Contains};
+ghost use Rattle.hier_rules.specs.Words.{IsNonDecreasing, bit, row, first_below, is_live, IsAsked};
 ghost use Rattle.std.specs.Option.{option_and_then};
-ghost use Rattle.std.specs.List.Sorted.{IsNonDecreasing};
-ghost use Rattle.kaba_bits.specs.Sets.{bit, row, first_below};
-ghost use Rattle.kaba_order.specs.Orders.{is_live};
 ghost use Rattle.fact_model.specs.Items.{site_class, column_kind, column_class, column_slot, row_class};
 ghost use Rattle.fact_model.specs.Classes.{is_def, finds};
 ghost use Rattle.hier_rules.specs.Asked.{is_super, is_called, slots_of, is_one_slot, is_other_body};
 ghost use Rattle.hier_rules.specs.Instances.{of_column};
 ghost use Rattle.hier_rules.specs.Obligations.{is_nearer, has_nearer, wrong_body, wrong_need, first_wrong_need, is_between, has_between, wrong_super, first_wrong_super, is_body_at, two_bodies, first_two_bodies};
-ghost use Rattle.hier_rules.specs.Places.{IsAsked};
 
 use crate::broken::{Broken, Nodes, Rule};
 use crate::pairs::super_rows;
-use crate::places::{
-    Asked, column_at, column_le, is_above, is_offered, node_count, place_of_row, site_at, stands_at,
-};
+use crate::places::{Asked, column_le, is_above, is_offered, node_count, place_of_row, stands_at};
 use crate::rows::of_both;
 use fact_model::{CallInfo, ColKind, Facts, finds};
-use kaba_base::{ColId, NodeId};
+use hier_model::{column_at, site_at};
+use kaba_base::{ColId, NodeId, SiteId};
 use kaba_bits::{BitRow, row_at};
 use std::alloc::{AllocError, Global};
 
@@ -50,7 +46,7 @@ fn is_body(facts: &Facts, c: u32) -> bool
     requires { c < length facts.now.columns.items }
     ensures { result ≡ is_def (column_kind facts.now c) }
 {
-    matches!(column_at(facts, c).kind, ColKind::Def)
+    matches!(column_at(facts, ColId(c)).kind, ColKind::Def)
 }
 
 /// Whether two columns are of one slot.
@@ -59,7 +55,10 @@ fn are_of_one_slot(facts: &Facts, c: u32, d: u32) -> bool
     requires other { d < length facts.now.columns.items }
     ensures { result ≡ is_one_slot (column_slot facts.now c) (column_slot facts.now d) }
 {
-    is_one_slot(column_at(facts, c).slot, column_at(facts, d).slot)
+    is_one_slot(
+        column_at(facts, ColId(c)).slot,
+        column_at(facts, ColId(d)).slot,
+    )
 }
 
 /// Whether `e` is another body of the slot of `d`.
@@ -133,7 +132,7 @@ fn wrong_body(asked: &Asked, s: u32, d: ColId) -> Option<Broken>
     requires body { d.0 < length asked.now.facts.now.columns.items }
     ensures { result ≡ wrong_body asked.now.facts.now asked.now.hier.now s d.0 }
 {
-    let r = site_at(asked.facts, s).row.0;
+    let r = site_at(asked.facts, SiteId(s)).row.0;
     let n = place_of_row(asked, r);
     if is_offered(asked, n, d.0) && !has_nearer(asked, n, d.0) {
         return None;
@@ -147,7 +146,7 @@ fn wrong_call(asked: &Asked, s: u32, x: u32) -> Option<Broken>
     requires site { s < length asked.now.facts.now.sites.items }
     ensures { result ≡ option_and_then (wrong_body asked.now.facts.now asked.now.hier.now s) (finds asked.now.facts.now (site_class asked.now.facts.now s) x) }
 {
-    match finds(asked.facts, site_at(asked.facts, s).class, x) {
+    match finds(asked.facts, site_at(asked.facts, SiteId(s)).class, x) {
         Some(d) => wrong_body(asked, s, d),
         None => None,
     }
@@ -200,7 +199,7 @@ fn is_of_class(facts: &Facts, r: u32, c: u32) -> bool
     ensures { result ≡ (column_class facts.now c == row_class facts.now r) }
 {
     let row = &facts.rows[r as usize];
-    column_at(facts, c).class.0 == row.class.0
+    column_at(facts, ColId(c)).class.0 == row.class.0
 }
 
 /// Whether `e` is another body of the slot of `d`, stands strictly above the row `r`, and at or below `d` or in the class of `r`.

@@ -1,9 +1,7 @@
 //! B9: the class nodes at or above each class node form a chain.
 
 ghost use Rattle.std.specs.Prelude.{◌≡◌, ℕ, ◌+◌, ◌<◌, ◌==◌, ◌&&◌, ◌||◌, true, length, IfOk};
-ghost use Rattle.kaba_bits.specs.Sets.{bit, first_below};
-ghost use Rattle.kaba_order.specs.Orders.{is_le};
-ghost use Rattle.fact_model.specs.InRange.{InRange};
+ghost use Rattle.hier_rules.specs.Words.{bit, first_below, is_le, InRange};
 ghost use Rattle.hier_model.specs.Hierarchies.{IsHierarchyOf, is_class_node, any_below};
 ghost use Rattle.hier_rules.specs.Instances.{of_three};
 ghost use Rattle.hier_rules.specs.Obligations.{is_class_above, unchained, first_unchained};

@@ -1,21 +1,19 @@
 //! B8, part 4: no type offers two slots, or two fields, of one name.
 
 ghost use Rattle.std.specs.Prelude.{◌≡◌, ℕ, ◌<◌, ◌&&◌, ◌∷◌, ◌++◌, [], List, cond, length, true, Some, IfOk, OnOk};
+ghost use Rattle.hier_rules.specs.Words.{is_live, first_below, is_offered, IsAsked};
 ghost use Rattle.std.specs.Str.{bytes_eq, encode_utf8_all};
 ghost use Rattle.indexmap.specs.IndexMap.{get_by_text};
-ghost use Rattle.kaba_order.specs.Orders.{is_live};
-ghost use Rattle.kaba_bits.specs.Sets.{first_below};
-ghost use Rattle.hier_model.specs.Hierarchies.{is_offered};
 ghost use Rattle.hier_rules.specs.Asked.{are_two_slots};
 ghost use Rattle.hier_rules.specs.Names.{method_slot, clash, confused, first_confused};
 ghost use Rattle.hier_rules.specs.Namesakes.{AreLinks, AreClashes, offers_both};
-ghost use Rattle.hier_rules.specs.Places.{IsAsked};
 
 use crate::bodies::of_column;
 use crate::broken::{Broken, Rule};
 use crate::names::{is_field, is_same};
-use crate::places::{Asked, column_at, is_live, is_offered, node_count};
+use crate::places::{Asked, is_live, is_offered, node_count};
 use fact_model::{ColKind, ColumnInfo};
+use hier_model::column_at;
 use indexmap::IndexMap;
 use kaba_base::{ColId, Name, NodeId};
 use std::alloc::{AllocError, Global};
@@ -56,8 +54,8 @@ fn clash(asked: &Asked, c: u32, d: u32) -> bool
     requires other { d < length asked.now.facts.now.columns.items }
     ensures { result ≡ clash asked.now.facts.now asked.now.hier.now c d }
 {
-    let one = column_at(asked.facts, c);
-    let other = column_at(asked.facts, d);
+    let one = column_at(asked.facts, ColId(c));
+    let other = column_at(asked.facts, ColId(d));
     is_same(
         asked.hier.member_name(ColId(c)),
         asked.hier.member_name(ColId(d)),

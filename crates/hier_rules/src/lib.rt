@@ -3,10 +3,7 @@
 #![tactic(auto)]
 
 ghost use Rattle.std.specs.Prelude.{◌≡◌, IfOk};
-ghost use Rattle.fact_model.specs.InRange.{InRange};
-ghost use Rattle.fact_model.specs.Flowing.{AreSets};
-ghost use Rattle.hier_model.specs.Hierarchies.{IsHierarchyOf};
-ghost use Rattle.hier_rules.specs.Places.{IsAsked};
+ghost use Rattle.hier_rules.specs.Words.{InRange, AreSets, IsHierarchyOf, IsAsked};
 ghost use Rattle.hier_rules.specs.First.{first_changed_run, first_of_edit, first_broken};
 
 mod bodies;

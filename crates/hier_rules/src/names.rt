@@ -1,23 +1,21 @@
 //! B8, parts 1 to 3: names are identifiers, and apart from each other.
 
 ghost use Rattle.std.specs.Prelude.{◌≡◌, ℕ, ◌<◌, ◌&&◌, ◌∷◌, ◌++◌, [], Bool, true, cond, length, All, IfOk, OnOk};
-ghost use Rattle.std.specs.Str.{bytes_eq};
+ghost use Rattle.hier_rules.specs.Words.{bytes_eq, or_else, first_below, is_live, IsAsked};
 ghost use Rattle.kaba_base.specs.Words.{is_name};
-ghost use Rattle.kaba_bits.specs.Sets.{or_else, first_below};
-ghost use Rattle.kaba_order.specs.Orders.{is_live};
 ghost use Rattle.hier_model.specs.Names.{is_field};
 ghost use Rattle.hier_rules.specs.Instances.{of_node};
 ghost use Rattle.hier_rules.specs.Names.{is_member, unwritable_type, unwritable, first_unwritable, is_taken_type, first_taken_type, is_taken_name, taken_field, first_taken_field, first_confused, first_misnamed};
 ghost use Rattle.hier_rules.specs.Namesakes.{ListsColumns, is_unwritable_member, is_taken_field, first_standing};
 ghost use Rattle.hier_rules.specs.Takens.{AreTaken};
-ghost use Rattle.hier_rules.specs.Places.{IsAsked};
 
 use crate::bodies::of_column;
 use crate::broken::{Broken, Nodes, Rule};
 use crate::clashes::first_confused;
-use crate::places::{Asked, column_at, is_live, node_count, stands_at};
+use crate::places::{Asked, is_live, node_count, stands_at};
 use crate::taken::{TakenNames, has_name, taken_names};
 use fact_model::ColKind;
+use hier_model::column_at;
 use kaba_base::{ColId, Name, NodeId, is_identifier};
 use std::alloc::{AllocError, Global};
 
@@ -81,7 +79,8 @@ fn is_unwritable_member(asked: &Asked, c: u32) -> bool
     requires column { c < length asked.now.facts.now.columns.items }
     ensures { result ≡ is_unwritable_member asked.now.facts.now asked.now.hier.now c }
 {
-    is_member(column_at(asked.facts, c).kind) && !is_writable(asked.hier.member_name(ColId(c)))
+    is_member(column_at(asked.facts, ColId(c)).kind)
+        && !is_writable(asked.hier.member_name(ColId(c)))
 }
 
 /// Adds a column that passes a test.
@@ -182,7 +181,7 @@ fn is_taken_field(asked: &Asked, taken: &TakenNames, c: u32) -> bool
     requires column { c < length asked.now.facts.now.columns.items }
     ensures { result ≡ is_taken_field asked.now.facts.now asked.now.hier.now c }
 {
-    is_field(column_at(asked.facts, c).kind) && is_taken_name(asked, taken, c)
+    is_field(column_at(asked.facts, ColId(c)).kind) && is_taken_name(asked, taken, c)
 }
 
 /// The fields whose names are taken. An error comes only for want of memory.

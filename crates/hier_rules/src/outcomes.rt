@@ -1,21 +1,18 @@
 //! B7: the outcomes of casts, `instanceof` and stores into arrays.
 
 ghost use Rattle.std.specs.Prelude.{◌≡◌, ℕ, ◌<◌, ◌↔◌, ◌==◌, ◌&&◌, ◌||◌, ◌++◌, true, map, filter, length, IfOk, Contains};
-ghost use Rattle.std.specs.List.{list_any};
-ghost use Rattle.std.specs.List.Sorted.{IsNonDecreasing};
-ghost use Rattle.kaba_bits.specs.Sets.{bit, row, first_below};
-ghost use Rattle.fact_model.specs.Items.{row_class};
+ghost use Rattle.hier_rules.specs.Words.{list_any, IsNonDecreasing, bit, row, first_below, row_class, IsAsked};
 ghost use Rattle.fact_model.specs.Classes.{below};
 ghost use Rattle.fact_model.specs.InRange.{InRange, IsClass};
 ghost use Rattle.hier_rules.specs.Asked.{is_element, is_array_at, has_array, is_test_at, is_store_at, is_target, is_tested, meets, is_asked};
 ghost use Rattle.hier_rules.specs.Obligations.{row_le, differ, wrong_outcome, first_wrong_of_place, first_wrong_outcome};
-ghost use Rattle.hier_rules.specs.Places.{IsAsked};
 
 use crate::broken::{Broken, Rule};
-use crate::places::{Asked, place_of_row, row_le, site_at};
+use crate::places::{Asked, place_of_row, row_le};
 use crate::rows::of_row;
 use fact_model::{Facts, StoreInfo, TestInfo, below};
-use kaba_base::{ClassId, ColId};
+use hier_model::site_at;
+use kaba_base::{ClassId, ColId, SiteId};
 use kaba_bits::{BitRow, row_at};
 use std::alloc::{AllocError, Global};
 
@@ -73,7 +70,7 @@ fn is_array_at(asked: &Asked, base: u32, t: u32, a: u32) -> bool
     requires site { a < length asked.now.facts.now.sites.items }
     ensures { result ≡ is_array_at asked.now.facts.now asked.now.pt.now base t a }
 {
-    let site = site_at(asked.facts, a);
+    let site = site_at(asked.facts, SiteId(a));
     row_at(&asked.pt.points, base as usize).has(a) && 0 < site.dim && site.row.0 == t
 }
 
@@ -101,7 +98,7 @@ fn add_array(asked: &Asked, base: u32, a: u32, targets: &mut BitRow)
     ensures width { length targets.new ≡ length targets.old }
     ensures added { (t : ℕ) → bit targets.new t ≡ (bit targets.old t || is_array_at asked.now.facts.now asked.now.pt.now base t a) }
 {
-    let site = site_at(asked.facts, a);
+    let site = site_at(asked.facts, SiteId(a));
     if row_at(&asked.pt.points, base as usize).has(a) && site.dim > 0 {
         targets.set(site.row.0);
     }
@@ -253,7 +250,7 @@ fn first_wrong_site(
     let sites = sites_at(alloc, asked, p, t)?;
     let m = place_of_row(asked, t);
     for s in 0..asked.facts.sites.len() as u32 {
-        let site = site_at(asked.facts, s);
+        let site = site_at(asked.facts, SiteId(s));
         if sites.has(s) && is_wrong(asked, site.row.0, site.class, t) {
             return Ok(Some(of_row(Rule::B7, place_of_row(asked, site.row.0), m, site.row.0)));
         }

@@ -1,8 +1,7 @@
 //! The ties and the super calls of the facts as rows of bits, each made once.
 
 ghost use Rattle.std.specs.Prelude.{◌≡◌, ℕ, ◌<◌, ◌||◌, length, Contains, IfOk};
-ghost use Rattle.kaba_bits.specs.Sets.{bit, row, HasWidth};
-ghost use Rattle.fact_model.specs.InRange.{InRange};
+ghost use Rattle.hier_rules.specs.Words.{bit, row, HasWidth, InRange};
 ghost use Rattle.hier_rules.specs.Asked.{is_pair, is_tie, is_super};
 
 use fact_model::{Facts, SuperInfo, TieInfo};

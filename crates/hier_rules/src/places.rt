@@ -1,13 +1,11 @@
 //! Where rows and columns stand, and what is offered.
 
 ghost use Rattle.std.specs.Prelude.{◌≡◌, ◌<◌, true, length, IfSome};
-ghost use Rattle.kaba_order.specs.Orders.{is_le, is_live};
-ghost use Rattle.fact_model.specs.Items.{column_at, site_at};
+ghost use Rattle.hier_rules.specs.Words.{is_le, is_live, IsAsked};
 ghost use Rattle.hier_model.specs.Hierarchies.{place_of_column, place_of_row, is_offered, is_at, stands_at};
 ghost use Rattle.hier_rules.specs.Obligations.{is_below, row_le, column_le, is_above};
-ghost use Rattle.hier_rules.specs.Places.{IsAsked};
 
-use fact_model::{ColumnInfo, Facts, PointsTo, SiteInfo};
+use fact_model::{Facts, PointsTo};
 use hier_model::Hier;
 use kaba_base::{ColId, NodeId, RowId};
 use kaba_order::Order;
@@ -18,22 +16,6 @@ pub struct Asked<'a> {
     pub facts: &'a Facts,
     pub pt: &'a PointsTo,
     pub hier: &'a Hier,
-}
-
-/// One column.
-pub fn column_at(facts: &Facts, c: u32) -> &ColumnInfo
-    requires { c < length facts.now.columns.items }
-    ensures { result.now ≡ column_at facts.now c }
-{
-    &facts.columns[c as usize]
-}
-
-/// One site.
-pub fn site_at(facts: &Facts, s: u32) -> SiteInfo
-    requires { s < length facts.now.sites.items }
-    ensures { result ≡ site_at facts.now s }
-{
-    facts.sites[s as usize]
 }
 
 /// The number of nodes, live or not.

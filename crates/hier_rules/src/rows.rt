@@ -1,16 +1,16 @@
 //! B2 and B3: rows and their columns, ties, and sites in the sets of rows.
 
 ghost use Rattle.std.specs.Prelude.{◌≡◌, ℕ, ◌<◌, length, IfOk};
-ghost use Rattle.kaba_bits.specs.Sets.{bit, row, first_below, HasWidth};
+ghost use Rattle.hier_rules.specs.Words.{bit, row, first_below, HasWidth, IsAsked};
 ghost use Rattle.hier_rules.specs.Asked.{is_tie};
 ghost use Rattle.hier_rules.specs.Instances.{of_both, of_row};
 ghost use Rattle.hier_rules.specs.Obligations.{unoffered, first_unoffered, untied, unheld, first_untied};
-ghost use Rattle.hier_rules.specs.Places.{IsAsked};
 
 use crate::broken::{Broken, Nodes, Rule};
 use crate::pairs::tie_rows;
-use crate::places::{Asked, is_offered, place_of_row, row_le, site_at};
-use kaba_base::{ColId, NodeId, RowId};
+use crate::places::{Asked, is_offered, place_of_row, row_le};
+use hier_model::site_at;
+use kaba_base::{ColId, NodeId, RowId, SiteId};
 use kaba_bits::{BitRow, row_at};
 use std::alloc::{AllocError, Global};
 
@@ -139,7 +139,7 @@ fn first_unheld_of(asked: &Asked, o: u32) -> Option<Broken>
     requires site { o < length asked.now.facts.now.sites.items }
     ensures { result ≡ first_below (length asked.now.facts.now.rows.items) (unheld asked.now.facts.now asked.now.pt.now asked.now.hier.now o) }
 {
-    let r = site_at(asked.facts, o).row.0;
+    let r = site_at(asked.facts, SiteId(o)).row.0;
     let n = place_of_row(asked, r);
     for v in 0..asked.facts.rows.len() as u32 {
         if row_at(&asked.pt.rows, v as usize).has(o) && !row_le(asked, r, v) {

@@ -2,11 +2,7 @@
 #![tactic(auto)]
 
 ghost use Rattle.std.specs.Prelude.{◌≡◌, ◌++◌, All, IfOk, OnOk};
-ghost use Rattle.fact_model.specs.InRange.{InRange};
-ghost use Rattle.fact_model.specs.Flowing.{AreSets};
-ghost use Rattle.hier_model.specs.Hierarchies.{IsHierarchyOf};
-ghost use Rattle.hier_model.specs.Edits.{NamesSome};
-ghost use Rattle.hier_rules.specs.First.{MeetsEdit};
+ghost use Rattle.hier_rules.specs.Words.{InRange, AreSets, IsHierarchyOf, NamesSome, MeetsEdit};
 ghost use Rattle.hier_script.specs.Scripts.{after_edit, refusal_of, after_edits, refusals_of};
 
 use crate::refusals::refusal_line;

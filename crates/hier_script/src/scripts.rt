@@ -2,13 +2,9 @@
 #![tactic(auto)]
 
 ghost use Rattle.std.specs.Prelude.{◌≡◌, ◌<◌, All, IfOk, length};
-ghost use Rattle.fact_model.specs.InRange.{InRange};
-ghost use Rattle.fact_model.specs.InOrder.{InOrder};
-ghost use Rattle.fact_model.specs.Entries.{IsTable};
+ghost use Rattle.hier_rules.specs.Words.{InRange, InOrder, IsTable, AreSets, NamesSome};
 ghost use Rattle.fact_model.specs.Concepts.{IsLatticeOf};
-ghost use Rattle.fact_model.specs.Flowing.{AreSets};
 ghost use Rattle.hier_model.specs.Start.{start_from};
-ghost use Rattle.hier_model.specs.Edits.{NamesSome};
 ghost use Rattle.hier_script.specs.Answers.{IsEdited, IsScripted};
 
 use crate::edits::run_edits;

@@ -65,12 +65,13 @@ name_part false name = codes ":" ++ encode_utf8_all name
 abbrev pub column_part : Facts → Hierarchy → ℕ → List ℕ
 column_part F H c = codes " c" ++ (decimal c ++ name_part (is_mark (column_kind F c)) (member_name H c))
 
-abbrev pub columns_text : Facts → Hierarchy → List ℕ → List ℕ
-columns_text F H [] = codes " -"
-columns_text F H (c ∷ cs) = flat_map (column_part F H) (c ∷ cs)
+abbrev pub column_parts : Facts → Hierarchy → List ℕ → List ℕ
+column_parts F H [] = codes " -"
+column_parts F H (c ∷ cs) = flat_map (column_part F H) (c ∷ cs)
 
-abbrev pub members_text : Facts → Hierarchy → List ℕ → List ℕ
-members_text F H columns = codes " columns:" ++ columns_text F H columns
+-- columns after their name
+abbrev pub columns_text : Facts → Hierarchy → List ℕ → List ℕ
+columns_text F H columns = codes " columns:" ++ column_parts F H columns
 
 abbrev pub name_in : Option ClassInfo → List ℕ
 name_in None = []
@@ -96,7 +97,7 @@ abbrev pub node_line : Facts → Hierarchy → ℕ → List ℕ
 node_line F H n =
     head_text F H n
     ++ (part_text (codes " above:") (codes "n") (covers_of H n)
-    ++ (members_text F H (columns_at F H n)
+    ++ (columns_text F H (columns_at F H n)
     ++ (part_text (codes " rows:") (codes "r") (rows_at F H n) ++ codes "\n")))
 
 abbrev pub node_lines : Facts → Hierarchy → List ℕ → List ℕ

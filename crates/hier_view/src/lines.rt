@@ -5,7 +5,7 @@ ghost use Rattle.std.specs.Str.{encode_utf8_all};
 ghost use Rattle.kaba_order.specs.Orders.{is_live};
 ghost use Rattle.fact_model.specs.InRange.{InRange, IsClass};
 ghost use Rattle.hier_model.specs.Hierarchies.{IsHierarchyOf};
-ghost use Rattle.hier_view.specs.Text.{is_mark, kind_text, origin_text, head_text, marks_text, part_text, column_part, columns_text, members_text, node_lines, node_line, hierarchy_text};
+ghost use Rattle.hier_view.specs.Text.{is_mark, kind_text, origin_text, head_text, marks_text, part_text, column_part, columns_text, node_lines, node_line, hierarchy_text};
 
 use crate::lists::{columns_at, covers, live_nodes, rows_at};
 use fact_model::{ColKind, Facts, class_at};
@@ -83,7 +83,7 @@ fn add_node(
     let rows = rows_at(alloc, facts, hier, n)?;
     add_head(text, facts, hier, n)?;
     add_part(text, " above:", "n", &above)?;
-    add_members(text, facts, hier, &columns)?;
+    add_columns(text, facts, hier, &columns)?;
     add_part(text, " rows:", "r", &rows)?;
     text.push_str("\n")?;
     Ok(())
@@ -145,23 +145,7 @@ fn add_marks(text: &mut String, mark: &str, numbers: &[u32]) -> Result<(), Alloc
     Ok(())
 }
 
-/// Adds columns after their name.
-fn add_members(
-    text: &mut String,
-    facts: &Facts,
-    hier: &Hier,
-    columns: &[u32],
-) -> Result<(), AllocError>
-    requires hierarchy { IsHierarchyOf facts.now hier.now }
-    requires within { All (λ c. c < length facts.now.columns.items) columns.now }
-    ensures { OnOk result (string_bytes text.new ≡ string_bytes text.old ++ members_text facts.now hier.now columns.now) }
-{
-    text.push_str(" columns:")?;
-    add_columns(text, facts, hier, columns)?;
-    Ok(())
-}
-
-/// Adds columns, each with the name of its member.
+/// Adds columns after their name, each with the name of its member.
 fn add_columns(
     text: &mut String,
     facts: &Facts,
@@ -172,6 +156,7 @@ fn add_columns(
     requires within { All (λ c. c < length facts.now.columns.items) columns.now }
     ensures { OnOk result (string_bytes text.new ≡ string_bytes text.old ++ columns_text facts.now hier.now columns.now) }
 {
+    text.push_str(" columns:")?;
     if columns.is_empty() {
         text.push_str(" -")?;
         return Ok(());

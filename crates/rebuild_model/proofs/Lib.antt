@@ -1,2 +1,3 @@
+pub mod Reclassed
 pub mod Worked
 pub mod WorkedRebuilds

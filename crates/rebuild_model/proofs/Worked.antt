@@ -1,6 +1,6 @@
 -- A worked program and its rebuilt one: class A { int f; int m() { return f; } }, and a main that makes an A, holds it in x and calls m. In the new
 -- program x has the interface A_0, where m stands, and the object the class A_1.
-use Rattle.std.proofs.Common.{ℕ, suc, true, false, List, [], ◌∷◌, Option, Some, None, refl, length, ◌≤◌, lit<}
+use Rattle.std.proofs.Common.{ℕ, suc, Bool, true, false, List, [], ◌∷◌, Option, Some, None, refl, length, ◌≤◌, lit<}
 use Rattle.std.specs.Prelude.{codes}
 use Rattle.std.specs.declared.vec.Vec.{Vec}
 use Rattle.std.specs.declared.alloc.Global.{Global}
@@ -8,7 +8,7 @@ use Rattle.kaba_base.specs.declared.ClassId.{ClassId}
 use Rattle.java_core.specs.declared.Ty.{Ty}
 use Rattle.java_core.specs.declared.TyBase.TheVariants.{Int, Str, Class}
 use Rattle.java_core.specs.Trees.{Tag, Sts, no_ex, local, this, create, call, own_field, field, declare, act, return, no_st, st_then}
-use Rattle.java_core.specs.Programs.{Plain, PlainClass, PlainField, PlainMethod, PlainSlot}
+use Rattle.java_core.specs.Programs.{Plain, PlainClass, PlainField, PlainLocal, PlainMethod, PlainSlot}
 use Rattle.fact_model.specs.declared.facts.ColumnInfo.{ColumnInfo}
 use Rattle.fact_model.specs.declared.facts.SiteInfo.{SiteInfo}
 use Rattle.fact_model.specs.declared.facts.ColKind.TheVariants.{Fld, Dcl, Def}
@@ -33,35 +33,44 @@ object = Some (record { 0 = 0 })
 abbrev pub the_field : ℕ → PlainField
 the_field owner = record { owner = owner; name = codes "f"; is_static = false; ty = an_int; tag = place 10 }
 
-abbrev pub method : ℕ → Option Sts → PlainMethod
-method owner body = record {
+abbrev pub variable : List ℕ → Ty → ℕ → PlainLocal
+variable name ty at = record { name = name; ty = ty; tag = place at }
+
+-- an instance method without parameters or locals
+abbrev pub method_of : ℕ → List ℕ → Bool → ℕ → Option Ty → ℕ → Option Sts → PlainMethod
+method_of owner name is_public slot result at body = record {
   owner = owner;
-  name = codes "m";
+  name = name;
   is_static = false;
-  is_public = true;
-  slot = Some 0;
+  is_public = is_public;
+  slot = Some slot;
   params = [];
   locals = [];
-  result =
-      Some an_int;
+  result = result;
   body = body;
-  tag = place 20;
+  tag = place at;
 }
 
+-- main, at one place and its parameter at another
+abbrev pub main_of : ℕ → Bool → ℕ → ℕ → List PlainLocal → Sts → PlainMethod
+main_of owner is_public at args_at locals code = record {
+  owner = owner;
+  name = codes "main";
+  is_static = true;
+  is_public = is_public;
+  slot = None;
+  params = variable (codes "args") (record { base = Str; dim = 1 }) args_at ∷ [];
+  locals = locals;
+  result = None;
+  body = Some code;
+  tag = place at;
+}
+
+abbrev pub method : ℕ → Option Sts → PlainMethod
+method owner body = method_of owner (codes "m") true 0 (Some an_int) 20 body
+
 abbrev pub main : ℕ → ℕ → Sts → PlainMethod
-main owner kept code =
-    record {
-      owner = owner;
-      name = codes "main";
-      is_static = true;
-      is_public = true;
-      slot = None;
-      params = record { name = codes "args"; ty = record { base = Str; dim = 1 }; tag = place 42 } ∷ [];
-      locals = record { name = codes "x"; ty = object_of kept; tag = place 50 } ∷ [];
-      result = None;
-      body = Some code;
-      tag = place 40;
-    }
+main owner kept code = main_of owner true 40 42 (variable (codes "x") (object_of kept) 50 ∷ []) code
 
 abbrev pub slot : PlainSlot
 slot = record { name = codes "m"; params = []; result = Some an_int; first = 0 }

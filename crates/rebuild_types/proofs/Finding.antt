@@ -12,7 +12,8 @@ use Rattle.java_core.specs.Types.{Static, or_nothing, plain_type, is_length, cla
 use Rattle.flow_rules.specs.Operands.{object_of}
 use Rattle.run_cover.proofs.Types.{class_apart}
 use Rattle.rebuild_model.specs.Renaming.{retyped, retyped_if}
-use Rattle.rebuild_types.proofs.Retyped.{retyped_static, HasClass, reclassed_plain}
+use Rattle.rebuild_model.proofs.Reclassed.{reclassed_plain}
+use Rattle.rebuild_types.proofs.Retyped.{retyped_static, HasClass}
 use Rattle.rebuild_types.proofs.Asked.{retypes}
 
 -- what a program finds by a class

@@ -19,6 +19,7 @@ use Rattle.flow_rules.specs.declared.items.ObjectType.{ObjectType}
 use Rattle.flow_rules.specs.Operands.{object_in, object_of, object_static}
 use Rattle.flow_rules.specs.Lists.{is_comparison}
 use Rattle.rebuild_model.specs.Renaming.{reclassed, retyped, retyped_if}
+use Rattle.rebuild_model.proofs.Reclassed.{reclassed_plain}
 
 either : (a b : Bool) → (a ≡ true) ⊎ (b ≡ true) → (a || b) ≡ true
 either a b h = ⊎_elim (λ e. or_left a b e) (λ e. or_right a b e) h
@@ -35,14 +36,6 @@ retyped_static k no_value = no_value
 -- a type that a row can have has the class of its row
 abbrev pub HasClass : Option ObjectType → Option ℕ → Type 0
 HasClass t k = (o : ObjectType) → t ≡ Some o → (c : ℕ) × (k ≡ Some c)
-
-pub reclassed_plain : (k : Option ℕ) (b : TyBase) → is_class b ≡ false → reclassed k b ≡ b
-reclassed_plain None b e = refl
-reclassed_plain (Some k) Int e = refl
-reclassed_plain (Some k) Boolean e = refl
-reclassed_plain (Some k) Char e = refl
-reclassed_plain (Some k) Str e = refl
-reclassed_plain (Some k) (Class c) e = absurd (false≢true (sym e))
 
 pub retyped_or : (k : Option ℕ) (t : Option Ty) → retyped_static k (or_nothing t) ≡ or_nothing (retyped_if k t)
 retyped_or k None = refl

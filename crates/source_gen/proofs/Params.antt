@@ -1,5 +1,5 @@
 -- A parameter, by the parts that it is made of.
-use Rattle.std.proofs.Common.{◌≡◌, ℕ, Option, List, false, ap, ◌∙◌}
+use Rattle.std.proofs.Common.{◌≡◌, ℕ, List, false, ap, ◌∙◌}
 use Rattle.kaba_base.specs.declared.Place.{Place}
 use Rattle.java_tree.specs.declared.Param.{Param}
 use Rattle.java_tree.specs.declared.TypeName.{TypeName}
@@ -15,10 +15,10 @@ abbrev of_parts : TypeName → List ℕ → Place → Param
 of_parts ty name place = record { is_final = false; ty = ty; name = name; place = place }
 
 -- its type is that of the node of its row
-pub param_is : (P : Plain) (R : Renaming) (H : Hierarchy) (m : ℕ) (k : PlainMethod) (number : ℕ) (v : PlainLocal) (item : RowItem) (o : Option ℕ) (ty : TypeName)
-    (name : List ℕ) (place : Place) → item ≡ variable_row m k number → o ≡ R.row_type item → ty ≡ written_type P H o v.ty → name ≡ v.name → place ≡ nowhere
+pub param_is : (P : Plain) (R : Renaming) (H : Hierarchy) (m : ℕ) (k : PlainMethod) (number : ℕ) (v : PlainLocal) (item : RowItem) (ty : TypeName)
+    (name : List ℕ) (place : Place) → item ≡ variable_row m k number → ty ≡ written_type P H (R.row_type item) v.ty → name ≡ v.name → place ≡ nowhere
     → of_parts ty name place ≡ param P R H m k number v
-param_is P R H m k number v item o ty name place row node type named no_place =
-    ap (λ (t : TypeName). of_parts t name place) (type ∙ ap (λ (n : Option ℕ). written_type P H n v.ty) (node ∙ ap R.row_type row))
+param_is P R H m k number v item ty name place row type named no_place =
+    ap (λ (t : TypeName). of_parts t name place) (type ∙ ap (λ (i : RowItem). written_type P H (R.row_type i) v.ty) row)
     ∙ ap (λ (n : List ℕ). of_parts (written_type P H (R.row_type (variable_row m k number)) v.ty) n place) named
     ∙ ap (λ (p : Place). of_parts (written_type P H (R.row_type (variable_row m k number)) v.ty) v.name p) no_place

@@ -1,10 +1,9 @@
 -- One item more at the end of a list of trees.
-use Rattle.std.proofs.Common.{◌≡◌, List, [], ◌∷◌, ◌++◌, Option, Some, refl, ap, ◌∙◌}
-use Rattle.std.specs.Option.{option_map_or}
+use Rattle.std.proofs.Common.{◌≡◌, List, [], ◌∷◌, ◌++◌, refl, ap}
 use Rattle.java_tree.specs.declared.Head.{Head}
 use Rattle.java_tree.specs.declared.Member.{Member}
 use Rattle.java_tree.specs.declared.Decl.{Decl}
-use Rattle.java_tree.specs.Syntax.{MemberTree, head_of, heads, member_of, members, decl_of, decls}
+use Rattle.java_tree.specs.Syntax.{head_of, heads, member_of, members, decl_of, decls}
 
 pub heads_push : (xs : List Head) (x : Head) → heads (xs ++ x ∷ []) ≡ heads xs ++ head_of x ∷ []
 heads_push [] x = refl
@@ -17,7 +16,3 @@ members_push (y ∷ ys) x = ap (λ r. member_of y ∷ r) (members_push ys x)
 pub decls_push : (xs : List Decl) (x : Decl) → decls (xs ++ x ∷ []) ≡ decls xs ++ decl_of x ∷ []
 decls_push [] x = refl
 decls_push (y ∷ ys) x = ap (λ r. decl_of y ∷ r) (decls_push ys x)
-
--- a member that is made of an item that is there
-pub listed_one : {A : Type 0} (f : A → MemberTree) (o : Option A) (x : A) (d : MemberTree) → d ≡ f x → Some x ≡ o → d ∷ [] ≡ option_map_or (λ k. f k ∷ []) o []
-listed_one {A} f o x d made is = ap (λ (t : MemberTree). t ∷ []) made ∙ ap (λ (p : Option A). option_map_or (λ k. f k ∷ []) p []) is

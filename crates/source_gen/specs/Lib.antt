@@ -1,3 +1,3 @@
 pub mod Seen
-pub mod Members
 pub mod Sources
+pub mod Words

@@ -1,22 +1,17 @@
 //! What the columns at a node and the slots that it offers give to its type.
 
 ghost use Rattle.std.specs.Prelude.{◌≡◌, ◌++◌, [], ◌<◌, true, length, IfOk, OnOk, Option};
-ghost use Rattle.kaba_order.specs.Orders.{is_live};
+ghost use Rattle.source_gen.specs.Words.{is_live, no_place, slot_seen, each, when, head_if, old_program, renaming, AreNodes, hierarchy_of};
 ghost use Rattle.java_tree.specs.Syntax as tree;
-ghost use Rattle.java_core.specs.Trees.{no_place};
-ghost use Rattle.java_core.specs.Programs.{slot_seen};
 ghost use Rattle.fact_model.specs.Items.{column_at};
 ghost use Rattle.hier_model.specs.Hierarchies.{stands_at};
-ghost use Rattle.flow_rules.specs.Ordered.{each, when};
 ghost use Rattle.rebuild_model.specs.Members.{is_headed, is_filled, is_made_at};
 ghost use Rattle.written_tree.specs.Members as written;
-ghost use Rattle.source_gen.specs.Seen.{head_if};
-ghost use Rattle.source_gen.specs.Sources.{IsSource, old_program, renaming};
 
 use crate::heads::{first_head, one_modifier, public_and, slot_head};
 use crate::members::{push_bodyless, push_head, push_member};
 use crate::own::add_own;
-use crate::parts::Source;
+use crate::parts::Nodes;
 use crate::places::{is_declaration, is_first_there, is_made_at, offers, stands_at};
 use crate::supers::is_class;
 use hier_model::column_at;
@@ -28,45 +23,44 @@ use tree_forms::nowhere;
 
 /// Whether a declaration of a slot at a live node is written as a head: in an interface, and in an
 /// abstract class to which no body of the slot is offered.
-fn is_headed(source: &Source, n: NodeId, x: u32) -> bool
-    requires source { IsSource source.now }
-    requires node { is_live source.now.hier.now.order n.0 ≡ true }
-    ensures { result ≡ is_headed source.now.facts.now source.now.hier.now n.0 x }
+fn is_headed(nodes: &Nodes, n: NodeId, x: u32) -> bool
+    requires nodes { AreNodes nodes.now }
+    requires node { is_live nodes.now.source.hier.now.order n.0 ≡ true }
+    ensures { result ≡ is_headed nodes.now.facts.now (hierarchy_of nodes.now) n.0 x }
 {
-    !is_class(source, n.0) || (!is_made_at(source, n) && !offers(source, n, x, true))
+    !is_class(nodes, n.0) || (!is_made_at(nodes, n) && !offers(nodes, n, x, true))
 }
 
 /// Whether the type of a live node has a filler of a slot: objects are created there, as `is_made`
 /// says, and it is offered the slot without a body.
-fn is_filled(source: &Source, is_made: bool, n: NodeId, x: u32) -> bool
-    requires source { IsSource source.now }
-    requires made { is_made ≡ is_made_at source.now.facts.now source.now.hier.now n.0 }
-    requires node { is_live source.now.hier.now.order n.0 ≡ true }
-    ensures { result ≡ is_filled source.now.facts.now source.now.hier.now n.0 x }
+fn is_filled(nodes: &Nodes, is_made: bool, n: NodeId, x: u32) -> bool
+    requires nodes { AreNodes nodes.now }
+    requires made { is_made ≡ is_made_at nodes.now.facts.now (hierarchy_of nodes.now) n.0 }
+    requires node { is_live nodes.now.source.hier.now.order n.0 ≡ true }
+    ensures { result ≡ is_filled nodes.now.facts.now (hierarchy_of nodes.now) n.0 x }
 {
-    is_made && (offers(source, n, x, false) && !offers(source, n, x, true))
+    is_made && (offers(nodes, n, x, false) && !offers(nodes, n, x, true))
 }
 
 /// The head that the declaration of a slot at a live node gives: once a slot.
 fn head_of_slot(
-    alloc: Global,
-    source: &Source,
+    nodes: &Nodes,
     mods: Vec<Modifier>,
     n: NodeId,
     c: u32,
     slot: Option<u32>,
 ) -> Result<Option<Head>, AllocError>
-    requires source { IsSource source.now }
-    requires node { is_live source.now.hier.now.order n.0 ≡ true }
-    requires column { c < length source.now.facts.now.columns.items }
-    ensures { IfOk result (λ h. head_if h ≡ written.heads_of_slot (old_program source.now) (renaming source.now) source.now.facts.now
-        source.now.hier.now mods.items n.0 c slot) }
+    requires nodes { AreNodes nodes.now }
+    requires node { is_live nodes.now.source.hier.now.order n.0 ≡ true }
+    requires column { c < length nodes.now.facts.now.columns.items }
+    ensures { IfOk result (λ h. head_if h ≡ written.heads_of_slot (old_program nodes.now.source) (renaming nodes.now.source) nodes.now.facts.now
+        (hierarchy_of nodes.now) mods.items n.0 c slot) }
 {
     let Some(x) = slot else {
         return Ok(None);
     };
-    if is_headed(source, n, x) && is_first_there(source, n, c, x) {
-        slot_head(alloc, source, mods, x)
+    if is_headed(nodes, n, x) && is_first_there(nodes, n, c, x) {
+        slot_head(&nodes.source, mods, x)
     } else {
         Ok(None)
     }
@@ -74,66 +68,54 @@ fn head_of_slot(
 
 /// The head that a column at a live node gives.
 fn column_head(
-    alloc: Global,
-    source: &Source,
+    nodes: &Nodes,
     mods: Vec<Modifier>,
     n: NodeId,
     c: u32,
 ) -> Result<Option<Head>, AllocError>
-    requires source { IsSource source.now }
-    requires node { is_live source.now.hier.now.order n.0 ≡ true }
-    requires column { c < length source.now.facts.now.columns.items }
-    ensures { IfOk result (λ h. head_if h ≡ written.column_heads (old_program source.now) (renaming source.now) source.now.facts.now
-        source.now.hier.now mods.items n.0 c (column_at source.now.facts.now c)) }
+    requires nodes { AreNodes nodes.now }
+    requires node { is_live nodes.now.source.hier.now.order n.0 ≡ true }
+    requires column { c < length nodes.now.facts.now.columns.items }
+    ensures { IfOk result (λ h. head_if h ≡ written.column_heads (old_program nodes.now.source) (renaming nodes.now.source) nodes.now.facts.now
+        (hierarchy_of nodes.now) mods.items n.0 c (column_at nodes.now.facts.now c)) }
 {
-    let column = column_at(source.facts, ColId(c));
+    let column = column_at(nodes.facts, ColId(c));
     if !is_declaration(column.kind) {
         return Ok(None);
     }
     let slot = column.slot;
-    head_of_slot(alloc, source, mods, n, c, slot)
+    head_of_slot(nodes, mods, n, c, slot)
 }
 
 /// Adds what a column gives to the class of the live node where it stands.
-fn add_column(
-    alloc: Global,
-    source: &Source,
-    n: NodeId,
-    c: u32,
-    into: &mut Vec<Member>,
-) -> Result<(), AllocError>
-    requires source { IsSource source.now }
-    requires node { is_live source.now.hier.now.order n.0 ≡ true }
-    requires column { c < length source.now.facts.now.columns.items }
-    ensures { OnOk result (tree.members into.new.items ≡ tree.members into.old.items ++ when (stands_at source.now.hier.now n.0 c)
-        (written.column_members (old_program source.now) (renaming source.now)
-        source.now.facts.now source.now.hier.now source.now.numbering.now.columns.keys n.0 c (column_at source.now.facts.now c))) }
+fn add_column(nodes: &Nodes, n: NodeId, c: u32, into: &mut Vec<Member>) -> Result<(), AllocError>
+    requires nodes { AreNodes nodes.now }
+    requires node { is_live nodes.now.source.hier.now.order n.0 ≡ true }
+    requires column { c < length nodes.now.facts.now.columns.items }
+    ensures { OnOk result (tree.members into.new.items ≡ tree.members into.old.items ++ when (stands_at (hierarchy_of nodes.now) n.0 c)
+        (written.column_members (old_program nodes.now.source) (renaming nodes.now.source)
+        nodes.now.facts.now (hierarchy_of nodes.now) nodes.now.source.numbering.now.columns.keys n.0 c (column_at nodes.now.facts.now c))) }
 {
-    if !stands_at(source, n, c) {
+    if !stands_at(nodes, n, c) {
         return Ok(());
     }
-    let mods = public_and(alloc, Keyword::Abstract)?;
-    let head = column_head(alloc, source, mods, n, c)?;
+    let mods = public_and(nodes.source.alloc, Keyword::Abstract)?;
+    let head = column_head(nodes, mods, n, c)?;
     push_bodyless(into, head)?;
-    let item = source.numbering.item(c);
-    add_own(alloc, source, item, into)
+    let item = nodes.source.numbering.item(c);
+    add_own(nodes, item, into)
 }
 
 /// Adds what the columns give to the class of a live node, in the order of their numbers.
-fn add_columns(
-    alloc: Global,
-    source: &Source,
-    n: NodeId,
-    into: &mut Vec<Member>,
-) -> Result<(), AllocError>
-    requires source { IsSource source.now }
-    requires node { is_live source.now.hier.now.order n.0 ≡ true }
-    ensures { OnOk result (tree.members into.new.items ≡ tree.members into.old.items ++ each (λ c k. when (stands_at source.now.hier.now n.0 c)
-        (written.column_members (old_program source.now) (renaming source.now)
-        source.now.facts.now source.now.hier.now source.now.numbering.now.columns.keys n.0 c k)) 0 source.now.facts.now.columns.items) }
+fn add_columns(nodes: &Nodes, n: NodeId, into: &mut Vec<Member>) -> Result<(), AllocError>
+    requires nodes { AreNodes nodes.now }
+    requires node { is_live nodes.now.source.hier.now.order n.0 ≡ true }
+    ensures { OnOk result (tree.members into.new.items ≡ tree.members into.old.items ++ each (λ c k. when (stands_at (hierarchy_of nodes.now) n.0 c)
+        (written.column_members (old_program nodes.now.source) (renaming nodes.now.source)
+        nodes.now.facts.now (hierarchy_of nodes.now) nodes.now.source.numbering.now.columns.keys n.0 c k)) 0 nodes.now.facts.now.columns.items) }
 {
-    for c in 0..source.facts.columns.len() as u32 {
-        add_column(alloc, source, n, c, into)?;
+    for c in 0..nodes.facts.columns.len() as u32 {
+        add_column(nodes, n, c, into)?;
     }
     Ok(())
 }
@@ -178,27 +160,26 @@ fn filling(alloc: Global, given: Option<Ty>) -> Result<Vec<Stmt>, AllocError>
 
 /// Adds the filler of a slot, if the class of a live node has one.
 fn add_filler(
-    alloc: Global,
-    source: &Source,
+    nodes: &Nodes,
     is_made: bool,
     n: NodeId,
     x: u32,
     slot: &Slot,
     into: &mut Vec<Member>,
 ) -> Result<(), AllocError>
-    requires source { IsSource source.now }
-    requires made { is_made ≡ is_made_at source.now.facts.now source.now.hier.now n.0 }
-    requires node { is_live source.now.hier.now.order n.0 ≡ true }
-    ensures { OnOk result (tree.members into.new.items ≡ tree.members into.old.items ++ written.filler (old_program source.now)
-        (renaming source.now) source.now.facts.now source.now.hier.now n.0 x (slot_seen no_place slot.now)) }
+    requires nodes { AreNodes nodes.now }
+    requires made { is_made ≡ is_made_at nodes.now.facts.now (hierarchy_of nodes.now) n.0 }
+    requires node { is_live nodes.now.source.hier.now.order n.0 ≡ true }
+    ensures { OnOk result (tree.members into.new.items ≡ tree.members into.old.items ++ written.filler (old_program nodes.now.source)
+        (renaming nodes.now.source) nodes.now.facts.now (hierarchy_of nodes.now) n.0 x (slot_seen no_place slot.now)) }
 {
-    if !is_filled(source, is_made, n, x) {
+    if !is_filled(nodes, is_made, n, x) {
         return Ok(());
     }
-    let mods = one_modifier(alloc, Keyword::Public)?;
-    match first_head(alloc, source, mods, slot)? {
+    let mods = one_modifier(nodes.source.alloc, Keyword::Public)?;
+    match first_head(&nodes.source, mods, slot)? {
         Some(head) => {
-            let body = Some(filling(alloc, slot.result)?);
+            let body = Some(filling(nodes.source.alloc, slot.result)?);
             let place = nowhere();
             push_member(into, Member::Method { head, body, place })
         }
@@ -208,72 +189,65 @@ fn add_filler(
 
 /// Adds the fillers of the class of a live node, in the order of the slots.
 fn add_fillers(
-    alloc: Global,
-    source: &Source,
+    nodes: &Nodes,
     is_made: bool,
     n: NodeId,
     into: &mut Vec<Member>,
 ) -> Result<(), AllocError>
-    requires source { IsSource source.now }
-    requires made { is_made ≡ is_made_at source.now.facts.now source.now.hier.now n.0 }
-    requires node { is_live source.now.hier.now.order n.0 ≡ true }
-    ensures { OnOk result (tree.members into.new.items ≡ tree.members into.old.items ++ each (written.filler (old_program source.now) (renaming
-        source.now) source.now.facts.now source.now.hier.now n.0) 0 (old_program source.now).slots) }
+    requires nodes { AreNodes nodes.now }
+    requires made { is_made ≡ is_made_at nodes.now.facts.now (hierarchy_of nodes.now) n.0 }
+    requires node { is_live nodes.now.source.hier.now.order n.0 ≡ true }
+    ensures { OnOk result (tree.members into.new.items ≡ tree.members into.old.items ++ each (written.filler
+        (old_program nodes.now.source) (renaming nodes.now.source) nodes.now.facts.now (hierarchy_of nodes.now) n.0) 0 (old_program nodes.now.source).slots) }
 {
-    for (x, slot) in source.program.slots.iter().enumerate() {
+    for (x, slot) in nodes.source.program.slots.iter().enumerate() {
         let x = x as u32;
-        add_filler(alloc, source, is_made, n, x, slot, into)?;
+        add_filler(nodes, is_made, n, x, slot, into)?;
     }
     Ok(())
 }
 
 /// The members of the class of a live node: by the columns, and then the fillers by slot.
-pub fn class_members(alloc: Global, source: &Source, n: NodeId) -> Result<Vec<Member>, AllocError>
-    requires source { IsSource source.now }
-    requires node { is_live source.now.hier.now.order n.0 ≡ true }
-    ensures { IfOk result (λ v. tree.members v.items ≡ written.class_members (old_program source.now) (renaming source.now) source.now.facts.now
-        source.now.hier.now source.now.numbering.now.columns.keys n.0) }
+pub fn class_members(nodes: &Nodes, n: NodeId) -> Result<Vec<Member>, AllocError>
+    requires nodes { AreNodes nodes.now }
+    requires node { is_live nodes.now.source.hier.now.order n.0 ≡ true }
+    ensures { IfOk result (λ v. tree.members v.items ≡ written.class_members (old_program nodes.now.source) (renaming nodes.now.source) nodes.now.facts.now
+        (hierarchy_of nodes.now) nodes.now.source.numbering.now.columns.keys n.0) }
 {
-    let mut list = Vec::new(alloc);
-    add_columns(alloc, source, n, &mut list)?;
-    let is_made = is_made_at(source, n);
-    add_fillers(alloc, source, is_made, n, &mut list)?;
+    let mut list = Vec::new(nodes.source.alloc);
+    add_columns(nodes, n, &mut list)?;
+    let is_made = is_made_at(nodes, n);
+    add_fillers(nodes, is_made, n, &mut list)?;
     Ok(list)
 }
 
 /// Adds the head that a column gives to the interface of the live node where it stands.
-fn add_head(
-    alloc: Global,
-    source: &Source,
-    n: NodeId,
-    c: u32,
-    into: &mut Vec<Head>,
-) -> Result<(), AllocError>
-    requires source { IsSource source.now }
-    requires node { is_live source.now.hier.now.order n.0 ≡ true }
-    requires column { c < length source.now.facts.now.columns.items }
-    ensures { OnOk result (tree.heads into.new.items ≡ tree.heads into.old.items ++ when (stands_at source.now.hier.now n.0 c) (written.column_heads
-        (old_program source.now) (renaming source.now) source.now.facts.now source.now.hier.now
-        [] n.0 c (column_at source.now.facts.now c))) }
+fn add_head(nodes: &Nodes, n: NodeId, c: u32, into: &mut Vec<Head>) -> Result<(), AllocError>
+    requires nodes { AreNodes nodes.now }
+    requires node { is_live nodes.now.source.hier.now.order n.0 ≡ true }
+    requires column { c < length nodes.now.facts.now.columns.items }
+    ensures { OnOk result (tree.heads into.new.items ≡ tree.heads into.old.items ++ when (stands_at (hierarchy_of nodes.now) n.0 c) (written.column_heads
+        (old_program nodes.now.source) (renaming nodes.now.source) nodes.now.facts.now (hierarchy_of nodes.now)
+        [] n.0 c (column_at nodes.now.facts.now c))) }
 {
-    if !stands_at(source, n, c) {
+    if !stands_at(nodes, n, c) {
         return Ok(());
     }
-    let mods = Vec::new(alloc);
-    let head = column_head(alloc, source, mods, n, c)?;
+    let mods = Vec::new(nodes.source.alloc);
+    let head = column_head(nodes, mods, n, c)?;
     push_head(into, head)
 }
 
 /// The heads of the interface of a live node, in the order of the columns.
-pub fn interface_heads(alloc: Global, source: &Source, n: NodeId) -> Result<Vec<Head>, AllocError>
-    requires source { IsSource source.now }
-    requires node { is_live source.now.hier.now.order n.0 ≡ true }
-    ensures { IfOk result (λ v. tree.heads v.items ≡ written.interface_heads (old_program source.now) (renaming source.now) source.now.facts.now
-        source.now.hier.now n.0) }
+pub fn interface_heads(nodes: &Nodes, n: NodeId) -> Result<Vec<Head>, AllocError>
+    requires nodes { AreNodes nodes.now }
+    requires node { is_live nodes.now.source.hier.now.order n.0 ≡ true }
+    ensures { IfOk result (λ v. tree.heads v.items ≡ written.interface_heads (old_program nodes.now.source) (renaming nodes.now.source) nodes.now.facts.now
+        (hierarchy_of nodes.now) n.0) }
 {
-    let mut list = Vec::new(alloc);
-    for c in 0..source.facts.columns.len() as u32 {
-        add_head(alloc, source, n, c, &mut list)?;
+    let mut list = Vec::new(nodes.source.alloc);
+    for c in 0..nodes.facts.columns.len() as u32 {
+        add_head(nodes, n, c, &mut list)?;
     }
     Ok(list)
 }

@@ -1,24 +1,19 @@
 //! The heads of methods.
 
 ghost use Rattle.std.specs.Prelude.{◌≡◌, ◌∷◌, [], ◌<◌, IfOk};
-ghost use Rattle.std.specs.Option.{option_map};
+ghost use Rattle.source_gen.specs.Words.{option_map, no_place, method_seen, local_seen, slot_seen, each, head_if, IsSource, old_program, renaming};
 ghost use Rattle.kaba_base.specs.declared.words.Keyword.TheVariants as keyword;
 ghost use Rattle.java_tree.specs.Syntax.{head_of};
-ghost use Rattle.java_core.specs.Trees.{no_place};
-ghost use Rattle.java_core.specs.Programs.{method_seen, local_seen, slot_seen};
-ghost use Rattle.flow_rules.specs.Ordered.{each};
 ghost use Rattle.flow_rules.specs.Operands.{result_in};
 ghost use Rattle.written_tree.specs.Names as names;
 ghost use Rattle.written_tree.specs.Members as members;
-ghost use Rattle.source_gen.specs.Seen.{head_if};
-ghost use Rattle.source_gen.specs.Sources.{IsSource, old_program, renaming};
 
-use crate::parts::{Source, method_at};
+use crate::parts::method_at;
 use java_core::{Local, Method, Slot};
 use java_tree::{Head, Modifier, Param, TypeName};
 use kaba_base::{Keyword, Name};
 use std::alloc::{AllocError, Global};
-use tree_forms::{method_name, modifier, node_of, nowhere, result_row, variable_row, written_type};
+use tree_forms::{Source, method_name, modifier, nowhere, result_row, row_type, variable_row};
 
 /// A list of one modifier.
 pub fn one_modifier(alloc: Global, word: Keyword) -> Result<Vec<Modifier>, AllocError>
@@ -40,7 +35,6 @@ pub fn public_and(alloc: Global, other: Keyword) -> Result<Vec<Modifier>, AllocE
 
 /// A parameter: the type of its row's node.
 fn param(
-    alloc: Global,
     source: &Source,
     m: u64,
     method: &Method,
@@ -51,13 +45,9 @@ fn param(
     ensures { IfOk result (λ p. p ≡ members.param (old_program source.now) (renaming source.now)
         source.now.hier.now m (method_seen no_place method.now) number (local_seen no_place local.now)) }
 {
-    let node = node_of(
-        source.numbering,
-        source.hier,
-        variable_row(m, method, number),
-    );
-    let ty = written_type(alloc, source.program, source.hier, node, local.ty)?;
-    let name = local.name.copy(alloc)?;
+    let row = variable_row(m, method, number);
+    let ty = row_type(source, row, local.ty)?;
+    let name = local.name.copy(source.alloc)?;
     Ok(Param {
         is_final: false,
         ty,
@@ -67,26 +57,21 @@ fn param(
 }
 
 /// The parameters.
-fn params(alloc: Global, source: &Source, m: u64, method: &Method) -> Result<Vec<Param>, AllocError>
+fn params(source: &Source, m: u64, method: &Method) -> Result<Vec<Param>, AllocError>
     requires { IsSource source.now }
     ensures { IfOk result (λ v. v.items ≡ each (λ i k. members.param (old_program source.now) (renaming source.now) source.now.hier.now m (method_seen
         no_place method.now) i k ∷ []) 0 (method_seen no_place method.now).params) }
 {
-    let mut list = Vec::new(alloc);
+    let mut list = Vec::new(source.alloc);
     for (i, local) in method.params.iter().enumerate() {
-        let one = param(alloc, source, m, method, i as u64, local)?;
+        let one = param(source, m, method, i as u64, local)?;
         list.push(one)?;
     }
     Ok(list)
 }
 
 /// What a method gives back: the type of its row's node; `None` is `void`.
-fn result_type(
-    alloc: Global,
-    source: &Source,
-    m: u64,
-    method: &Method,
-) -> Result<Option<TypeName>, AllocError>
+fn result_type(source: &Source, m: u64, method: &Method) -> Result<Option<TypeName>, AllocError>
     requires { IsSource source.now }
     ensures { IfOk result (λ t. t ≡ option_map (names.written_type (old_program source.now) source.now.hier.now ((renaming source.now).row_type
         (result_in (method_seen no_place method.now).slot m))) (method_seen no_place method.now).result) }
@@ -94,13 +79,12 @@ fn result_type(
     let Some(ty) = method.result else {
         return Ok(None);
     };
-    let node = node_of(source.numbering, source.hier, result_row(m, method));
-    Ok(Some(written_type(alloc, source.program, source.hier, node, ty)?))
+    let row = result_row(m, method);
+    Ok(Some(row_type(source, row, ty)?))
 }
 
 /// The head of the method of the number `m`, under a name.
 pub fn head(
-    alloc: Global,
     source: &Source,
     mods: Vec<Modifier>,
     name: Name,
@@ -111,8 +95,8 @@ pub fn head(
     ensures { IfOk result (λ h. head_of h ≡ members.head (old_program source.now) (renaming source.now) source.now.hier.now mods.items name m
         (method_seen no_place method.now)) }
 {
-    let result = result_type(alloc, source, m, method)?;
-    let params = params(alloc, source, m, method)?;
+    let result = result_type(source, m, method)?;
+    let params = params(source, m, method)?;
     Ok(Head {
         mods,
         result,
@@ -124,7 +108,6 @@ pub fn head(
 
 /// The head of a slot, with the names of the parameters of its first method.
 pub fn first_head(
-    alloc: Global,
     source: &Source,
     mods: Vec<Modifier>,
     slot: &Slot,
@@ -137,23 +120,18 @@ pub fn first_head(
     let Some(method) = method_at(source.program, m) else {
         return Ok(None);
     };
-    let name = method_name(alloc, source.numbering, source.hier, m)?;
-    let made = head(alloc, source, mods, name, m, method)?;
+    let name = method_name(source, m)?;
+    let made = head(source, mods, name, m, method)?;
     Ok(Some(made))
 }
 
 /// The same of a slot by its number.
-pub fn slot_head(
-    alloc: Global,
-    source: &Source,
-    mods: Vec<Modifier>,
-    x: u32,
-) -> Result<Option<Head>, AllocError>
+pub fn slot_head(source: &Source, mods: Vec<Modifier>, x: u32) -> Result<Option<Head>, AllocError>
     requires { IsSource source.now }
     ensures { IfOk result (λ h. head_if h ≡ members.slot_head (old_program source.now) (renaming source.now) source.now.hier.now mods.items x) }
 {
     match source.program.slots.get(x as usize) {
-        Some(slot) => first_head(alloc, source, mods, slot),
+        Some(slot) => first_head(source, mods, slot),
         None => Ok(None),
     }
 }

@@ -3,12 +3,8 @@
 #![tactic(auto)]
 
 ghost use Rattle.std.specs.Prelude.{◌≡◌, IfOk};
+ghost use Rattle.source_gen.specs.Words.{no_place, program_of, IsFormed, InRange, IsHierarchyOf};
 ghost use Rattle.java_tree.specs.Syntax.{tree_of};
-ghost use Rattle.java_core.specs.Trees.{no_place};
-ghost use Rattle.java_core.specs.Programs.{program_of};
-ghost use Rattle.java_core.specs.Formed.{IsFormed};
-ghost use Rattle.fact_model.specs.InRange.{InRange};
-ghost use Rattle.hier_model.specs.Hierarchies.{IsHierarchyOf};
 ghost use Rattle.written_tree.specs.Written.{written_by};
 ghost use Rattle.tree_forms.specs.Renamed.{renamed, IsFitting};
 
@@ -27,10 +23,10 @@ use hier_model::Hier;
 use holders::add_holders;
 use java_core::Program;
 use java_tree::Tree;
-use parts::Source;
+use parts::Nodes;
 use std::alloc::{AllocError, Global};
 use supers::class_nodes;
-use tree_forms::Numbering;
+use tree_forms::{Numbering, Source};
 use types::add_types;
 
 /// The tree of the program that is written of a hierarchy over the rows and columns of a program's
@@ -52,15 +48,18 @@ pub fn generate(
         (renamed numbering.now hier.now) facts.now hier.now numbering.now.columns.keys) }
 {
     let classes = class_nodes(alloc, facts, hier)?;
-    let source = Source {
-        program,
-        numbering,
-        classes: &classes,
+    let nodes = Nodes {
+        source: Source {
+            alloc,
+            program,
+            numbering,
+            hier,
+        },
         facts,
-        hier,
+        classes: &classes,
     };
     let mut decls = Vec::new(alloc);
-    add_types(alloc, &source, &mut decls)?;
-    add_holders(alloc, &source, &mut decls)?;
+    add_types(&nodes, &mut decls)?;
+    add_holders(&nodes.source, &mut decls)?;
     Ok(Tree { decls })
 }

@@ -1,25 +1,21 @@
 //! The fields and methods that the types of nodes and the holders have.
 
 ghost use Rattle.std.specs.Prelude.{◌≡◌, ◌++◌, ◌∷◌, [], IfOk, OnOk, map};
+ghost use Rattle.source_gen.specs.Words.{no_place, method_seen, field_seen, head_if, IsSource, old_program, renaming};
 ghost use Rattle.kaba_base.specs.declared.words.Keyword.TheVariants as keyword;
 ghost use Rattle.java_tree.specs.Syntax as tree;
-ghost use Rattle.java_core.specs.Trees.{no_place};
-ghost use Rattle.java_core.specs.Programs.{method_seen, field_seen};
 ghost use Rattle.flow_rules.specs.declared.items.RowItem.TheVariants as row;
 ghost use Rattle.written_tree.specs.Names as names;
 ghost use Rattle.written_tree.specs.Members as written;
-ghost use Rattle.source_gen.specs.Seen.{head_if};
-ghost use Rattle.source_gen.specs.Sources.{IsSource, old_program, renaming};
 
 use crate::heads::{head, one_modifier, public_and};
-use crate::parts::Source;
 use flow_rules::RowItem;
 use java_core::{Field, Method};
 use java_tree::{Decl, Head, Member, Modifier, Stmt};
 use kaba_base::{Keyword, Name};
 use std::alloc::{AllocError, Global};
-use tree_forms::{field_name, method_name, node_of, nowhere, written_type};
-use tree_parts::body;
+use tree_forms::{Source, field_name, method_name, nowhere, row_type};
+use tree_parts::{Within, body};
 
 /// Adds a head.
 #[tactic(auto, using(crate::proofs::Pushed::heads_push))]
@@ -86,12 +82,7 @@ fn parameters(alloc: Global, method: &Method) -> Result<Vec<u32>, AllocError>
 }
 
 /// The statements of a method, as they are written.
-fn code(
-    alloc: Global,
-    source: &Source,
-    m: u64,
-    method: &Method,
-) -> Result<Option<Vec<Stmt>>, AllocError>
+fn code(source: &Source, m: u64, method: &Method) -> Result<Option<Vec<Stmt>>, AllocError>
     requires { IsSource source.now }
     ensures { IfOk result (λ b. tree.body_seen b ≡ written.body (old_program source.now) (renaming source.now) source.now.hier.now m (method_seen
         no_place method.now)) }
@@ -99,23 +90,18 @@ fn code(
     let Some(list) = &method.body else {
         return Ok(None);
     };
-    let scope = parameters(alloc, method)?;
-    let made = body(
-        alloc,
-        source.program,
-        source.numbering,
-        source.hier,
-        m,
+    let scope = parameters(source.alloc, method)?;
+    let within = Within {
+        source,
+        number: m,
         method,
-        &scope,
-        list,
-    )?;
+    };
+    let made = body(&within, &scope, list)?;
     Ok(Some(made))
 }
 
 /// A field under a name, with these modifiers.
 fn field(
-    alloc: Global,
     source: &Source,
     mods: Vec<Modifier>,
     name: Name,
@@ -126,8 +112,7 @@ fn field(
     ensures { IfOk result (λ d. tree.member_of d ≡ tree.FieldTree mods.items (names.written_type (old_program source.now)
         source.now.hier.now ((renaming source.now).row_type (row.Field f)) old.now.ty) name names.nowhere) }
 {
-    let node = node_of(source.numbering, source.hier, RowItem::Field(f));
-    let ty = written_type(alloc, source.program, source.hier, node, old.ty)?;
+    let ty = row_type(source, RowItem::Field(f), old.ty)?;
     Ok(Member::Field {
         mods,
         ty,
@@ -138,7 +123,6 @@ fn field(
 
 /// A method under a name, with these modifiers.
 fn method(
-    alloc: Global,
     source: &Source,
     mods: Vec<Modifier>,
     name: Name,
@@ -150,8 +134,8 @@ fn method(
         mods.items name m (method_seen no_place old.now)) (written.body (old_program source.now) (renaming source.now) source.now.hier.now m
         (method_seen no_place old.now)) names.nowhere) }
 {
-    let head = head(alloc, source, mods, name, m, old)?;
-    let body = code(alloc, source, m, old)?;
+    let head = head(source, mods, name, m, old)?;
+    let body = code(source, m, old)?;
     Ok(Member::Method {
         head,
         body,
@@ -160,67 +144,47 @@ fn method(
 }
 
 /// An instance field: under the name of its column, without modifiers.
-pub fn field_member(
-    alloc: Global,
-    source: &Source,
-    f: u64,
-    old: &Field,
-) -> Result<Member, AllocError>
+pub fn field_member(source: &Source, f: u64, old: &Field) -> Result<Member, AllocError>
     requires { IsSource source.now }
     ensures { IfOk result (λ d. tree.member_of d ≡ written.field_member (old_program source.now) (renaming source.now) source.now.hier.now f
         (field_seen no_place old.now)) }
 {
-    let name = field_name(alloc, source.numbering, source.hier, f)?;
-    let mods = Vec::new(alloc);
-    field(alloc, source, mods, name, f, old)
+    let name = field_name(source, f)?;
+    let mods = Vec::new(source.alloc);
+    field(source, mods, name, f, old)
 }
 
 /// The body of an instance method: public, under the name of its declaration's column.
-pub fn body_member(
-    alloc: Global,
-    source: &Source,
-    m: u64,
-    old: &Method,
-) -> Result<Member, AllocError>
+pub fn body_member(source: &Source, m: u64, old: &Method) -> Result<Member, AllocError>
     requires { IsSource source.now }
     ensures { IfOk result (λ d. tree.member_of d ≡ written.body_member (old_program source.now) (renaming source.now) source.now.hier.now m
         (method_seen no_place old.now)) }
 {
-    let name = method_name(alloc, source.numbering, source.hier, m)?;
-    let mods = one_modifier(alloc, Keyword::Public)?;
-    method(alloc, source, mods, name, m, old)
+    let name = method_name(source, m)?;
+    let mods = one_modifier(source.alloc, Keyword::Public)?;
+    method(source, mods, name, m, old)
 }
 
 /// A static field of a holder: it keeps its name.
-pub fn static_field(
-    alloc: Global,
-    source: &Source,
-    f: u64,
-    old: &Field,
-) -> Result<Member, AllocError>
+pub fn static_field(source: &Source, f: u64, old: &Field) -> Result<Member, AllocError>
     requires { IsSource source.now }
     ensures { IfOk result (λ d. tree.member_of d ≡ tree.FieldTree (names.modifier keyword.Public ∷ names.modifier keyword.Static ∷ [])
         (names.written_type (old_program source.now) source.now.hier.now ((renaming source.now).row_type (row.Field f)) old.now.ty) old.now.name
         names.nowhere) }
 {
-    let name = old.name.copy(alloc)?;
-    let mods = public_and(alloc, Keyword::Static)?;
-    field(alloc, source, mods, name, f, old)
+    let name = old.name.copy(source.alloc)?;
+    let mods = public_and(source.alloc, Keyword::Static)?;
+    field(source, mods, name, f, old)
 }
 
 /// A static method of a holder: it keeps its name.
-pub fn static_method(
-    alloc: Global,
-    source: &Source,
-    m: u64,
-    old: &Method,
-) -> Result<Member, AllocError>
+pub fn static_method(source: &Source, m: u64, old: &Method) -> Result<Member, AllocError>
     requires { IsSource source.now }
     ensures { IfOk result (λ d. tree.member_of d ≡ tree.MethodTree (written.head (old_program source.now) (renaming source.now) source.now.hier.now
         (names.modifier keyword.Public ∷ names.modifier keyword.Static ∷ []) old.now.name m (method_seen no_place old.now)) (written.body (old_program
         source.now) (renaming source.now) source.now.hier.now m (method_seen no_place old.now)) names.nowhere) }
 {
-    let name = old.name.copy(alloc)?;
-    let mods = public_and(alloc, Keyword::Static)?;
-    method(alloc, source, mods, name, m, old)
+    let name = old.name.copy(source.alloc)?;
+    let mods = public_and(source.alloc, Keyword::Static)?;
+    method(source, mods, name, m, old)
 }

@@ -1,24 +1,18 @@
-//! Fields and methods of a program by their numbers.
+//! What is written of, and fields and methods of a program by their numbers.
 
 ghost use Rattle.std.specs.Prelude.{◌≡◌, slice_get};
-ghost use Rattle.std.specs.Option.{option_map};
-ghost use Rattle.java_core.specs.Trees.{no_place};
-ghost use Rattle.java_core.specs.Programs.{program_of, field_seen, method_seen};
+ghost use Rattle.source_gen.specs.Words.{option_map, no_place, program_of, field_seen, method_seen};
 
 use fact_model::Facts;
-use hier_model::Hier;
 use java_core::{Field, Method, Program};
-use tree_forms::Numbering;
+use tree_forms::Source;
 
-/// What a program is written of: the old program, the numbers of its items, a hierarchy over its facts,
-/// and which nodes of that are classes.
+/// What the types of the nodes are written of: the facts of the hierarchy besides, and which nodes of that are classes.
 #[derive(Clone, Copy)]
-pub struct Source<'a> {
-    pub program: &'a Program,
-    pub numbering: &'a Numbering,
-    pub classes: &'a Vec<bool>,
+pub struct Nodes<'a> {
+    pub source: Source<'a>,
     pub facts: &'a Facts,
-    pub hier: &'a Hier,
+    pub classes: &'a Vec<bool>,
 }
 
 /// A field by its number.

@@ -1,16 +1,13 @@
 //! The class nodes, and the supertypes that the type of a node names.
 
 ghost use Rattle.std.specs.Prelude.{◌≡◌, ◌&&◌, not, ◌++◌, ◌∷◌, [], ◌<◌, true, cond, length, IfOk, IfSome, OnOk};
-ghost use Rattle.std.specs.Option.{option_map};
-ghost use Rattle.kaba_order.specs.Orders.{is_le, is_live};
-ghost use Rattle.fact_model.specs.InRange.{InRange};
+ghost use Rattle.source_gen.specs.Words.{option_map, is_le, is_live, InRange, AreNodes, hierarchy_of};
 ghost use Rattle.hier_model.specs.Hierarchies.{IsHierarchyOf, is_class_node, any_below, type_name};
 ghost use Rattle.written_tree.specs.Names as names;
 ghost use Rattle.written_tree.specs.Supers as supers;
 ghost use Rattle.source_gen.specs.Seen.{class_tests};
-ghost use Rattle.source_gen.specs.Sources.{IsSource};
 
-use crate::parts::Source;
+use crate::parts::Nodes;
 use fact_model::Facts;
 use hier_model::Hier;
 use java_tree::Id;
@@ -42,21 +39,21 @@ pub fn class_nodes(alloc: Global, facts: &Facts, hier: &Hier) -> Result<Vec<bool
 }
 
 /// Whether a live node is a class node.
-pub fn is_class(source: &Source, n: u32) -> bool
-    requires source { IsSource source.now }
-    requires node { is_live source.now.hier.now.order n ≡ true }
-    ensures { result ≡ is_class_node source.now.facts.now source.now.hier.now n }
+pub fn is_class(nodes: &Nodes, n: u32) -> bool
+    requires nodes { AreNodes nodes.now }
+    requires node { is_live nodes.now.source.hier.now.order n ≡ true }
+    ensures { result ≡ is_class_node nodes.now.facts.now (hierarchy_of nodes.now) n }
 {
-    source.classes[n as usize]
+    nodes.classes[n as usize]
 }
 
 /// Whether a live node is at or below another.
-fn is_under(source: &Source, a: u32, b: u32) -> bool
-    requires source { IsSource source.now }
-    requires node { is_live source.now.hier.now.order a ≡ true }
-    ensures { result ≡ is_le source.now.hier.now.order a b }
+fn is_under(nodes: &Nodes, a: u32, b: u32) -> bool
+    requires nodes { AreNodes nodes.now }
+    requires node { is_live nodes.now.source.hier.now.order a ≡ true }
+    ensures { result ≡ is_le nodes.now.source.hier.now.order a b }
 {
-    let order = source.hier.order();
+    let order = nodes.source.hier.order();
     if !order.is_live(NodeId(b)) {
         return false;
     }
@@ -64,41 +61,41 @@ fn is_under(source: &Source, a: u32, b: u32) -> bool
 }
 
 /// Whether a node is at or below another.
-fn is_le(source: &Source, a: u32, b: u32) -> bool
-    requires { IsSource source.now }
-    ensures { result ≡ is_le source.now.hier.now.order a b }
+fn is_le(nodes: &Nodes, a: u32, b: u32) -> bool
+    requires { AreNodes nodes.now }
+    ensures { result ≡ is_le nodes.now.source.hier.now.order a b }
 {
-    let order = source.hier.order();
+    let order = nodes.source.hier.order();
     if !order.is_live(NodeId(a)) {
         return false;
     }
-    is_under(source, a, b)
+    is_under(nodes, a, b)
 }
 
 /// Whether `b` is strictly above `a`.
-fn is_above(source: &Source, a: u32, b: u32) -> bool
-    requires { IsSource source.now }
-    ensures { result ≡ supers.is_above source.now.hier.now.order a b }
+fn is_above(nodes: &Nodes, a: u32, b: u32) -> bool
+    requires { AreNodes nodes.now }
+    ensures { result ≡ supers.is_above nodes.now.source.hier.now.order a b }
 {
-    is_le(source, a, b) && a != b
+    is_le(nodes, a, b) && a != b
 }
 
 /// Whether a node is strictly above one and strictly below the other.
-fn is_between(source: &Source, a: u32, k: u32, b: u32) -> bool
-    requires { IsSource source.now }
-    ensures { result ≡ (supers.is_above source.now.hier.now.order a k && supers.is_above source.now.hier.now.order k b) }
+fn is_between(nodes: &Nodes, a: u32, k: u32, b: u32) -> bool
+    requires { AreNodes nodes.now }
+    ensures { result ≡ (supers.is_above nodes.now.source.hier.now.order a k && supers.is_above nodes.now.source.hier.now.order k b) }
 {
-    is_above(source, a, k) && is_above(source, k, b)
+    is_above(nodes, a, k) && is_above(nodes, k, b)
 }
 
 /// Whether a node is strictly between two.
-fn has_between(source: &Source, a: u32, b: u32) -> bool
-    requires { IsSource source.now }
-    ensures { result ≡ any_below (length source.now.hier.now.order.live) (λ k. supers.is_above source.now.hier.now.order a k && supers.is_above
-        source.now.hier.now.order k b) }
+fn has_between(nodes: &Nodes, a: u32, b: u32) -> bool
+    requires { AreNodes nodes.now }
+    ensures { result ≡ any_below (length nodes.now.source.hier.now.order.live) (λ k. supers.is_above nodes.now.source.hier.now.order a k && supers.is_above
+        nodes.now.source.hier.now.order k b) }
 {
-    for k in 0..source.hier.order().count() {
-        if is_between(source, a, k, b) {
+    for k in 0..nodes.source.hier.order().count() {
+        if is_between(nodes, a, k, b) {
             return true;
         }
     }
@@ -106,39 +103,39 @@ fn has_between(source: &Source, a: u32, b: u32) -> bool
 }
 
 /// Whether `b` is strictly above `a`, with none strictly between.
-fn is_cover(source: &Source, a: u32, b: u32) -> bool
-    requires { IsSource source.now }
-    ensures { result ≡ supers.is_cover source.now.hier.now.order a b }
+fn is_cover(nodes: &Nodes, a: u32, b: u32) -> bool
+    requires { AreNodes nodes.now }
+    ensures { result ≡ supers.is_cover nodes.now.source.hier.now.order a b }
 {
-    is_above(source, a, b) && !has_between(source, a, b)
+    is_above(nodes, a, b) && !has_between(nodes, a, b)
 }
 
 /// Whether a class node is strictly above a node.
-fn is_class_above(source: &Source, n: u32, a: u32) -> bool
-    requires { IsSource source.now }
-    ensures { result ≡ supers.is_class_above source.now.facts.now source.now.hier.now n a }
+fn is_class_above(nodes: &Nodes, n: u32, a: u32) -> bool
+    requires { AreNodes nodes.now }
+    ensures { result ≡ supers.is_class_above nodes.now.facts.now (hierarchy_of nodes.now) n a }
 {
-    is_above(source, n, a) && is_class(source, a)
+    is_above(nodes, n, a) && is_class(nodes, a)
 }
 
 /// Whether a class node is strictly above `n`, and not at or above `a`.
-fn is_elsewhere(source: &Source, n: u32, a: u32, b: u32) -> bool
-    requires source { IsSource source.now }
-    requires node { is_live source.now.hier.now.order a ≡ true }
-    ensures { result ≡ (supers.is_class_above source.now.facts.now source.now.hier.now n b && not (is_le source.now.hier.now.order a b)) }
+fn is_elsewhere(nodes: &Nodes, n: u32, a: u32, b: u32) -> bool
+    requires nodes { AreNodes nodes.now }
+    requires node { is_live nodes.now.source.hier.now.order a ≡ true }
+    ensures { result ≡ (supers.is_class_above nodes.now.facts.now (hierarchy_of nodes.now) n b && not (is_le nodes.now.source.hier.now.order a b)) }
 {
-    is_class_above(source, n, b) && !source.hier.order().le(NodeId(a), NodeId(b))
+    is_class_above(nodes, n, b) && !nodes.source.hier.order().le(NodeId(a), NodeId(b))
 }
 
 /// Whether some class node strictly above `n` is not at or above `a`.
-fn has_elsewhere(source: &Source, n: u32, a: u32) -> bool
-    requires source { IsSource source.now }
-    requires node { is_live source.now.hier.now.order a ≡ true }
-    ensures { result ≡ any_below (length source.now.hier.now.order.live) (λ b. supers.is_class_above source.now.facts.now source.now.hier.now n b &&
-        not (is_le source.now.hier.now.order a b)) }
+fn has_elsewhere(nodes: &Nodes, n: u32, a: u32) -> bool
+    requires nodes { AreNodes nodes.now }
+    requires node { is_live nodes.now.source.hier.now.order a ≡ true }
+    ensures { result ≡ any_below (length nodes.now.source.hier.now.order.live) (λ b. supers.is_class_above nodes.now.facts.now (hierarchy_of nodes.now) n b &&
+        not (is_le nodes.now.source.hier.now.order a b)) }
 {
-    for b in 0..source.hier.order().count() {
-        if is_elsewhere(source, n, a, b) {
+    for b in 0..nodes.source.hier.order().count() {
+        if is_elsewhere(nodes, n, a, b) {
             return true;
         }
     }
@@ -146,21 +143,21 @@ fn has_elsewhere(source: &Source, n: u32, a: u32) -> bool
 }
 
 /// Whether a node is the lowest of the class nodes strictly above another.
-fn is_superclass(source: &Source, n: u32, a: u32) -> bool
-    requires { IsSource source.now }
-    ensures { result ≡ supers.is_superclass source.now.facts.now source.now.hier.now n a }
+fn is_superclass(nodes: &Nodes, n: u32, a: u32) -> bool
+    requires { AreNodes nodes.now }
+    ensures { result ≡ supers.is_superclass nodes.now.facts.now (hierarchy_of nodes.now) n a }
 {
-    is_class_above(source, n, a) && !has_elsewhere(source, n, a)
+    is_class_above(nodes, n, a) && !has_elsewhere(nodes, n, a)
 }
 
 /// The lowest of the class nodes strictly above a node.
-fn superclass(source: &Source, n: u32) -> Option<NodeId>
-    requires { IsSource source.now }
-    ensures value { option_map (λ a. a.0) result ≡ supers.superclass source.now.facts.now source.now.hier.now n }
-    ensures within { IfSome result (λ a. a.0 < length source.now.hier.now.types) }
+fn superclass(nodes: &Nodes, n: u32) -> Option<NodeId>
+    requires { AreNodes nodes.now }
+    ensures value { option_map (λ a. a.0) result ≡ supers.superclass nodes.now.facts.now (hierarchy_of nodes.now) n }
+    ensures within { IfSome result (λ a. a.0 < length nodes.now.source.hier.now.types) }
 {
-    for a in 0..source.hier.order().count() {
-        if is_superclass(source, n, a) {
+    for a in 0..nodes.source.hier.order().count() {
+        if is_superclass(nodes, n, a) {
             return Some(NodeId(a));
         }
     }
@@ -176,12 +173,12 @@ fn type_id(alloc: Global, hier: &Hier, n: NodeId) -> Result<Id, AllocError>
 }
 
 /// What a class extends: the lowest class node strictly above.
-pub fn extended(alloc: Global, source: &Source, n: NodeId) -> Result<Option<Id>, AllocError>
-    requires { IsSource source.now }
-    ensures { IfOk result (λ i. i ≡ supers.extended source.now.facts.now source.now.hier.now n.0) }
+pub fn extended(nodes: &Nodes, n: NodeId) -> Result<Option<Id>, AllocError>
+    requires { AreNodes nodes.now }
+    ensures { IfOk result (λ i. i ≡ supers.extended nodes.now.facts.now (hierarchy_of nodes.now) n.0) }
 {
-    match superclass(source, n.0) {
-        Some(class) => Ok(Some(type_id(alloc, source.hier, class)?)),
+    match superclass(nodes, n.0) {
+        Some(class) => Ok(Some(type_id(nodes.source.alloc, nodes.source.hier, class)?)),
         None => Ok(None),
     }
 }
@@ -205,35 +202,35 @@ fn add_name(
 }
 
 /// Whether a node is an upper cover and no class node.
-fn is_face(source: &Source, n: u32, a: u32) -> bool
-    requires { IsSource source.now }
-    ensures { result ≡ (supers.is_cover source.now.hier.now.order n a && not (is_class_node source.now.facts.now source.now.hier.now a)) }
+fn is_face(nodes: &Nodes, n: u32, a: u32) -> bool
+    requires { AreNodes nodes.now }
+    ensures { result ≡ (supers.is_cover nodes.now.source.hier.now.order n a && not (is_class_node nodes.now.facts.now (hierarchy_of nodes.now) a)) }
 {
-    is_cover(source, n, a) && !is_class(source, a)
+    is_cover(nodes, n, a) && !is_class(nodes, a)
 }
 
 /// What a class implements: the upper covers that are no class nodes, in rising number.
-pub fn implemented(alloc: Global, source: &Source, n: NodeId) -> Result<Vec<Id>, AllocError>
-    requires { IsSource source.now }
-    ensures { IfOk result (λ v. v.items ≡ supers.implemented source.now.facts.now source.now.hier.now n.0) }
+pub fn implemented(nodes: &Nodes, n: NodeId) -> Result<Vec<Id>, AllocError>
+    requires { AreNodes nodes.now }
+    ensures { IfOk result (λ v. v.items ≡ supers.implemented nodes.now.facts.now (hierarchy_of nodes.now) n.0) }
 {
-    let mut list = Vec::new(alloc);
-    for a in 0..source.hier.order().count() {
-        let passes = is_face(source, n.0, a);
-        add_name(alloc, source.hier, passes, a, &mut list)?;
+    let mut list = Vec::new(nodes.source.alloc);
+    for a in 0..nodes.source.hier.order().count() {
+        let passes = is_face(nodes, n.0, a);
+        add_name(nodes.source.alloc, nodes.source.hier, passes, a, &mut list)?;
     }
     Ok(list)
 }
 
 /// What an interface extends: the upper covers, in rising number.
-pub fn covering(alloc: Global, source: &Source, n: NodeId) -> Result<Vec<Id>, AllocError>
-    requires { IsSource source.now }
-    ensures { IfOk result (λ v. v.items ≡ supers.covering source.now.facts.now source.now.hier.now n.0) }
+pub fn covering(nodes: &Nodes, n: NodeId) -> Result<Vec<Id>, AllocError>
+    requires { AreNodes nodes.now }
+    ensures { IfOk result (λ v. v.items ≡ supers.covering nodes.now.facts.now (hierarchy_of nodes.now) n.0) }
 {
-    let mut list = Vec::new(alloc);
-    for a in 0..source.hier.order().count() {
-        let passes = is_cover(source, n.0, a);
-        add_name(alloc, source.hier, passes, a, &mut list)?;
+    let mut list = Vec::new(nodes.source.alloc);
+    for a in 0..nodes.source.hier.order().count() {
+        let passes = is_cover(nodes, n.0, a);
+        add_name(nodes.source.alloc, nodes.source.hier, passes, a, &mut list)?;
     }
     Ok(list)
 }

@@ -13,98 +13,87 @@ ghost use Rattle.java_tree.specs.Syntax.{
   CastOf,
   InstanceOfClass,
 };
-ghost use Rattle.java_core.specs.Trees.{no_place};
-ghost use Rattle.java_core.specs.Programs.{program_of};
-ghost use Rattle.java_core.specs.Formed.{IsFormed};
 ghost use Rattle.java_core.specs.Statics.{static_seen};
 ghost use Rattle.java_core.specs.Types as types;
 ghost use Rattle.flow_rules.specs.declared.items.RowItem.TheVariants as row;
 ghost use Rattle.written_tree.specs.Names as written;
-ghost use Rattle.tree_forms.specs.Renamed.{renamed, IsFitting, accessed, called, above, row_named, row_typed};
+ghost use Rattle.tree_forms.specs.Renamed.{IsFitting};
+ghost use Rattle.tree_forms.specs.Sources.{renaming, IsSource, accessed, called, above, row_named, row_typed};
 
+use crate::given::Source;
 use crate::names::{
-    accessed_name, called_name, field_name, id, node_of, nowhere, row_name, super_name,
-    written_type,
+    accessed_name, called_name, field_name, id, nowhere, row_name, row_type, super_name,
 };
-use crate::numbers::Numbering;
 use flow_rules::RowItem;
-use hier_model::Hier;
-use java_core::{Program, Static, Ty, class_of};
+use java_core::{Static, Ty, class_of};
 use java_tree::{Expr, build};
 use kaba_base::{ClassId, MemberId, Name};
-use std::alloc::{AllocError, Global};
+use std::alloc::AllocError;
+use std::mem::drop;
 
 /// A field of `this`.
-pub fn own_field(
-    alloc: Global,
-    numbering: &Numbering,
-    hier: &Hier,
-    field: MemberId,
-) -> Result<Expr, AllocError>
-    requires { IsFitting numbering.now hier.now }
-    ensures { IfOk result (λ e. expr_of e ≡ FieldOf (ThisRef written.nowhere) ((renamed numbering.now hier.now).field_name field.0) written.nowhere) }
+pub fn own_field(source: &Source, field: MemberId) -> Result<Expr, AllocError>
+    requires { IsFitting source.now.numbering.now source.now.hier.now }
+    ensures { IfOk result (λ e. expr_of e ≡ FieldOf (ThisRef written.nowhere) ((renaming source.now).field_name field.0) written.nowhere) }
 {
-    let name = field_name(alloc, numbering, hier, field.0 as u64)?;
-    build::field(alloc, Expr::This { place: nowhere() }, name, nowhere())
+    let name = field_name(source, field.0 as u64)?;
+    build::field(
+        source.alloc,
+        Expr::This { place: nowhere() },
+        name,
+        nowhere(),
+    )
 }
 
 /// A field of what an expression of this type gives.
-pub fn field(
-    alloc: Global,
-    program: &Program,
-    numbering: &Numbering,
-    hier: &Hier,
-    found: Static,
-    name: &Name,
-    base: Expr,
-) -> Result<Expr, AllocError>
-    requires formed { IsFormed (program_of no_place program.now) }
-    requires fits { IsFitting numbering.now hier.now }
-    ensures { IfOk result (λ e. expr_of e ≡ FieldOf (expr_of base) (accessed program.now
-        numbering.now hier.now (static_seen found) name.now) written.nowhere) }
+pub fn field(source: &Source, found: Static, name: &Name, base: Expr) -> Result<Expr, AllocError>
+    requires { IsSource source.now }
+    ensures { IfOk result (λ e. expr_of e ≡ FieldOf (expr_of base) (accessed source.now (static_seen found) name.now) written.nowhere) }
 {
-    let name = accessed_name(alloc, program, numbering, hier, found, name)?;
-    build::field(alloc, base, name, nowhere())
+    match accessed_name(source, found, name) {
+        Ok(name) => build::field(source.alloc, base, name, nowhere()),
+        Err(fault) => {
+            drop(base);
+            Err(fault)
+        }
+    }
 }
 
 /// A call on what an expression of this type gives.
 pub fn call(
-    alloc: Global,
-    program: &Program,
-    numbering: &Numbering,
-    hier: &Hier,
+    source: &Source,
     found: Static,
     name: &Name,
     on: Expr,
     args: Vec<Expr>,
 ) -> Result<Expr, AllocError>
-    requires formed { IsFormed (program_of no_place program.now) }
-    requires fits { IsFitting numbering.now hier.now }
-    ensures { IfOk result (λ e. expr_of e ≡ CallOn (expr_of on) (called program.now numbering.now
-        hier.now (types.class_of (static_seen found)) name.now) (exprs args.items) written.nowhere) }
+    requires { IsSource source.now }
+    ensures { IfOk result (λ e. expr_of e ≡ CallOn (expr_of on) (called source.now
+        (types.class_of (static_seen found)) name.now) (exprs args.items) written.nowhere) }
 {
-    let name = called_name(alloc, program, numbering, hier, class_of(found), name)?;
-    build::call_on(alloc, on, name, args, nowhere())
+    match called_name(source, class_of(found), name) {
+        Ok(name) => build::call_on(source.alloc, on, name, args, nowhere()),
+        Err(fault) => {
+            drop(on);
+            drop(args);
+            Err(fault)
+        }
+    }
 }
 
 /// A call on `this`, in the body of a class.
 pub fn own_call(
-    alloc: Global,
-    program: &Program,
-    numbering: &Numbering,
-    hier: &Hier,
+    source: &Source,
     class: ClassId,
     name: &Name,
     args: Vec<Expr>,
 ) -> Result<Expr, AllocError>
-    requires formed { IsFormed (program_of no_place program.now) }
-    requires fits { IsFitting numbering.now hier.now }
-    ensures { IfOk result (λ e. expr_of e ≡ CallOn (ThisRef written.nowhere) (called program.now
-        numbering.now hier.now (Some class.0) name.now) (exprs args.items) written.nowhere) }
+    requires { IsSource source.now }
+    ensures { IfOk result (λ e. expr_of e ≡ CallOn (ThisRef written.nowhere) (called source.now (Some class.0) name.now) (exprs args.items) written.nowhere) }
 {
-    let name = called_name(alloc, program, numbering, hier, Some(class), name)?;
+    let name = called_name(source, Some(class), name)?;
     build::call_on(
-        alloc,
+        source.alloc,
         Expr::This { place: nowhere() },
         name,
         args,
@@ -114,92 +103,71 @@ pub fn own_call(
 
 /// A call of the method that the superclass of a class has.
 pub fn super_call(
-    alloc: Global,
-    program: &Program,
-    numbering: &Numbering,
-    hier: &Hier,
+    source: &Source,
     class: ClassId,
     name: &Name,
     args: Vec<Expr>,
 ) -> Result<Expr, AllocError>
-    requires formed { IsFormed (program_of no_place program.now) }
-    requires fits { IsFitting numbering.now hier.now }
-    ensures { IfOk result (λ e. expr_of e ≡ SuperCallOf (above program.now numbering.now hier.now class.0 name.now) (exprs args.items) written.nowhere) }
+    requires { IsSource source.now }
+    ensures { IfOk result (λ e. expr_of e ≡ SuperCallOf (above source.now class.0 name.now) (exprs args.items) written.nowhere) }
 {
-    let name = super_name(alloc, program, numbering, hier, class, name)?;
+    let name = super_name(source, class, name)?;
     Ok(build::super_call(name, args, nowhere()))
 }
 
 /// A creation of an object, by the node where its row stands.
 pub fn creation(
-    alloc: Global,
-    program: &Program,
-    numbering: &Numbering,
-    hier: &Hier,
+    source: &Source,
     number: u32,
     class: ClassId,
     args: Vec<Expr>,
 ) -> Result<Expr, AllocError>
-    requires { IsFitting numbering.now hier.now }
-    ensures { IfOk result (λ e. expr_of e ≡ NewOf (written.id (row_named program.now
-        numbering.now hier.now (row.New number) class.0)) (exprs args.items) written.nowhere) }
+    requires { IsFitting source.now.numbering.now source.now.hier.now }
+    ensures { IfOk result (λ e. expr_of e ≡ NewOf (written.id (row_named source.now (row.New number) class.0)) (exprs args.items) written.nowhere) }
 {
-    let node = node_of(numbering, hier, RowItem::New(number as u64));
-    let name = row_name(alloc, program, hier, node, class)?;
+    let name = row_name(source, RowItem::New(number as u64), class)?;
     Ok(build::new_object(id(name), args, nowhere()))
 }
 
 /// A creation of an array, by the node where its row stands.
-pub fn array(
-    alloc: Global,
-    program: &Program,
-    numbering: &Numbering,
-    hier: &Hier,
-    number: u32,
-    ty: Ty,
-    size: Expr,
-) -> Result<Expr, AllocError>
-    requires { IsFitting numbering.now hier.now }
-    ensures { IfOk result (λ e. expr_of e ≡ NewArrayOf (row_typed program.now numbering.now hier.now (row.New number) ty) (expr_of size) written.nowhere) }
+pub fn array(source: &Source, number: u32, ty: Ty, size: Expr) -> Result<Expr, AllocError>
+    requires { IsFitting source.now.numbering.now source.now.hier.now }
+    ensures { IfOk result (λ e. expr_of e ≡ NewArrayOf (row_typed source.now (row.New number) ty) (expr_of size) written.nowhere) }
 {
-    let node = node_of(numbering, hier, RowItem::New(number as u64));
-    let ty = written_type(alloc, program, hier, node, ty)?;
-    build::new_array(alloc, ty, size, nowhere())
+    match row_type(source, RowItem::New(number as u64), ty) {
+        Ok(ty) => build::new_array(source.alloc, ty, size, nowhere()),
+        Err(fault) => {
+            drop(size);
+            Err(fault)
+        }
+    }
 }
 
 /// A cast, by the node where its row stands.
-pub fn cast(
-    alloc: Global,
-    program: &Program,
-    numbering: &Numbering,
-    hier: &Hier,
-    number: u32,
-    ty: Ty,
-    value: Expr,
-) -> Result<Expr, AllocError>
-    requires { IsFitting numbering.now hier.now }
-    ensures { IfOk result (λ e. expr_of e ≡ CastOf (row_typed program.now numbering.now hier.now (row.Cast number) ty) (expr_of value) written.nowhere) }
+pub fn cast(source: &Source, number: u32, ty: Ty, value: Expr) -> Result<Expr, AllocError>
+    requires { IsFitting source.now.numbering.now source.now.hier.now }
+    ensures { IfOk result (λ e. expr_of e ≡ CastOf (row_typed source.now (row.Cast number) ty) (expr_of value) written.nowhere) }
 {
-    let node = node_of(numbering, hier, RowItem::Cast(number as u64));
-    let ty = written_type(alloc, program, hier, node, ty)?;
-    build::cast(alloc, ty, value, nowhere())
+    match row_type(source, RowItem::Cast(number as u64), ty) {
+        Ok(ty) => build::cast(source.alloc, ty, value, nowhere()),
+        Err(fault) => {
+            drop(value);
+            Err(fault)
+        }
+    }
 }
 
 /// `instanceof`, by the node where its row stands.
-pub fn test(
-    alloc: Global,
-    program: &Program,
-    numbering: &Numbering,
-    hier: &Hier,
-    number: u32,
-    class: ClassId,
-    value: Expr,
-) -> Result<Expr, AllocError>
-    requires { IsFitting numbering.now hier.now }
+pub fn test(source: &Source, number: u32, class: ClassId, value: Expr) -> Result<Expr, AllocError>
+    requires { IsFitting source.now.numbering.now source.now.hier.now }
     ensures { IfOk result (λ e. expr_of e ≡ InstanceOfClass (expr_of value) (written.id
-        (row_named program.now numbering.now hier.now (row.Test number) class.0)) written.nowhere) }
+        (row_named source.now (row.Test number) class.0)) written.nowhere) }
 {
-    let node = node_of(numbering, hier, RowItem::Test(number as u64));
-    let name = row_name(alloc, program, hier, node, class)?;
-    build::instance_of(alloc, value, id(name), nowhere())
+    match row_name(source, RowItem::Test(number as u64), class) {
+        Ok(name) => build::instance_of(source.alloc, value, id(name), nowhere()),
+        Err(fault) => {
+            drop(value);
+            Err(fault)
+        }
+    }
 }

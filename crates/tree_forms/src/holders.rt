@@ -4,12 +4,14 @@ ghost use Rattle.std.specs.Prelude.{◌≡◌, IfOk, slice_get};
 ghost use Rattle.std.specs.Option.{option_map};
 ghost use Rattle.java_tree.specs.Syntax.{expr_of, exprs};
 ghost use Rattle.java_core.specs.Trees.{no_place};
-ghost use Rattle.java_core.specs.Programs.{program_of, method_seen, local_seen};
+ghost use Rattle.java_core.specs.Programs.{method_seen, local_seen};
 ghost use Rattle.java_core.specs.Formed.{variables_of};
 ghost use Rattle.written_tree.specs.Bodies as written;
+ghost use Rattle.tree_forms.specs.Sources.{old_program};
 
+use crate::given::Source;
 use crate::names::{class_name, is_same, no_name, nowhere};
-use java_core::{Local, Method, Program};
+use java_core::{Local, Method};
 use java_tree::{Expr, build};
 use kaba_base::{ClassId, MemberId, Name};
 use std::alloc::{AllocError, Global};
@@ -73,57 +75,53 @@ fn is_simple(method: &Method, scope: &Vec<u32>, owner: ClassId, name: &Name) -> 
 
 /// A static field.
 pub fn static_field(
-    alloc: Global,
-    program: &Program,
+    source: &Source,
     method: &Method,
     scope: &Vec<u32>,
     field: MemberId,
 ) -> Result<Expr, AllocError>
-    ensures { IfOk result (λ e. expr_of e ≡ written.static_field_name (program_of no_place
-        program.now) (method_seen no_place method.now) scope.now.items field.0) }
+    ensures { IfOk result (λ e. expr_of e ≡ written.static_field_name (old_program source.now) (method_seen no_place method.now) scope.now.items field.0) }
 {
-    let Some(field) = program.fields.get(field.0 as usize) else {
+    let Some(field) = source.program.fields.get(field.0 as usize) else {
         return Ok(Expr::Null { place: nowhere() });
     };
-    let name = field.name.copy(alloc)?;
+    let name = field.name.copy(source.alloc)?;
     if is_simple(method, scope, field.owner, &name) {
         return Ok(Expr::Name {
             name,
             place: nowhere(),
         });
     }
-    let holder = class_name(alloc, program, field.owner)?;
+    let holder = class_name(source, field.owner)?;
     let holder = Expr::Name {
         name: holder,
         place: nowhere(),
     };
-    build::field(alloc, holder, name, nowhere())
+    build::field(source.alloc, holder, name, nowhere())
 }
 
 /// A call of a static method.
 pub fn static_call(
-    alloc: Global,
-    program: &Program,
+    source: &Source,
     method: &Method,
     scope: &Vec<u32>,
     called: MemberId,
     args: Vec<Expr>,
 ) -> Result<Expr, AllocError>
-    ensures { IfOk result (λ e. expr_of e ≡ written.static_call_name (program_of no_place
-        program.now) (method_seen no_place method.now) scope.now.items called.0
+    ensures { IfOk result (λ e. expr_of e ≡ written.static_call_name (old_program source.now) (method_seen no_place method.now) scope.now.items called.0
         (exprs args.items)) }
 {
-    let Some(called) = program.methods.get(called.0 as usize) else {
+    let Some(called) = source.program.methods.get(called.0 as usize) else {
         return Ok(Expr::Null { place: nowhere() });
     };
-    let name = called.name.copy(alloc)?;
+    let name = called.name.copy(source.alloc)?;
     if is_simple(method, scope, called.owner, &name) {
         return Ok(build::call(name, args, nowhere()));
     }
-    let holder = class_name(alloc, program, called.owner)?;
+    let holder = class_name(source, called.owner)?;
     let holder = Expr::Name {
         name: holder,
         place: nowhere(),
     };
-    build::call_on(alloc, holder, name, args, nowhere())
+    build::call_on(source.alloc, holder, name, args, nowhere())
 }

@@ -5,12 +5,14 @@
 #![tactic(auto)]
 
 pub mod forms;
+mod given;
 mod holders;
 mod names;
 mod numbers;
 
+pub use given::Source;
 pub use holders::{static_call, static_field, variable, variable_name};
 pub use names::{
-    field_name, id, infix_mark, method_name, modifier, node_of, nowhere, prefix_mark, written_type,
+    field_name, id, infix_mark, method_name, modifier, nowhere, prefix_mark, row_type,
 };
 pub use numbers::{Numbering, result_row, variable_row};

@@ -1,25 +1,18 @@
 //! How names, types and operators are written.
 
-ghost use Rattle.std.specs.Prelude.{◌≡◌, ◌<◌, [], codes, length, IfOk, IfSome, option_and_then};
-ghost use Rattle.std.specs.Option.{option_map, option_map_or};
+ghost use Rattle.std.specs.Prelude.{◌≡◌, ◌<◌, [], codes, length, IfOk, IfSome};
+ghost use Rattle.std.specs.Option.{option_map};
 ghost use Rattle.std.specs.Str.{bytes_eq};
-ghost use Rattle.java_core.specs.Trees.{no_place};
-ghost use Rattle.java_core.specs.Programs.{program_of};
-ghost use Rattle.java_core.specs.Formed.{IsFormed};
 ghost use Rattle.java_core.specs.Statics.{static_seen};
-ghost use Rattle.java_core.specs.Classes as classes;
-ghost use Rattle.java_core.specs.Types as types;
 ghost use Rattle.flow_rules.specs.Numbered.{number_among, same_column};
-ghost use Rattle.rebuild_model.specs.Renaming as renaming;
+ghost use Rattle.rebuild_model.specs.Renaming as columns;
 ghost use Rattle.written_tree.specs.Names as written;
-ghost use Rattle.tree_forms.specs.Renamed.{renamed, IsFitting};
+ghost use Rattle.tree_forms.specs.Renamed.{IsFitting};
+ghost use Rattle.tree_forms.specs.Sources.{old_program, renaming, IsSource, accessed, called, above, row_named, row_typed};
 
-use crate::numbers::Numbering;
+use crate::given::Source;
 use flow_rules::{ColumnItem, RowItem};
-use hier_model::Hier;
-use java_core::{
-    BinOp, Op, Program, Static, Ty, TyBase, UnOp, declaration_of, field_in, super_method,
-};
+use java_core::{BinOp, Op, Static, Ty, TyBase, UnOp, declaration_of, field_in, super_method};
 use java_lex::Mark;
 use java_tree::{Id, Modifier, TypeBase, TypeName};
 use kaba_base::{ClassId, ColId, Keyword, Name, NodeId, Place, RowId};
@@ -122,79 +115,61 @@ fn text_name(alloc: Global) -> Result<Name, AllocError>
 }
 
 /// The name of a class of the program.
-pub fn class_name(alloc: Global, program: &Program, class: ClassId) -> Result<Name, AllocError>
-    ensures { IfOk result (λ n. n ≡ written.class_name (program_of no_place program.now) class.0) }
+pub fn class_name(source: &Source, class: ClassId) -> Result<Name, AllocError>
+    ensures { IfOk result (λ n. n ≡ written.class_name (old_program source.now) class.0) }
 {
-    match program.classes.get(class.0 as usize) {
-        Some(class) => class.name.copy(alloc),
-        None => no_name(alloc),
+    match source.program.classes.get(class.0 as usize) {
+        Some(class) => class.name.copy(source.alloc),
+        None => no_name(source.alloc),
     }
 }
 
 /// The node where the row of an item stands.
-pub fn node_of(numbering: &Numbering, hier: &Hier, item: RowItem) -> Option<NodeId>
-    requires { IsFitting numbering.now hier.now }
-    ensures node { option_map (λ n. n.0) result ≡ (renamed numbering.now hier.now).row_type item }
-    ensures within { IfSome result (λ n. n.0 < length hier.now.types) }
+fn node_of(source: &Source, item: RowItem) -> Option<NodeId>
+    requires { IsFitting source.now.numbering.now source.now.hier.now }
+    ensures node { option_map (λ n. n.0) result ≡ (renaming source.now).row_type item }
+    ensures within { IfSome result (λ n. n.0 < length source.now.hier.now.types) }
 {
-    match numbering.row(item) {
-        Some(row) => Some(hier.place_of_row(RowId(row))),
+    match source.numbering.row(item) {
+        Some(row) => Some(source.hier.place_of_row(RowId(row))),
         None => None,
     }
 }
 
 /// The name of a class by the node where a row of it stands; without a row it keeps its own.
-pub fn row_name(
-    alloc: Global,
-    program: &Program,
-    hier: &Hier,
-    node: Option<NodeId>,
-    class: ClassId,
-) -> Result<Name, AllocError>
-    requires { IfSome node (λ n. n.0 < length hier.now.types) }
-    ensures { IfOk result (λ n. n ≡ written.row_name (program_of no_place program.now) hier.now
+fn name_at(source: &Source, node: Option<NodeId>, class: ClassId) -> Result<Name, AllocError>
+    requires { IfSome node (λ n. n.0 < length source.now.hier.now.types) }
+    ensures { IfOk result (λ n. n ≡ written.row_name (old_program source.now) source.now.hier.now
         (option_map (λ k. k.0) node) class.0) }
 {
     match node {
-        Some(node) => hier.type_name(node).copy(alloc),
-        None => class_name(alloc, program, class),
+        Some(node) => source.hier.type_name(node).copy(source.alloc),
+        None => class_name(source, class),
     }
 }
 
 /// The base of a type.
-fn written_base(
-    alloc: Global,
-    program: &Program,
-    hier: &Hier,
-    node: Option<NodeId>,
-    base: TyBase,
-) -> Result<TypeBase, AllocError>
-    requires { IfSome node (λ n. n.0 < length hier.now.types) }
-    ensures { IfOk result (λ b. b ≡ written.written_base (program_of no_place program.now) hier.now
+fn written_base(source: &Source, node: Option<NodeId>, base: TyBase) -> Result<TypeBase, AllocError>
+    requires { IfSome node (λ n. n.0 < length source.now.hier.now.types) }
+    ensures { IfOk result (λ b. b ≡ written.written_base (old_program source.now) source.now.hier.now
         (option_map (λ k. k.0) node) base) }
 {
     match base {
         TyBase::Int => Ok(TypeBase::Int),
         TyBase::Boolean => Ok(TypeBase::Boolean),
         TyBase::Char => Ok(TypeBase::Char),
-        TyBase::Str => Ok(TypeBase::Named(text_name(alloc)?)),
-        TyBase::Class(class) => Ok(TypeBase::Named(row_name(alloc, program, hier, node, class)?)),
+        TyBase::Str => Ok(TypeBase::Named(text_name(source.alloc)?)),
+        TyBase::Class(class) => Ok(TypeBase::Named(name_at(source, node, class)?)),
     }
 }
 
 /// The type of what has its row at a node: that of the node, with the old dimension.
-pub fn written_type(
-    alloc: Global,
-    program: &Program,
-    hier: &Hier,
-    node: Option<NodeId>,
-    ty: Ty,
-) -> Result<TypeName, AllocError>
-    requires { IfSome node (λ n. n.0 < length hier.now.types) }
-    ensures { IfOk result (λ t. t ≡ written.written_type (program_of no_place program.now) hier.now
+fn written_type(source: &Source, node: Option<NodeId>, ty: Ty) -> Result<TypeName, AllocError>
+    requires { IfSome node (λ n. n.0 < length source.now.hier.now.types) }
+    ensures { IfOk result (λ t. t ≡ written.written_type (old_program source.now) source.now.hier.now
         (option_map (λ k. k.0) node) ty) }
 {
-    let base = written_base(alloc, program, hier, node, ty.base)?;
+    let base = written_base(source, node, ty.base)?;
     Ok(TypeName {
         base,
         dim: ty.dim,
@@ -202,110 +177,83 @@ pub fn written_type(
     })
 }
 
-/// The name of the column of an item.
-fn column_name(
-    alloc: Global,
-    numbering: &Numbering,
-    hier: &Hier,
-    item: ColumnItem,
-) -> Result<Name, AllocError>
-    requires { IsFitting numbering.now hier.now }
-    ensures { IfOk result (λ n. n ≡ renaming.column_name hier.now (number_among same_column
-        numbering.now.columns.keys item)) }
+/// The name of a class by the node where the row of an item stands.
+pub fn row_name(source: &Source, item: RowItem, class: ClassId) -> Result<Name, AllocError>
+    requires { IsFitting source.now.numbering.now source.now.hier.now }
+    ensures { IfOk result (λ n. n ≡ row_named source.now item class.0) }
 {
-    match numbering.column(item) {
-        Some(column) => hier.member_name(ColId(column)).copy(alloc),
-        None => no_name(alloc),
+    name_at(source, node_of(source, item), class)
+}
+
+/// The type of what has a row, by the node where the row stands.
+pub fn row_type(source: &Source, item: RowItem, ty: Ty) -> Result<TypeName, AllocError>
+    requires { IsFitting source.now.numbering.now source.now.hier.now }
+    ensures { IfOk result (λ t. t ≡ row_typed source.now item ty) }
+{
+    written_type(source, node_of(source, item), ty)
+}
+
+/// The name of the column of an item.
+fn column_name(source: &Source, item: ColumnItem) -> Result<Name, AllocError>
+    requires { IsFitting source.now.numbering.now source.now.hier.now }
+    ensures { IfOk result (λ n. n ≡ columns.column_name source.now.hier.now (number_among same_column
+        source.now.numbering.now.columns.keys item)) }
+{
+    match source.numbering.column(item) {
+        Some(column) => source.hier.member_name(ColId(column)).copy(source.alloc),
+        None => no_name(source.alloc),
     }
 }
 
 /// The new name of a field.
-pub fn field_name(
-    alloc: Global,
-    numbering: &Numbering,
-    hier: &Hier,
-    field: u64,
-) -> Result<Name, AllocError>
-    requires { IsFitting numbering.now hier.now }
-    ensures { IfOk result (λ n. n ≡ (renamed numbering.now hier.now).field_name field) }
+pub fn field_name(source: &Source, field: u64) -> Result<Name, AllocError>
+    requires { IsFitting source.now.numbering.now source.now.hier.now }
+    ensures { IfOk result (λ n. n ≡ (renaming source.now).field_name field) }
 {
-    column_name(alloc, numbering, hier, ColumnItem::Fld(field))
+    column_name(source, ColumnItem::Fld(field))
 }
 
 /// The new name of an instance method.
-pub fn method_name(
-    alloc: Global,
-    numbering: &Numbering,
-    hier: &Hier,
-    method: u64,
-) -> Result<Name, AllocError>
-    requires { IsFitting numbering.now hier.now }
-    ensures { IfOk result (λ n. n ≡ (renamed numbering.now hier.now).method_name method) }
+pub fn method_name(source: &Source, method: u64) -> Result<Name, AllocError>
+    requires { IsFitting source.now.numbering.now source.now.hier.now }
+    ensures { IfOk result (λ n. n ≡ (renaming source.now).method_name method) }
 {
-    column_name(alloc, numbering, hier, ColumnItem::Dcl(method))
+    column_name(source, ColumnItem::Dcl(method))
 }
 
 /// The new name of the field that an expression has under a name; what is no such field keeps it.
-pub fn accessed_name(
-    alloc: Global,
-    program: &Program,
-    numbering: &Numbering,
-    hier: &Hier,
-    base: Static,
-    name: &Name,
-) -> Result<Name, AllocError>
-    requires formed { IsFormed (program_of no_place program.now) }
-    requires fits { IsFitting numbering.now hier.now }
-    ensures { IfOk result (λ n. n ≡ option_map_or (renamed numbering.now hier.now).field_name
-        (types.field_in (program_of no_place program.now) (static_seen base) name.now) name.now) }
+pub fn accessed_name(source: &Source, base: Static, name: &Name) -> Result<Name, AllocError>
+    requires { IsSource source.now }
+    ensures { IfOk result (λ n. n ≡ accessed source.now (static_seen base) name.now) }
 {
-    match field_in(program, base, name) {
-        Some(field) => field_name(alloc, numbering, hier, field.0 as u64),
-        None => name.copy(alloc),
+    match field_in(source.program, base, name) {
+        Some(field) => field_name(source, field.0 as u64),
+        None => name.copy(source.alloc),
     }
 }
 
 /// The new name of the method that a call of a name on an object of a class finds; other names
 /// stay.
-pub fn called_name(
-    alloc: Global,
-    program: &Program,
-    numbering: &Numbering,
-    hier: &Hier,
-    class: Option<ClassId>,
-    name: &Name,
-) -> Result<Name, AllocError>
-    requires formed { IsFormed (program_of no_place program.now) }
-    requires fits { IsFitting numbering.now hier.now }
-    ensures { IfOk result (λ n. n ≡ option_map_or (renamed numbering.now hier.now).method_name
-        (option_and_then (λ c. classes.declaration_of (program_of no_place program.now) c
-        name.now) (option_map (λ c. c.0) class)) name.now) }
+pub fn called_name(source: &Source, class: Option<ClassId>, name: &Name) -> Result<Name, AllocError>
+    requires { IsSource source.now }
+    ensures { IfOk result (λ n. n ≡ called source.now (option_map (λ c. c.0) class) name.now) }
 {
     let Some(class) = class else {
-        return name.copy(alloc);
+        return name.copy(source.alloc);
     };
-    match declaration_of(program, class, name) {
-        Some(method) => method_name(alloc, numbering, hier, method.0 as u64),
-        None => name.copy(alloc),
+    match declaration_of(source.program, class, name) {
+        Some(method) => method_name(source, method.0 as u64),
+        None => name.copy(source.alloc),
     }
 }
 
 /// The new name of the method that `super.name(..)` in a class runs.
-pub fn super_name(
-    alloc: Global,
-    program: &Program,
-    numbering: &Numbering,
-    hier: &Hier,
-    class: ClassId,
-    name: &Name,
-) -> Result<Name, AllocError>
-    requires formed { IsFormed (program_of no_place program.now) }
-    requires fits { IsFitting numbering.now hier.now }
-    ensures { IfOk result (λ n. n ≡ option_map_or (renamed numbering.now hier.now).method_name
-        (classes.super_method (program_of no_place program.now) class.0 name.now) name.now) }
+pub fn super_name(source: &Source, class: ClassId, name: &Name) -> Result<Name, AllocError>
+    requires { IsSource source.now }
+    ensures { IfOk result (λ n. n ≡ above source.now class.0 name.now) }
 {
-    match super_method(program, class, name) {
-        Some(method) => method_name(alloc, numbering, hier, method.0 as u64),
-        None => name.copy(alloc),
+    match super_method(source.program, class, name) {
+        Some(method) => method_name(source, method.0 as u64),
+        None => name.copy(source.alloc),
     }
 }

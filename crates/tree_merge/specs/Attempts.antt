@@ -1,7 +1,9 @@
--- What is known of each try of a conflict, and of each attempt and each step.
+-- What tries are made for, and what is known of each try of a conflict, of each attempt and of each step.
 use Rattle.std.specs.Prelude.{◌≡◌, ℕ, zero, suc, ◌+◌, ◌<◌, ◌&&◌, not, Bool, true, false, List, [], ◌∷◌, length, map, slice_index_or, All, Option, Some, None, Ok, Err}
 use Rattle.kaba_base.specs.declared.NodeId.{NodeId}
 use Rattle.kaba_order.specs.Orders.{Ordered, is_le, is_live, is_among}
+use Rattle.fact_model.specs.InRange.{InRange}
+use Rattle.fact_model.specs.Flowing.{AreSets}
 use Rattle.fact_model.specs.declared.facts.Facts.{Facts}
 use Rattle.fact_model.specs.declared.sets.PointsTo.{PointsTo}
 use Rattle.hier_model.specs.Hierarchies.{Hierarchy}
@@ -14,11 +16,17 @@ use Rattle.hier_edit.specs.declared.ApplyFault.{ApplyFault}
 use Rattle.hier_edit.specs.declared.ApplyFault.TheVariants.{Breaks}
 use Rattle.hier_edit.specs.declared.ApplyFault.TheVariants as fault
 use Rattle.hier_tree.specs.Trees.{Try, MakeOne, PutUnder, conflict_of, tries_of, Stuck, tried, first_accepted, last_try, Grows, IsEditOf, try_of}
+use Rattle.tree_merge.specs.declared.given.Given.{Given}
 use Rattle.tree_merge.specs.declared.attempts.Attempt.{Attempt}
 use Rattle.tree_merge.specs.declared.attempts.Attempt.TheVariants as attempt
 use Rattle.tree_merge.specs.declared.steps.TreeStep.{TreeStep}
 use Rattle.tree_merge.specs.declared.steps.Turn.{Turn}
 use Rattle.tree_merge.specs.declared.steps.Turn.TheVariants as turn
+
+-- tries are made for facts in range, and their sets
+pub record IsGiven (given : Given) : Type 0 where
+  pub range : InRange given.facts.now
+  pub sets : AreSets given.facts.now given.sets.now
 
 -- the sum of what each number below n gives
 abbrev pub sum_below : ℕ → (ℕ → ℕ) → ℕ

@@ -1,17 +1,15 @@
 //! The first try of a conflict that is accepted.
 
 ghost use Rattle.std.specs.Prelude.{◌≡◌, ◌<◌, length, All, IfOk, OnErr};
-ghost use Rattle.fact_model.specs.InRange.{InRange};
-ghost use Rattle.fact_model.specs.Flowing.{AreSets};
-ghost use Rattle.hier_model.specs.Hierarchies.{IsHierarchyOf};
+ghost use Rattle.hier_rules.specs.Words.{IsHierarchyOf};
 ghost use Rattle.hier_edit.specs.declared.ApplyFault.TheVariants as ApplyFault;
-ghost use Rattle.tree_merge.specs.Attempts.{IsTryOf, IsOfTry, IsAttempt, IsTried};
+ghost use Rattle.tree_merge.specs.Attempts.{IsGiven, IsTryOf, IsOfTry, IsAttempt, IsTried};
 
-use fact_model::{Facts, PointsTo};
+use crate::given::Given;
 use hier_edit::{ApplyFault, apply};
 use hier_model::{Edit, Hier};
 use hier_rules::Broken;
-use std::alloc::{AllocError, Global};
+use std::alloc::AllocError;
 
 /// What some tries come to.
 #[derive(Drop)]
@@ -37,22 +35,15 @@ fn broken_of(fault: ApplyFault) -> Result<Broken, AllocError>
 }
 
 /// Makes an edit if it is accepted; else it answers what the edit breaks.
-fn attempt_one(
-    alloc: Global,
-    hier: &mut Hier,
-    facts: &Facts,
-    sets: &PointsTo,
-    edit: &Edit,
-) -> Result<Option<Broken>, AllocError>
-    requires range { InRange facts.now }
-    requires sets { AreSets facts.now sets.now }
-    requires hierarchy { IsHierarchyOf facts.now hier.old }
+fn attempt_one(given: &Given, hier: &mut Hier, edit: &Edit) -> Result<Option<Broken>, AllocError>
+    requires given { IsGiven given.now }
+    requires hierarchy { IsHierarchyOf given.now.facts.now hier.old }
     requires edit { IsTryOf hier.old edit.now }
-    ensures attempt { IfOk result (IsAttempt facts.now sets.now hier.old hier.new edit.now) }
+    ensures attempt { IfOk result (IsAttempt given.now.facts.now given.now.sets.now hier.old hier.new edit.now) }
     ensures kept { OnErr result (hier.new ≡ hier.old) }
-    ensures is { IsHierarchyOf facts.now hier.new }
+    ensures is { IsHierarchyOf given.now.facts.now hier.new }
 {
-    match apply(alloc, hier, facts, sets, edit) {
+    match apply(given.alloc, hier, given.facts, given.sets, edit) {
         Ok(()) => Ok(None),
         Err(fault) => {
             let broken = broken_of(fault)?;
@@ -63,25 +54,18 @@ fn attempt_one(
 
 /// Makes the first of some edits that is accepted. An error comes only for want of memory, and then
 /// nothing has changed.
-pub fn first_accepted(
-    alloc: Global,
-    hier: &mut Hier,
-    facts: &Facts,
-    sets: &PointsTo,
-    tries: &[Edit],
-) -> Result<Attempt, AllocError>
-    requires range { InRange facts.now }
-    requires sets { AreSets facts.now sets.now }
-    requires hierarchy { IsHierarchyOf facts.now hier.old }
+pub fn first_accepted(given: &Given, hier: &mut Hier, tries: &[Edit]) -> Result<Attempt, AllocError>
+    requires given { IsGiven given.now }
+    requires hierarchy { IsHierarchyOf given.now.facts.now hier.old }
     requires some { 0 < length tries.now }
     requires tries { All (IsTryOf hier.old) tries.now }
-    ensures tried { IfOk result (IsTried facts.now sets.now hier.old hier.new tries.now) }
+    ensures tried { IfOk result (IsTried given.now.facts.now given.now.sets.now hier.old hier.new tries.now) }
     ensures kept { OnErr result (hier.new ≡ hier.old) }
-    ensures is { IsHierarchyOf facts.now hier.new }
+    ensures is { IsHierarchyOf given.now.facts.now hier.new }
 {
     let mut k = 0;
     'tries: loop {
-        match attempt_one(alloc, hier, facts, sets, &tries[k])? {
+        match attempt_one(given, hier, &tries[k])? {
             None => return Ok(Attempt::Accepted(k)),
             Some(broken) if k + 1 == tries.len() => return Ok(Attempt::Refused(broken)),
             Some(_) => k += 1,

@@ -4,6 +4,7 @@
 
 mod attempts;
 mod conflicts;
+mod given;
 mod steps;
 mod trees;
 mod tries;

@@ -1,20 +1,18 @@
 //! One step towards a tree.
 
 ghost use Rattle.std.specs.Prelude.{◌≡◌, IfOk, OnErr, Some};
-ghost use Rattle.fact_model.specs.InRange.{InRange};
-ghost use Rattle.fact_model.specs.Flowing.{AreSets};
-ghost use Rattle.hier_model.specs.Hierarchies.{IsHierarchyOf};
+ghost use Rattle.hier_rules.specs.Words.{IsHierarchyOf};
 ghost use Rattle.hier_rules.specs.Obligations.{first_unchained};
-ghost use Rattle.tree_merge.specs.Attempts.{IsTurn};
+ghost use Rattle.tree_merge.specs.Attempts.{IsGiven, IsTurn};
 
 use crate::attempts::{Attempt, first_accepted};
 use crate::conflicts::conflict_of;
+use crate::given::Given;
 use crate::tries::tries_of;
-use fact_model::{Facts, PointsTo};
 use hier_model::{Edit, Hier};
 use hier_rules::{Broken, first_unchained};
 use hier_tree::Conflict;
-use std::alloc::{AllocError, Global};
+use std::alloc::AllocError;
 
 /// A step towards a tree.
 #[derive(Drop)]
@@ -37,24 +35,17 @@ pub enum Turn {
 }
 
 /// The step at a conflict.
-fn step_at(
-    alloc: Global,
-    hier: &mut Hier,
-    facts: &Facts,
-    sets: &PointsTo,
-    broken: Broken,
-) -> Result<Turn, AllocError>
-    requires range { InRange facts.now }
-    requires sets { AreSets facts.now sets.now }
-    requires hierarchy { IsHierarchyOf facts.now hier.old }
-    requires conflict { first_unchained facts.now hier.old ≡ Some broken }
-    ensures turn { IfOk result (IsTurn facts.now sets.now hier.old hier.new) }
+fn step_at(given: &Given, hier: &mut Hier, broken: Broken) -> Result<Turn, AllocError>
+    requires given { IsGiven given.now }
+    requires hierarchy { IsHierarchyOf given.now.facts.now hier.old }
+    requires conflict { first_unchained given.now.facts.now hier.old ≡ Some broken }
+    ensures turn { IfOk result (IsTurn given.now.facts.now given.now.sets.now hier.old hier.new) }
     ensures kept { OnErr result (hier.new ≡ hier.old) }
-    ensures is { IsHierarchyOf facts.now hier.new }
+    ensures is { IsHierarchyOf given.now.facts.now hier.new }
 {
     let conflict = conflict_of(broken);
-    let mut tries = tries_of(alloc, facts, hier, conflict)?;
-    match first_accepted(alloc, hier, facts, sets, &tries)? {
+    let mut tries = tries_of(given.alloc, given.facts, hier, conflict)?;
+    match first_accepted(given, hier, &tries)? {
         Attempt::Accepted(k) => {
             let edit = tries.swap_remove(k);
             Ok(Turn::Taken(TreeStep { conflict, edit }))
@@ -65,21 +56,15 @@ fn step_at(
 
 /// Makes a step, where there is a conflict of which a try is accepted. An error comes only for want
 /// of memory, and then nothing has changed.
-pub fn step(
-    alloc: Global,
-    hier: &mut Hier,
-    facts: &Facts,
-    sets: &PointsTo,
-) -> Result<Turn, AllocError>
-    requires range { InRange facts.now }
-    requires sets { AreSets facts.now sets.now }
-    requires hierarchy { IsHierarchyOf facts.now hier.old }
-    ensures turn { IfOk result (IsTurn facts.now sets.now hier.old hier.new) }
+pub fn step(given: &Given, hier: &mut Hier) -> Result<Turn, AllocError>
+    requires given { IsGiven given.now }
+    requires hierarchy { IsHierarchyOf given.now.facts.now hier.old }
+    ensures turn { IfOk result (IsTurn given.now.facts.now given.now.sets.now hier.old hier.new) }
     ensures kept { OnErr result (hier.new ≡ hier.old) }
-    ensures is { IsHierarchyOf facts.now hier.new }
+    ensures is { IsHierarchyOf given.now.facts.now hier.new }
 {
-    match first_unchained(alloc, facts, hier)? {
+    match first_unchained(given.alloc, given.facts, hier)? {
         None => Ok(Turn::Done),
-        Some(broken) => step_at(alloc, hier, facts, sets, broken),
+        Some(broken) => step_at(given, hier, broken),
     }
 }

@@ -1,12 +1,9 @@
 //! The tree of a hierarchy's class nodes.
 
 ghost use Rattle.std.specs.Prelude.{◌≡◌, None, IfErr, IfOk, OnOk};
-ghost use Rattle.fact_model.specs.InRange.{InRange};
-ghost use Rattle.fact_model.specs.Flowing.{AreSets};
+ghost use Rattle.hier_rules.specs.Words.{InRange, AreSets, IsHierarchyOf, MeetsEdit, first_broken};
 ghost use Rattle.fact_model.specs.declared.sets.Table.{Table};
 ghost use Rattle.fact_model.specs.declared.sets.Lattice.{Lattice};
-ghost use Rattle.hier_model.specs.Hierarchies.{IsHierarchyOf};
-ghost use Rattle.hier_rules.specs.First.{MeetsEdit, first_broken};
 ghost use Rattle.hier_begin.specs.Laws.{AreAnalysed};
 ghost use Rattle.hier_tree.specs.Trees.{Grows, Tree};
 ghost use Rattle.tree_laws.specs.Kept.{HasNoInterface};
@@ -14,6 +11,7 @@ ghost use Rattle.tree_laws.specs.Reached.{IsReached};
 ghost use Rattle.tree_merge.specs.declared.trees.TreeFault.TheVariants as TreeFault;
 ghost use Rattle.tree_merge.specs.Logs.{steps_of, AreEdits, IsFault};
 
+use crate::given::Given;
 use crate::steps::{TreeStep, Turn, step};
 use fact_model::{Facts, PointsTo};
 use hier_model::Hier;
@@ -79,9 +77,10 @@ pub fn make_tree(
     ensures found { IfErr result (λ fault. (t : Table) (l : Lattice) → AreAnalysed facts.now sets.now t l → HasNoInterface facts.now → IsReached facts.now sets.now t l hier.old → fault ≡ TreeFault.Memory) }
     ensures is { IsHierarchyOf facts.now hier.new }
 {
+    let given = Given { alloc, facts, sets };
     let mut log = Vec::new(alloc);
     'steps: loop {
-        match step(alloc, hier, facts, sets)? {
+        match step(&given, hier)? {
             Turn::Done => return Ok(log),
             Turn::Taken(step) => match log.push(step) {
                 Ok(()) => {}

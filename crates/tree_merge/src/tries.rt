@@ -1,7 +1,7 @@
 //! The tries of a conflict, in their order.
 
 ghost use Rattle.std.specs.Prelude.{◌≡◌, ◌<◌, ◌&&◌, ◌∷◌, ◌++◌, [], cond, length, map, All, IfOk, OnOk, Some};
-ghost use Rattle.kaba_order.specs.Orders.{is_live};
+ghost use Rattle.hier_rules.specs.Words.{is_live};
 ghost use Rattle.fact_model.specs.InRange.{InRange, IsClass};
 ghost use Rattle.hier_model.specs.Hierarchies.{Hierarchy, IsHierarchyOf, node, origin_of};
 ghost use Rattle.hier_tree.specs.Trees.{is_from, nodes_from, tries_of_one, tries_of_lower, tries_of_others, tries_by, tries_of, try_of};

@@ -1,22 +1,37 @@
--- A call whose parts are written is written.
-use Rattle.std.proofs.Common.{◌≡◌, ℕ, List, ap, ◌∙◌}
-use Rattle.std.specs.Prelude.{Option, option_and_then}
-use Rattle.std.specs.Option.{option_map_or}
+-- A form whose parts are written is written.
+use Rattle.std.proofs.Common.{◌≡◌, ℕ, List, Result, IfOk, ap, sym, ◌∙◌}
+use Rattle.std.specs.Prelude.{Option}
+use Rattle.std.specs.declared.alloc.AllocError.{AllocError}
+use Rattle.std.proofs.lemmas.Result.{IfOk-weaker}
+use Rattle.java_tree.specs.declared.Expr.{Expr}
+use Rattle.java_tree.specs.Syntax as tree
 use Rattle.java_tree.specs.Syntax.{Expression, Expressions, CallOn}
-use Rattle.java_core.specs.Trees.{Tag, Ex, Exs, call}
-use Rattle.java_core.specs.Programs.{Plain, PlainMethod}
-use Rattle.java_core.specs.Classes.{declaration_of}
-use Rattle.java_core.specs.Types.{class_of, static, env_of}
-use Rattle.hier_model.specs.Hierarchies.{Hierarchy}
-use Rattle.rebuild_model.specs.Renaming.{Renaming}
+use Rattle.java_core.specs.declared.RExpr.{RExpr}
+use Rattle.java_core.specs.Trees.{Tag, Ex, Exs, no_place, expr_of, call}
+use Rattle.java_core.specs.Types as types
 use Rattle.written_tree.specs.Names.{nowhere}
-use Rattle.written_tree.specs.Bodies.{written, written_all}
+use Rattle.tree_forms.specs.Sources.{old_program, called}
+use Rattle.tree_parts.specs.declared.within.Within.{Within}
+use Rattle.tree_parts.specs.Written.{method_of, expression, expressions}
 
-module _ (P : Plain) (R : Renaming) (H : Hierarchy) (m : ℕ) (k : PlainMethod) (scope : List ℕ) where
-  pub call_is : {on : Expression} {args : Expressions} {class : Option ℕ} (t : Tag) (e : Ex) (x : List ℕ) (es : Exs) → on ≡ written P R H m k scope e
-      → class ≡ class_of (static P (env_of m k) e) → args ≡ written_all P R H m k scope es
-      → CallOn on (option_map_or R.method_name (option_and_then (λ c. declaration_of P c x) class) x) args nowhere ≡ written P R H m k scope (call t e x es)
+-- the class of what an expression gives
+abbrev pub class_of : Within → Ex → Option ℕ
+class_of w e = types.class_of (types.static (old_program w.source.now) (types.env_of w.number (method_of w)) e)
+
+module _ (w : Within) (scope : List ℕ) where
+  pub call_is : {on : Expression} {args : Expressions} {class : Option ℕ} (t : Tag) (e : Ex) (x : List ℕ) (es : Exs) → on ≡ expression w scope e
+      → class ≡ class_of w e → args ≡ expressions w scope es
+      → CallOn on (called w.source.now class x) args nowhere ≡ expression w scope (call t e x es)
   call_is {on = on} {args = args} {class = class} t e x es a b c =
-      let found = λ (w : Option ℕ). option_map_or R.method_name (option_and_then (λ c. declaration_of P c x) w) x in
-      ap (λ y. CallOn y (found class) args nowhere) a ∙ ap (λ w. CallOn (written P R H m k scope e) (found w) args nowhere) b
-      ∙ ap (λ y. CallOn (written P R H m k scope e) (found (class_of (static P (env_of m k) e))) y nowhere) c
+      ap (λ y. CallOn y (called w.source.now class x) args nowhere) a
+      ∙ ap (λ y. CallOn (expression w scope e) (called w.source.now y x) args nowhere) b
+      ∙ ap (λ y. CallOn (expression w scope e) (called w.source.now (class_of w e) x) y nowhere) c
+
+  -- a form with one part, which stands in a box
+  pub around : {x : Expression} {held boxed whole form : RExpr} (r : Result Expr AllocError) (f : Expression → Expression)
+      → x ≡ expression w scope (expr_of no_place held) → held ≡ boxed → whole ≡ form
+      → f (expression w scope (expr_of no_place boxed)) ≡ expression w scope (expr_of no_place form) → IfOk r (λ e. tree.expr_of e ≡ f x)
+      → IfOk r (λ e. tree.expr_of e ≡ expression w scope (expr_of no_place whole))
+  around r f is held whole same made =
+      let seen = λ (y : RExpr). expression w scope (expr_of no_place y) in
+      IfOk-weaker r _ _ (λ e h. h ∙ ap f (is ∙ ap seen held) ∙ same ∙ sym (ap seen whole)) made

@@ -1,24 +1,52 @@
--- The expressions and statements of a method's body, as they are written for a numbering and a hierarchy.
-use Rattle.std.specs.Prelude.{ℕ, List}
-use Rattle.java_tree.specs.Syntax.{Expression, Expressions, Statement, Statements}
-use Rattle.java_core.specs.declared.Program.{Program}
-use Rattle.java_core.specs.declared.Method.{Method}
-use Rattle.java_core.specs.Trees.{no_place, Ex, Exs, St, Sts}
-use Rattle.java_core.specs.Programs.{program_of, method_seen}
+-- The parts of a method's body, as they are written for a numbering and a hierarchy.
+use Rattle.std.specs.Prelude.{ℕ, List, Option}
+use Rattle.java_tree.specs.Syntax as tree
+use Rattle.java_core.specs.Trees.{no_place, Ex, Exs, Target, St, Sts, Arms}
+use Rattle.java_core.specs.Programs.{PlainMethod, method_seen}
 use Rattle.hier_model.specs.Hierarchies.{Hierarchy}
 use Rattle.written_tree.specs.Bodies as written
-use Rattle.tree_forms.specs.declared.numbers.Numbering.{Numbering}
-use Rattle.tree_forms.specs.Renamed.{renamed}
+use Rattle.tree_forms.specs.Sources.{old_program, renaming}
+use Rattle.tree_parts.specs.declared.within.Within.{Within}
 
--- an expression and a statement of a method's body, as they are written
-abbrev pub expression : Program → Numbering → Hierarchy → ℕ → Method → List ℕ → Ex → Expression
-expression p n H m k scope e = written.written (program_of no_place p) (renamed n H) H m (method_seen no_place k) scope e
+-- the method, as plain data
+abbrev pub method_of : Within → PlainMethod
+method_of w = method_seen no_place w.method.now
 
-abbrev pub expressions : Program → Numbering → Hierarchy → ℕ → Method → List ℕ → Exs → Expressions
-expressions p n H m k scope es = written.written_all (program_of no_place p) (renamed n H) H m (method_seen no_place k) scope es
+-- the hierarchy
+abbrev pub hierarchy_of : Within → Hierarchy
+hierarchy_of w = w.source.now.hier.now
 
-abbrev pub statement : Program → Numbering → Hierarchy → ℕ → Method → List ℕ → St → Statement
-statement p n H m k scope s = written.written_st (program_of no_place p) (renamed n H) H m (method_seen no_place k) scope s
+-- an expression of the method's body, as it is written, and one that may be left out
+abbrev pub expression : Within → List ℕ → Ex → tree.Expression
+expression w scope e = written.written (old_program w.source.now) (renaming w.source.now) (hierarchy_of w) w.number (method_of w) scope e
 
-abbrev pub statements : Program → Numbering → Hierarchy → ℕ → Method → List ℕ → Sts → Statements
-statements p n H m k scope ss = written.written_sts (program_of no_place p) (renamed n H) H m (method_seen no_place k) scope ss
+abbrev pub expressions : Within → List ℕ → Exs → tree.Expressions
+expressions w scope es = written.written_all (old_program w.source.now) (renaming w.source.now) (hierarchy_of w) w.number (method_of w) scope es
+
+abbrev pub expression_if : Within → List ℕ → Option Ex → Option tree.Expression
+expression_if w scope e = written.written_if (old_program w.source.now) (renaming w.source.now) (hierarchy_of w) w.number (method_of w) scope e
+
+-- what is assigned to
+abbrev pub target : Within → List ℕ → Target → tree.Expression
+target w scope e = written.written_target (old_program w.source.now) (renaming w.source.now) (hierarchy_of w) w.number (method_of w) scope e
+
+-- the declaration of a local
+abbrev pub declared : Within → ℕ → Option tree.Expression → tree.Statement
+declared w local e = written.declared (old_program w.source.now) (renaming w.source.now) (hierarchy_of w) w.number (method_of w) local e
+
+-- a statement, and a part of a `for`
+abbrev pub statement : Within → List ℕ → St → tree.Statement
+statement w scope s = written.written_st (old_program w.source.now) (renaming w.source.now) (hierarchy_of w) w.number (method_of w) scope s
+
+abbrev pub statements : Within → List ℕ → Sts → tree.Statements
+statements w scope ss = written.written_sts (old_program w.source.now) (renaming w.source.now) (hierarchy_of w) w.number (method_of w) scope ss
+
+abbrev pub part : Within → List ℕ → Sts → tree.OptionalStatement
+part w scope ss = written.written_part (old_program w.source.now) (renaming w.source.now) (hierarchy_of w) w.number (method_of w) scope ss
+
+-- the arms of an `if`, and its `else`
+abbrev pub arms : Within → List ℕ → Arms → tree.Arms
+arms w scope a = written.written_arms (old_program w.source.now) (renaming w.source.now) (hierarchy_of w) w.number (method_of w) scope a
+
+abbrev pub otherwise : Within → List ℕ → Arms → tree.Else
+otherwise w scope a = written.written_else (old_program w.source.now) (renaming w.source.now) (hierarchy_of w) w.number (method_of w) scope a

@@ -4,40 +4,27 @@ ghost use Rattle.std.specs.Prelude.{◌≡◌, IfOk};
 ghost use Rattle.java_tree.specs.Syntax.{expr_of, exprs};
 ghost use Rattle.java_core.specs.Trees as core;
 ghost use Rattle.java_core.specs.Trees.{no_place};
-ghost use Rattle.java_core.specs.Programs.{program_of};
-ghost use Rattle.java_core.specs.Formed.{IsFormed};
-ghost use Rattle.tree_forms.specs.Renamed.{IsFitting};
+ghost use Rattle.tree_forms.specs.Sources.{IsSource};
 ghost use Rattle.tree_parts.specs.Written.{expression, expressions};
 
-use hier_model::Hier;
-use java_core::{Method, Program, RExpr, static_of};
+use crate::within::Within;
+use java_core::{RExpr, static_of};
 use java_tree::{Expr, build};
-use std::alloc::{AllocError, Global};
+use std::alloc::AllocError;
 use std::mem::drop;
 use tree_forms::{
-    Numbering, forms, infix_mark, nowhere, prefix_mark, static_call, static_field, variable_name,
+    forms, infix_mark, nowhere, prefix_mark, static_call, static_field, variable_name,
 };
 
-/// An expression of the method of the number `m`, `method`, as it is written for the hierarchy: the
+/// An expression of the method, as it is written for the hierarchy: the
 /// form of the old one, with the types of the rows' nodes and the columns' names (after
 /// Streckenbach and Snelting, 2004). `scope` has the numbers of the parameters and locals in scope,
 /// from 0; a static member of the method's own class is written by its simple name unless one of
 /// those has it. Each place is zero. `AllocError` where memory is short; no other error.
 #[cycle(exprs)]
-pub fn expr(
-    alloc: Global,
-    program: &Program,
-    numbering: &Numbering,
-    hier: &Hier,
-    m: u64,
-    method: &Method,
-    scope: &Vec<u32>,
-    tree: &RExpr,
-) -> Result<Expr, AllocError>
-    requires formed { IsFormed (program_of no_place program.now) }
-    requires fits { IsFitting numbering.now hier.now }
-    ensures value { IfOk result (λ e. expr_of e ≡ expression program.now numbering.now hier.now m
-        method.now scope.now.items (core.expr_of no_place tree.now)) }
+pub fn expr(within: &Within, scope: &Vec<u32>, tree: &RExpr) -> Result<Expr, AllocError>
+    requires { IsSource within.now.source.now }
+    ensures value { IfOk result (λ e. expr_of e ≡ expression within.now scope.now.items (core.expr_of no_place tree.now)) }
 {
     match tree {
         RExpr::Int { value, .. } => Ok(Expr::Int {
@@ -49,7 +36,7 @@ pub fn expr(
             place: nowhere(),
         }),
         RExpr::Str { units, .. } => Ok(Expr::Str {
-            units: units.copy(alloc)?,
+            units: units.copy(within.source.alloc)?,
             place: nowhere(),
         }),
         RExpr::Bool { value, .. } => Ok(Expr::Bool {
@@ -59,20 +46,20 @@ pub fn expr(
         RExpr::Null { .. } => Ok(Expr::Null { place: nowhere() }),
         RExpr::This { .. } => Ok(Expr::This { place: nowhere() }),
         RExpr::Local { local, .. } => Ok(Expr::Name {
-            name: variable_name(alloc, method, *local)?,
+            name: variable_name(within.source.alloc, within.method, *local)?,
             place: nowhere(),
         }),
-        RExpr::Static { field, .. } => static_field(alloc, program, method, scope, *field),
-        RExpr::Own { field, .. } => forms::own_field(alloc, numbering, hier, *field),
+        RExpr::Static { field, .. } => static_field(within.source, within.method, scope, *field),
+        RExpr::Own { field, .. } => forms::own_field(within.source, *field),
         RExpr::Field { base, name, .. } => {
-            let found = static_of(program, method, base);
-            let base = expr(alloc, program, numbering, hier, m, method, scope, base)?;
-            forms::field(alloc, program, numbering, hier, found, name, base)
+            let found = static_of(within.source.program, within.method, base);
+            let base = expr(within, scope, base)?;
+            forms::field(within.source, found, name, base)
         }
         RExpr::Index { base, at, .. } => {
-            let base = expr(alloc, program, numbering, hier, m, method, scope, base)?;
-            let at = made!(expr(alloc, program, numbering, hier, m, method, scope, at); base);
-            build::index(alloc, base, at, nowhere())
+            let base = expr(within, scope, base)?;
+            let at = made!(expr(within, scope, at); base);
+            build::index(within.source.alloc, base, at, nowhere())
         }
         RExpr::Call {
             base,
@@ -81,14 +68,14 @@ pub fn expr(
             ..
         } => match base {
             None => {
-                let args = all(alloc, program, numbering, hier, m, method, scope, args)?;
-                forms::own_call(alloc, program, numbering, hier, method.owner, name, args)
+                let args = all(within, scope, args)?;
+                forms::own_call(within.source, within.method.owner, name, args)
             }
             Some(base) => {
-                let found = static_of(program, method, base);
-                let on = expr(alloc, program, numbering, hier, m, method, scope, base)?;
-                let args = made!(all(alloc, program, numbering, hier, m, method, scope, args); on);
-                forms::call(alloc, program, numbering, hier, found, name, on, args)
+                let found = static_of(within.source.program, within.method, base);
+                let on = expr(within, scope, base)?;
+                let args = made!(all(within, scope, args); on);
+                forms::call(within.source, found, name, on, args)
             }
         },
         RExpr::StaticCall {
@@ -96,12 +83,12 @@ pub fn expr(
             args,
             ..
         } => {
-            let args = all(alloc, program, numbering, hier, m, method, scope, args)?;
-            static_call(alloc, program, method, scope, *called, args)
+            let args = all(within, scope, args)?;
+            static_call(within.source, within.method, scope, *called, args)
         }
         RExpr::SuperCall { name, args, .. } => {
-            let args = all(alloc, program, numbering, hier, m, method, scope, args)?;
-            forms::super_call(alloc, program, numbering, hier, method.owner, name, args)
+            let args = all(within, scope, args)?;
+            forms::super_call(within.source, within.method.owner, name, args)
         }
         RExpr::New {
             number,
@@ -109,8 +96,8 @@ pub fn expr(
             args,
             ..
         } => {
-            let args = all(alloc, program, numbering, hier, m, method, scope, args)?;
-            forms::creation(alloc, program, numbering, hier, *number, *class, args)
+            let args = all(within, scope, args)?;
+            forms::creation(within.source, *number, *class, args)
         }
         RExpr::NewArray {
             number,
@@ -118,8 +105,8 @@ pub fn expr(
             size,
             ..
         } => {
-            let size = expr(alloc, program, numbering, hier, m, method, scope, size)?;
-            forms::array(alloc, program, numbering, hier, *number, *ty, size)
+            let size = expr(within, scope, size)?;
+            forms::array(within.source, *number, *ty, size)
         }
         RExpr::Cast {
             number,
@@ -127,8 +114,8 @@ pub fn expr(
             value,
             ..
         } => {
-            let value = expr(alloc, program, numbering, hier, m, method, scope, value)?;
-            forms::cast(alloc, program, numbering, hier, *number, *ty, value)
+            let value = expr(within, scope, value)?;
+            forms::cast(within.source, *number, *ty, value)
         }
         RExpr::InstanceOf {
             number,
@@ -136,12 +123,12 @@ pub fn expr(
             class,
             ..
         } => {
-            let value = expr(alloc, program, numbering, hier, m, method, scope, value)?;
-            forms::test(alloc, program, numbering, hier, *number, *class, value)
+            let value = expr(within, scope, value)?;
+            forms::test(within.source, *number, *class, value)
         }
         RExpr::Unary { op, value, .. } => {
-            let value = expr(alloc, program, numbering, hier, m, method, scope, value)?;
-            build::unary(alloc, prefix_mark(*op), value, nowhere())
+            let value = expr(within, scope, value)?;
+            build::unary(within.source.alloc, prefix_mark(*op), value, nowhere())
         }
         RExpr::Binary {
             op,
@@ -149,36 +136,22 @@ pub fn expr(
             right,
             ..
         } => {
-            let left = expr(alloc, program, numbering, hier, m, method, scope, left)?;
-            let right = made!(
-                expr(alloc, program, numbering, hier, m, method, scope, right);
-                left
-            );
-            build::binary(alloc, infix_mark(*op), left, right, nowhere())
+            let left = expr(within, scope, left)?;
+            let right = made!(expr(within, scope, right); left);
+            build::binary(within.source.alloc, infix_mark(*op), left, right, nowhere())
         }
     }
 }
 
 /// Arguments.
 #[cycle(exprs)]
-fn all(
-    alloc: Global,
-    program: &Program,
-    numbering: &Numbering,
-    hier: &Hier,
-    m: u64,
-    method: &Method,
-    scope: &Vec<u32>,
-    list: &Vec<RExpr>,
-) -> Result<Vec<Expr>, AllocError>
-    requires formed { IsFormed (program_of no_place program.now) }
-    requires fits { IsFitting numbering.now hier.now }
-    ensures value { IfOk result (λ v. exprs v.items ≡ expressions program.now numbering.now hier.now
-        m method.now scope.now.items (core.exprs no_place list.now.items)) }
+fn all(within: &Within, scope: &Vec<u32>, list: &Vec<RExpr>) -> Result<Vec<Expr>, AllocError>
+    requires { IsSource within.now.source.now }
+    ensures value { IfOk result (λ v. exprs v.items ≡ expressions within.now scope.now.items (core.exprs no_place list.now.items)) }
 {
-    let mut done = Vec::new(alloc);
+    let mut done = Vec::new(within.source.alloc);
     for one in list {
-        let written = made!(expr(alloc, program, numbering, hier, m, method, scope, one); done);
+        let written = made!(expr(within, scope, one); done);
         made!(done.push(written) => AllocError; done);
     }
     Ok(done)

@@ -28,6 +28,8 @@ macro_rules! made {
 
 mod exprs;
 mod stmts;
+mod within;
 
 pub use exprs::expr;
 pub use stmts::body;
+pub use within::Within;

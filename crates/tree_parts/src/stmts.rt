@@ -5,19 +5,18 @@ ghost use Rattle.java_tree.specs.Syntax.{stmt_of, stmts, value_of, arms_seen, el
 ghost use Rattle.java_tree.specs.Syntax.{step_seen, expr_of};
 ghost use Rattle.java_core.specs.Trees as core;
 ghost use Rattle.java_core.specs.Trees.{no_place, no_other};
-ghost use Rattle.java_core.specs.Programs.{program_of, method_seen};
-ghost use Rattle.java_core.specs.Formed.{IsFormed};
-ghost use Rattle.written_tree.specs.Bodies as written;
-ghost use Rattle.tree_forms.specs.Renamed.{renamed, IsFitting};
-ghost use Rattle.tree_parts.specs.Written.{expression, statement, statements};
+ghost use Rattle.written_tree.specs.Bodies.{scope_after, scope_after_part};
+ghost use Rattle.tree_forms.specs.Renamed.{IsFitting};
+ghost use Rattle.tree_forms.specs.Sources.{IsSource};
+ghost use Rattle.tree_parts.specs.Written as written;
 
 use crate::exprs::expr;
-use hier_model::Hier;
-use java_core::{Method, Program, RArm, RExpr, RStmt};
+use crate::within::Within;
+use java_core::{RArm, RExpr, RStmt};
 use java_tree::{Arm, Expr, Stmt, build};
 use std::alloc::{AllocError, Global};
 use std::mem::drop;
-use tree_forms::{Numbering, node_of, nowhere, variable, variable_row, written_type};
+use tree_forms::{nowhere, row_type, variable, variable_row};
 
 /// The locals in scope once more.
 fn copy_scope(alloc: Global, scope: &Vec<u32>) -> Result<Vec<u32>, AllocError>
@@ -28,80 +27,49 @@ fn copy_scope(alloc: Global, scope: &Vec<u32>) -> Result<Vec<u32>, AllocError>
 
 /// An expression that may be left out.
 fn value(
-    alloc: Global,
-    program: &Program,
-    numbering: &Numbering,
-    hier: &Hier,
-    m: u64,
-    method: &Method,
+    within: &Within,
     scope: &Vec<u32>,
     tree: &Option<RExpr>,
 ) -> Result<Option<Expr>, AllocError>
-    requires formed { IsFormed (program_of no_place program.now) }
-    requires fits { IsFitting numbering.now hier.now }
-    ensures value { IfOk result (λ e. value_of e ≡ written.written_if (program_of no_place
-        program.now) (renamed numbering.now hier.now) hier.now m (method_seen no_place method.now)
-        scope.now.items (core.value_of no_place tree.now)) }
+    requires { IsSource within.now.source.now }
+    ensures value { IfOk result (λ e. value_of e ≡ written.expression_if within.now scope.now.items (core.value_of no_place tree.now)) }
 {
     match tree {
         None => Ok(None),
         Some(tree) => {
-            let value = expr(alloc, program, numbering, hier, m, method, scope, tree)?;
+            let value = expr(within, scope, tree)?;
             Ok(Some(value))
         }
     }
 }
 
 /// What is assigned to; a form to which nothing can be assigned is written `null`.
-fn target(
-    alloc: Global,
-    program: &Program,
-    numbering: &Numbering,
-    hier: &Hier,
-    m: u64,
-    method: &Method,
-    scope: &Vec<u32>,
-    tree: &RExpr,
-) -> Result<Expr, AllocError>
-    requires formed { IsFormed (program_of no_place program.now) }
-    requires fits { IsFitting numbering.now hier.now }
-    ensures value { IfOk result (λ e. expr_of e ≡ written.written_target (program_of no_place
-        program.now) (renamed numbering.now hier.now) hier.now m (method_seen no_place method.now)
-        scope.now.items (core.target_of no_place tree.now)) }
+fn target(within: &Within, scope: &Vec<u32>, tree: &RExpr) -> Result<Expr, AllocError>
+    requires { IsSource within.now.source.now }
+    ensures value { IfOk result (λ e. expr_of e ≡ written.target within.now scope.now.items (core.target_of no_place tree.now)) }
 {
     match tree {
-        RExpr::Local { .. } => expr(alloc, program, numbering, hier, m, method, scope, tree),
-        RExpr::Static { .. } => expr(alloc, program, numbering, hier, m, method, scope, tree),
-        RExpr::Own { .. } => expr(alloc, program, numbering, hier, m, method, scope, tree),
-        RExpr::Field { .. } => expr(alloc, program, numbering, hier, m, method, scope, tree),
-        RExpr::Index { .. } => expr(alloc, program, numbering, hier, m, method, scope, tree),
+        RExpr::Local { .. } => expr(within, scope, tree),
+        RExpr::Static { .. } => expr(within, scope, tree),
+        RExpr::Own { .. } => expr(within, scope, tree),
+        RExpr::Field { .. } => expr(within, scope, tree),
+        RExpr::Index { .. } => expr(within, scope, tree),
         _ => Ok(Expr::Null { place: nowhere() }),
     }
 }
 
 /// The declaration of a local with this first value.
-fn declaration(
-    alloc: Global,
-    program: &Program,
-    numbering: &Numbering,
-    hier: &Hier,
-    m: u64,
-    method: &Method,
-    local: u32,
-    value: Option<Expr>,
-) -> Result<Stmt, AllocError>
-    requires fits { IsFitting numbering.now hier.now }
-    ensures value { IfOk result (λ s. stmt_of s ≡ written.declared (program_of no_place program.now)
-        (renamed numbering.now hier.now) hier.now m (method_seen no_place method.now) local
-        (value_of value)) }
+fn declaration(within: &Within, local: u32, value: Option<Expr>) -> Result<Stmt, AllocError>
+    requires { IsFitting within.now.source.now.numbering.now within.now.source.now.hier.now }
+    ensures value { IfOk result (λ s. stmt_of s ≡ written.declared within.now local (value_of value)) }
 {
-    let Some(variable) = variable(method, local) else {
+    let Some(variable) = variable(within.method, local) else {
         drop(value);
-        return Ok(build::block(Vec::new(alloc), nowhere()));
+        return Ok(build::block(Vec::new(within.source.alloc), nowhere()));
     };
-    let node = node_of(numbering, hier, variable_row(m, method, local as u64));
-    let ty = made!(written_type(alloc, program, hier, node, variable.ty); value);
-    let name = made!(variable.name.copy(alloc); value, ty);
+    let row = variable_row(within.number, within.method, local as u64);
+    let ty = made!(row_type(within.source, row, variable.ty); value);
+    let name = made!(variable.name.copy(within.source.alloc); value, ty);
     Ok(Stmt::Local {
         is_final: false,
         ty,
@@ -111,24 +79,12 @@ fn declaration(
     })
 }
 
-/// A statement of the method of the number `m`. A local that it declares comes into scope.
+/// A statement of the method. A local that it declares comes into scope.
 #[cycle(stmts)]
-fn stmt(
-    alloc: Global,
-    program: &Program,
-    numbering: &Numbering,
-    hier: &Hier,
-    m: u64,
-    method: &Method,
-    scope: &mut Vec<u32>,
-    tree: &RStmt,
-) -> Result<Stmt, AllocError>
-    requires formed { IsFormed (program_of no_place program.now) }
-    requires fits { IsFitting numbering.now hier.now }
-    ensures value { IfOk result (λ s. stmt_of s ≡ statement program.now numbering.now hier.now m
-        method.now scope.old.items (core.stmt_of no_place tree.now)) }
-    ensures scope { OnOk result (scope.new.items ≡ written.scope_after scope.old.items (core.stmt_of
-        no_place tree.now)) }
+fn stmt(within: &Within, scope: &mut Vec<u32>, tree: &RStmt) -> Result<Stmt, AllocError>
+    requires { IsSource within.now.source.now }
+    ensures value { IfOk result (λ s. stmt_of s ≡ written.statement within.now scope.old.items (core.stmt_of no_place tree.now)) }
+    ensures scope { OnOk result (scope.new.items ≡ scope_after scope.old.items (core.stmt_of no_place tree.now)) }
 {
     match tree {
         RStmt::Local {
@@ -137,11 +93,11 @@ fn stmt(
             ..
         } => {
             scope.push(*local)?;
-            let first = value(alloc, program, numbering, hier, m, method, scope, first)?;
-            declaration(alloc, program, numbering, hier, m, method, *local, first)
+            let first = value(within, scope, first)?;
+            declaration(within, *local, first)
         }
         RStmt::Block { items, .. } => {
-            let items = body(alloc, program, numbering, hier, m, method, scope, items)?;
+            let items = body(within, scope, items)?;
             Ok(build::block(items, nowhere()))
         }
         RStmt::Assign {
@@ -149,11 +105,8 @@ fn stmt(
             value: given,
             ..
         } => {
-            let target = target(alloc, program, numbering, hier, m, method, scope, to)?;
-            let value = made!(
-                expr(alloc, program, numbering, hier, m, method, scope, given);
-                target
-            );
+            let target = target(within, scope, to)?;
+            let value = made!(expr(within, scope, given); target);
             let place = nowhere();
             Ok(Stmt::Assign {
                 target,
@@ -162,7 +115,7 @@ fn stmt(
             })
         }
         RStmt::Do { call, .. } => Ok(Stmt::Do {
-            call: expr(alloc, program, numbering, hier, m, method, scope, call)?,
+            call: expr(within, scope, call)?,
             place: nowhere(),
         }),
         RStmt::Print {
@@ -171,15 +124,12 @@ fn stmt(
             ..
         } => Ok(Stmt::Print {
             newline: *newline,
-            value: value(alloc, program, numbering, hier, m, method, scope, shown)?,
+            value: value(within, scope, shown)?,
             place: nowhere(),
         }),
         RStmt::If { arms, other, .. } => {
-            let arms = all_arms(alloc, program, numbering, hier, m, method, scope, arms)?;
-            let other = made!(
-                otherwise(alloc, program, numbering, hier, m, method, scope, other);
-                arms
-            );
+            let arms = all_arms(within, scope, arms)?;
+            let other = made!(otherwise(within, scope, other); arms);
             Ok(build::choice(arms, other, nowhere()))
         }
         RStmt::While {
@@ -187,8 +137,8 @@ fn stmt(
             body: run,
             ..
         } => {
-            let test = expr(alloc, program, numbering, hier, m, method, scope, test)?;
-            let run = made!(body(alloc, program, numbering, hier, m, method, scope, run); test);
+            let test = expr(within, scope, test)?;
+            let run = made!(body(within, scope, run); test);
             Ok(build::while_loop(test, run, nowhere()))
         }
         RStmt::For {
@@ -198,27 +148,15 @@ fn stmt(
             body: run,
             ..
         } => {
-            let mut inner = copy_scope(alloc, scope)?;
-            let first = made!(
-                part(alloc, program, numbering, hier, m, method, &mut inner, first);
-                inner
-            );
-            let test = made!(
-                value(alloc, program, numbering, hier, m, method, &inner, test);
-                inner, first
-            );
-            let step = made!(
-                last(alloc, program, numbering, hier, m, method, &inner, step);
-                inner, first, test
-            );
-            let run = made!(
-                body(alloc, program, numbering, hier, m, method, &inner, run);
-                inner, first, test, step
-            );
-            build::for_loop(alloc, first, test, step, run, nowhere())
+            let mut inner = copy_scope(within.source.alloc, scope)?;
+            let first = made!(part(within, &mut inner, first); inner);
+            let test = made!(value(within, &inner, test); inner, first);
+            let step = made!(last(within, &inner, step); inner, first, test);
+            let run = made!(body(within, &inner, run); inner, first, test, step);
+            build::for_loop(within.source.alloc, first, test, step, run, nowhere())
         }
         RStmt::Return { value: given, .. } => Ok(Stmt::Return {
-            value: value(alloc, program, numbering, hier, m, method, scope, given)?,
+            value: value(within, scope, given)?,
             place: nowhere(),
         }),
         RStmt::Break { .. } => Ok(Stmt::Break { place: nowhere() }),
@@ -229,27 +167,18 @@ fn stmt(
 /// The first part of a `for`: what it declares comes into scope.
 #[cycle(stmts)]
 fn part(
-    alloc: Global,
-    program: &Program,
-    numbering: &Numbering,
-    hier: &Hier,
-    m: u64,
-    method: &Method,
+    within: &Within,
     scope: &mut Vec<u32>,
     tree: &Option<Box<RStmt>>,
 ) -> Result<Option<Stmt>, AllocError>
-    requires formed { IsFormed (program_of no_place program.now) }
-    requires fits { IsFitting numbering.now hier.now }
-    ensures value { IfOk result (λ s. step_seen s ≡ written.written_part (program_of no_place
-        program.now) (renamed numbering.now hier.now) hier.now m (method_seen no_place method.now)
-        scope.old.items (core.step_seen no_place tree.now)) }
-    ensures scope { OnOk result (scope.new.items ≡ written.scope_after_part scope.old.items
-        (core.step_seen no_place tree.now)) }
+    requires { IsSource within.now.source.now }
+    ensures value { IfOk result (λ s. step_seen s ≡ written.part within.now scope.old.items (core.step_seen no_place tree.now)) }
+    ensures scope { OnOk result (scope.new.items ≡ scope_after_part scope.old.items (core.step_seen no_place tree.now)) }
 {
     match tree {
         None => Ok(None),
         Some(tree) => {
-            let part = stmt(alloc, program, numbering, hier, m, method, scope, tree)?;
+            let part = stmt(within, scope, tree)?;
             Ok(Some(part))
         }
     }
@@ -258,46 +187,30 @@ fn part(
 /// The last part of a `for`.
 #[cycle(stmts)]
 fn last(
-    alloc: Global,
-    program: &Program,
-    numbering: &Numbering,
-    hier: &Hier,
-    m: u64,
-    method: &Method,
+    within: &Within,
     scope: &Vec<u32>,
     tree: &Option<Box<RStmt>>,
 ) -> Result<Option<Stmt>, AllocError>
-    requires formed { IsFormed (program_of no_place program.now) }
-    requires fits { IsFitting numbering.now hier.now }
-    ensures value { IfOk result (λ s. step_seen s ≡ written.written_part (program_of no_place
-        program.now) (renamed numbering.now hier.now) hier.now m (method_seen no_place method.now)
-        scope.now.items (core.step_seen no_place tree.now)) }
+    requires { IsSource within.now.source.now }
+    ensures value { IfOk result (λ s. step_seen s ≡ written.part within.now scope.now.items (core.step_seen no_place tree.now)) }
 {
-    let mut inner = copy_scope(alloc, scope)?;
-    part(alloc, program, numbering, hier, m, method, &mut inner, tree)
+    let mut inner = copy_scope(within.source.alloc, scope)?;
+    part(within, &mut inner, tree)
 }
 
 /// An `else`, which may have no statements; none where there is none.
 #[cycle(stmts)]
 fn otherwise(
-    alloc: Global,
-    program: &Program,
-    numbering: &Numbering,
-    hier: &Hier,
-    m: u64,
-    method: &Method,
+    within: &Within,
     scope: &Vec<u32>,
     tree: &Option<Vec<RStmt>>,
 ) -> Result<Option<Vec<Stmt>>, AllocError>
-    requires formed { IsFormed (program_of no_place program.now) }
-    requires fits { IsFitting numbering.now hier.now }
-    ensures value { IfOk result (λ o. else_seen o ≡ written.written_else (program_of no_place
-        program.now) (renamed numbering.now hier.now) hier.now m (method_seen no_place method.now)
-        scope.now.items (core.else_seen no_place tree.now)) }
+    requires { IsSource within.now.source.now }
+    ensures value { IfOk result (λ o. else_seen o ≡ written.otherwise within.now scope.now.items (core.else_seen no_place tree.now)) }
 {
     match tree {
         Some(list) => {
-            let other = body(alloc, program, numbering, hier, m, method, scope, list)?;
+            let other = body(within, scope, list)?;
             Ok(Some(other))
         }
         None => Ok(None),
@@ -306,64 +219,31 @@ fn otherwise(
 
 /// The arms of an `if`.
 #[cycle(stmts)]
-fn all_arms(
-    alloc: Global,
-    program: &Program,
-    numbering: &Numbering,
-    hier: &Hier,
-    m: u64,
-    method: &Method,
-    scope: &Vec<u32>,
-    list: &Vec<RArm>,
-) -> Result<Vec<Arm>, AllocError>
-    requires formed { IsFormed (program_of no_place program.now) }
-    requires fits { IsFitting numbering.now hier.now }
-    ensures value { IfOk result (λ v. arms_seen v.items ≡ written.written_arms (program_of no_place
-        program.now) (renamed numbering.now hier.now) hier.now m (method_seen no_place method.now)
-        scope.now.items (core.arms_seen no_place list.now.items no_other)) }
+fn all_arms(within: &Within, scope: &Vec<u32>, list: &Vec<RArm>) -> Result<Vec<Arm>, AllocError>
+    requires { IsSource within.now.source.now }
+    ensures value { IfOk result (λ v. arms_seen v.items ≡ written.arms within.now scope.now.items (core.arms_seen no_place list.now.items no_other)) }
 {
-    let mut done = Vec::new(alloc);
+    let mut done = Vec::new(within.source.alloc);
     for one in list {
-        let test = made!(
-            expr(alloc, program, numbering, hier, m, method, scope, &one.test);
-            done
-        );
-        let run = made!(
-            body(alloc, program, numbering, hier, m, method, scope, &one.body);
-            done, test
-        );
+        let test = made!(expr(within, scope, &one.test); done);
+        let run = made!(body(within, scope, &one.body); done, test);
         made!(done.push(Arm { test, body: run }) => AllocError; done);
     }
     Ok(done)
 }
 
-/// Statements one after the other, as they are written for the hierarchy: in the method of the
-/// number `m`, `method`, with the parameters and locals of the numbers in `scope`, from 0, in
+/// Statements one after the other, as they are written for the hierarchy: in the method, with the parameters and locals of the numbers in `scope`, from 0, in
 /// scope; what they declare leaves the scope at the end (after Streckenbach and Snelting, 2004).
 /// Each place is zero. `AllocError` where memory is short; no other error.
 #[cycle(stmts)]
-pub fn body(
-    alloc: Global,
-    program: &Program,
-    numbering: &Numbering,
-    hier: &Hier,
-    m: u64,
-    method: &Method,
-    scope: &Vec<u32>,
-    list: &Vec<RStmt>,
-) -> Result<Vec<Stmt>, AllocError>
-    requires formed { IsFormed (program_of no_place program.now) }
-    requires fits { IsFitting numbering.now hier.now }
-    ensures value { IfOk result (λ v. stmts v.items ≡ statements program.now numbering.now hier.now
-        m method.now scope.now.items (core.stmts no_place list.now.items)) }
+pub fn body(within: &Within, scope: &Vec<u32>, list: &Vec<RStmt>) -> Result<Vec<Stmt>, AllocError>
+    requires { IsSource within.now.source.now }
+    ensures value { IfOk result (λ v. stmts v.items ≡ written.statements within.now scope.now.items (core.stmts no_place list.now.items)) }
 {
-    let mut inner = copy_scope(alloc, scope)?;
-    let mut done = Vec::new(alloc);
+    let mut inner = copy_scope(within.source.alloc, scope)?;
+    let mut done = Vec::new(within.source.alloc);
     for one in list {
-        let written = made!(
-            stmt(alloc, program, numbering, hier, m, method, &mut inner, one);
-            inner, done
-        );
+        let written = made!(stmt(within, &mut inner, one); inner, done);
         made!(done.push(written) => AllocError; inner, done);
     }
     Ok(done)

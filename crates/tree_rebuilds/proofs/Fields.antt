@@ -25,8 +25,7 @@ use Rattle.written_tree.specs.Names.{nowhere, modifier, written_type}
 use Rattle.written_tree.specs.Members.{field_member, static_field_member, class_members, holder_members}
 use Rattle.written_tree.specs.Written.{type_tree, java_tree}
 use Rattle.tree_rebuilds.proofs.Outlined.{field_there, field_back, member_field_from, member_field_has}
-use Rattle.tree_rebuilds.proofs.Apart.{holder_class}
-use Rattle.tree_rebuilds.proofs.Nodes.{by_node, items, tree, node_tree, old_tree, node_at, holder_at, node_number, holder_number, Declares, a_node, a_holder, declares}
+use Rattle.tree_rebuilds.proofs.Nodes.{by_node, items, tree, node_tree, old_tree, node_at, holder_there, node_number, holder_number, Declares, a_node, a_holder, declares}
 use Rattle.tree_rebuilds.proofs.Members.{IsMember, a_field, a_body, a_head, a_filler, class_from, field_has, IsStatic, a_static_field, a_static_method, holder_from, static_field_has}
 use Rattle.tree_rebuilds.proofs.Retyped.{field_row, type_is}
 use Rattle.tree_rebuilds.proofs.Given.{Given, T, Stands, stands_from, column_there, class_there}
@@ -145,7 +144,8 @@ module _ {P Q : Plain} {F : Facts} {pt : PointsTo} {H : Hierarchy} {V : Plain} (
   pub origin : (g : ℕ) (new : PlainField) → slice_get U.fields g ≡ Some new → Origin g new
   origin g new e =
       let z = field_back (tree P Q F H) V G.resolves G.new g new e in
-      by_declaration z.number g z.declaration z.field new z.stands (declares P Q F H z.number z.declaration z.stands) z.declared z.is e
+      let d = z.declared in
+      by_declaration d.number g d.declaration z.field new d.stands (declares P Q F H d.number d.declaration d.stands) d.has z.is e
 
   pub instance_field : (g : ℕ) (new : PlainField) → slice_get U.fields g ≡ Some new → new.is_static ≡ false → (f : ℕ) × IsOldField f new
   instance_field g new e h =
@@ -186,14 +186,12 @@ module _ {P Q : Plain} {F : Facts} {pt : PointsTo} {H : Hierarchy} {V : Plain} (
   pub each_static_field : (f : ℕ) (old : PlainField) → slice_get P.fields f ≡ Some old → old.is_static ≡ true → (g : ℕ) × IsOldStatic f g
   each_static_field f old e h =
       let c = old.owner in
-      let holder = field_holder P f old e h in
-      let k = holder_class P G.formed c holder in
-      let z = holder_at P Q F H c k.0 k.1 holder in
+      let k = holder_there P Q F H G.formed c (field_holder P f old e h) in
       let mine = and_from old.is_static (c == c) h (eq-eqb c c refl) in
       let t : MemberTree = FieldTree (modifier Public ∷ modifier Static ∷ []) (written_type P H (R₀.row_type (row.Field f)) old.ty) old.name nowhere in
-      let x : FieldAt = of_holder z.0 f old in
+      let x : FieldAt = of_holder k.2 f old in
       let y : Contains (static_field_member P R₀ H c f old) t = when_has (old.is_static && (c == c)) (t ∷ []) t mine (first t []) in
-      let d : Contains (fields_declared (suc z.0) (old_tree P Q F H c k.0)) x =
-      member_field_has (suc z.0) (holder_members P R₀ H c) x t (static_field_has P R₀ H c f old t e y) (first x []) in
-      let g = field_there (tree P Q F H) V G.resolves G.new z.0 (old_tree P Q F H c k.0) x z.1 d in
-      (g.0, holder_field c z.0 f g.0 k.0 old x (untag_field (field_outline types x)) z.1 k.1 e mine t y (first x []) refl g.1)
+      let d : Contains (fields_declared (suc k.2) (old_tree P Q F H c k.0)) x =
+      member_field_has (suc k.2) (holder_members P R₀ H c) x t (static_field_has P R₀ H c f old t e y) (first x []) in
+      let g = field_there (tree P Q F H) V G.resolves G.new k.2 (old_tree P Q F H c k.0) x k.3 d in
+      (g.0, holder_field c k.2 f g.0 k.0 old x (untag_field (field_outline types x)) k.3 k.1 e mine t y (first x []) refl g.1)

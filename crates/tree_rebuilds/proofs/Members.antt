@@ -1,5 +1,5 @@
 -- What the types of nodes and the holders of the written tree have as members, member by member.
-use Rattle.std.proofs.Common.{◌≡◌, ℕ, ◌&&◌, true, List, [], ◌∷◌, Option, Some, None, Contains, refl, sym, subst, arith, ⊎_elim}
+use Rattle.std.proofs.Common.{◌≡◌, ℕ, ◌&&◌, true, List, [], ◌∷◌, Option, Some, None, Contains, refl, sym, ap, ◌∙◌, subst, arith, ⊎_elim}
 use Rattle.std.specs.Prelude.{map, slice_get, ◌==◌}
 use Rattle.std.specs.Option.{option_map_or}
 use Rattle.std.proofs.lemmas.Bool.{and_from, and_parts}
@@ -169,19 +169,24 @@ module _ (P : Plain) (R : Renaming) (F : Facts) (H : Hierarchy) where
       (Contains-append_right (map bodyless (column_heads P R F H in_class n c k)) (own_member P R F H (slice_get items c)) x
       (subst (λ z. Contains (own_member P R F H z) x) (sym i) d))
 
+  -- the member of an item
+  item_has : {A : Type 0} (xs : List A) (member : ℕ → A → MemberTree) (items : List ColumnItem) (n c f : ℕ) (o : ColumnItem) (k : ColumnInfo) (g : A)
+      → slice_get F.columns.items c ≡ Some k → stands_at H n c ≡ true → slice_get items c ≡ Some o
+      → own_member P R F H (Some o) ≡ option_map_or (λ k. member f k ∷ []) (slice_get xs f) [] → slice_get xs f ≡ Some g
+      → Contains (class_members P R F H items n) (member f g)
+  item_has xs member items n c f o k g e at i own d =
+      own_has items n c k o (member f g) e at i
+      (subst (λ l. Contains l (member f g)) (sym (own ∙ ap (λ o. option_map_or (λ k. member f k ∷ []) o []) d)) (first (member f g) []))
+
   pub field_has : (items : List ColumnItem) (n c f : ℕ) (k : ColumnInfo) (g : PlainField) → slice_get F.columns.items c ≡ Some k → stands_at H n c ≡ true
       → slice_get items c ≡ Some (column.Fld f)
       → slice_get P.fields f ≡ Some g → Contains (class_members P R F H items n) (field_member P R H f g)
-  field_has items n c f k g e at i d =
-      own_has items n c k (column.Fld f) (field_member P R H f g) e at i
-      (subst (λ o. Contains (option_map_or (λ k. field_member P R H f k ∷ []) o []) (field_member P R H f g)) (sym d) (first (field_member P R H f g) []))
+  field_has items n c f k g e at i d = item_has P.fields (field_member P R H) items n c f (column.Fld f) k g e at i refl d
 
   pub body_has : (items : List ColumnItem) (n c m : ℕ) (k : ColumnInfo) (g : PlainMethod) → slice_get F.columns.items c ≡ Some k → stands_at H n c ≡ true
       → slice_get items c ≡ Some (column.Def m)
       → slice_get P.methods m ≡ Some g → Contains (class_members P R F H items n) (body_member P R H m g)
-  body_has items n c m k g e at i d =
-      own_has items n c k (column.Def m) (body_member P R H m g) e at i
-      (subst (λ o. Contains (option_map_or (λ k. body_member P R H m k ∷ []) o []) (body_member P R H m g)) (sym d) (first (body_member P R H m g) []))
+  body_has items n c m k g e at i d = item_has P.methods (body_member P R H) items n c m (column.Def m) k g e at i refl d
 
   pub head_has : (items : List ColumnItem) (n c s : ℕ) (k : ColumnInfo) (slot : PlainSlot) (m : PlainMethod) → slice_get F.columns.items c ≡ Some k
       → stands_at H n c ≡ true

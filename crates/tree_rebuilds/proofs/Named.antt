@@ -27,7 +27,7 @@ use Rattle.written_tree.specs.Names.{class_name}
 use Rattle.written_tree.specs.Written.{java_tree}
 use Rattle.tree_rebuilds.proofs.Outlined.{class_there}
 use Rattle.tree_rebuilds.proofs.Apart.{no_text, holder_class}
-use Rattle.tree_rebuilds.proofs.Nodes.{node_named, holder_named, holder_at, old_tree, tree}
+use Rattle.tree_rebuilds.proofs.Nodes.{node_named, holder_named, holder_there, old_tree, tree}
 use Rattle.tree_rebuilds.proofs.Retyped.{row_live}
 use Rattle.tree_rebuilds.proofs.Given.{Given, T}
 use Rattle.tree_rebuilds.proofs.Fields.{each_static_field}
@@ -74,10 +74,9 @@ module _ {P Q : Plain} {F : Facts} {pt : PointsTo} {H : Hierarchy} {V : Plain} (
 
   pub no_field_holder : (c f : ℕ) (k : PlainField) → is_holder P c ≡ true → slice_get O.fields f ≡ Some k → k.name ≢ class_name P c
   no_field_holder c f k h e same =
-      let old = holder_class P G.formed c h in
-      let z = holder_at P Q F H c old.0 old.1 h in
-      let class = class_there (tree P Q F H) V G.resolves G.new z.0 (old_tree P Q F H c old.0) z.1 in
-      (G.new.fields f (untag_field k) (field_at f k e)).name.no_class (suc z.0)
+      let old = holder_there P Q F H G.formed c h in
+      let class = class_there (tree P Q F H) V G.resolves G.new old.2 (old_tree P Q F H c old.0) old.3 in
+      (G.new.fields f (untag_field k) (field_at f k e)).name.no_class (suc old.2)
       (untag_class (class_outline (types_in (java_tree P Q F H)) (old_tree P Q F H c old.0))) class (sym (same ∙ holder_name c old.0 old.1))
 
   one_static : (c g : ℕ) (new : PlainField) → slice_get U.fields g ≡ Some new → new.owner ≡ c → own_field_of O c new.name ≡ Some g

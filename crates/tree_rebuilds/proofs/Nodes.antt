@@ -94,6 +94,14 @@ module _ (P Q : Plain) (F : Facts) (H : Hierarchy) where
       let z = at_contains (nodes ++ holders) (old_tree c k) (Contains-append_right nodes holders (old_tree c k) d) in
       (z.0, ap (λ w. slice_get w z.0) tree_is ∙ z.1)
 
+  -- the class of a holder, and its declaration
+  pub holder_there : IsFormed P → (c : ℕ) → is_holder P c ≡ true
+      → (k : PlainClass) × (slice_get P.classes c ≡ Some k) × (i : ℕ) × (slice_get tree i ≡ Some (old_tree c k))
+  holder_there formed c h =
+      let k = holder_class P formed c h in
+      let z = holder_at c k.0 k.1 h in
+      (k.0, k.1, z.0, z.1)
+
   -- and there are no others
   pub data Declares : DeclTree → Type 0 where
     a_node : (n : ℕ) → is_live H.order n ≡ true → Declares (node_tree n)
@@ -169,15 +177,14 @@ module _ (P Q : Plain) (F : Facts) (H : Hierarchy) where
     module _ (formed : IsFormed P) where
       holder_type : (c : ℕ) → is_holder P c ≡ true → IsHolderType P Q F H (untagged V) places c
       holder_type c h =
-          let k = holder_class P formed c h in
-          let z = holder_at c k.0 k.1 h in
-          let at = holder_number c z.0 k.0 k.1 z.1 in
+          let k = holder_there formed c h in
+          let at = holder_number c k.2 k.0 k.1 k.3 in
           record {
             class = untag_class (class_outline types (old_tree c k.0));
             old = k.0;
-            stands = ap (λ w. slice_get (untagged V).classes w) at ∙ class_there tree V resolves new z.0 (old_tree c k.0) z.1;
+            stands = ap (λ w. slice_get (untagged V).classes w) at ∙ class_there tree V resolves new k.2 (old_tree c k.0) k.3;
             old_stands = k.1;
-            no_object = no_zero z.0 (places.holder_of c) at;
+            no_object = no_zero k.2 (places.holder_of c) at;
             name = refl;
             parent = refl;
             faces = refl;
@@ -198,12 +205,10 @@ module _ (P Q : Plain) (F : Facts) (H : Hierarchy) where
         pub holders_once : (c d : ℕ) → is_holder P c ≡ true → is_holder P d ≡ true → places.holder_of c ≡ places.holder_of d → c ≡ d
         unfolding HasNoTwice
         holders_once c d hc hd same =
-            let k = holder_class P formed c hc in
-            let h = holder_class P formed d hd in
-            let a = holder_at c k.0 k.1 hc in
-            let b = holder_at d h.0 h.1 hd in
-            let one = one_tree a.0 b.0 (old_tree c k.0) (old_tree d h.0) a.1 b.1
-            (sym (holder_number c a.0 k.0 k.1 a.1) ∙ same ∙ holder_number d b.0 h.0 h.1 b.1) in
+            let k = holder_there formed c hc in
+            let h = holder_there formed d hd in
+            let one = one_tree k.2 h.2 (old_tree c k.0) (old_tree d h.0) k.3 h.3
+            (sym (holder_number c k.2 k.0 k.1 k.3) ∙ same ∙ holder_number d h.2 h.0 h.1 h.3) in
             let name : k.0.name ≡ h.0.name = ap name_of one in
             formed.class_names c d h.0.name (at_map (λ k. k.name) P.classes c k.0 k.1 ∙ ap Some name) (at_map (λ k. k.name) P.classes d h.0 h.1)
 

@@ -23,8 +23,7 @@ use Rattle.written_tree.specs.Names.{nowhere, modifier}
 use Rattle.written_tree.specs.Members.{filling, head, body, static_method_member, class_members, interface_heads, holder_members}
 use Rattle.written_tree.specs.Written.{type_tree}
 use Rattle.tree_rebuilds.proofs.Outlined.{method_there, method_back, member_method_from, member_method_has}
-use Rattle.tree_rebuilds.proofs.Apart.{holder_class}
-use Rattle.tree_rebuilds.proofs.Nodes.{items, tree, node_tree, old_tree, holder_at, holder_number, Declares, a_node, a_holder, declares}
+use Rattle.tree_rebuilds.proofs.Nodes.{items, tree, node_tree, old_tree, holder_there, holder_number, Declares, a_node, a_holder, declares}
 use Rattle.tree_rebuilds.proofs.Members.{IsMember, a_field, a_body, a_head, a_filler, class_from, interface_from, in_class as class_mods, IsStatic, a_static_field, a_static_method, holder_from, static_method_has}
 use Rattle.tree_rebuilds.proofs.Given.{Given, T, stands_from}
 use Rattle.tree_rebuilds.proofs.Resolved.{BodiesMatch, owner_is, name_is, static_is, types_are, code_is}
@@ -133,7 +132,8 @@ module _ {P Q : Plain} {F : Facts} {pt : PointsTo} {H : Hierarchy} {V : Plain} (
   pub origin : (g : ℕ) (new : PlainMethod) → slice_get U.methods g ≡ Some new → Origin g new
   origin g new e =
       let z = method_back (tree P Q F H) V G.resolves G.new g new e in
-      subst (Origin g) z.is (by_declaration z.number g z.declaration z.method z.stands (declares P Q F H z.number z.declaration z.stands) z.declared z.resolved)
+      let d = z.declared in
+      subst (Origin g) z.is (by_declaration d.number g d.declaration z.method d.stands (declares P Q F H d.number d.declaration d.stands) d.has z.resolved)
 
   instance_of : (new : PlainMethod) → ((m : ℕ) × IsOldBody G m new) ⊎
       ((n : ℕ) × (m : ℕ) × (IsOldHead G n m new ⊎ IsOldFiller G n m new)) → new.is_static ≡ false
@@ -152,15 +152,13 @@ module _ {P Q : Plain} {F : Facts} {pt : PointsTo} {H : Hierarchy} {V : Plain} (
   pub each_static_method : (m : ℕ) (old : PlainMethod) → slice_get P.methods m ≡ Some old → old.is_static ≡ true → (g : ℕ) × IsOldStatic m g
   each_static_method m old e h =
       let c = old.owner in
-      let holder = method_holder P m old e h in
-      let k = holder_class P G.formed c holder in
-      let z = holder_at P Q F H c k.0 k.1 holder in
+      let k = holder_there P Q F H G.formed c (method_holder P m old e h) in
       let mine = and_from old.is_static (c == c) h (eq-eqb c c refl) in
       let xs = static_code m old e h in
-      let x : MethodAt = as_static z.0 m old in
+      let x : MethodAt = as_static k.2 m old in
       let t : MemberTree = MethodTree x.head x.body nowhere in
       let y : Contains (static_method_member P R₀ H c m old) t = when_has (old.is_static && (c == c)) (t ∷ []) t mine (first t []) in
-      let d : Contains (methods_declared (suc z.0) (old_tree P Q F H c k.0)) x =
-      member_method_has (suc z.0) false (holder_members P R₀ H c) x t (static_method_has P R₀ H c m old t e y) (first x []) in
-      let r = method_there (tree P Q F H) V G.resolves G.new z.0 (old_tree P Q F H c k.0) x z.1 d in
-      (r.0, holder_method c z.0 m r.0 k.0 old xs.0 z.1 k.1 e mine xs.1 r.1)
+      let d : Contains (methods_declared (suc k.2) (old_tree P Q F H c k.0)) x =
+      member_method_has (suc k.2) false (holder_members P R₀ H c) x t (static_method_has P R₀ H c m old t e y) (first x []) in
+      let r = method_there (tree P Q F H) V G.resolves G.new k.2 (old_tree P Q F H c k.0) x k.3 d in
+      (r.0, holder_method c k.2 m r.0 k.0 old xs.0 k.3 k.1 e mine xs.1 r.1)

@@ -30,10 +30,19 @@ fields_each = as_each fields_declared fields_from (λ c. refl) (λ c d ds. refl)
 pub methods_each : (c : ℕ) (ds : List DeclTree) → methods_from c ds ≡ each methods_declared c ds
 methods_each = as_each methods_declared methods_from (λ c. refl) (λ c d ds. refl)
 
+-- one of some declarations has it
+pub record IsDeclared {A : Type 0} (of : ℕ → DeclTree → List A) (ds : List DeclTree) (f : A) : Type 0 where
+  pub number : ℕ
+  pub declaration : DeclTree
+  pub stands : slice_get ds number ≡ Some declaration
+  pub has : Contains (of (suc number) declaration) f
+
 -- where what declarations have is what each has, it is had by one
 module _ {A : Type 0} (of : ℕ → DeclTree → List A) {xs : List A} (c : ℕ) (ds : List DeclTree) (same : xs ≡ each of c ds) (f : A) where
-  pub declared_from : Contains xs f → (i : ℕ) × (j : ℕ) × (d : DeclTree) × (slice_get ds i ≡ Some d) × (j ≡ c + i) × Contains (of j d) f
-  declared_from h = each_from of c ds f (subst (λ z. Contains z f) same h)
+  pub declared_from : c ≡ 1 → Contains xs f → IsDeclared of ds f
+  declared_from one h =
+      let x = each_from of c ds f (subst (λ z. Contains z f) same h) in
+      record { number = x.0; declaration = x.2; stands = x.3; has = subst (λ j. Contains (of j x.2) f) (omega (arith, x.4, one)) x.5 }
 
   pub declared_has : (i j : ℕ) (d : DeclTree) → slice_get ds i ≡ Some d → j ≡ c + i → Contains (of j d) f → Contains xs f
   declared_has i j d e h k = subst (λ z. Contains z f) (sym same) (each_has of c ds i d f e j h k)
@@ -150,24 +159,17 @@ module _ (tree : List DeclTree) (V : Plain) (resolves : Resolves tree V) (new : 
       )
 
   pub record IsDeclaredField (k : PlainField) : Type 0 where
-    pub number : ℕ
-    pub declaration : DeclTree
-    pub stands : slice_get tree number ≡ Some declaration
     pub field : FieldAt
-    pub declared : Contains (fields_declared (suc number) declaration) field
+    pub declared : IsDeclared fields_declared tree field
     pub is : untag_field (field_outline types field) ≡ k
 
   pub field_back : (g : ℕ) (k : PlainField) → slice_get U.fields g ≡ Some k → IsDeclaredField k
   field_back g k e =
       let z = map_at untag_field V.fields g k e in
       let w = map_at (field_outline types) (fields_in tree) g z.0 (sym (ap (λ y. slice_get y g) fields_are) ∙ z.1) in
-      let x = declared_from fields_declared 1 tree (fields_each 1 tree) w.0 (contains_at (fields_in tree) g w.0 w.1) in
       record {
-        number = x.0;
-        declaration = x.2;
-        stands = x.3;
         field = w.0;
-        declared = subst (λ j. Contains (fields_declared j x.2) w.0) (omega (arith, x.4)) x.5;
+        declared = declared_from fields_declared 1 tree (fields_each 1 tree) w.0 refl (contains_at (fields_in tree) g w.0 w.1);
         is = ap untag_field w.2 ∙ z.2;
       }
 
@@ -195,11 +197,8 @@ module _ (tree : List DeclTree) (V : Plain) (resolves : Resolves tree V) (new : 
       (z.0, resolved_at z.0 m z.1)
 
   pub record IsDeclaredMethod (g : ℕ) (k : PlainMethod) : Type 0 where
-    pub number : ℕ
-    pub declaration : DeclTree
-    pub stands : slice_get tree number ≡ Some declaration
     pub method : MethodAt
-    pub declared : Contains (methods_declared (suc number) declaration) method
+    pub declared : IsDeclared methods_declared tree method
     pub resolved : IsResolved method g
     pub is : untag_method resolved.method ≡ k
 
@@ -208,14 +207,10 @@ module _ (tree : List DeclTree) (V : Plain) (resolves : Resolves tree V) (new : 
       let z = map_at untag_method V.methods g k e in
       let w = map_at (method_outline types) (methods_in tree) g (heading_of z.0)
       (sym (ap (λ y. slice_get y g) headings_are) ∙ at_map heading_of V.methods g z.0 z.1) in
-      let x = declared_from methods_declared 1 tree (methods_each 1 tree) w.0 (contains_at (methods_in tree) g w.0 w.1) in
       let r = resolved_at g w.0 w.1 in
       record {
-        number = x.0;
-        declaration = x.2;
-        stands = x.3;
         method = w.0;
-        declared = subst (λ j. Contains (methods_declared j x.2) w.0) (omega (arith, x.4)) x.5;
+        declared = declared_from methods_declared 1 tree (methods_each 1 tree) w.0 refl (contains_at (methods_in tree) g w.0 w.1);
         resolved = r;
         is = ap untag_method (same_Some _ _ (sym r.stands ∙ z.1)) ∙ z.2;
       }

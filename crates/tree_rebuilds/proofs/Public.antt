@@ -101,9 +101,10 @@ module _ {P Q : Plain} {F : Facts} {pt : PointsTo} {H : Hierarchy} {V : Plain} (
       → new.is_public ≡ true
   public_method g new e h free =
       let z = method_back (tree P Q F H) V G.resolves G.new g new e in
+      let d = z.declared in
       let ow : new.owner ≡ z.method.owner = ap (λ (y : PlainMethod). y.owner) (sym z.is) ∙ owner_is G z.method g z.resolved in
       ap (λ (y : PlainMethod). y.is_public) (sym z.is) ∙ public_is G z.method g z.resolved
-      ∙ declared_open z.number z.declaration z.method z.stands (declares P Q F H z.number z.declaration z.stands) z.declared
+      ∙ declared_open d.number d.declaration z.method d.stands (declares P Q F H d.number d.declaration d.stands) d.has
       (ap (is_interface U) (sym ow) ∙ free)
 
   -- ---- what fills in
@@ -241,7 +242,8 @@ module _ {P Q : Plain} {F : Facts} {pt : PointsTo} {H : Hierarchy} {V : Plain} (
     public = public_method;
     fillers = λ g n m new e f.
         let z = method_back (tree P Q F H) V G.resolves G.new g new e in
+        let d = z.declared in
         subst (HasFilling P Q F H U (T G)) z.is
-        (declared_fills z.number g z.declaration z.method z.stands (declares P Q F H z.number z.declaration z.stands) z.declared z.resolved n m
+        (declared_fills d.number g d.declaration z.method d.stands (declares P Q F H d.number d.declaration d.stands) d.has z.resolved n m
         (subst (IsFiller P Q F H U (T G) n m) (sym z.is) f));
   }

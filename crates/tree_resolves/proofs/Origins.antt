@@ -152,10 +152,10 @@ module _ (P Q : Plain) (F : Facts) (H : Hierarchy) where
 
   pub method_origin : (x : MethodAt) → Contains (methods_in (tree P Q F H)) x → HasMethod x
   method_origin x c =
-      let z = declared_from methods_declared 1 (tree P Q F H) (methods_each 1 (tree P Q F H)) x c in
-      declared_method z.0 z.2 x z.3 (declares P Q F H z.0 z.2 z.3) (subst (λ j. Contains (methods_declared j z.2) x) (omega (arith, z.4)) z.5)
+      let z = declared_from methods_declared 1 (tree P Q F H) (methods_each 1 (tree P Q F H)) x refl c in
+      declared_method z.number z.declaration x z.stands (declares P Q F H z.number z.declaration z.stands) z.has
 
   pub field_origin : (x : FieldAt) → Contains (fields_in (tree P Q F H)) x → HasField x
   field_origin x c =
-      let z = declared_from fields_declared 1 (tree P Q F H) (fields_each 1 (tree P Q F H)) x c in
-      declared_field z.0 z.2 x z.3 (declares P Q F H z.0 z.2 z.3) (subst (λ j. Contains (fields_declared j z.2) x) (omega (arith, z.4)) z.5)
+      let z = declared_from fields_declared 1 (tree P Q F H) (fields_each 1 (tree P Q F H)) x refl c in
+      declared_field z.number z.declaration x z.stands (declares P Q F H z.number z.declaration z.stands) z.has

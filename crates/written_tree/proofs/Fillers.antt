@@ -23,8 +23,8 @@ use Rattle.flow_rules.specs.Facts.{numbers}
 use Rattle.rebuild_model.specs.Renaming.{renaming_of}
 use Rattle.written_tree.specs.Names.{nowhere, id, modifier}
 use Rattle.written_tree.specs.Written.{java_tree}
-use Rattle.written_tree.proofs.Small.{at, plain, class, under, variable, a_method, a_main, column, site, hierarchy, at_node, type, an_head, main_tree}
-use Rattle.rebuild_model.proofs.Worked.{listed}
+use Rattle.written_tree.proofs.Small.{plain, under, a_method, a_main, column, site, hierarchy, at_node, type, an_head, main_tree}
+use Rattle.rebuild_model.proofs.Worked.{listed, place as at, class, variable}
 
 abbrev the_main : PlainMethod
 the_main =

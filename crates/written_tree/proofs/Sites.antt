@@ -22,8 +22,8 @@ use Rattle.flow_rules.specs.Facts.{numbers}
 use Rattle.rebuild_model.specs.Renaming.{renaming_of}
 use Rattle.written_tree.specs.Names.{nowhere, id}
 use Rattle.written_tree.specs.Written.{java_tree}
-use Rattle.written_tree.proofs.Small.{at, plain, class, under, a_field, variable, a_main, column, site, hierarchy, at_node, type, main_tree}
-use Rattle.rebuild_model.proofs.Worked.{listed}
+use Rattle.written_tree.proofs.Small.{plain, under, a_field, a_main, column, site, hierarchy, at_node, type, main_tree}
+use Rattle.rebuild_model.proofs.Worked.{listed, place as at, class, variable}
 
 abbrev sets : ℕ → ℕ → List ℕ → ℤ → St
 sets p i f n = assign (at p) (to_field (at p) (local (at p) i) f) (number (at p) n)

@@ -1,5 +1,5 @@
 -- Small programs and hierarchies from their parts.
-use Rattle.std.proofs.Common.{ℕ, Bool, true, false, List, [], ◌∷◌, Option, Some, None}
+use Rattle.std.proofs.Common.{ℕ, Bool, false, List, [], ◌∷◌, Option, Some, None}
 use Rattle.std.specs.Prelude.{codes}
 use Rattle.kaba_base.specs.declared.NodeId.{NodeId}
 use Rattle.kaba_base.specs.declared.ClassId.{ClassId}
@@ -12,66 +12,32 @@ use Rattle.java_tree.specs.declared.Modifier.{Modifier}
 use Rattle.java_tree.specs.Syntax.{HeadTree, Statements, DeclTree, ClassTree, MethodTree}
 use Rattle.java_core.specs.declared.Ty.{Ty}
 use Rattle.java_core.specs.declared.TyBase.{TyBase}
-use Rattle.java_core.specs.declared.TyBase.TheVariants as ty
-use Rattle.java_core.specs.Trees.{Tag, Sts}
-use Rattle.java_core.specs.Programs.{PlainClass, PlainField, PlainLocal, PlainMethod}
+use Rattle.java_core.specs.Trees.{Sts}
+use Rattle.java_core.specs.Programs.{PlainField, PlainLocal, PlainMethod}
 use Rattle.fact_model.specs.declared.facts.ColumnInfo.{ColumnInfo}
 use Rattle.fact_model.specs.declared.facts.ColKind.{ColKind}
 use Rattle.fact_model.specs.declared.facts.SiteInfo.{SiteInfo}
 use Rattle.hier_model.specs.Hierarchies.{Hierarchy, node}
+use Rattle.rebuild_model.proofs.Worked.{place, method_of, main_of}
 use Rattle.written_tree.specs.Names.{nowhere, modifier}
-
-abbrev pub at : ℕ → Tag
-at n = record { label = 0; place = record { at = n; line = 1 } }
 
 abbrev pub plain : TyBase → Ty
 plain b = record { base = b; dim = 0 }
 
 -- ---- programs
 
-abbrev pub class : List ℕ → Option ClassId → ℕ → PlainClass
-class name parent p = record { name = name; is_interface = false; is_abstract = false; parent = parent; faces = []; tag = at p }
-
 abbrev pub under : ℕ → Option ClassId
 under c = Some (record { 0 = c })
 
 abbrev pub a_field : ℕ → List ℕ → Ty → ℕ → PlainField
-a_field owner name ty p = record { owner = owner; name = name; is_static = false; ty = ty; tag = at p }
-
-abbrev pub variable : List ℕ → Ty → ℕ → PlainLocal
-variable name ty p = record { name = name; ty = ty; tag = at p }
+a_field owner name ty p = record { owner = owner; name = name; is_static = false; ty = ty; tag = place p }
 
 abbrev pub a_method : ℕ → List ℕ → ℕ → Option Ty → ℕ → Sts → PlainMethod
-a_method owner name slot result p code =
-    record {
-      owner = owner;
-      name = name;
-      is_static = false;
-      is_public = false;
-      slot = Some slot;
-      params = [];
-      locals = [];
-      result = result;
-      body =
-          Some code;
-      tag = at p;
-    }
+a_method owner name slot result p code = method_of owner name false slot result p (Some code)
 
 -- main, with its locals and its code
 abbrev pub a_main : ℕ → List PlainLocal → Sts → PlainMethod
-a_main owner locals code =
-    record {
-      owner = owner;
-      name = codes "main";
-      is_static = true;
-      is_public = false;
-      slot = None;
-      params = variable (codes "args") (record { base = ty.Str; dim = 1 }) 92 ∷ [];
-      locals = locals;
-      result = None;
-      body = Some code;
-      tag = at 90;
-    }
+a_main owner locals code = main_of owner false 90 92 locals code
 
 -- ---- facts
 

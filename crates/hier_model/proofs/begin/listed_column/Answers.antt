@@ -1,15 +1,9 @@
 use Rattle.std.proofs.Common.{length, sym, arith}
-use Rattle.kaba_bits.specs.Sets.{when}
-use Rattle.kaba_bits.proofs.FirstLemmas.{first_below_found}
-use Rattle.hier_model.specs.Hierarchies.{node}
 use Rattle.hier_model.specs.Listed.{lists_column}
-use Rattle.hier_model.proofs.MergedLemmas.{when_true}
+use Rattle.hier_model.proofs.MergedLemmas.{found_node}
 use Rattle.hier_model.proofs.begin.listed_column.Goals as goal
 
 pub returns-then-lists_column : goal.returns-then-lists_column
 returns-then-lists_column c =
     let cs = c.args.concepts.now in
-    let x = c.args.c.0 in
-    let k = c.loop-k.k in
-    sym (first_below_found (λ j. when (lists_column cs j x) (node j)) k (length cs) (node k) (omega arith) c.loop-k.invariant
-    (when_true (lists_column cs k x) (node k) (sym c.if-lists_column.ensures)))
+    found_node (length cs) (λ j. lists_column cs j c.args.c.0) c.loop-k.invariant (sym c.if-lists_column.ensures) (omega arith)

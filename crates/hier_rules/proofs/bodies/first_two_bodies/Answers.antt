@@ -1,12 +1,12 @@
-use Rattle.std.proofs.Common.{length, arith, sym}
+use Rattle.std.proofs.Common.{length, arith}
 use Rattle.kaba_bits.specs.Sets.{first_below}
-use Rattle.kaba_bits.proofs.FirstLemmas.{first_below_found}
 use Rattle.hier_rules.specs.Obligations.{two_bodies}
+use Rattle.hier_rules.proofs.FoundLemmas.{found_in}
 use Rattle.hier_rules.proofs.bodies.first_two_bodies.Goals as goal
 
 pub returns-in-Some : goal.returns-in-Some
 returns-in-Some c =
     let F = c.args.asked.now.facts.now in
     let H = c.args.asked.now.hier.now in
-    sym (first_below_found (λ n. first_below (length F.columns.items) (λ k. first_below (length F.columns.items) (two_bodies F H n k))) c.loop-n.n
-    (length H.order.live) c.in-Some.found (omega arith) c.loop-n.invariant (sym c.in-Some.ensures))
+    found_in (length F.columns.items) c.loop-n.n (length H.order.live) (λ n k. first_below (length F.columns.items) (two_bodies F H n k))
+    c.loop-n.invariant c.in-Some.ensures (omega arith)

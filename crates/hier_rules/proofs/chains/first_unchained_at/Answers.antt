@@ -1,12 +1,10 @@
-use Rattle.std.proofs.Common.{length, arith, sym}
-use Rattle.kaba_bits.specs.Sets.{first_below}
-use Rattle.kaba_bits.proofs.FirstLemmas.{first_below_found}
+use Rattle.std.proofs.Common.{length, arith}
 use Rattle.hier_rules.specs.Obligations.{unchained}
+use Rattle.hier_rules.proofs.FoundLemmas.{found_in}
 use Rattle.hier_rules.proofs.chains.first_unchained_at.Goals as goal
 
 pub returns-in-Some : goal.returns-in-Some
 returns-in-Some c =
     let F = c.args.facts.now in
     let H = c.args.hier.now in
-    sym (first_below_found (λ x. first_below (length H.order.live) (unchained F H c.args.n x)) c.loop-x.x (length H.order.live) c.in-Some.found
-    (omega arith) c.loop-x.invariant (sym c.in-Some.ensures))
+    found_in (length H.order.live) c.loop-x.x (length H.order.live) (unchained F H c.args.n) c.loop-x.invariant c.in-Some.ensures (omega arith)

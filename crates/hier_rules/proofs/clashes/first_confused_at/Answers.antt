@@ -1,11 +1,10 @@
 use Rattle.std.proofs.Common.{◌≡◌, ℕ, ◌<◌, false, length, get_or, Some, refl, sym, ap, ◌∙◌, arith, ⊎_elim}
 use Rattle.std.proofs.lemmas.Bool.{cases_lt}
 use Rattle.std.proofs.lemmas.List.{get_or_default}
-use Rattle.std.proofs.lemmas.List.Elements.{Contains-get_or}
 use Rattle.hier_rules.specs.declared.clashes.ClashPair.{ClashPair}
 use Rattle.hier_rules.specs.Namesakes.{offers_both}
 use Rattle.hier_rules.proofs.NameLemmas.{dead_confused}
-use Rattle.hier_rules.proofs.ClashLemmas.{pair, second_below, first_below_all, none_confused, one_confused}
+use Rattle.hier_rules.proofs.ClashLemmas.{pair, both_below, none_confused, one_confused}
 use Rattle.hier_rules.proofs.clashes.first_confused_at.Goals as goal
 
 pub returns-then-not-is_live : goal.returns-then-not-is_live
@@ -14,18 +13,12 @@ returns-then-not-is_live c =
     ∙ c.if-not-is_live.true))
 
 pub offers_both-requires-clause-first : goal.offers_both-requires-clause-first
-offers_both-requires-clause-first c =
-    let xs = c.args.clashes.now in
-    first_below_all c.args.asked.now.facts.now c.args.asked.now.hier.now (length c.args.asked.now.facts.now.columns.items) xs c.requires.clashes
-    (get_or xs c.loop-x.x-index (pair 0 0))
-    (Contains-get_or xs c.loop-x.x-index (pair 0 0) (omega arith))
+offers_both-requires-clause-first c = (both_below c.args.asked.now.facts.now c.args.asked.now.hier.now
+    (length c.args.asked.now.facts.now.columns.items) c.args.clashes.now c.requires.clashes c.loop-x.x-index (omega arith)).0
 
 pub offers_both-requires-clause-second : goal.offers_both-requires-clause-second
-offers_both-requires-clause-second c =
-    let xs = c.args.clashes.now in
-    second_below c.args.asked.now.facts.now c.args.asked.now.hier.now (length c.args.asked.now.facts.now.columns.items) xs c.requires.clashes
-    (get_or xs c.loop-x.x-index (pair 0 0))
-    (Contains-get_or xs c.loop-x.x-index (pair 0 0) (omega arith))
+offers_both-requires-clause-second c = (both_below c.args.asked.now.facts.now c.args.asked.now.hier.now
+    (length c.args.asked.now.facts.now.columns.items) c.args.clashes.now c.requires.clashes c.loop-x.x-index (omega arith)).1
 
 pub returns-then-offers_both : goal.returns-then-offers_both
 returns-then-offers_both c =

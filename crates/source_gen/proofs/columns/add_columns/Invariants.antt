@@ -5,11 +5,12 @@ use Rattle.java_tree.specs.Syntax.{members}
 use Rattle.flow_rules.specs.Ordered.{each, when}
 use Rattle.hier_model.specs.Hierarchies.{stands_at}
 use Rattle.written_tree.specs.Members.{column_members}
-use Rattle.source_gen.specs.Sources.{old_program, renaming}
+use Rattle.tree_forms.specs.Sources.{old_program, renaming}
 use Rattle.source_gen.proofs.columns.add_columns.Given as goal
 
 abbrev pub invariant-loop-c : goal.invariant-loop-c
 invariant-loop-c l =
-    let f = λ (c : ℕ) (k : ColumnInfo). when (stands_at l.source.hier.now l.n.0 c)
-    (column_members (old_program l.source) (renaming l.source) l.source.facts.now l.source.hier.now l.source.numbering.now.columns.keys l.n.0 c k) in
-    members l.into.items ++ each f l.c (drop l.c l.source.facts.now.columns.items) ≡ members l.fn.into.items ++ each f 0 l.source.facts.now.columns.items
+    let f = λ (c : ℕ) (k : ColumnInfo). when (stands_at l.nodes.source.hier.now l.n.0 c)
+    (column_members (old_program l.nodes.source) (renaming l.nodes.source) l.nodes.facts.now l.nodes.source.hier.now
+    l.nodes.source.numbering.now.columns.keys l.n.0 c k) in
+    members l.into.items ++ each f l.c (drop l.c l.nodes.facts.now.columns.items) ≡ members l.fn.into.items ++ each f 0 l.nodes.facts.now.columns.items

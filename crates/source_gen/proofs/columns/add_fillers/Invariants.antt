@@ -4,11 +4,11 @@ use Rattle.java_core.specs.Trees.{no_place}
 use Rattle.java_core.specs.Programs.{slot_seen}
 use Rattle.flow_rules.specs.Ordered.{each}
 use Rattle.written_tree.specs.Members.{filler}
-use Rattle.source_gen.specs.Sources.{old_program, renaming}
+use Rattle.tree_forms.specs.Sources.{old_program, renaming}
 use Rattle.source_gen.proofs.columns.add_fillers.Given as goal
 
 abbrev pub invariant-loop-x : goal.invariant-loop-x
 invariant-loop-x l =
-    let f = filler (old_program l.source) (renaming l.source) l.source.facts.now l.source.hier.now l.n.0 in
-    members l.into.items ++ each f l.x (map (slot_seen no_place) (drop l.x l.source.program.now.slots.items))
-    ≡ members l.fn.into.items ++ each f 0 (map (slot_seen no_place) l.source.program.now.slots.items)
+    let f = filler (old_program l.nodes.source) (renaming l.nodes.source) l.nodes.facts.now l.nodes.source.hier.now l.n.0 in
+    members l.into.items ++ each f l.x (map (slot_seen no_place) (drop l.x l.nodes.source.program.now.slots.items))
+    ≡ members l.fn.into.items ++ each f 0 (map (slot_seen no_place) l.nodes.source.program.now.slots.items)

@@ -3,13 +3,13 @@ use Rattle.fact_model.specs.declared.facts.ColumnInfo.{ColumnInfo}
 use Rattle.flow_rules.specs.Ordered.{when}
 use Rattle.hier_model.specs.Hierarchies.{stands_at}
 use Rattle.written_tree.specs.Members.{column_heads}
-use Rattle.source_gen.specs.Sources.{old_program, renaming}
+use Rattle.tree_forms.specs.Sources.{old_program, renaming}
 use Rattle.source_gen.proofs.Loops.{each_column_more}
 use Rattle.source_gen.proofs.columns.interface_heads.Goals as goal
 
 pub loop-c-preserved : goal.loop-c-preserved
 loop-c-preserved c =
-    let s = c.args.source.now in
-    let f = λ (k : ℕ) (column : ColumnInfo). when (stands_at s.hier.now c.args.n.0 k)
-    (column_heads (old_program s) (renaming s) s.facts.now s.hier.now [] c.args.n.0 k column) in
+    let s = c.args.nodes.now in
+    let f = λ (k : ℕ) (column : ColumnInfo). when (stands_at s.source.hier.now c.args.n.0 k)
+    (column_heads (old_program s.source) (renaming s.source) s.facts.now s.source.hier.now [] c.args.n.0 k column) in
     each_column_more s.facts.now f c.loop-c.c _ _ _ (omega arith) c.in_ok-add_head.ensures c.loop-c.invariant

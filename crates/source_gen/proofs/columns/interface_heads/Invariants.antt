@@ -5,11 +5,11 @@ use Rattle.java_tree.specs.Syntax.{heads}
 use Rattle.flow_rules.specs.Ordered.{each, when}
 use Rattle.hier_model.specs.Hierarchies.{stands_at}
 use Rattle.written_tree.specs.Members.{column_heads}
-use Rattle.source_gen.specs.Sources.{old_program, renaming}
+use Rattle.tree_forms.specs.Sources.{old_program, renaming}
 use Rattle.source_gen.proofs.columns.interface_heads.Given as goal
 
 abbrev pub invariant-loop-c : goal.invariant-loop-c
 invariant-loop-c l =
-    let f = λ (c : ℕ) (k : ColumnInfo). when (stands_at l.source.hier.now l.n.0 c)
-    (column_heads (old_program l.source) (renaming l.source) l.source.facts.now l.source.hier.now [] l.n.0 c k) in
-    heads l.list.items ++ each f l.c (drop l.c l.source.facts.now.columns.items) ≡ each f 0 l.source.facts.now.columns.items
+    let f = λ (c : ℕ) (k : ColumnInfo). when (stands_at l.nodes.source.hier.now l.n.0 c)
+    (column_heads (old_program l.nodes.source) (renaming l.nodes.source) l.nodes.facts.now l.nodes.source.hier.now [] l.n.0 c k) in
+    heads l.list.items ++ each f l.c (drop l.c l.nodes.facts.now.columns.items) ≡ each f 0 l.nodes.facts.now.columns.items

@@ -4,7 +4,7 @@ use Rattle.java_tree.specs.Syntax.{HeadTree}
 use Rattle.java_core.specs.Trees.{no_place}
 use Rattle.java_core.specs.Programs.{method_seen, PlainMethod}
 use Rattle.written_tree.specs.Members.{head}
-use Rattle.source_gen.specs.Sources.{old_program, renaming}
+use Rattle.tree_forms.specs.Sources.{old_program, renaming}
 use Rattle.source_gen.proofs.heads.first_head.Goals as goal
 
 pub returns : goal.returns

@@ -5,7 +5,7 @@ use Rattle.java_core.specs.Trees.{no_place}
 use Rattle.java_core.specs.Programs.{method_seen, local_seen}
 use Rattle.flow_rules.specs.Ordered.{each}
 use Rattle.written_tree.specs.Members.{param}
-use Rattle.source_gen.specs.Sources.{old_program, renaming}
+use Rattle.tree_forms.specs.Sources.{old_program, renaming}
 use Rattle.source_gen.proofs.heads.params.Given as goal
 
 abbrev pub invariant-loop-i : goal.invariant-loop-i

@@ -4,7 +4,7 @@ use Rattle.java_core.specs.Trees.{no_place}
 use Rattle.java_core.specs.Programs.{field_seen}
 use Rattle.flow_rules.specs.Ordered.{each}
 use Rattle.written_tree.specs.Members.{static_field_member}
-use Rattle.source_gen.specs.Sources.{old_program, renaming}
+use Rattle.tree_forms.specs.Sources.{old_program, renaming}
 use Rattle.source_gen.proofs.holders.add_fields.Given as goal
 
 abbrev pub invariant-loop-f : goal.invariant-loop-f

@@ -8,8 +8,8 @@ use Rattle.source_gen.proofs.places.is_first_there.Goals as goal
 
 pub returns-then-is_declared_at : goal.returns-then-is_declared_at
 returns-then-is_declared_at c =
-    let F = c.args.source.now.facts.now in
-    let H = c.args.source.now.hier.now in
+    let F = c.args.nodes.now.facts.now in
+    let H = c.args.nodes.now.source.hier.now in
     sym (ap not (any_below_found
     (λ d. is_declaration (column_kind F d) && (is_slot (column_slot F d) c.args.x && stands_at H c.args.n.0 d))
     c.args.c c.loop-d.d

@@ -6,5 +6,5 @@ use Rattle.written_tree.specs.Members.{is_declaration}
 use Rattle.source_gen.proofs.places.is_first_there.Given as goal
 
 abbrev pub invariant-loop-d : goal.invariant-loop-d
-invariant-loop-d l = any_below l.d (λ d. is_declaration (column_kind l.source.facts.now d) &&
-    (is_slot (column_slot l.source.facts.now d) l.x && stands_at l.source.hier.now l.n.0 d)) ≡ false
+invariant-loop-d l = any_below l.d (λ d. is_declaration (column_kind l.nodes.facts.now d) &&
+    (is_slot (column_slot l.nodes.facts.now d) l.x && stands_at l.nodes.source.hier.now l.n.0 d)) ≡ false

@@ -6,8 +6,8 @@ use Rattle.source_gen.proofs.places.is_made_at.Goals as goal
 
 pub returns-then-is_object_at : goal.returns-then-is_object_at
 returns-then-is_object_at c =
-    let F = c.args.source.now.facts.now in
-    let H = c.args.source.now.hier.now in
+    let F = c.args.nodes.now.facts.now in
+    let H = c.args.nodes.now.source.hier.now in
     sym (any_below_found
     (λ s. ((site_at F s).dim == 0) && (place_of_row H (site_row F s) == c.args.n.0))
     (length F.sites.items) c.loop-s.s c.loop-s.invariant (omega arith)

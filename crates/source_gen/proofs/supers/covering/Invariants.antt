@@ -4,4 +4,5 @@ use Rattle.written_tree.specs.Supers.{is_cover, type_id}
 use Rattle.source_gen.proofs.supers.covering.Given as goal
 
 abbrev pub invariant-loop-a : goal.invariant-loop-a
-invariant-loop-a l = l.list.items ≡ map (type_id l.source.facts.now l.source.hier.now) (filter (is_cover l.source.hier.now.order l.n.0) (range_with_len 0 l.a))
+invariant-loop-a l = l.list.items ≡ map (type_id l.nodes.facts.now l.nodes.source.hier.now) (filter (is_cover l.nodes.source.hier.now.order l.n.0)
+    (range_with_len 0 l.a))

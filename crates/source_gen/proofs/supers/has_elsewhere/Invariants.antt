@@ -5,4 +5,5 @@ use Rattle.written_tree.specs.Supers.{is_class_above}
 use Rattle.source_gen.proofs.supers.has_elsewhere.Given as goal
 
 abbrev pub invariant-loop-b : goal.invariant-loop-b
-invariant-loop-b l = any_below l.b (λ b. is_class_above l.source.facts.now l.source.hier.now l.n b && not (is_le l.source.hier.now.order l.a b)) ≡ false
+invariant-loop-b l = any_below l.b (λ b. is_class_above l.nodes.facts.now l.nodes.source.hier.now l.n b && not
+    (is_le l.nodes.source.hier.now.order l.a b)) ≡ false

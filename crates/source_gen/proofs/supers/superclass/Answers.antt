@@ -7,8 +7,8 @@ use Rattle.source_gen.proofs.supers.superclass.Goals as goal
 
 pub returns-then-is_superclass-clause-value : goal.returns-then-is_superclass-clause-value
 returns-then-is_superclass-clause-value c =
-    let F = c.args.source.now.facts.now in
-    let H = c.args.source.now.hier.now in
+    let F = c.args.nodes.now.facts.now in
+    let H = c.args.nodes.now.source.hier.now in
     let a = c.loop-a.a in
     let below : a < length H.order.live = omega (arith, ap (λ (o : Ordered). length o.live) c.order.ensures) in
     sym (first_below_found (λ k. when (is_superclass F H c.args.n k) k) a (length H.order.live) a below c.loop-a.invariant

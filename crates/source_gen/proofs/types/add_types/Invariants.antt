@@ -4,12 +4,12 @@ use Rattle.java_tree.specs.Syntax.{decls}
 use Rattle.flow_rules.specs.Ordered.{each, when}
 use Rattle.hier_model.specs.Hierarchies.{is_class_node}
 use Rattle.written_tree.specs.Written.{type_tree}
-use Rattle.source_gen.specs.Sources.{old_program, renaming}
+use Rattle.tree_forms.specs.Sources.{old_program, renaming}
 use Rattle.source_gen.proofs.types.add_types.Given as goal
 
 abbrev pub invariant-loop-n : goal.invariant-loop-n
 invariant-loop-n l =
     let f = λ (n : ℕ) (live : Bool). when live
-    (type_tree (old_program l.source) (renaming l.source) l.source.facts.now l.source.hier.now l.source.numbering.now.columns.keys
-    (is_class_node l.source.facts.now l.source.hier.now n) n ∷ []) in
-    decls l.into.items ++ each f l.n (drop l.n l.source.hier.now.order.live) ≡ decls l.fn.into.items ++ each f 0 l.source.hier.now.order.live
+    (type_tree (old_program l.nodes.source) (renaming l.nodes.source) l.nodes.facts.now l.nodes.source.hier.now l.nodes.source.numbering.now.columns.keys
+    (is_class_node l.nodes.facts.now l.nodes.source.hier.now n) n ∷ []) in
+    decls l.into.items ++ each f l.n (drop l.n l.nodes.source.hier.now.order.live) ≡ decls l.fn.into.items ++ each f 0 l.nodes.source.hier.now.order.live

@@ -3,12 +3,13 @@ use Rattle.tree_merge.proofs.AttemptLemmas.{same_outcome, of_try, is_accepted}
 use Rattle.tree_merge.proofs.attempts.attempt_one.Goals as goal
 
 pub broken_of-requires : goal.broken_of-requires
-broken_of-requires c = of_try c.args.facts.now c.args.sets.now c.args.hier.now c.args.edit.now c.requires.edit c.in-Err.fault c.in-Err.ensures.refused
+broken_of-requires c = of_try c.args.given.now.facts.now c.args.given.now.sets.now c.args.hier.now c.args.edit.now c.requires.edit c.in-Err.fault
+    c.in-Err.ensures.refused
 
 pub returns-in-Ok-clause-attempt : goal.returns-in-Ok-clause-attempt
 returns-in-Ok-clause-attempt c =
-    let F = c.args.facts.now in
-    let pt = c.args.sets.now in
+    let F = c.args.given.now.facts.now in
+    let pt = c.args.given.now.sets.now in
     let H = c.args.hier.now in
     let e = c.args.edit.now in
     is_accepted F pt H c.apply.new.hier c.requires.hierarchy.sized.order e c.requires.edit

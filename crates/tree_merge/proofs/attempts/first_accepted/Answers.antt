@@ -9,8 +9,8 @@ use Rattle.tree_merge.proofs.attempts.first_accepted.Goals as goal
 
 pub tries-preserved : goal.tries-preserved
 tries-preserved c =
-    let F = c.args.facts.now in
-    let pt = c.args.sets.now in
+    let F = c.args.given.now.facts.now in
+    let pt = c.args.given.now.sets.now in
     let H = c.args.hier.now in
     let T = c.args.tries.now in
     let k = c.tries.k in

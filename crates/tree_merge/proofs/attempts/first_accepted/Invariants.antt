@@ -7,9 +7,10 @@ abbrev pub invariant-tries : goal.invariant-tries
 invariant-tries l = record {
   below : l.k < length l.tries;
   same : l.hier ≡ l.initial.hier;
-  first : first_accepted l.facts l.sets l.initial.hier (map try_of (drop l.k l.tries)) ≡ first_accepted l.facts l.sets l.initial.hier (map try_of l.tries);
+  first : first_accepted l.given.facts.now l.given.sets.now l.initial.hier (map try_of (drop l.k l.tries))
+      ≡ first_accepted l.given.facts.now l.given.sets.now l.initial.hier (map try_of l.tries);
   last : last_try (map try_of (drop l.k l.tries)) ≡ last_try (map try_of l.tries);
-  is : IsHierarchyOf l.facts l.hier;
+  is : IsHierarchyOf l.given.facts.now l.hier;
 }
 
 abbrev pub decreases-tries : goal.decreases-tries

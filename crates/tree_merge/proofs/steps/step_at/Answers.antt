@@ -8,12 +8,12 @@ use Rattle.tree_merge.proofs.steps.step_at.Goals as goal
 pub tries_of-requires-clause-apart : goal.tries_of-requires-clause-apart
 tries_of-requires-clause-apart c =
     subst (λ (k : Conflict). AreApart c.args.hier.now.order k.first k.second) (sym c.conflict_of-conflict.ensures)
-    (apart_of c.args.facts.now c.args.hier.now c.requires.hierarchy.sized.order c.args.broken c.requires.conflict)
+    (apart_of c.args.given.now.facts.now c.args.hier.now c.requires.hierarchy.sized.order c.args.broken c.requires.conflict)
 
 pub returns-clause-turn : goal.returns-clause-turn
 returns-clause-turn c =
-    let F = c.args.facts.now in
-    let pt = c.args.sets.now in
+    let F = c.args.given.now.facts.now in
+    let pt = c.args.given.now.sets.now in
     let H = c.args.hier.now in
     let New = c.first_accepted.new.hier in
     let T = c.in_ok-tries.tries.items in

@@ -1,58 +1,48 @@
 -- A form that holds a list is the tree over the items of the list.
-use Rattle.std.proofs.Common.{rules, arith, ◌≤◌, length, sym, ap, ◌∙◌}
+use Rattle.std.proofs.Common.{rules, arith, refl, sym, ap, ◌∙◌}
 use Rattle.std.proofs.lemmas.Result.{IfOk-weaker}
 use Rattle.java_core.specs.Trees.{no_place, expr_of, exprs}
 use Rattle.java_core.specs.Types.{class_of, static, env_of}
-use Rattle.written_tree.specs.Bodies.{written}
-use Rattle.java_core.specs.Programs.{program_of, method_seen}
+use Rattle.java_tree.specs.Syntax as tree
 use Rattle.java_tree.specs.Syntax.{NewArrayOf, CastOf}
 use Rattle.flow_rules.specs.declared.items.RowItem.TheVariants as row
 use Rattle.written_tree.specs.Names.{nowhere}
-use Rattle.tree_forms.specs.Renamed.{renamed, row_typed}
-use Rattle.tree_parts.specs.Written.{expressions}
+use Rattle.tree_forms.specs.Sources.{old_program, row_typed}
+use Rattle.tree_parts.specs.Written.{method_of, expression, expressions}
 use Rattle.tree_parts.proofs.Forms.{own_call, call_on, static_form, super_form, creation_form}
-use Rattle.tree_parts.proofs.Steps.{all_next, all_end}
-use Rattle.tree_parts.proofs.Parts.{call_is}
+use Rattle.tree_parts.proofs.Appended.{append_exprs, exprs_end}
+use Rattle.tree_parts.proofs.Steps.{all_next, all_written}
+use Rattle.tree_parts.proofs.Parts.{call_is, around}
 use Rattle.tree_parts.proofs.exprs.+exprs.Goals as goal
 
 pub all-loop-one-preserved : goal.all-loop-one-preserved
 all-loop-one-preserved t c =
-    all_next (program_of no_place c.args.program.now) (renamed c.args.numbering.now c.args.hier.now) c.args.hier.now c.args.m
-    (method_seen no_place c.args.method.now) c.args.scope.now.items
-    c.loop-one.done.items c.push.new.self.items c.deref-one-items.result.now c.loop-one.one-index c.one-item.result c.in-Ok.made
-    c.loop-one-test.true c.one-item.is
-    c.in-Ok.ensures.value c.in-Ok-push.ensures.items c.loop-one.invariant
+    all_next c.args.within.now c.args.scope.now.items c.loop-one.done.items c.push.new.self.items c.deref-one-items.result.now c.loop-one.one-index
+    c.one-item.result c.in-Ok.made c.loop-one-test.true c.one-item.is c.in-Ok.ensures.value c.in-Ok-push.ensures.items c.loop-one.invariant
 
 pub all-returns : goal.all-returns
-all-returns t c =
-    let h : length c.deref-one-items.result.now ≤ c.loop-one.one-index = omega (arith, c.loop-one-test.false) in
-    record {
-      value = all_end (program_of no_place c.args.program.now) (renamed c.args.numbering.now c.args.hier.now) c.args.hier.now c.args.m
-          (method_seen no_place c.args.method.now)
-          {o = expressions c.args.program.now c.args.numbering.now c.args.hier.now c.args.m c.args.method.now c.args.scope.now.items
-          (exprs no_place c.args.list.now.items)}
-          c.args.scope.now.items c.loop-one.done.items c.deref-one-items.result.now c.loop-one.one-index h c.loop-one.invariant;
-    }
+all-returns t c = record {
+  value = all_written append_exprs (λ xs. expressions c.args.within.now c.args.scope.now.items (exprs no_place xs)) (tree.exprs c.loop-one.done.items)
+      c.deref-one-items.result.now c.loop-one.one-index (exprs_end (tree.exprs c.loop-one.done.items)) c.loop-one.invariant
+      (omega (arith, c.loop-one-test.false));
+}
 
 pub expr-returns-in_ok-args-in-None : goal.expr-returns-in_ok-args-in-None
 expr-returns-in_ok-args-in-None t c = record { value = let form = own_call c.in-Call.args c.in-Call.is c.in-None.is in rw form (search rules) }
 
 pub expr-returns-in-Ok-all : goal.expr-returns-in-Ok-all
 expr-returns-in-Ok-all t c =
-    let P = program_of no_place c.args.program.now in
-    let R = renamed c.args.numbering.now c.args.hier.now in
-    let H = c.args.hier.now in
-    let k = method_seen no_place c.args.method.now in
+    let w = c.args.within.now in
     let scope = c.args.scope.now.items in
     let b = c.in-Some.base.value in
-    let class = ap class_of (c.static_of-found-in-Some.ensures.value no_place c.args.m
-    ∙ ap (λ y. static P (env_of c.args.m k) (expr_of no_place y)) c.deref-in-Some.ensures) in
-    let on = c.in_ok-on-in-Some.ensures.value ∙ ap (λ y. written P R H c.args.m k scope (expr_of no_place y)) c.deref-in-Some-2.ensures in
-    let is = call_is P R H c.args.m k scope (no_place c.in-Call.place) (expr_of no_place b) c.in-Call.name (exprs no_place c.in-Call.args.items)
+    let class = ap class_of (c.static_of-found-in-Some.ensures.value no_place w.number
+    ∙ ap (λ y. static (old_program w.source.now) (env_of w.number (method_of w)) (expr_of no_place y)) c.deref-in-Some.ensures) in
+    let on = c.in_ok-on-in-Some.ensures.value ∙ ap (λ y. expression w scope (expr_of no_place y)) c.deref-in-Some-2.ensures in
+    let is = call_is w scope (no_place c.in-Call.place) (expr_of no_place b) c.in-Call.name (exprs no_place c.in-Call.args.items)
     on class c.in-Ok-all.ensures.value in
     let form = call_on c.in-Call.args c.in-Call.is c.in-Some.is in
     record {
-      value = IfOk-weaker c.call.result _ _ (λ e h. h ∙ is ∙ sym (ap (written P R H c.args.m k scope) form)) c.call.ensures;
+      value = IfOk-weaker c.call.result _ _ (λ e h. h ∙ is ∙ sym (ap (expression w scope) form)) c.call.ensures;
     }
 
 pub expr-returns-in_ok-args-in-StaticCall : goal.expr-returns-in_ok-args-in-StaticCall
@@ -65,31 +55,15 @@ pub expr-returns-in_ok-args-in-New : goal.expr-returns-in_ok-args-in-New
 expr-returns-in_ok-args-in-New t c = record { value = let form = creation_form c.in-New.args c.in-New.is in rw form (search rules) }
 
 pub expr-returns-in_ok-size-in-NewArray : goal.expr-returns-in_ok-size-in-NewArray
-expr-returns-in_ok-size-in-NewArray t c =
-    let P = program_of no_place c.args.program.now in
-    let R = renamed c.args.numbering.now c.args.hier.now in
-    let H = c.args.hier.now in
-    let k = method_seen no_place c.args.method.now in
-    let scope = c.args.scope.now.items in
-    let a = c.in-NewArray in
-    let size = c.in_ok-size-in-NewArray.ensures.value ∙ ap (λ y. written P R H c.args.m k scope (expr_of no_place y)) c.deref-in-NewArray.ensures in
-    record {
-      value = IfOk-weaker c.array.result _ _ (λ e h. h
-          ∙ ap (λ y. NewArrayOf (row_typed c.args.program.now c.args.numbering.now H (row.New a.number) a.ty) y nowhere) size
-          ∙ sym (ap (λ y. written P R H c.args.m k scope (expr_of no_place y)) a.is)) c.array.ensures;
-    }
+expr-returns-in_ok-size-in-NewArray t c = record {
+  value = around c.args.within.now c.args.scope.now.items c.array.result
+      (λ y. NewArrayOf (row_typed c.args.within.now.source.now (row.New c.in-NewArray.number) c.in-NewArray.ty) y nowhere)
+      c.in_ok-size-in-NewArray.ensures.value c.deref-in-NewArray.ensures c.in-NewArray.is refl c.array.ensures;
+}
 
 pub expr-returns-in_ok-value-in-Cast : goal.expr-returns-in_ok-value-in-Cast
-expr-returns-in_ok-value-in-Cast t c =
-    let P = program_of no_place c.args.program.now in
-    let R = renamed c.args.numbering.now c.args.hier.now in
-    let H = c.args.hier.now in
-    let k = method_seen no_place c.args.method.now in
-    let scope = c.args.scope.now.items in
-    let a = c.in-Cast in
-    let value = c.in_ok-value-in-Cast.ensures.value ∙ ap (λ y. written P R H c.args.m k scope (expr_of no_place y)) c.deref-in-Cast.ensures in
-    record {
-      value = IfOk-weaker c.cast.result _ _ (λ e h. h
-          ∙ ap (λ y. CastOf (row_typed c.args.program.now c.args.numbering.now H (row.Cast a.number) a.ty) y nowhere) value
-          ∙ sym (ap (λ y. written P R H c.args.m k scope (expr_of no_place y)) a.is)) c.cast.ensures;
-    }
+expr-returns-in_ok-value-in-Cast t c = record {
+  value = around c.args.within.now c.args.scope.now.items c.cast.result
+      (λ y. CastOf (row_typed c.args.within.now.source.now (row.Cast c.in-Cast.number) c.in-Cast.ty) y nowhere)
+      c.in_ok-value-in-Cast.ensures.value c.deref-in-Cast.ensures c.in-Cast.is refl c.cast.ensures;
+}

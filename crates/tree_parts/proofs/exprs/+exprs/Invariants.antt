@@ -8,5 +8,5 @@ use Rattle.tree_parts.proofs.exprs.+exprs.Given as goal
 
 abbrev pub invariant-all-loop-one : goal.invariant-all-loop-one
 invariant-all-loop-one l =
-    append_exprs (tree.exprs l.done.items) (expressions l.program l.numbering l.hier l.m l.method l.scope.items (exprs no_place (drop l.one-index l.one-items)))
-    ≡ expressions l.program l.numbering l.hier l.m l.method l.scope.items (exprs no_place l.list.items)
+    append_exprs (tree.exprs l.done.items) (expressions l.within l.scope.items (exprs no_place (drop l.one-index l.one-items)))
+    ≡ expressions l.within l.scope.items (exprs no_place l.list.items)

@@ -2,9 +2,7 @@
 use Rattle.std.proofs.Common.{◌≡◌, ◌+◌, ◌*◌, drop}
 use Rattle.java_tree.specs.Syntax as tree
 use Rattle.java_core.specs.Trees.{no_place, no_other, stmt_of, stmts, arms_seen, else_seen, step_seen}
-use Rattle.java_core.specs.Programs.{program_of, method_seen}
-use Rattle.written_tree.specs.Bodies.{written_sts, written_arms}
-use Rattle.tree_forms.specs.Renamed.{renamed}
+use Rattle.tree_parts.specs.Written.{statements, arms}
 use Rattle.java_core.proofs.StatementSize.{st_size, sts_size, arms_size}
 use Rattle.tree_parts.proofs.Appended.{append_stmts, append_arms}
 use Rattle.tree_parts.proofs.stmts.+stmts.Given as goal
@@ -29,16 +27,10 @@ decreases-body l = 4 * sts_size (stmts no_place l.list.now.items) + 1
 
 abbrev pub invariant-all_arms-loop-one : goal.invariant-all_arms-loop-one
 invariant-all_arms-loop-one l =
-    let P = program_of no_place l.program in
-    let R = renamed l.numbering l.hier in
-    let k = method_seen no_place l.method in
-    append_arms (tree.arms_seen l.done.items) (written_arms P R l.hier l.m k l.scope.items (arms_seen no_place (drop l.one-index l.one-items) no_other))
-    ≡ written_arms P R l.hier l.m k l.scope.items (arms_seen no_place l.list.items no_other)
+    append_arms (tree.arms_seen l.done.items) (arms l.within l.scope.items (arms_seen no_place (drop l.one-index l.one-items) no_other))
+    ≡ arms l.within l.scope.items (arms_seen no_place l.list.items no_other)
 
 abbrev pub invariant-body-loop-one : goal.invariant-body-loop-one
 invariant-body-loop-one l =
-    let P = program_of no_place l.program in
-    let R = renamed l.numbering l.hier in
-    let k = method_seen no_place l.method in
-    append_stmts (tree.stmts l.done.items) (written_sts P R l.hier l.m k l.inner.items (stmts no_place (drop l.one-index l.one-items)))
-    ≡ written_sts P R l.hier l.m k l.scope.items (stmts no_place l.list.items)
+    append_stmts (tree.stmts l.done.items) (statements l.within l.inner.items (stmts no_place (drop l.one-index l.one-items)))
+    ≡ statements l.within l.scope.items (stmts no_place l.list.items)

@@ -1,0 +1,16 @@
+//! What is written of.
+
+use crate::numbers::Numbering;
+use hier_model::Hier;
+use java_core::Program;
+use std::alloc::Global;
+
+/// What names and types are written of: the old program, the numbers of its items, and a hierarchy of them.
+/// What is written stands in the memory of `alloc`.
+#[derive(Clone, Copy)]
+pub struct Source<'a> {
+    pub alloc: Global,
+    pub program: &'a Program,
+    pub numbering: &'a Numbering,
+    pub hier: &'a Hier,
+}
