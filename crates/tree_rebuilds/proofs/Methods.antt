@@ -1,18 +1,18 @@
 -- The methods of the written program: bodies, heads and fillers of the nodes.
-use Rattle.std.proofs.Common.{◌≡◌, ℕ, zero, suc, ◌<◌, ◌&&◌, ◌||◌, Bool, true, false, List, [], ◌∷◌, Option, Some, None, Contains, refl, sym, ap, ◌∙◌, subst, arith, ⊎_elim}
-use Rattle.std.specs.Prelude.{◌==◌, not, length, slice_get, option_and_then}
+use Rattle.std.proofs.Common.{◌≡◌, ℕ, zero, suc, ◌<◌, ◌&&◌, ◌||◌, Bool, true, false, List, [], ◌∷◌, Option, Some, None, Contains, refl, sym, ap, ◌∙◌, subst, arith, inl, inr, ⊎_elim}
+use Rattle.std.specs.Prelude.{◌⊎◌, ◌==◌, not, length, slice_get, option_and_then}
 use Rattle.std.specs.Option.{is_some}
 use Rattle.std.proofs.lemmas.Bool.{false≢true, and_parts, and_from, or_right, eqb-true, eq-eqb, cases_Bool}
 use Rattle.std.proofs.lemmas.Option.{same_Some}
 use Rattle.kaba_base.specs.declared.words.Keyword.TheVariants.{Public}
 use Rattle.kaba_order.specs.Orders.{is_live, is_le}
 use Rattle.java_tree.specs.declared.Modifier.{Modifier}
-use Rattle.java_tree.specs.Syntax.{HeadTree, MethodTree, Statements}
+use Rattle.java_tree.specs.Syntax.{HeadTree, MemberTree, MethodTree, Statements}
 use Rattle.java_core.specs.Trees.{Sts}
 use Rattle.java_core.specs.Programs.{Plain, PlainMethod, PlainSlot}
 use Rattle.java_core.specs.Classes.{slot_of_method}
 use Rattle.name_rules.specs.declared.parts.Kind.TheVariants as kinds
-use Rattle.name_rules.specs.Outline.{MethodAt, methods_declared, has_word, is_static_word, is_abstract_word}
+use Rattle.name_rules.specs.Outline.{MethodAt, methods_declared, method_member, has_word, is_static_word, is_abstract_word}
 use Rattle.java_core.specs.Untagged.{untag_method, untagged}
 use Rattle.fact_model.specs.Items.{site_at, site_row, column_kind, column_slot}
 use Rattle.fact_model.specs.Classes.{is_slot}
@@ -25,7 +25,7 @@ use Rattle.hier_model.proofs.AnyLemmas.{any_below_some, any_below_has}
 use Rattle.flow_rules.specs.declared.items.ColumnItem.{ColumnItem}
 use Rattle.flow_rules.specs.declared.items.ColumnItem.TheVariants as column
 use Rattle.flow_rules.specs.Facts.{numbers, kind_of, column_info}
-use Rattle.flow_rules.proofs.Listed.{first, at_map, map_has, at_below, below_at, index_at}
+use Rattle.flow_rules.proofs.Listed.{first, at_map, map_from, map_has, at_below, below_at, index_at}
 use Rattle.flow_rules.proofs.NumberedItems.{numbered_columns}
 use Rattle.facts_order.proofs.Columns.{Stands as IsOfText, for_field, for_declaration, for_body, for_mark, column_stands}
 use Rattle.rebuild_model.specs.Renaming.{Renaming, renaming_of, column_name}
@@ -33,9 +33,9 @@ use Rattle.rebuild_model.specs.Members.{is_made_at, offers_body, is_headed, is_f
 use Rattle.written_tree.specs.Names.{nowhere, modifier}
 use Rattle.written_tree.specs.Members.{is_declaration, filling, head, body, class_members, interface_heads, is_first_there}
 use Rattle.written_tree.specs.Written.{class_modifiers, type_tree, java_tree}
-use Rattle.tree_rebuilds.proofs.Outlined.{IsResolved, method_there, member_method_has}
+use Rattle.tree_rebuilds.proofs.Outlined.{IsResolved, method_there, member_method_from, member_method_has}
 use Rattle.tree_rebuilds.proofs.Nodes.{by_node, items, tree, node_tree, node_at, node_number}
-use Rattle.tree_rebuilds.proofs.Members.{IsHeadTree, IsHeadAt, body_has, head_has, filler_has, interface_has, in_class, as_filler}
+use Rattle.tree_rebuilds.proofs.Members.{IsMember, IsHeadTree, IsHeadAt, class_from, interface_from, body_has, head_has, filler_has, interface_has, in_class, as_filler}
 use Rattle.tree_rebuilds.proofs.Given.{Given, T, Stands, columns, at_from, column_there, class_there}
 use Rattle.tree_rebuilds.proofs.Resolved.{BodiesMatch, owner_is, name_is, static_is, bodyless, bodied, types_are, slot_types_are, code_is}
 use Rattle.rebuild_looks.proofs.Slots.{slot_says as slot_is}
@@ -230,6 +230,17 @@ module _ {P Q : Plain} {F : Facts} {pt : PointsTo} {H : Hierarchy} {V : Plain} (
 
   abbrev pub is_abstract : ℕ → Bool
   is_abstract n = has_word is_abstract_word (class_modifiers (is_made_at F H n))
+
+  -- a method that the type of a node declares is of one of its members, or one of the heads of an interface
+  pub in_type : (b : Bool) (n i : ℕ) (x : MethodAt) → Contains (methods_declared (suc i) (type_tree P R₀ F H (items P Q F H) b n)) x
+      → ((m : MemberTree) × IsMember P R₀ F H (items P Q F H) n m × Contains (method_member (suc i) (is_abstract n) m) x)
+      ⊎ ((h : HeadTree) × IsHeadAt P R₀ F H [] n h × (as_head i h ≡ x))
+  in_type true n i x h =
+      let z = member_method_from (suc i) (is_abstract n) (class_members P R₀ F H (items P Q F H) n) x h in
+      inl (z.0, class_from P R₀ F H (items P Q F H) n z.0 z.1, z.2)
+  in_type false n i x h =
+      let z = map_from (λ h. as_head i h) (interface_heads P R₀ F H n) x h in
+      inr (z.0, interface_from P R₀ F H n z.0 z.1, z.2)
 
   -- a method of a class node's members
   class_method : (n i : ℕ) (h : HeadTree) (b : Option Statements) → slice_get (tree P Q F H) i ≡ Some (node_tree P Q F H n) → is_class_node F H n ≡ true

@@ -15,19 +15,19 @@ use Rattle.fact_model.specs.declared.facts.Facts.{Facts}
 use Rattle.fact_model.specs.declared.sets.PointsTo.{PointsTo}
 use Rattle.hier_model.specs.Hierarchies.{Hierarchy, is_class_node}
 use Rattle.flow_rules.specs.declared.items.ColumnItem.TheVariants as column
-use Rattle.flow_rules.proofs.Listed.{first, one_from, map_from, when_from, when_has}
+use Rattle.flow_rules.proofs.Listed.{first, one_from, when_from, when_has}
 use Rattle.rebuild_model.specs.Renaming.{renaming_of}
 use Rattle.rebuild_model.specs.Members.{IsStaticMethodOf}
 use Rattle.rebuild_looks.proofs.Fields.{method_holder}
 use Rattle.written_tree.specs.Names.{nowhere, modifier}
-use Rattle.written_tree.specs.Members.{filling, head, body, static_method_member, class_members, interface_heads, holder_members}
+use Rattle.written_tree.specs.Members.{filling, head, body, static_method_member, holder_members}
 use Rattle.written_tree.specs.Written.{type_tree}
 use Rattle.tree_rebuilds.proofs.Outlined.{method_there, method_back, member_method_from, member_method_has}
 use Rattle.tree_rebuilds.proofs.Nodes.{items, tree, node_tree, old_tree, holder_there, holder_number, Declares, a_node, a_holder, declares}
-use Rattle.tree_rebuilds.proofs.Members.{IsMember, a_field, a_body, a_head, a_filler, class_from, interface_from, in_class as class_mods, IsStatic, a_static_field, a_static_method, holder_from, static_method_has}
+use Rattle.tree_rebuilds.proofs.Members.{IsMember, a_field, a_body, a_head, a_filler, in_class as class_mods, IsStatic, a_static_field, a_static_method, holder_from, static_method_has}
 use Rattle.tree_rebuilds.proofs.Given.{Given, T, stands_from}
 use Rattle.tree_rebuilds.proofs.Resolved.{BodiesMatch, owner_is, name_is, static_is, types_are, code_is}
-use Rattle.tree_rebuilds.proofs.Methods.{read, as_method, as_head, IsOldBody, IsOldHead, IsOldFiller, node_body, node_head, node_filler, is_abstract, stands_made, old_method}
+use Rattle.tree_rebuilds.proofs.Methods.{read, as_method, as_head, IsOldBody, IsOldHead, IsOldFiller, node_body, node_head, node_filler, in_type, is_abstract, stands_made, old_method}
 
 module _ {P Q : Plain} {F : Facts} {pt : PointsTo} {H : Hierarchy} {V : Plain} (G : Given P Q F pt H V) (match : BodiesMatch G) where
   open read G use {program as U, renaming as R₀, Resolved as Rs}
@@ -102,13 +102,10 @@ module _ {P Q : Plain} {F : Facts} {pt : PointsTo} {H : Hierarchy} {V : Plain} (
 
   in_node : (b : Bool) (n i g : ℕ) (x : MethodAt) → is_live H.order n ≡ true → slice_get (tree P Q F H) i ≡ Some (node_tree P Q F H n)
       → Contains (methods_declared (suc i) (type_tree P R₀ F H (items P Q F H) b n)) x → Made g x
-  in_node true n i g x live e h =
-      let z = member_method_from (suc i) (is_abstract G n) (class_members P R₀ F H (items P Q F H) n) x h in
-      in_class n i g x z.0 live e (class_from P R₀ F H (items P Q F H) n z.0 z.1) z.2
-  in_node false n i g x live e h =
-      let z = map_from (λ h. as_head i h) (interface_heads P R₀ F H n) x h in
-      subst (Made g) z.2 (λ r. let w = node_head G n i g [] (as_head i z.0) e refl refl refl (interface_from P R₀ F H n z.0 z.1) r in inl
-      (inr (n, w.0, inl w.1)))
+  in_node b n i g x live e h = ⊎_elim
+      (λ z. in_class n i g x z.0 live e z.1 z.2)
+      (λ z. subst (Made g) z.2 (λ r. let w = node_head G n i g [] (as_head i z.0) e refl refl refl z.1 r in inl (inr (n, w.0, inl w.1))))
+      (in_type G b n i x h)
 
   in_holder : (c i g : ℕ) (k : PlainClass) (x : MethodAt) (m : MemberTree) → slice_get (tree P Q F H) i ≡ Some (old_tree P Q F H c k)
       → slice_get P.classes c ≡ Some k

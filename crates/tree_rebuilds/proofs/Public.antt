@@ -1,5 +1,5 @@
 -- What the written program has beyond the rebuild relation: the instance methods of its classes are public, and fillers give the default of the result.
-use Rattle.std.proofs.Common.{◌≡◌, ℕ, suc, ◌&&◌, Bool, true, false, [], ◌∷◌, Option, Some, None, Contains, refl, sym, ap, ◌∙◌, subst, arith}
+use Rattle.std.proofs.Common.{◌≡◌, ℕ, suc, ◌&&◌, Bool, true, false, [], ◌∷◌, Option, Some, None, Contains, refl, sym, ap, ◌∙◌, subst, arith, ⊎_elim}
 use Rattle.std.specs.Prelude.{◌==◌, not, length, slice_get}
 use Rattle.std.specs.Option.{option_map_or, is_some}
 use Rattle.std.proofs.lemmas.Bool.{false≢true, and_parts, and_from, eq-eqb}
@@ -38,7 +38,7 @@ use Rattle.tree_rebuilds.proofs.Nodes.{by_node, items, tree, node_tree, node_num
 use Rattle.tree_rebuilds.proofs.Members.{IsHeadTree, IsMember, a_field, a_body, a_head, a_filler, class_from, as_filler, IsStatic, a_static_field, a_static_method, holder_from}
 use Rattle.tree_rebuilds.proofs.Given.{Given, T, R, Stands, columns, stands_from, column_there, offered_there}
 use Rattle.tree_rebuilds.proofs.Resolved.{owner_is, name_is, static_is, public_is, bodyless, types_are}
-use Rattle.tree_rebuilds.proofs.Methods.{as_method, as_head, is_abstract, declared_name, method_slot, first_method, old_method}
+use Rattle.tree_rebuilds.proofs.Methods.{as_method, as_head, in_type, is_abstract, declared_name, method_slot, first_method, old_method}
 use Rattle.rebuild_looks.proofs.Slots.{slot_says as slot_is}
 use Rattle.tree_rebuilds.proofs.Filled.{filling_is}
 
@@ -213,12 +213,10 @@ module _ {P Q : Plain} {F : Facts} {pt : PointsTo} {H : Hierarchy} {V : Plain} (
 
   node_fills : (b : Bool) (n i g : ℕ) (x : MethodAt) → is_live H.order n ≡ true → slice_get (tree P Q F H) i ≡ Some (node_tree P Q F H n)
       → Contains (methods_declared (suc i) (type_tree P R₀ F H (items P Q F H) b n)) x → Fills g x
-  node_fills true n i g x live e h =
-      let z = member_method_from (suc i) (is_abstract G n) (class_members P R₀ F H (items P Q F H) n) x h in
-      member_fills n i g x z.0 live e (class_from P R₀ F H (items P Q F H) n z.0 z.1) z.2
-  node_fills false n i g x live e h =
-      let z = map_from (λ h. as_head i h) (interface_heads P R₀ F H n) x h in
-      subst (Fills g) z.2 (λ r a m q. no_code (untag_method r.method).body (bodyless G (as_head i z.0) g r refl) q.bodied)
+  node_fills b n i g x live e h = ⊎_elim
+      (λ z. member_fills n i g x z.0 live e z.1 z.2)
+      (λ z. subst (Fills g) z.2 (λ r a m q. no_code (untag_method r.method).body (bodyless G (as_head i z.0) g r refl) q.bodied))
+      (in_type G b n i x h)
 
   static_fills : (c i g : ℕ) (x : MethodAt) (m : MemberTree) → IsStatic P R₀ H c m → Contains (method_member (suc i) false m) x → Fills g x
   static_fills c i g x m (a_static_field f old _ o h y) z =
