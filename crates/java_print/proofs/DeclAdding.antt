@@ -20,10 +20,10 @@ drop_at xs i x l k = drop_more xs i x l ∙ ap (λ y. y ∷ drop (i + 1) xs) (sy
 -- one more item of a list
 pub each_step : {X : Type 0} (f : List X → List Item → List Item) (g : X → List Item → List Item) → ((x : X) (xs : List X) (r : List Item)
     → f (x ∷ xs) r ≡ g x (f xs r))
-    → (a b d : List ℕ) (xs : List X) (i : ℕ) (x : X) (whole : List Item → List Item) → i < length xs → x ≡ get_or xs i x
+    → {a b d : List ℕ} (xs : List X) {i : ℕ} {x : X} {whole : List Item → List Item} → i < length xs → x ≡ get_or xs i x
     → ((r : List Item) → Adds a b (whole r) (f (drop i xs) r)) → ((r : List Item) → Adds b d (g x r) r)
     → (r : List Item) → Adds a d (whole r) (f (drop (i + 1) xs) r)
-each_step f g e a b d xs i x whole l k h p r =
+each_step f g e {b = b} {d = d} xs {i = i} {x = x} l k h p r =
     let w : List Item = f (drop (i + 1) xs) r in
     adds_then (h r) (subst (λ ys. Adds b d (f ys r) w) (sym (drop_at xs i x l k)) (subst (λ z. Adds b d z w) (sym (e x (drop (i + 1) xs) r)) (p w)))
 
@@ -34,33 +34,33 @@ get_same (x ∷ xs) (suc i) z y l = get_same xs i z y (omega arith)
 
 pub each_at : {X : Type 0} (f : List X → List Item → List Item) (g : X → List Item → List Item) → ((x : X) (xs : List X) (r : List Item)
     → f (x ∷ xs) r ≡ g x (f xs r))
-    → (a b d : List ℕ) (xs : List X) (i : ℕ) (z : X) (whole : List Item → List Item) → i < length xs
+    → {a b d : List ℕ} (xs : List X) {i : ℕ} (z : X) {whole : List Item → List Item} → i < length xs
     → ((r : List Item) → Adds a b (whole r) (f (drop i xs) r)) → ((r : List Item) → Adds b d (g (get_or xs i z) r) r)
     → (r : List Item) → Adds a d (whole r) (f (drop (i + 1) xs) r)
-each_at f g e a b d xs i z whole l h p = each_step f g e a b d xs i (get_or xs i z) whole l (get_same xs i z (get_or xs i z) l) h p
+each_at f g e xs {i = i} z l h p = each_step f g e xs l (get_same xs i z (get_or xs i z) l) h p
 
-pub each_end : {X : Type 0} (f : List X → List Item → List Item) (a b : List ℕ) (xs : List X) (i : ℕ) (whole : List Item → List Item) → length xs ≤ i
+pub each_end : {X : Type 0} (f : List X → List Item → List Item) {a b : List ℕ} (xs : List X) {i : ℕ} {whole : List Item → List Item} → length xs ≤ i
     → ((r : List Item) → Adds a b (whole r) (f (drop i xs) r))
     → (r : List Item) → Adds a b (whole r) (f [] r)
-each_end f a b xs i whole l h r = subst (λ ys. Adds a b (whole r) (f ys r)) (drop_all i xs l) (h r)
+each_end f {a} {b} xs {i} {whole} l h r = subst (λ ys. Adds a b (whole r) (f ys r)) (drop_all i xs l) (h r)
 
 -- one more item of a list with commas
 pub comma_step : {X : Type 0} (f : Bool → List X → List Item → List Item) (g : X → List Item → List Item)
     → ((b : Bool) (x : X) (xs : List X) (r : List Item) → f b (x ∷ xs) r ≡ comma b (g x (f true xs r)))
-    → (a b c d : List ℕ) (xs : List X) (i : ℕ) (x : X) (whole : List Item → List Item) → i < length xs → x ≡ get_or xs i x
+    → {a b c d : List ℕ} (xs : List X) {i : ℕ} {x : X} {whole : List Item → List Item} → i < length xs → x ≡ get_or xs i x
     → ((r : List Item) → Adds a b (whole r) (f (nat_lt 0 i) (drop i xs) r))
     → Puts b c (comma (nat_lt 0 i)) → ((r : List Item) → Adds c d (g x r) r) → (r : List Item) → Adds a d (whole r) (f (nat_lt 0 (i + 1)) (drop (i + 1) xs) r)
-comma_step f g e a b c d xs i x whole l k h p q r =
+comma_step f g e {b = b} {d = d} xs {i = i} {x = x} l k h p q r =
     let w : List Item = f true (drop (i + 1) xs) r in
     let t : nat_lt 0 (i + 1) ≡ true = lt-ltb 0 (i + 1) (omega arith) in
     adds_then (h r) (subst (λ ys. Adds b d (f (nat_lt 0 i) ys r) (f (nat_lt 0 (i + 1)) (drop (i + 1) xs) r)) (sym (drop_at xs i x l k))
     (subst (λ z. Adds b d z (f (nat_lt 0 (i + 1)) (drop (i + 1) xs) r)) (sym (e (nat_lt 0 i) x (drop (i + 1) xs) r))
     (subst (λ s. Adds b d (comma (nat_lt 0 i) (g x w)) (f s (drop (i + 1) xs) r)) (sym t) (adds_then (p (g x w)) (q w)))))
 
-pub comma_end : {X : Type 0} (f : Bool → List X → List Item → List Item) (a b : List ℕ) (xs : List X) (i : ℕ) (whole : List Item → List Item)
+pub comma_end : {X : Type 0} (f : Bool → List X → List Item → List Item) {a b : List ℕ} (xs : List X) {i : ℕ} {whole : List Item → List Item}
     → length xs ≤ i → ((r : List Item) → Adds a b (whole r) (f (nat_lt 0 i) (drop i xs) r))
     → (r : List Item) → Adds a b (whole r) (f (nat_lt 0 i) [] r)
-comma_end f a b xs i whole l h r = subst (λ ys. Adds a b (whole r) (f (nat_lt 0 i) ys r)) (drop_all i xs l) (h r)
+comma_end f {a} {b} xs {i} {whole} l h r = subst (λ ys. Adds a b (whole r) (f (nat_lt 0 i) ys r)) (drop_all i xs l) (h r)
 
 -- equal lists
 pub mods_as : {a b : List ℕ} (xs ys : List Modifier) → xs ≡ ys → Puts a b (mods_items xs) → Puts a b (mods_items ys)

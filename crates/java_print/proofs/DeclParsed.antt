@@ -23,7 +23,7 @@ use Rattle.java_tree.specs.Declarations.{IsMods, no_mods, next_mod, IsIds, last_
 use Rattle.java_tree.specs.Formed.{IsReadAs, IsGiven}
 use Rattle.java_print.proofs.Lexes.{nothing}
 use Rattle.java_print.proofs.TreeLexes as texts
-use Rattle.java_print.proofs.ExprParsed.{Of, none, one, of_tokens, Got, step, type_found}
+use Rattle.java_print.proofs.ExprParsed.{Of, none, one, of_tokens, Got, step, got_in, type_found}
 use Rattle.java_print.proofs.TreeParsed.{final, stmts}
 
 -- one that is read and those that are read behind it, where together they are of a kind
@@ -41,27 +41,13 @@ then_more {plain = plain} {x = x} a b all = record {
 mods : (ms : List Modifier) → Each IsFormedMod (all_unplaced modifier_unplaced ms) → (r : List Item) (ts : List Token)
     → Of (kinds_in (mods_items ms r)) ts → Got (all_unplaced modifier_unplaced) IsMods ms (kinds_in r) ts
 mods [] w r ts o = record { rest = ts; tree = []; fact = no_mods; left = o; same = refl }
-mods (m ∷ ms) w r _ (one {p = p} {ts = ts} o) = let x = mods ms w.1 r ts o in
-    record {
-      rest = x.rest;
-      tree = record { word = m.word; place = p } ∷ x.tree;
-      fact = next_mod w.0 x.fact;
-      left = x.left;
-      same = ap
-          (λ x. modifier_unplaced m ∷ x) x.same;
-    }
+mods (m ∷ ms) w r _ (one {p = p} {ts = ts} o) = got_in (λ y. record { word = m.word; place = p } ∷ y) (λ y. modifier_unplaced m ∷ y)
+    (λ y. refl) refl (λ us y d. next_mod w.0 d) (mods ms w.1 r ts o)
 
 result : (t : Option TypeName) (r : List Item) (ts : List Token) → Of (kinds_in (result_items t r)) ts
     → Got (may_unplaced type_unplaced) IsResult t (kinds_in r) ts
 result None r _ (one {ts = ts} o) = record { rest = ts; tree = None; fact = no_result; left = o; same = refl }
-result (Some t) r ts o = let x = type_found t r ts o in record {
-  rest = x.rest;
-  tree = Some x.tree;
-  fact = a_result x.fact;
-  left = x.left;
-  same =
-      ap Some x.same;
-}
+result (Some t) r ts o = got_in Some Some (λ y. refl) refl (λ us y d. a_result d) (type_found t r ts o)
 
 param : (q : Param) (r : List Item) (ts : List Token) → Of (kinds_in (final_items q.is_final (type_items q.ty (Space ∷ word_then q.name r)))) ts
     → Got param_unplaced IsParam q (kinds_in r) ts
@@ -112,8 +98,7 @@ head h w r ts o =
 body : (b : Option Statements) → IsFormedBody (may_unplaced stmts_unplaced b) → (r : List Item) (ts : List Token) → Of (kinds_in (body_items b r)) ts
     → Got (may_unplaced stmts_unplaced) IsBody b (kinds_in r) ts
 body None w r _ (one {ts = ts} o) = record { rest = ts; tree = None; fact = no_body; left = o; same = refl }
-body (Some ss) w r _ (one {ts = ts} o) =
-    let x = stmts ss w 4 2 (End ∷ r) ts o in record { rest = x.rest; tree = Some x.tree; fact = a_body x.fact; left = x.left; same = ap Some x.same }
+body (Some ss) w r _ (one {ts = ts} o) = got_in Some Some (λ y. refl) refl (λ us y d. a_body d) (stmts ss w 4 2 (End ∷ r) ts o)
 
 member : (m : MemberTree) → IsFormedMember (member_unplaced m) → (r : List Item) (ts : List Token) → Of (kinds_in (member_items m r)) ts
     → Got member_unplaced IsMember m (kinds_in r) ts

@@ -51,6 +51,12 @@ pub step : {A : Type 0} {plain : A → A} {P : List Token → List Token → A �
     → Got plain P x (k ∷ ks) ts → Got plain (Then k P) x ks ts
 step {P = P} g = step_by P g.rest g.tree g.fact g.left g.same
 
+-- what was got, as a part of a larger tree
+pub got_in : {A B : Type 0} {plain : A → A} {whole : B → B} {P : List Token → List Token → A → Type 0} {Q : List Token → List Token → B → Type 0}
+    {x : A} {z : B} {ks : List TokenKind} {ts us : List Token} (f h : A → B) → ((y : A) → whole (f y) ≡ h (plain y)) → h (plain x) ≡ whole z
+    → ((rest : List Token) (y : A) → P ts rest y → Q us rest (f y)) → Got plain P x ks ts → Got whole Q z ks us
+got_in f h e l d g = record { rest = g.rest; tree = f g.tree; fact = d g.rest g.tree g.fact; left = g.left; same = e g.tree ∙ ap h g.same ∙ l }
+
 -- an expression where a level is asked
 pub record At (k : ℕ) (ts rest : List Token) (e : Expression) : Type 0 where
   pub level : IsExpr k ts rest e
@@ -359,25 +365,13 @@ mutual
   pub args : (es : Expressions) → AreFormed (exprs_unplaced es) → (r : List Item) (ts : List Token) → Of (kinds_in (args_items false es r)) ts
       → Got exprs_unplaced IsArgs es (kinds_in r) ts
   args no_more w r _ (one {ts = ts} o) = record { rest = ts; tree = no_more; fact = no_args; left = o; same = refl }
-  args (and_more e es) w r ts o = let x = expr e w.0 _ ts o in let y = more es w.1 r x.rest x.left in
-      record {
-        rest = y.rest;
-        tree = and_more x.tree y.tree;
-        fact = some_args x.fact.whole y.fact;
-        left = y.left;
-        same = ap
-            (λ t. and_more t (exprs_unplaced y.tree)) x.same ∙ ap (and_more (expr_unplaced e)) y.same;
-      }
+  args (and_more e es) w r ts o = let x = expr e w.0 _ ts o in
+      got_in (and_more x.tree) (and_more (expr_unplaced x.tree)) (λ y. refl) (ap (λ t. and_more t (exprs_unplaced es)) x.same)
+      (λ us y d. some_args x.fact.whole d) (more es w.1 r x.rest x.left)
 
   more : (es : Expressions) → AreFormed (exprs_unplaced es) → (r : List Item) (ts : List Token) → Of (kinds_in (args_items true es r)) ts
       → Got exprs_unplaced IsMoreArgs es (kinds_in r) ts
   more no_more w r _ (one {ts = ts} o) = record { rest = ts; tree = no_more; fact = last_arg; left = o; same = refl }
-  more (and_more e es) w r _ (one {ts = ts} o) = let x = expr e w.0 _ ts o in let y = more es w.1 r x.rest x.left in
-      record {
-        rest = y.rest;
-        tree = and_more x.tree y.tree;
-        fact = next_arg x.fact.whole y.fact;
-        left = y.left;
-        same = ap
-            (λ t. and_more t (exprs_unplaced y.tree)) x.same ∙ ap (and_more (expr_unplaced e)) y.same;
-      }
+  more (and_more e es) w r _ (one {ts = ts} o) = let x = expr e w.0 _ ts o in
+      got_in (and_more x.tree) (and_more (expr_unplaced x.tree)) (λ y. refl) (ap (λ t. and_more t (exprs_unplaced es)) x.same)
+      (λ us y d. next_arg x.fact.whole d) (more es w.1 r x.rest x.left)

@@ -28,7 +28,7 @@ use Rattle.java_lex.proofs.Literals.{all_written, units_of}
 use Rattle.java_lex.proofs.Pairs.{lossy_units}
 use Rattle.java_lex.proofs.Numbers.{number, all_digits, range, Range}
 use Rattle.java_print.specs.Items.{Item, Lexeme, Space, End, Margin, text, kinds_in, units_written, kind_text}
-use Rattle.java_print.specs.Layout.{mark_then, key_then, word_then}
+use Rattle.java_print.specs.Layout.{mark_then, key_then, word_then, print_name}
 
 -- the text of the items is read as their kinds, and can be encoded
 pub record Lexes (r : List Item) : Type 0 where
@@ -223,18 +223,11 @@ name_head (c ∷ cs) rest h =
     rw (tokens.starts_none c 43 refl q.0, tokens.starts_none c 45 refl q.0, tokens.starts_none c 61 refl q.0) refl
 
 -- the names that a printing has
-pub system_name : IsName (codes "System")
+pub system_out : IsName (codes "System") × IsName (codes "out")
 unfolding unicode_ident key_text
-system_name = record { named = refl; scalars = refl }
+system_out = (record { named = refl; scalars = refl }, record { named = refl; scalars = refl })
 
-pub out_name : IsName (codes "out")
+pub print_names : (l : Bool) → IsName (print_name l)
 unfolding unicode_ident key_text
-out_name = record { named = refl; scalars = refl }
-
-pub println_name : IsName (codes "println")
-unfolding unicode_ident key_text
-println_name = record { named = refl; scalars = refl }
-
-pub print_name : IsName (codes "print")
-unfolding unicode_ident key_text
-print_name = record { named = refl; scalars = refl }
+print_names true = record { named = refl; scalars = refl }
+print_names false = record { named = refl; scalars = refl }

@@ -5,7 +5,6 @@ use Rattle.unicode_ident.proofs.Computing.{unicode_ident}
 use Rattle.kaba_base.specs.declared.Keyword.{Keyword}
 use Rattle.kaba_base.specs.declared.Keyword.TheVariants as keys
 use Rattle.java_lex.specs.declared.Mark.TheVariants as marks
-use Rattle.java_lex.specs.Writable.{IsName}
 use Rattle.java_lex.proofs.Spelled as tokens
 use Rattle.java_tree.specs.declared.Id.{Id}
 use Rattle.java_tree.specs.declared.Modifier.{Modifier}
@@ -14,9 +13,9 @@ use Rattle.java_tree.specs.declared.Param.{Param}
 use Rattle.java_tree.specs.Syntax.{Expression, CallOn, Statement, LocalOf, BlockOf, AssignOf, DoOf, PrintOf, IfOf, WhileOf, ForOf, ReturnOf, BreakOf, ContinueOf, Statements, no_statements, and_then, Arms, no_arms, and_arm, Else, no_else, otherwise, OptionalStatement, absent, present, HeadTree, MemberTree, FieldTree, MethodTree, DeclTree, ClassTree, InterfaceTree}
 use Rattle.java_tree.specs.Places.{expr_unplaced, value_unplaced, stmt_unplaced, stmts_unplaced, arms_unplaced, else_unplaced, step_unplaced, all_unplaced, may_unplaced, id_unplaced, modifier_unplaced, type_unplaced, param_unplaced, head_unplaced, member_unplaced, decl_unplaced, unplaced}
 use Rattle.java_print.specs.Items.{Item}
-use Rattle.java_print.specs.Layout.{expr_items, value_items, spaced_items, init_items, final_items, prints, bracketed_items, call_items, print_name, simple_items, first_items, step_items, else_then, open_body, close_body, stmt_items, stmts_items, arms_items, else_items, mods_items, result_items, params_items, head_items, body_items, member_items, members_items, heads_items, ids_items, parent_items, list_items, decl_items, decls_items}
+use Rattle.java_print.specs.Layout.{expr_items, value_items, spaced_items, init_items, final_items, prints, bracketed_items, call_items, simple_items, first_items, step_items, else_then, open_body, close_body, stmt_items, stmts_items, arms_items, else_items, mods_items, result_items, params_items, head_items, body_items, member_items, members_items, heads_items, ids_items, parent_items, list_items, decl_items, decls_items}
 use Rattle.java_tree.specs.Formed.{IsFormed, IsFormedValue, IsFormedStmt, AreFormedStmts, AreFormedArms, IsFormedElse, IsFormedFirst, IsFormedStep, Each, IsFormedMod, IsFormedId, IsFormedParam, IsFormedResult, IsFormedHead, IsFormedBody, IsFormedMember, IsFormedParent, IsFormedDecl, IsFormedTree}
-use Rattle.java_print.proofs.Lexes.{Lexes, Loose, word, key, closed, space, line, margin, spaced, system_name, out_name, println_name, print_name as print_named}
+use Rattle.java_print.proofs.Lexes.{Lexes, Loose, word, key, closed, space, line, margin, spaced, system_out, print_names}
 use Rattle.java_print.proofs.ExprLexes.{expr, args, a_type, commas}
 
 value : (v : Option Expression) → IsFormedValue (value_unplaced v) → (r : List Item) → Loose r → Lexes r → Lexes (value_items v r)
@@ -49,17 +48,13 @@ final false r s = s
 bracketed : (e : Expression) → IsFormed (expr_unplaced e) → (r : List Item) → Loose r → Lexes r → Lexes (bracketed_items e r)
 unfolding unicode_ident
 bracketed (CallOn e n es p) w r a s =
-    closed tokens.cOpenRound (word system_name refl
+    closed tokens.cOpenRound (word system_out.0 refl
     (closed tokens.cCloseRound (closed tokens.cDot
-    (word out_name refl (closed tokens.cDot (word w.1 refl (closed tokens.cOpenRound (args false es w.2 r s))))))))
+    (word system_out.1 refl (closed tokens.cDot (word w.1 refl (closed tokens.cOpenRound (args false es w.2 r s))))))))
 bracketed e w r a s = (expr e w r a s).lexes
 
 call : (e : Expression) → IsFormed (expr_unplaced e) → (r : List Item) → Loose r → Lexes r → Lexes (call_items e r)
 call e w r a s = cond_both (prints e) (bracketed_items e r) (expr_items e r) Lexes (λ h. bracketed e w r a s) (λ h. (expr e w r a s).lexes)
-
-print_names : (l : Bool) → IsName (print_name l)
-print_names true = println_name
-print_names false = print_named
 
 simple : (s : Statement) → IsFormedStmt (stmt_unplaced s) → (r : List Item) → Loose r → Lexes r → Lexes (simple_items s r)
 unfolding unicode_ident
@@ -67,8 +62,8 @@ simple (LocalOf f t n v p) w r a s = final f _ (a_type t w.0 _ refl (space (word
 simple (AssignOf t v p) w r a s = (expr t w.1 _ refl (space (spaced marks.Assign (expr v w.2 r a s).lexes))).lexes
 simple (DoOf c p) w r a s = call c w.1 r a s
 simple (PrintOf l v p) w r a s =
-    word system_name refl (closed tokens.cDot
-    (word out_name refl (closed tokens.cDot
+    word system_out.0 refl (closed tokens.cDot
+    (word system_out.1 refl (closed tokens.cDot
     (word (print_names l) refl (closed tokens.cOpenRound (value v w.1 _ refl (closed tokens.cCloseRound s)))))))
 simple _ w r a s = s
 

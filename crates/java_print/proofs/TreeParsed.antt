@@ -13,24 +13,17 @@ use Rattle.java_tree.specs.declared.TypeName.{TypeName}
 use Rattle.java_tree.specs.Syntax.{Expression, NameRef, FieldOf, IndexOf, CallOf, CallOn, SuperCallOf, NewOf, Expressions, no_more, and_more, Statement, LocalOf, BlockOf, AssignOf, DoOf, PrintOf, IfOf, WhileOf, ForOf, ReturnOf, BreakOf, ContinueOf, Statements, no_statements, and_then, Arms, no_arms, and_arm, Else, no_else, otherwise, OptionalStatement, absent, present}
 use Rattle.java_tree.specs.Places.{nowhere, expr_unplaced, exprs_unplaced, value_unplaced, stmt_unplaced, stmts_unplaced, arms_unplaced, else_unplaced, step_unplaced, id_unplaced, type_unplaced}
 use Rattle.java_print.specs.Items.{Item, End, kinds_in}
-use Rattle.java_print.specs.Layout.{expr_items, value_items, spaced_items, init_items, final_items, prints, bracketed_items, call_items, simple_items, first_items, step_items, close_body, stmt_items, stmts_items, arms_items, else_items}
+use Rattle.java_print.specs.Layout.{expr_items, value_items, spaced_items, init_items, final_items, prints, bracketed_items, call_items, simple_items, first_items, step_items, close_body, stmt_items, stmts_items, arms_items, else_items, stop_then}
 use Rattle.java_tree.specs.Formed.{is_target, is_call, IsFormed, IsFormedValue, is_act, IsFormedStmt, AreFormedStmts, AreFormedArms, IsFormedElse, IsFormedFirst, IsFormedStep}
 use Rattle.java_tree.specs.Tokens.{mark, first_place}
 use Rattle.java_tree.specs.Expressions.{IsExpr, operand, bare, field, name, round, no_args, some_args, last_arg}
 use Rattle.java_tree.specs.Statements.{is_called, is_out, as_body, printed_args, printed_by, is_word, printed, IsFinal, not_final, is_final, IsValue, no_value, a_value, IsInit, no_init, an_init, IsLocal, a_local, IsTarget, to_name, to_field, to_index, plain_call, call_upon, call_above, IsAct, assign, do_call, print, do_new, IsFirst, no_first, first_local, first_act, IsStep, no_step, a_step, IsItem, local_item, stmt_item, IsItems, no_items, next_item, IsStmt, block, acting, choice, while_loop, for_loop, return_word, break_word, continue_word, IsArms, last_arm, else_arm, more_arms}
-use Rattle.java_print.proofs.ExprParsed.{Of, one, Got, step, operand_found, type_found, expr, args}
+use Rattle.java_print.proofs.ExprParsed.{Of, one, Got, step, got_in, operand_found, type_found, expr, args}
 
 value : (v : Option Expression) → IsFormedValue (value_unplaced v) → (r : List Item) (ts : List Token) → Of (kinds_in (value_items v r)) ts
     → Got value_unplaced IsValue v (kinds_in r) ts
 value None w r ts o = record { rest = ts; tree = None; fact = no_value; left = o; same = refl }
-value (Some e) w r ts o = let x = expr e w r ts o in record {
-  rest = x.rest;
-  tree = Some x.tree;
-  fact = a_value x.fact.whole;
-  left = x.left;
-  same =
-      ap Some x.same;
-}
+value (Some e) w r ts o = got_in Some Some (λ y. refl) refl (λ us y d. a_value d.whole) (expr e w r ts o)
 
 spaced_value : (v : Option Expression) → IsFormedValue (value_unplaced v) → (r : List Item) (ts : List Token) → Of (kinds_in (spaced_items v r)) ts
     → Got value_unplaced IsValue v (kinds_in r) ts
@@ -40,8 +33,7 @@ spaced_value (Some e) w r ts o = value (Some e) w r ts o
 init : (v : Option Expression) → IsFormedValue (value_unplaced v) → (r : List Item) (ts : List Token) → Of (kinds_in (init_items v r)) ts
     → Got value_unplaced IsInit v (kinds_in r) ts
 init None w r ts o = record { rest = ts; tree = None; fact = no_init; left = o; same = refl }
-init (Some e) w r _ (one {ts = ts} o) =
-    let x = expr e w r ts o in record { rest = x.rest; tree = Some x.tree; fact = an_init x.fact.whole; left = x.left; same = ap Some x.same }
+init (Some e) w r _ (one {ts = ts} o) = got_in Some Some (λ y. refl) refl (λ us y d. an_init d.whole) (expr e w r ts o)
 
 pub final : (f : Bool) (r : List Item) (ts : List Token) → Of (kinds_in (final_items f r)) ts → Got (λ b. b) IsFinal f (kinds_in r) ts
 final true r _ (one {ts = ts} o) = record { rest = ts; tree = true; fact = is_final; left = o; same = refl }
@@ -206,22 +198,10 @@ print_found : (l : Bool) (v : Option Expression) (p : Place) → (l || is_some (
 unfolding encode_utf8
 print_found true None p h w r _ (one {p = p0} (one (one (one (one (one (one {ts = ts} o))))))) =
     record { rest = ts; tree = PrintOf true None p0; fact = print (call_upon (field name) no_args) refl; left = o; same = refl }
-print_found true (Some e) p h w r _ (one {p = p0} (one (one (one (one (one {ts = ts} o)))))) = let x = step (expr e w _ ts o) in
-    record {
-      rest = x.rest;
-      tree = PrintOf true (Some x.tree) p0;
-      fact = print (call_upon (field name) (some_args x.fact.1.whole last_arg)) refl;
-      left = x.left;
-      same = ap (λ x. PrintOf true (Some x) nowhere) x.same;
-    }
-print_found false (Some e) p h w r _ (one {p = p0} (one (one (one (one (one {ts = ts} o)))))) = let x = step (expr e w _ ts o) in
-    record {
-      rest = x.rest;
-      tree = PrintOf false (Some x.tree) p0;
-      fact = print (call_upon (field name) (some_args x.fact.1.whole last_arg)) refl;
-      left = x.left;
-      same = ap (λ x. PrintOf false (Some x) nowhere) x.same;
-    }
+print_found true (Some e) p h w r _ (one {p = p0} (one (one (one (one (one {ts = ts} o)))))) = got_in (λ x. PrintOf true (Some x) p0)
+    (λ x. PrintOf true (Some x) nowhere) (λ y. refl) refl (λ us y d. print (call_upon (field name) (some_args d.1.whole last_arg)) refl) (step (expr e w _ ts o))
+print_found false (Some e) p h w r _ (one {p = p0} (one (one (one (one (one {ts = ts} o)))))) = got_in (λ x. PrintOf false (Some x) p0)
+    (λ x. PrintOf false (Some x) nowhere) (λ y. refl) refl (λ us y d. print (call_upon (field name) (some_args d.1.whole last_arg)) refl) (step (expr e w _ ts o))
 print_found false None p h w r ts o = absurd (true≢false (sym h))
 
 act : (s : Statement) → is_act (stmt_unplaced s) ≡ true → IsFormedStmt (stmt_unplaced s) → (r : List Item) (ts : List Token)
@@ -242,39 +222,22 @@ act _ h w r ts o = absurd (true≢false (sym h))
 
 acting_first : (s : Statement) → is_act (stmt_unplaced s) ≡ true → IsFormedStmt (stmt_unplaced s) → (r : List Item) (ts : List Token)
     → Of (kinds_in (simple_items s r)) ts → Got step_unplaced IsFirst (present s) (kinds_in r) ts
-acting_first s h w r ts o = let x = act s h w r ts o in record {
-  rest = x.rest;
-  tree = present x.tree;
-  fact = first_act x.fact;
-  left = x.left;
-  same =
-      ap present x.same;
-}
+acting_first s h w r ts o = got_in present present (λ y. refl) refl (λ us y d. first_act d) (act s h w r ts o)
+
+acting_item : (s : Statement) → is_act (stmt_unplaced s) ≡ true → IsFormedStmt (stmt_unplaced s) → (r : List Item) (ts : List Token)
+    → Of (kinds_in (simple_items s (stop_then r))) ts → Got stmt_unplaced IsItem s (kinds_in (End ∷ r)) ts
+acting_item s h w r ts o = got_in (λ x. x) (λ x. x) (λ y. refl) refl (λ us y d. stmt_item (acting d.1)) (step (act s h w _ ts o))
 
 first : (f : OptionalStatement) → IsFormedFirst (step_unplaced f) → (r : List Item) (ts : List Token) → Of (kinds_in (first_items f r)) ts
     → Got step_unplaced IsFirst f (kinds_in r) ts
 first absent w r ts o = record { rest = ts; tree = absent; fact = no_first; left = o; same = refl }
-first (present (LocalOf f t n v p)) w r ts o =
-    let x = local f t n v p w.1.2 r ts o in record {
-      rest = x.rest;
-      tree = present x.tree;
-      fact = first_local x.fact;
-      left = x.left;
-      same = ap
-          present x.same;
-    }
+first (present (LocalOf f t n v p)) w r ts o = got_in present present (λ y. refl) refl (λ us y d. first_local d) (local f t n v p w.1.2 r ts o)
 first (present s) w r ts o = acting_first s w.0 w.1 r ts o
 
 step_part : (g : OptionalStatement) → IsFormedStep (step_unplaced g) → (r : List Item) (ts : List Token) → Of (kinds_in (step_items g r)) ts
     → Got step_unplaced IsStep g (kinds_in r) ts
 step_part absent w r ts o = record { rest = ts; tree = absent; fact = no_step; left = o; same = refl }
-step_part (present s) w r ts o = let x = act s w.0 w.1 r ts o in record {
-  rest = x.rest;
-  tree = present x.tree;
-  fact = a_step x.fact;
-  left = x.left;
-  same = ap present x.same;
-}
+step_part (present s) w r ts o = got_in present present (λ y. refl) refl (λ us y d. a_step d) (act s w.0 w.1 r ts o)
 
 -- what follows the closing brace of an arm's body
 record Tail (a : Arms) (l : Else) (ks : List TokenKind) (us : List Token) : Type 0 where
@@ -295,9 +258,9 @@ mutual
   pub stmt : (s : Statement) → IsFormedStmt (stmt_unplaced s) → (d : ℕ) (r : List Item) (ts : List Token) → Of (kinds_in (stmt_items d s r)) ts
       → Got stmt_unplaced IsItem s (kinds_in r) ts
   stmt (LocalOf f t n v p) w d r ts o =
-      let x = step (local f t n v p w.2 _ ts o) in record { rest = x.rest; tree = x.tree; fact = local_item x.fact.1; left = x.left; same = x.same }
-  stmt (BlockOf ss p) w d r _ (one {p = q} {ts = ts} o) = let x = stmts ss w (d + 2) d (End ∷ r) ts o in
-      record { rest = x.rest; tree = BlockOf x.tree q; fact = stmt_item (block x.fact); left = x.left; same = ap (λ x. BlockOf x nowhere) x.same }
+      got_in (λ x. x) (λ x. x) (λ y. refl) refl (λ us y e. local_item e.1) (step (local f t n v p w.2 _ ts o))
+  stmt (BlockOf ss p) w d r _ (one {p = q} {ts = ts} o) = got_in (λ x. BlockOf x q) (λ x. BlockOf x nowhere) (λ y. refl) refl
+      (λ us y e. stmt_item (block e)) (stmts ss w (d + 2) d (End ∷ r) ts o)
   stmt (IfOf no_arms l p) w d r ts o = absurd (true≢false (sym w.0))
   stmt (IfOf (and_arm e ss a) l p) w d r _ (one {p = q} (one {ts = ts} o)) =
       let y = step (step (expr e w.1.0 _ ts o)) in
@@ -338,48 +301,21 @@ mutual
             ∙ ap (λ k. ForOf (step_unplaced f) (value_unplaced v) k (stmts_unplaced z.tree) nowhere) t.same
             ∙ ap (λ k. ForOf (step_unplaced f) (value_unplaced v) (step_unplaced g) k nowhere) z.same;
       }
-  stmt (ReturnOf v p) w d r _ (one {p = q} {ts = ts} o) = let x = step (spaced_value v w _ ts o) in
-      record { rest = x.rest; tree = ReturnOf x.tree q; fact = stmt_item (return_word x.fact.1); left = x.left; same = ap (λ x. ReturnOf x nowhere) x.same }
+  stmt (ReturnOf v p) w d r _ (one {p = q} {ts = ts} o) = got_in (λ x. ReturnOf x q) (λ x. ReturnOf x nowhere) (λ y. refl) refl
+      (λ us y e. stmt_item (return_word e.1)) (step (spaced_value v w _ ts o))
   stmt (BreakOf p) w d r _ (one {p = q} (one {ts = ts} o)) = record { rest = ts; tree = BreakOf q; fact = stmt_item break_word; left = o; same = refl }
   stmt (ContinueOf p) w d r _ (one {p = q} (one {ts = ts} o)) = record { rest = ts; tree = ContinueOf q; fact = stmt_item continue_word; left = o; same = refl }
-  stmt (AssignOf t v p) w d r ts o = let x = step (act (AssignOf t v p) refl w _ ts o) in record {
-    rest = x.rest;
-    tree = x.tree;
-    fact = stmt_item
-        (acting x.fact.1);
-    left = x.left;
-    same = x.same;
-  }
-  stmt (DoOf c p) w d r ts o = let x = step (act (DoOf c p) refl w _ ts o) in record {
-    rest = x.rest;
-    tree = x.tree;
-    fact = stmt_item
-        (acting x.fact.1);
-    left = x.left;
-    same = x.same;
-  }
-  stmt (PrintOf l v p) w d r ts o = let x = step (act (PrintOf l v p) refl w _ ts o) in record {
-    rest = x.rest;
-    tree = x.tree;
-    fact = stmt_item
-        (acting x.fact.1);
-    left = x.left;
-    same = x.same;
-  }
+  stmt (AssignOf t v p) w d r ts o = acting_item (AssignOf t v p) refl w _ ts o
+  stmt (DoOf c p) w d r ts o = acting_item (DoOf c p) refl w _ ts o
+  stmt (PrintOf l v p) w d r ts o = acting_item (PrintOf l v p) refl w _ ts o
 
   -- the items of a body and the brace that closes it
   pub stmts : (ss : Statements) → AreFormedStmts (stmts_unplaced ss) → (d c : ℕ) (r : List Item) (ts : List Token)
       → Of (kinds_in (stmts_items d ss (close_body c r))) ts → Items ss (kinds_in r) ts
   stmts no_statements w d c r _ (one {ts = ts} o) = record { rest = ts; tree = no_statements; fact = no_items; left = o; same = refl }
-  stmts (and_then s ss) w d c r ts o = let x = stmt s w.0 d _ ts o in let y = stmts ss w.1 d c r x.rest x.left in
-      record {
-        rest = y.rest;
-        tree = and_then x.tree y.tree;
-        fact = next_item x.fact y.fact;
-        left = y.left;
-        same = ap
-            (λ x. and_then x (stmts_unplaced y.tree)) x.same ∙ ap (and_then (stmt_unplaced s)) y.same;
-      }
+  stmts (and_then s ss) w d c r ts o = let x = stmt s w.0 d _ ts o in
+      got_in (and_then x.tree) (and_then (stmt_unplaced x.tree)) (λ y. refl) (ap (λ t. and_then t (stmts_unplaced ss)) x.same)
+      (λ us y e. next_item x.fact e) (stmts ss w.1 d c r x.rest x.left)
 
   else_tail : (l : Else) → IsFormedElse (else_unplaced l) → (d : ℕ) (r : List Item) (us : List Token) → Of (kinds_in (else_items d l r)) us
       → Tail no_arms l (kinds_in r) us

@@ -14,7 +14,7 @@ use crate::stmts::{put_body, put_open_body};
 use java_lex::Mark;
 use java_tree::{Decl, Head, Id, Member, Modifier, Param, Stmt, TypeName};
 use kaba_base::{Keyword, Name};
-use std::alloc::{AllocError, Global};
+use std::alloc::AllocError;
 
 /// Adds a modifier and a space.
 fn put_mod(into: &mut Vec<u8>, m: &Modifier) -> Result<(), AllocError>
@@ -78,24 +78,20 @@ fn put_head(into: &mut Vec<u8>, head: &Head) -> Result<(), AllocError>
 }
 
 /// Adds the body of a method.
-fn put_method_block(alloc: Global, into: &mut Vec<u8>, body: &[Stmt]) -> Result<(), AllocError>
+fn put_method_block(into: &mut Vec<u8>, body: &[Stmt]) -> Result<(), AllocError>
     ensures value { OnOk result ((r : List Item) → Adds into.old.items into.new.items (body_block 2 (stmts body.now) (End ∷ r)) r) }
 {
-    put_body(alloc, into, 2, body)?;
+    put_body(into, 2, body)?;
     put_end(into)
 }
 
 /// Adds the body of a method, or a semicolon.
-fn put_method_body(
-    alloc: Global,
-    into: &mut Vec<u8>,
-    body: &Option<Vec<Stmt>>,
-) -> Result<(), AllocError>
+fn put_method_body(into: &mut Vec<u8>, body: &Option<Vec<Stmt>>) -> Result<(), AllocError>
     ensures value { OnOk result (Puts into.old.items into.new.items (body_items (body_seen body.now))) }
 {
     match body {
         None => put_stop(into),
-        Some(body) => put_method_block(alloc, into, body.as_slice()),
+        Some(body) => put_method_block(into, body.as_slice()),
     }
 }
 
@@ -117,35 +113,30 @@ fn put_field_member(
 }
 
 /// Adds a method of a class.
-fn put_method(
-    alloc: Global,
-    into: &mut Vec<u8>,
-    head: &Head,
-    body: &Option<Vec<Stmt>>,
-) -> Result<(), AllocError>
+fn put_method(into: &mut Vec<u8>, head: &Head, body: &Option<Vec<Stmt>>) -> Result<(), AllocError>
     ensures value { OnOk result (Puts into.old.items into.new.items (method_items (head_of head.now) (body_seen body.now))) }
 {
     put_margin(into, 2)?;
     put_head(into, head)?;
-    put_method_body(alloc, into, body)
+    put_method_body(into, body)
 }
 
 /// Adds a member of a class.
-fn put_member(alloc: Global, into: &mut Vec<u8>, member: &Member) -> Result<(), AllocError>
+fn put_member(into: &mut Vec<u8>, member: &Member) -> Result<(), AllocError>
     ensures value { OnOk result (Puts into.old.items into.new.items (member_items (member_of member.now))) }
 {
     match member {
         Member::Field { mods, ty, name, .. } => put_field_member(into, mods.as_slice(), ty, name),
-        Member::Method { head, body, .. } => put_method(alloc, into, head, body),
+        Member::Method { head, body, .. } => put_method(into, head, body),
     }
 }
 
 /// Adds members of a class.
-fn put_members(alloc: Global, into: &mut Vec<u8>, list: &[Member]) -> Result<(), AllocError>
+fn put_members(into: &mut Vec<u8>, list: &[Member]) -> Result<(), AllocError>
     ensures value { OnOk result (Puts into.old.items into.new.items (members_items (members list.now))) }
 {
     for member in list {
-        put_member(alloc, into, member)?;
+        put_member(into, member)?;
     }
     Ok(())
 }
@@ -215,7 +206,6 @@ fn put_listed(into: &mut Vec<u8>, key: Keyword, ids: &[Id]) -> Result<(), AllocE
 
 /// Adds a class.
 fn put_class(
-    alloc: Global,
     into: &mut Vec<u8>,
     mods: &[Modifier],
     name: &Name,
@@ -232,7 +222,7 @@ fn put_class(
     put_parent(into, parent)?;
     put_list(into, Keyword::Implements, faces)?;
     put_open_body(into)?;
-    put_members(alloc, into, list)?;
+    put_members(into, list)?;
     put_mark(into, Mark::CloseBrace)?;
     put_end(into)
 }
@@ -259,7 +249,7 @@ fn put_interface(
 }
 
 /// Adds a class or an interface.
-fn put_decl(alloc: Global, into: &mut Vec<u8>, decl: &Decl) -> Result<(), AllocError>
+fn put_decl(into: &mut Vec<u8>, decl: &Decl) -> Result<(), AllocError>
     ensures value { OnOk result (Puts into.old.items into.new.items (decl_items (decl_of decl.now))) }
 {
     match decl {
@@ -272,7 +262,6 @@ fn put_decl(alloc: Global, into: &mut Vec<u8>, decl: &Decl) -> Result<(), AllocE
             ..
         } => {
             put_class(
-                alloc,
                 into,
                 mods.as_slice(),
                 name,
@@ -300,11 +289,11 @@ fn put_decl(alloc: Global, into: &mut Vec<u8>, decl: &Decl) -> Result<(), AllocE
 }
 
 /// Adds classes and interfaces.
-pub fn put_decls(alloc: Global, into: &mut Vec<u8>, list: &[Decl]) -> Result<(), AllocError>
+pub fn put_decls(into: &mut Vec<u8>, list: &[Decl]) -> Result<(), AllocError>
     ensures value { OnOk result (Puts into.old.items into.new.items (decls_items (decls list.now))) }
 {
     for decl in list {
-        put_decl(alloc, into, decl)?;
+        put_decl(into, decl)?;
     }
     Ok(())
 }

@@ -13,7 +13,7 @@ use crate::put::{
 use java_lex::Mark;
 use java_tree::{Expr, Id, TypeBase, TypeName, level_of};
 use kaba_base::{Keyword, Name};
-use std::alloc::{AllocError, Global};
+use std::alloc::AllocError;
 
 /// How tightly an expression binds: 13 needs no brackets anywhere.
 fn rank(e: &Expr) -> u32
@@ -167,104 +167,103 @@ pub fn put_comma(into: &mut Vec<u8>, more: bool) -> Result<(), AllocError>
 
 /// Adds an expression.
 #[cycle(printing)]
-pub fn put_expr(alloc: Global, into: &mut Vec<u8>, e: &Expr) -> Result<(), AllocError>
+pub fn put_expr(into: &mut Vec<u8>, e: &Expr) -> Result<(), AllocError>
     ensures value { OnOk result (Puts into.old.items into.new.items (expr_items (expr_of e.now))) }
 {
     match e {
-        Expr::Int { value, .. } => put_int(alloc, into, *value),
-        Expr::Char { value, .. } => put_char_literal(alloc, into, *value),
-        Expr::Str { units, .. } => put_string_literal(alloc, into, units),
+        Expr::Int { value, .. } => put_int(into, *value),
+        Expr::Char { value, .. } => put_char_literal(into, *value),
+        Expr::Str { units, .. } => put_string_literal(into, units),
         Expr::Bool { value, .. } => put_bool(into, *value),
         Expr::Null { .. } => put_key(into, Keyword::Null),
         Expr::This { .. } => put_key(into, Keyword::This),
         Expr::Name { name, .. } => put_name(into, name),
-        Expr::Field { base, name, .. } => put_field(alloc, into, base, name),
-        Expr::Index { base, at, .. } => put_index(alloc, into, base, at),
+        Expr::Field { base, name, .. } => put_field(into, base, name),
+        Expr::Index { base, at, .. } => put_index(into, base, at),
         Expr::Call {
             base,
             name,
             args,
             ..
         } => match base {
-            None => put_call(alloc, into, name, args.as_slice()),
-            Some(base) => put_call_on(alloc, into, base, name, args.as_slice()),
+            None => put_call(into, name, args.as_slice()),
+            Some(base) => put_call_on(into, base, name, args.as_slice()),
         },
-        Expr::SuperCall { name, args, .. } => put_super_call(alloc, into, name, args.as_slice()),
-        Expr::New { class, args, .. } => put_new(alloc, into, &class.name, args.as_slice()),
-        Expr::NewArray { ty, size, .. } => put_new_array(alloc, into, ty, size),
-        Expr::Cast { ty, value, .. } => put_cast(alloc, into, ty, value),
-        Expr::InstanceOf { value, class, .. } => put_instance_of(alloc, into, value, &class.name),
-        Expr::Unary { mark, value, .. } => put_unary(alloc, into, *mark, value),
+        Expr::SuperCall { name, args, .. } => put_super_call(into, name, args.as_slice()),
+        Expr::New { class, args, .. } => put_new(into, &class.name, args.as_slice()),
+        Expr::NewArray { ty, size, .. } => put_new_array(into, ty, size),
+        Expr::Cast { ty, value, .. } => put_cast(into, ty, value),
+        Expr::InstanceOf { value, class, .. } => put_instance_of(into, value, &class.name),
+        Expr::Unary { mark, value, .. } => put_unary(into, *mark, value),
         Expr::Binary {
             mark,
             left,
             right,
             ..
-        } => put_binary(alloc, into, *mark, left, right),
+        } => put_binary(into, *mark, left, right),
     }
 }
 
 /// Adds an operand, in round brackets where it does not stand bare.
 #[cycle(printing)]
-fn put_operand(alloc: Global, into: &mut Vec<u8>, e: &Expr, bare: bool) -> Result<(), AllocError>
+fn put_operand(into: &mut Vec<u8>, e: &Expr, bare: bool) -> Result<(), AllocError>
     ensures value { OnOk result (Puts into.old.items into.new.items (in_round bare (expr_items (expr_of e.now)))) }
 {
     if bare {
-        put_expr(alloc, into, e)
+        put_expr(into, e)
     } else {
         put_mark(into, Mark::OpenRound)?;
-        put_expr(alloc, into, e)?;
+        put_expr(into, e)?;
         put_mark(into, Mark::CloseRound)
     }
 }
 
 /// Adds arguments and the bracket that closes them.
 #[cycle(printing)]
-pub fn put_args(alloc: Global, into: &mut Vec<u8>, args: &[Expr]) -> Result<(), AllocError>
+pub fn put_args(into: &mut Vec<u8>, args: &[Expr]) -> Result<(), AllocError>
     ensures value { OnOk result (Puts into.old.items into.new.items (args_items false (exprs args.now))) }
 {
     for (i, arg) in args.iter().enumerate() {
         put_comma(into, i > 0)?;
-        put_expr(alloc, into, arg)?;
+        put_expr(into, arg)?;
     }
     put_mark(into, Mark::CloseRound)
 }
 
 /// Adds a field of an object.
 #[cycle(printing)]
-fn put_field(alloc: Global, into: &mut Vec<u8>, base: &Expr, name: &Name) -> Result<(), AllocError>
+fn put_field(into: &mut Vec<u8>, base: &Expr, name: &Name) -> Result<(), AllocError>
     ensures value { OnOk result ((r : List Item) → Adds into.old.items into.new.items (field_items (expr_of base.now) name.now r) r) }
 {
-    put_operand(alloc, into, base, fits(12, base))?;
+    put_operand(into, base, fits(12, base))?;
     put_mark(into, Mark::Dot)?;
     put_name(into, name)
 }
 
 /// Adds an element of an array.
 #[cycle(printing)]
-fn put_index(alloc: Global, into: &mut Vec<u8>, base: &Expr, at: &Expr) -> Result<(), AllocError>
+fn put_index(into: &mut Vec<u8>, base: &Expr, at: &Expr) -> Result<(), AllocError>
     ensures value { OnOk result ((r : List Item) → Adds into.old.items into.new.items (index_items (expr_of base.now) (expr_of at.now) r) r) }
 {
-    put_operand(alloc, into, base, fits(13, base))?;
+    put_operand(into, base, fits(13, base))?;
     put_mark(into, Mark::OpenSquare)?;
-    put_expr(alloc, into, at)?;
+    put_expr(into, at)?;
     put_mark(into, Mark::CloseSquare)
 }
 
 /// Adds a call of a name.
 #[cycle(printing)]
-fn put_call(alloc: Global, into: &mut Vec<u8>, name: &Name, args: &[Expr]) -> Result<(), AllocError>
+fn put_call(into: &mut Vec<u8>, name: &Name, args: &[Expr]) -> Result<(), AllocError>
     ensures value { OnOk result (Puts into.old.items into.new.items (called_items name.now (exprs args.now))) }
 {
     put_name(into, name)?;
     put_mark(into, Mark::OpenRound)?;
-    put_args(alloc, into, args)
+    put_args(into, args)
 }
 
 /// Adds a call upon an object.
 #[cycle(printing)]
 fn put_call_on(
-    alloc: Global,
     into: &mut Vec<u8>,
     base: &Expr,
     name: &Name,
@@ -272,83 +271,63 @@ fn put_call_on(
 ) -> Result<(), AllocError>
     ensures value { OnOk result ((r : List Item) → Adds into.old.items into.new.items (in_round (fits 12 (expr_of base.now)) (expr_items (expr_of base.now)) (mark_then Mark.Dot (called_items name.now (exprs args.now) r))) r) }
 {
-    put_operand(alloc, into, base, fits(12, base))?;
+    put_operand(into, base, fits(12, base))?;
     put_mark(into, Mark::Dot)?;
-    put_call(alloc, into, name, args)
+    put_call(into, name, args)
 }
 
 /// Adds a call of the method above.
 #[cycle(printing)]
-fn put_super_call(
-    alloc: Global,
-    into: &mut Vec<u8>,
-    name: &Name,
-    args: &[Expr],
-) -> Result<(), AllocError>
+fn put_super_call(into: &mut Vec<u8>, name: &Name, args: &[Expr]) -> Result<(), AllocError>
     ensures value { OnOk result ((r : List Item) → Adds into.old.items into.new.items (key_then Keyword.Super (mark_then Mark.Dot (called_items name.now (exprs args.now) r))) r) }
 {
     put_key(into, Keyword::Super)?;
     put_mark(into, Mark::Dot)?;
-    put_call(alloc, into, name, args)
+    put_call(into, name, args)
 }
 
 /// Adds the creation of an object.
 #[cycle(printing)]
-fn put_new(alloc: Global, into: &mut Vec<u8>, class: &Name, args: &[Expr]) -> Result<(), AllocError>
+fn put_new(into: &mut Vec<u8>, class: &Name, args: &[Expr]) -> Result<(), AllocError>
     ensures value { OnOk result ((r : List Item) → Adds into.old.items into.new.items (key_then Keyword.New (Space ∷ called_items class.now (exprs args.now) r)) r) }
 {
     put_key(into, Keyword::New)?;
     put_space(into)?;
-    put_call(alloc, into, class, args)
+    put_call(into, class, args)
 }
 
 /// Adds the creation of an array.
 #[cycle(printing)]
-fn put_new_array(
-    alloc: Global,
-    into: &mut Vec<u8>,
-    ty: &TypeName,
-    size: &Expr,
-) -> Result<(), AllocError>
+fn put_new_array(into: &mut Vec<u8>, ty: &TypeName, size: &Expr) -> Result<(), AllocError>
     ensures value { OnOk result ((r : List Item) → Adds into.old.items into.new.items (new_array_items ty.now (expr_of size.now) r) r) }
 {
     put_key(into, Keyword::New)?;
     put_space(into)?;
     put_base(into, &ty.base)?;
     put_mark(into, Mark::OpenSquare)?;
-    put_expr(alloc, into, size)?;
+    put_expr(into, size)?;
     put_mark(into, Mark::CloseSquare)?;
     put_more_dims(into, ty.dim)
 }
 
 /// Adds a cast.
 #[cycle(printing)]
-fn put_cast(
-    alloc: Global,
-    into: &mut Vec<u8>,
-    ty: &TypeName,
-    value: &Expr,
-) -> Result<(), AllocError>
+fn put_cast(into: &mut Vec<u8>, ty: &TypeName, value: &Expr) -> Result<(), AllocError>
     ensures value { OnOk result ((r : List Item) → Adds into.old.items into.new.items (cast_items ty.now (expr_of value.now) r) r) }
 {
     put_mark(into, Mark::OpenRound)?;
     put_base(into, &ty.base)?;
     put_mark(into, Mark::CloseRound)?;
     put_space(into)?;
-    put_operand(alloc, into, value, fits_cast(&ty.base, value))
+    put_operand(into, value, fits_cast(&ty.base, value))
 }
 
 /// Adds a test of an object's class.
 #[cycle(printing)]
-fn put_instance_of(
-    alloc: Global,
-    into: &mut Vec<u8>,
-    value: &Expr,
-    class: &Name,
-) -> Result<(), AllocError>
+fn put_instance_of(into: &mut Vec<u8>, value: &Expr, class: &Name) -> Result<(), AllocError>
     ensures value { OnOk result ((r : List Item) → Adds into.old.items into.new.items (test_items (expr_of value.now) class.now r) r) }
 {
-    put_operand(alloc, into, value, fits(7, value))?;
+    put_operand(into, value, fits(7, value))?;
     put_space(into)?;
     put_key(into, Keyword::InstanceOf)?;
     put_space(into)?;
@@ -357,27 +336,21 @@ fn put_instance_of(
 
 /// Adds a prefix operator and its operand.
 #[cycle(printing)]
-fn put_unary(alloc: Global, into: &mut Vec<u8>, mark: Mark, value: &Expr) -> Result<(), AllocError>
+fn put_unary(into: &mut Vec<u8>, mark: Mark, value: &Expr) -> Result<(), AllocError>
     ensures value { OnOk result ((r : List Item) → Adds into.old.items into.new.items (mark_then mark (in_round (fits_sign mark (expr_of value.now)) (expr_items (expr_of value.now)) r)) r) }
 {
     put_mark(into, mark)?;
-    put_operand(alloc, into, value, fits_sign(mark, value))
+    put_operand(into, value, fits_sign(mark, value))
 }
 
 /// Adds a binary operator between its operands.
 #[cycle(printing)]
-fn put_binary(
-    alloc: Global,
-    into: &mut Vec<u8>,
-    mark: Mark,
-    left: &Expr,
-    right: &Expr,
-) -> Result<(), AllocError>
+fn put_binary(into: &mut Vec<u8>, mark: Mark, left: &Expr, right: &Expr) -> Result<(), AllocError>
     ensures value { OnOk result ((r : List Item) → Adds into.old.items into.new.items (binary_items mark (expr_of left.now) (expr_of right.now) r) r) }
 {
-    put_operand(alloc, into, left, fits(level_of(mark), left))?;
+    put_operand(into, left, fits(level_of(mark), left))?;
     put_space(into)?;
     put_mark(into, mark)?;
     put_space(into)?;
-    put_operand(alloc, into, right, fits(level_of(mark) + 1, right))
+    put_operand(into, right, fits(level_of(mark) + 1, right))
 }

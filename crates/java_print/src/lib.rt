@@ -21,7 +21,7 @@ fn text_of(alloc: Global, tree: &Tree) -> Result<Vec<u8>, AllocError>
     ensures value { IfOk result (λ text. text.items ≡ encode_utf8_all (tree_text (tree_of tree.now))) }
 {
     let mut text = Vec::new(alloc);
-    decls::put_decls(alloc, &mut text, tree.decls.as_slice())?;
+    decls::put_decls(&mut text, tree.decls.as_slice())?;
     Ok(text)
 }
 

@@ -52,24 +52,14 @@ fn put_char(into: &mut Vec<u8>, c: char) -> Result<(), AllocError>
 fn letter_of(c: char) -> Option<char>
     ensures value { result ≡ letter_of c }
 {
-    if c == '\x08' {
-        Some('b')
-    } else if c == '\t' {
-        Some('t')
-    } else if c == '\n' {
-        Some('n')
-    } else if c == '\x0c' {
-        Some('f')
-    } else if c == '\r' {
-        Some('r')
-    } else if c == '"' {
-        Some('"')
-    } else if c == '\'' {
-        Some('\'')
-    } else if c == '\\' {
-        Some('\\')
-    } else {
-        None
+    match c {
+        '\x08' => Some('b'),
+        '\t' => Some('t'),
+        '\n' => Some('n'),
+        '\x0c' => Some('f'),
+        '\r' => Some('r'),
+        '"' | '\'' | '\\' => Some(c),
+        _ => None,
     }
 }
 
@@ -112,53 +102,48 @@ fn characters(alloc: Global, units: &[u16]) -> Result<Vec<char>, AllocError>
 }
 
 /// Adds the code units of a literal.
-fn put_units(alloc: Global, into: &mut Vec<u8>, units: &[u16]) -> Result<(), AllocError>
+fn put_units(into: &mut Vec<u8>, units: &[u16]) -> Result<(), AllocError>
     ensures value { OnOk result (into.new.items ≡ into.old.items ++ encode_utf8_all (units_written units.now)) }
 {
-    let chars = characters(alloc, units)?;
+    let chars = characters(*into.allocator(), units)?;
     put_all(into, chars.as_slice())
 }
 
 /// Adds a character literal.
-pub fn put_char_literal(alloc: Global, into: &mut Vec<u8>, unit: u16) -> Result<(), AllocError>
+pub fn put_char_literal(into: &mut Vec<u8>, unit: u16) -> Result<(), AllocError>
     ensures value { OnOk result ((r : List Item) → Adds into.old.items into.new.items (Lexeme (kinds.Char unit) ∷ r) r) }
 {
     put_char(into, '\'')?;
-    put_units(alloc, into, &[unit])?;
+    put_units(into, &[unit])?;
     put_char(into, '\'')
 }
 
 /// Adds a string literal.
-pub fn put_string_literal(
-    alloc: Global,
-    into: &mut Vec<u8>,
-    units: &Units,
-) -> Result<(), AllocError>
+pub fn put_string_literal(into: &mut Vec<u8>, units: &Units) -> Result<(), AllocError>
     ensures value { OnOk result ((r : List Item) → Adds into.old.items into.new.items (Lexeme (kinds.Str units.now) ∷ r) r) }
 {
     put_char(into, '"')?;
-    put_units(alloc, into, units.as_slice())?;
+    put_units(into, units.as_slice())?;
     put_char(into, '"')
 }
 
 /// Adds the digits of a number.
-fn put_decimal(alloc: Global, into: &mut Vec<u8>, value: u32) -> Result<(), AllocError>
+fn put_decimal(into: &mut Vec<u8>, value: u32) -> Result<(), AllocError>
     ensures value { OnOk result (into.new.items ≡ into.old.items ++ decimal value) }
 {
-    let text = format!(in alloc; "{value}")?;
-    into.extend_from_slice(text.as_str().as_bytes())?;
-    Ok(())
+    let text = format!(in *into.allocator(); "{value}")?;
+    into.extend_from_slice(text.as_str().as_bytes())
 }
 
 /// Adds an integer literal. The grammar gives no negative one but the least.
-pub fn put_int(alloc: Global, into: &mut Vec<u8>, value: i32) -> Result<(), AllocError>
+pub fn put_int(into: &mut Vec<u8>, value: i32) -> Result<(), AllocError>
     ensures value { OnOk result (Puts into.old.items into.new.items (int_items value)) }
 {
     if value < 0 {
         put_mark(into, Mark::Minus)?;
-        put_decimal(alloc, into, 2147483648)?;
+        put_decimal(into, 2147483648)?;
     } else {
-        put_decimal(alloc, into, value.unsigned_abs())?;
+        put_decimal(into, value.unsigned_abs())?;
     }
     Ok(())
 }

@@ -13,7 +13,7 @@ use crate::put::{put_end, put_key, put_mark, put_name, put_text};
 use java_lex::Mark;
 use java_tree::{Expr, Stmt, TypeName, is_output, is_text};
 use kaba_base::{Keyword, Name};
-use std::alloc::{AllocError, Global};
+use std::alloc::AllocError;
 
 /// Whether a call of `System.out` with so many arguments prints.
 fn is_printing(name: &Name, count: usize) -> bool
@@ -41,45 +41,45 @@ fn prints(call: &Expr) -> bool
 }
 
 /// Adds a value, where there is one.
-fn put_value(alloc: Global, into: &mut Vec<u8>, value: &Option<Expr>) -> Result<(), AllocError>
+fn put_value(into: &mut Vec<u8>, value: &Option<Expr>) -> Result<(), AllocError>
     ensures value { OnOk result (Puts into.old.items into.new.items (value_items (value_of value.now))) }
 {
     match value {
         None => Ok(()),
-        Some(value) => put_expr(alloc, into, value),
+        Some(value) => put_expr(into, value),
     }
 }
 
 /// Adds a space and a value, where there is one.
-fn put_spaced(alloc: Global, into: &mut Vec<u8>, value: &Option<Expr>) -> Result<(), AllocError>
+fn put_spaced(into: &mut Vec<u8>, value: &Option<Expr>) -> Result<(), AllocError>
     ensures value { OnOk result (Puts into.old.items into.new.items (spaced_items (value_of value.now))) }
 {
     match value {
         None => Ok(()),
         Some(value) => {
             put_space(into)?;
-            put_expr(alloc, into, value)
+            put_expr(into, value)
         }
     }
 }
 
 /// Adds ` = ` and an initial value.
-fn put_initial(alloc: Global, into: &mut Vec<u8>, value: &Expr) -> Result<(), AllocError>
+fn put_initial(into: &mut Vec<u8>, value: &Expr) -> Result<(), AllocError>
     ensures value { OnOk result (Puts into.old.items into.new.items (initial_items (expr_of value.now))) }
 {
     put_space(into)?;
     put_mark(into, Mark::Assign)?;
     put_space(into)?;
-    put_expr(alloc, into, value)
+    put_expr(into, value)
 }
 
 /// Adds ` = ` and an initial value, where there is one.
-fn put_init(alloc: Global, into: &mut Vec<u8>, value: &Option<Expr>) -> Result<(), AllocError>
+fn put_init(into: &mut Vec<u8>, value: &Option<Expr>) -> Result<(), AllocError>
     ensures value { OnOk result (Puts into.old.items into.new.items (init_items (value_of value.now))) }
 {
     match value {
         None => Ok(()),
-        Some(value) => put_initial(alloc, into, value),
+        Some(value) => put_initial(into, value),
     }
 }
 
@@ -96,7 +96,6 @@ pub fn put_final(into: &mut Vec<u8>, is_final: bool) -> Result<(), AllocError>
 
 /// Adds the declaration of a local.
 fn put_local(
-    alloc: Global,
     into: &mut Vec<u8>,
     is_final: bool,
     ty: &TypeName,
@@ -109,23 +108,18 @@ fn put_local(
     put_type(into, ty)?;
     put_space(into)?;
     put_name(into, name)?;
-    put_init(alloc, into, value)
+    put_init(into, value)
 }
 
 /// Adds an assignment.
-fn put_assign(
-    alloc: Global,
-    into: &mut Vec<u8>,
-    target: &Expr,
-    value: &Expr,
-) -> Result<(), AllocError>
+fn put_assign(into: &mut Vec<u8>, target: &Expr, value: &Expr) -> Result<(), AllocError>
     ensures value { OnOk result (Puts into.old.items into.new.items (assign_items (expr_of target.now) (expr_of value.now))) }
 {
-    put_expr(alloc, into, target)?;
+    put_expr(into, target)?;
     put_space(into)?;
     put_mark(into, Mark::Assign)?;
     put_space(into)?;
-    put_expr(alloc, into, value)
+    put_expr(into, value)
 }
 
 /// How a printing begins.
@@ -140,32 +134,27 @@ fn print_head(newline: bool) -> &'static str
 }
 
 /// Adds a printing.
-fn put_print(
-    alloc: Global,
-    into: &mut Vec<u8>,
-    newline: bool,
-    value: &Option<Expr>,
-) -> Result<(), AllocError>
+fn put_print(into: &mut Vec<u8>, newline: bool, value: &Option<Expr>) -> Result<(), AllocError>
     ensures value { OnOk result (Puts into.old.items into.new.items (print_items newline (value_of value.now))) }
 {
     put_text(into, print_head(newline))?;
-    put_value(alloc, into, value)?;
+    put_value(into, value)?;
     put_mark(into, Mark::CloseRound)
 }
 
 /// Adds a call that stands as a statement.
-fn put_do(alloc: Global, into: &mut Vec<u8>, call: &Expr) -> Result<(), AllocError>
+fn put_do(into: &mut Vec<u8>, call: &Expr) -> Result<(), AllocError>
     ensures value { OnOk result (Puts into.old.items into.new.items (call_items (expr_of call.now))) }
 {
     if prints(call) {
-        put_unprinted(alloc, into, call)
+        put_unprinted(into, call)
     } else {
-        put_expr(alloc, into, call)
+        put_expr(into, call)
     }
 }
 
 /// Adds a call that would be read as a printing, with brackets that keep it a call.
-fn put_unprinted(alloc: Global, into: &mut Vec<u8>, call: &Expr) -> Result<(), AllocError>
+fn put_unprinted(into: &mut Vec<u8>, call: &Expr) -> Result<(), AllocError>
     ensures value { OnOk result (Puts into.old.items into.new.items (bracketed_items (expr_of call.now))) }
 {
     match call {
@@ -175,30 +164,25 @@ fn put_unprinted(alloc: Global, into: &mut Vec<u8>, call: &Expr) -> Result<(), A
             args,
             ..
         } => match base {
-            Some(_) => put_bracketed(alloc, into, name, args.as_slice()),
-            None => put_expr(alloc, into, call),
+            Some(_) => put_bracketed(into, name, args.as_slice()),
+            None => put_expr(into, call),
         },
-        _ => put_expr(alloc, into, call),
+        _ => put_expr(into, call),
     }
 }
 
 /// Adds a call upon `(System).out`.
-fn put_bracketed(
-    alloc: Global,
-    into: &mut Vec<u8>,
-    name: &Name,
-    args: &[Expr],
-) -> Result<(), AllocError>
+fn put_bracketed(into: &mut Vec<u8>, name: &Name, args: &[Expr]) -> Result<(), AllocError>
     ensures value { OnOk result ((r : List Item) → Adds into.old.items into.new.items (upon_system name.now (exprs args.now) r) r) }
 {
     put_text(into, "(System).out.")?;
     put_name(into, name)?;
     put_mark(into, Mark::OpenRound)?;
-    put_args(alloc, into, args)
+    put_args(into, args)
 }
 
 /// Adds a statement that stands on a line with nothing else, without its semicolon.
-fn put_simple(alloc: Global, into: &mut Vec<u8>, s: &Stmt) -> Result<(), AllocError>
+fn put_simple(into: &mut Vec<u8>, s: &Stmt) -> Result<(), AllocError>
     ensures value { OnOk result (Puts into.old.items into.new.items (simple_items (stmt_of s.now))) }
 {
     match s {
@@ -208,33 +192,33 @@ fn put_simple(alloc: Global, into: &mut Vec<u8>, s: &Stmt) -> Result<(), AllocEr
             name,
             value,
             ..
-        } => put_local(alloc, into, *is_final, ty, name, value),
-        Stmt::Assign { target, value, .. } => put_assign(alloc, into, target, value),
-        Stmt::Do { call, .. } => put_do(alloc, into, call),
-        Stmt::Print { newline, value, .. } => put_print(alloc, into, *newline, value),
+        } => put_local(into, *is_final, ty, name, value),
+        Stmt::Assign { target, value, .. } => put_assign(into, target, value),
+        Stmt::Do { call, .. } => put_do(into, call),
+        Stmt::Print { newline, value, .. } => put_print(into, *newline, value),
         _ => Ok(()),
     }
 }
 
 /// Adds the first part of a `for`.
-fn put_first(alloc: Global, into: &mut Vec<u8>, first: &Option<Box<Stmt>>) -> Result<(), AllocError>
+fn put_first(into: &mut Vec<u8>, first: &Option<Box<Stmt>>) -> Result<(), AllocError>
     ensures value { OnOk result (Puts into.old.items into.new.items (first_items (boxed_step first.now))) }
 {
     match first {
         None => Ok(()),
-        Some(first) => put_simple(alloc, into, first),
+        Some(first) => put_simple(into, first),
     }
 }
 
 /// Adds the last part of a `for`.
-fn put_step(alloc: Global, into: &mut Vec<u8>, step: &Option<Box<Stmt>>) -> Result<(), AllocError>
+fn put_step(into: &mut Vec<u8>, step: &Option<Box<Stmt>>) -> Result<(), AllocError>
     ensures value { OnOk result (Puts into.old.items into.new.items (step_items (boxed_step step.now))) }
 {
     match step {
         None => Ok(()),
         Some(step) => {
             put_space(into)?;
-            put_simple(alloc, into, step)
+            put_simple(into, step)
         }
     }
 }
@@ -249,7 +233,6 @@ pub fn put_stop(into: &mut Vec<u8>) -> Result<(), AllocError>
 
 /// Adds a `for` up to its body.
 pub fn put_for_head(
-    alloc: Global,
     into: &mut Vec<u8>,
     first: &Option<Box<Stmt>>,
     test: &Option<Expr>,
@@ -258,20 +241,20 @@ pub fn put_for_head(
     ensures value { OnOk result (Puts into.old.items into.new.items (for_head_items (boxed_step first.now) (value_of test.now) (boxed_step step.now))) }
 {
     put_text(into, "for (")?;
-    put_first(alloc, into, first)?;
+    put_first(into, first)?;
     put_mark(into, Mark::Semi)?;
-    put_spaced(alloc, into, test)?;
+    put_spaced(into, test)?;
     put_mark(into, Mark::Semi)?;
-    put_step(alloc, into, step)?;
+    put_step(into, step)?;
     put_mark(into, Mark::CloseRound)
 }
 
 /// Adds a `return`.
-pub fn put_return(alloc: Global, into: &mut Vec<u8>, value: &Option<Expr>) -> Result<(), AllocError>
+pub fn put_return(into: &mut Vec<u8>, value: &Option<Expr>) -> Result<(), AllocError>
     ensures value { OnOk result (Puts into.old.items into.new.items (return_items (value_of value.now))) }
 {
     put_key(into, Keyword::Return)?;
-    put_spaced(alloc, into, value)?;
+    put_spaced(into, value)?;
     put_stop(into)
 }
 
@@ -284,9 +267,9 @@ pub fn put_jump(into: &mut Vec<u8>, key: Keyword) -> Result<(), AllocError>
 }
 
 /// Adds a line with one simple statement.
-pub fn put_line(alloc: Global, into: &mut Vec<u8>, s: &Stmt) -> Result<(), AllocError>
+pub fn put_line(into: &mut Vec<u8>, s: &Stmt) -> Result<(), AllocError>
     ensures value { OnOk result ((r : List Item) → Adds into.old.items into.new.items (simple_items (stmt_of s.now) (stop_then r)) r) }
 {
-    put_simple(alloc, into, s)?;
+    put_simple(into, s)?;
     put_stop(into)
 }

@@ -14,7 +14,7 @@ use crate::simple::{put_for_head, put_jump, put_line, put_return};
 use java_lex::Mark;
 use java_tree::{Arm, Expr, Stmt};
 use kaba_base::Keyword;
-use std::alloc::{AllocError, Global};
+use std::alloc::AllocError;
 
 /// Adds the brace that opens a body, and the end of its line.
 pub fn put_open_body(into: &mut Vec<u8>) -> Result<(), AllocError>
@@ -34,12 +34,12 @@ pub fn put_close_body(into: &mut Vec<u8>, margin: usize) -> Result<(), AllocErro
 }
 
 /// Adds a condition in its brackets.
-fn put_condition(alloc: Global, into: &mut Vec<u8>, test: &Expr) -> Result<(), AllocError>
+fn put_condition(into: &mut Vec<u8>, test: &Expr) -> Result<(), AllocError>
     ensures value { OnOk result (Puts into.old.items into.new.items (condition_items (expr_of test.now))) }
 {
     put_space(into)?;
     put_mark(into, Mark::OpenRound)?;
-    put_expr(alloc, into, test)?;
+    put_expr(into, test)?;
     put_mark(into, Mark::CloseRound)
 }
 
@@ -68,42 +68,37 @@ fn one_deeper(margin: usize) -> Result<usize, AllocError>
 
 /// Adds statements behind a margin.
 #[cycle(statements)]
-pub fn put_stmts(
-    alloc: Global,
-    into: &mut Vec<u8>,
-    margin: usize,
-    body: &[Stmt],
-) -> Result<(), AllocError>
+pub fn put_stmts(into: &mut Vec<u8>, margin: usize, body: &[Stmt]) -> Result<(), AllocError>
     ensures value { OnOk result (Puts into.old.items into.new.items (stmts_items margin (stmts body.now))) }
 {
     for s in body {
         put_margin(into, margin)?;
-        put_stmt(alloc, into, margin, s)?;
+        put_stmt(into, margin, s)?;
     }
     Ok(())
 }
 
 /// Adds a statement behind its margin.
 #[cycle(statements)]
-fn put_stmt(alloc: Global, into: &mut Vec<u8>, margin: usize, s: &Stmt) -> Result<(), AllocError>
+fn put_stmt(into: &mut Vec<u8>, margin: usize, s: &Stmt) -> Result<(), AllocError>
     ensures value { OnOk result ((r : List Item) → Adds into.old.items into.new.items (bare_items margin (stmt_of s.now) r) r) }
 {
     match s {
-        Stmt::Local { .. } => put_line(alloc, into, s),
-        Stmt::Assign { .. } => put_line(alloc, into, s),
-        Stmt::Do { .. } => put_line(alloc, into, s),
-        Stmt::Print { .. } => put_line(alloc, into, s),
-        Stmt::Block { items, .. } => put_block(alloc, into, margin, items.as_slice()),
-        Stmt::If { arms, other, .. } => put_if(alloc, into, margin, arms.as_slice(), other),
-        Stmt::While { test, body, .. } => put_while(alloc, into, margin, test, body.as_slice()),
+        Stmt::Local { .. } => put_line(into, s),
+        Stmt::Assign { .. } => put_line(into, s),
+        Stmt::Do { .. } => put_line(into, s),
+        Stmt::Print { .. } => put_line(into, s),
+        Stmt::Block { items, .. } => put_block(into, margin, items.as_slice()),
+        Stmt::If { arms, other, .. } => put_if(into, margin, arms.as_slice(), other),
+        Stmt::While { test, body, .. } => put_while(into, margin, test, body.as_slice()),
         Stmt::For {
             first,
             test,
             step,
             body,
             ..
-        } => { put_for(alloc, into, margin, first, test, step, body.as_slice()) }
-        Stmt::Return { value, .. } => put_return(alloc, into, value),
+        } => { put_for(into, margin, first, test, step, body.as_slice()) }
+        Stmt::Return { value, .. } => put_return(into, value),
         Stmt::Break { .. } => put_jump(into, Keyword::Break),
         Stmt::Continue { .. } => put_jump(into, Keyword::Continue),
     }
@@ -111,34 +106,24 @@ fn put_stmt(alloc: Global, into: &mut Vec<u8>, margin: usize, s: &Stmt) -> Resul
 
 /// Adds a body in its braces, without the end of its last line.
 #[cycle(statements)]
-pub fn put_body(
-    alloc: Global,
-    into: &mut Vec<u8>,
-    margin: usize,
-    body: &[Stmt],
-) -> Result<(), AllocError>
+pub fn put_body(into: &mut Vec<u8>, margin: usize, body: &[Stmt]) -> Result<(), AllocError>
     ensures value { OnOk result (Puts into.old.items into.new.items (body_block margin (stmts body.now))) }
 {
     let deeper = one_deeper(margin)?;
     put_open_body(into)?;
-    put_stmts(alloc, into, deeper, body)?;
+    put_stmts(into, deeper, body)?;
     put_close_body(into, margin)
 }
 
 /// Adds a block that stands as a statement.
 #[cycle(statements)]
-fn put_block(
-    alloc: Global,
-    into: &mut Vec<u8>,
-    margin: usize,
-    body: &[Stmt],
-) -> Result<(), AllocError>
+fn put_block(into: &mut Vec<u8>, margin: usize, body: &[Stmt]) -> Result<(), AllocError>
     ensures value { OnOk result (Puts into.old.items into.new.items (block_items margin (stmts body.now))) }
 {
     let deeper = one_deeper(margin)?;
     put_mark(into, Mark::OpenBrace)?;
     put_end(into)?;
-    put_stmts(alloc, into, deeper, body)?;
+    put_stmts(into, deeper, body)?;
     put_close_body(into, margin)?;
     put_end(into)
 }
@@ -146,7 +131,6 @@ fn put_block(
 /// Adds a `while`.
 #[cycle(statements)]
 fn put_while(
-    alloc: Global,
     into: &mut Vec<u8>,
     margin: usize,
     test: &Expr,
@@ -155,15 +139,14 @@ fn put_while(
     ensures value { OnOk result (Puts into.old.items into.new.items (while_items margin (expr_of test.now) (stmts body.now))) }
 {
     put_key(into, Keyword::While)?;
-    put_condition(alloc, into, test)?;
-    put_body(alloc, into, margin, body)?;
+    put_condition(into, test)?;
+    put_body(into, margin, body)?;
     put_end(into)
 }
 
 /// Adds a `for`.
 #[cycle(statements)]
 fn put_for(
-    alloc: Global,
     into: &mut Vec<u8>,
     margin: usize,
     first: &Option<Box<Stmt>>,
@@ -173,15 +156,14 @@ fn put_for(
 ) -> Result<(), AllocError>
     ensures value { OnOk result (Puts into.old.items into.new.items (for_items margin (boxed_step first.now) (value_of test.now) (boxed_step step.now) (stmts body.now))) }
 {
-    put_for_head(alloc, into, first, test, step)?;
-    put_body(alloc, into, margin, body)?;
+    put_for_head(into, first, test, step)?;
+    put_body(into, margin, body)?;
     put_end(into)
 }
 
 /// Adds an `if` with all its arms.
 #[cycle(statements)]
 fn put_if(
-    alloc: Global,
     into: &mut Vec<u8>,
     margin: usize,
     arms: &[Arm],
@@ -189,71 +171,50 @@ fn put_if(
 ) -> Result<(), AllocError>
     ensures value { OnOk result (Puts into.old.items into.new.items (if_items margin (arms_seen arms.now) (else_seen other.now))) }
 {
-    put_arms(alloc, into, margin, arms)?;
-    put_other(alloc, into, margin, other)
+    put_arms(into, margin, arms)?;
+    put_other(into, margin, other)
 }
 
 /// Adds the arms of an `if`.
 #[cycle(statements)]
-fn put_arms(
-    alloc: Global,
-    into: &mut Vec<u8>,
-    margin: usize,
-    arms: &[Arm],
-) -> Result<(), AllocError>
+fn put_arms(into: &mut Vec<u8>, margin: usize, arms: &[Arm]) -> Result<(), AllocError>
     ensures value { OnOk result (Puts into.old.items into.new.items (arms_items margin false (arms_seen arms.now))) }
 {
     for (i, arm) in arms.iter().enumerate() {
         put_else(into, i > 0)?;
-        put_arm(alloc, into, margin, &arm.test, arm.body.as_slice())?;
+        put_arm(into, margin, &arm.test, arm.body.as_slice())?;
     }
     Ok(())
 }
 
 /// Adds an arm of an `if`.
 #[cycle(statements)]
-fn put_arm(
-    alloc: Global,
-    into: &mut Vec<u8>,
-    margin: usize,
-    test: &Expr,
-    body: &[Stmt],
-) -> Result<(), AllocError>
+fn put_arm(into: &mut Vec<u8>, margin: usize, test: &Expr, body: &[Stmt]) -> Result<(), AllocError>
     ensures value { OnOk result (Puts into.old.items into.new.items (arm_items margin (expr_of test.now) (stmts body.now))) }
 {
     put_key(into, Keyword::If)?;
-    put_condition(alloc, into, test)?;
-    put_body(alloc, into, margin, body)
+    put_condition(into, test)?;
+    put_body(into, margin, body)
 }
 
 /// Adds what follows the arms of an `if`.
 #[cycle(statements)]
-fn put_other(
-    alloc: Global,
-    into: &mut Vec<u8>,
-    margin: usize,
-    other: &Option<Vec<Stmt>>,
-) -> Result<(), AllocError>
+fn put_other(into: &mut Vec<u8>, margin: usize, other: &Option<Vec<Stmt>>) -> Result<(), AllocError>
     ensures value { OnOk result (Puts into.old.items into.new.items (else_items margin (else_seen other.now))) }
 {
     match other {
         None => put_end(into),
-        Some(body) => put_last(alloc, into, margin, body.as_slice()),
+        Some(body) => put_last(into, margin, body.as_slice()),
     }
 }
 
 /// Adds the `else` of an `if`.
 #[cycle(statements)]
-fn put_last(
-    alloc: Global,
-    into: &mut Vec<u8>,
-    margin: usize,
-    body: &[Stmt],
-) -> Result<(), AllocError>
+fn put_last(into: &mut Vec<u8>, margin: usize, body: &[Stmt]) -> Result<(), AllocError>
     ensures value { OnOk result (Puts into.old.items into.new.items (last_items margin (stmts body.now))) }
 {
     put_space(into)?;
     put_key(into, Keyword::Else)?;
-    put_body(alloc, into, margin, body)?;
+    put_body(into, margin, body)?;
     put_end(into)
 }

@@ -7,7 +7,7 @@ use Rattle.java_tree.specs.Places.{stmts_unplaced, decl_unplaced, unplaced}
 use Rattle.java_tree.specs.Formed.{Each, IsFormed, a_small, AreFormedStmts, IsFormedMember, IsFormedParent, IsFormedDecl, IsFormedTree, IsGiven}
 use Rattle.java_print.proofs.DeclParsed.{formed_given}
 use Rattle.kaba_work.specs.Sample.{nowhere, field_name, own_field, extra, total, method_tree, parent_named, class_tree, steps, creation, setting, printing, statements, main_head, main_body, main_tree, sample_tree}
-use Rattle.kaba_work.proofs.Words.{class_word, field_word, extra_word, variable_word, method_word, main_class_word, main_word, args_word, text_word}
+use Rattle.kaba_work.proofs.Words.{AreWords, words, method_word, main_words}
 
 each_append : {A : Type 0} (P : A → Type 0) (xs ys : List A) → Each P xs → Each P ys → Each P (xs ++ ys)
 each_append P [] ys h k = k
@@ -17,41 +17,40 @@ each_mapped : {A : Type 0} (P : A → Type 0) (f : ℕ → A) (a n : ℕ) → ((
 each_mapped P f a zero h = tt
 each_mapped P f a (suc n) h = (h a (omega arith), each_mapped P f (a + 1) n (λ i k. h i (omega (arith, k))))
 
-wide : (i : ℕ) → i < 100 → i < 2 ^ 64
-wide i h = omega (arith, h)
+few : (i : ℕ) → i < 100 → AreWords i
+few i h = words i (omega (arith, h))
 
 number : (i : ℕ) → i ≤ 100 → IsFormed (IntLit (pos i) nowhere)
 number i h = a_small (record { value = i; is = refl; small = omega (arith, h) })
 
 total_formed : (i : ℕ) → i < 100 → IsFormed (total i)
-total_formed zero h = (tt, field_word 0 (wide 0 h))
-total_formed (suc i) h = (omega arith, (method_word, tt), (tt, field_word (suc i) (wide (suc i) h)))
+total_formed zero h = (tt, (few 0 h).field)
+total_formed (suc i) h = (omega arith, (method_word, tt), (tt, (few (suc i) h).field))
 
 method_formed : (i : ℕ) → i < 100 → IsFormedMember (method_tree i)
 method_formed i h =
-    let own : IsFormed (own_field (field_name i)) = (tt, field_word i (wide i h)) in
+    let own : IsFormed (own_field (field_name i)) = (tt, (few i h).field) in
     ((tt, tt, method_word, tt), ((refl, own, (omega arith, own, number (i + 1) (omega (arith, h)))), (total_formed i h, tt)))
 
 parent_formed : (i : ℕ) → i < 100 → IsFormedParent (parent_named i)
 parent_formed zero h = tt
-parent_formed (suc i) h = class_word i (wide i (omega (arith, h)))
+parent_formed (suc i) h = (few i (omega (arith, h))).class
 
 class_formed : (i : ℕ) → i < 100 → IsFormedDecl (class_tree i)
 class_formed i h =
-    (tt, class_word i (wide i h), parent_formed i h, tt, ((tt, tt, field_word i (wide i h)), ((tt, tt, extra_word i (wide i h)), (method_formed i h, tt))))
+    (tt, (few i h).class, parent_formed i h, tt, ((tt, tt, (few i h).field), ((tt, tt, (few i h).extra), (method_formed i h, tt))))
 
 steps_formed : (a n : ℕ) → a + n ≤ 100 → AreFormedStmts (statements (flat_map steps (range_with_len a n)))
 steps_formed a zero h = tt
 steps_formed a (suc n) h =
     let small : a < 100 = omega (arith, h) in
-    let class = class_word a (wide a small) in
-    let variable = variable_word a (wide a small) in
-    let field : IsFormed (extra a) = (variable, extra_word a (wide a small)) in (
-      (class, variable, (class, tt)),
+    let word = few a small in
+    let field : IsFormed (extra a) = (word.variable, word.extra) in (
+      (word.class, word.variable, (word.class, tt)),
       (
         (refl, field, number a (omega (arith, h))),
         (
-          (refl, (omega arith, (variable, method_word, tt), field)),
+          (refl, (omega arith, (word.variable, method_word, tt), field)),
           steps_formed
               (a + 1) n (omega (arith, h)),
         ),
@@ -61,7 +60,7 @@ steps_formed a (suc n) h =
 main_formed : (n : ℕ) → n ≤ 100 → IsFormedDecl (main_tree n)
 unfolding main_body
 main_formed n h =
-    (tt, main_class_word, tt, tt, ((((refl, tt), tt, main_word, ((text_word, args_word), tt)), steps_formed 0 n (omega (arith, h))), tt))
+    (tt, main_words.0, tt, tt, ((((refl, tt), tt, main_words.1, ((main_words.3, main_words.2), tt)), steps_formed 0 n (omega (arith, h))), tt))
 
 pub sample_formed : (n : ℕ) → n ≤ 100 → IsFormedTree (sample_tree n)
 unfolding sample_tree

@@ -59,38 +59,32 @@ numbered c n start letter small h =
       scalars = ap all_scalars (sym (chars-IsAscii (c ∷ decimal n) ascii)) ∙ scalars-chars (c ∷ decimal n) (IsUtf8-from_ascii (c ∷ decimal n) ascii);
     }
 
-pub class_word : (i : ℕ) → i < 2 ^ 64 → IsName (class_name i)
-unfolding unicode_ident
-class_word i h = numbered 75 i refl refl (omega arith) h
+-- the names of a sample that have this number
+pub record AreWords (i : ℕ) : Type 0 where
+  pub class : IsName (class_name i)
+  pub field : IsName (field_name i)
+  pub extra : IsName (extra_name i)
+  pub variable : IsName (variable_name i)
 
-pub field_word : (i : ℕ) → i < 2 ^ 64 → IsName (field_name i)
+pub words : (i : ℕ) → i < 2 ^ 64 → AreWords i
 unfolding unicode_ident
-field_word i h = numbered 102 i refl refl (omega arith) h
-
-pub extra_word : (i : ℕ) → i < 2 ^ 64 → IsName (extra_name i)
-unfolding unicode_ident
-extra_word i h = numbered 101 i refl refl (omega arith) h
-
-pub variable_word : (i : ℕ) → i < 2 ^ 64 → IsName (variable_name i)
-unfolding unicode_ident
-variable_word i h = numbered 118 i refl refl (omega arith) h
+words i h = record {
+  class = numbered 75 i refl refl (omega arith) h;
+  field = numbered 102 i refl refl (omega arith) h;
+  extra = numbered 101 i refl refl (omega arith) h;
+  variable = numbered 118 i refl refl (omega arith) h;
+}
 
 pub method_word : IsName (codes "g")
 unfolding unicode_ident key_text
 method_word = record { named = refl; scalars = refl }
 
-pub main_class_word : IsName (codes "Main")
+-- the names of the main class and of its method, of what that is given and of its type
+pub main_words : IsName (codes "Main") × IsName (codes "main") × IsName (codes "args") × IsName (codes "String")
 unfolding unicode_ident key_text
-main_class_word = record { named = refl; scalars = refl }
-
-pub main_word : IsName (codes "main")
-unfolding unicode_ident key_text
-main_word = record { named = refl; scalars = refl }
-
-pub args_word : IsName (codes "args")
-unfolding unicode_ident key_text
-args_word = record { named = refl; scalars = refl }
-
-pub text_word : IsName (codes "String")
-unfolding unicode_ident key_text
-text_word = record { named = refl; scalars = refl }
+main_words = (
+  record { named = refl; scalars = refl },
+  record { named = refl; scalars = refl },
+  record { named = refl; scalars = refl },
+  record { named = refl; scalars = refl },
+)

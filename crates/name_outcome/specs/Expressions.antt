@@ -76,23 +76,29 @@ abbrev pub class_before : Table → Here → List Bound → Expression → Optio
 class_before t here scope (NameRef n p) = class_unless (is_variable t here scope n) n p
 class_before t here scope _ = None
 
-abbrev pub static_at : {A : Type 0} → (A → Bool) → List ℕ → Place → ℕ → Option A → Result ℕ Refusal
-static_at is_static n p k None = Err (Unknown n p)
-static_at is_static n p k (Some x) = in_own (is_static x) n p k
+abbrev pub static_field_at : List ℕ → Place → ℕ → Option Field → Result ℕ Refusal
+static_field_at n p f None = Err (Unknown n p)
+static_field_at n p f (Some x) = in_own x.is_static n p f
 
--- the number of a member, where it is static
-abbrev pub static_in : {A : Type 0} → (A → Bool) → List A → List ℕ → Place → Option ℕ → Result ℕ Refusal
-static_in is_static all n p None = Err (Unknown n p)
-static_in is_static all n p (Some k) = static_at is_static n p k (slice_get all k)
+abbrev pub static_field_in : Table → List ℕ → Place → Option ℕ → Result ℕ Refusal
+static_field_in t n p None = Err (Unknown n p)
+static_field_in t n p (Some f) = static_field_at n p f (slice_get t.fields f)
 
 -- a static field that the class itself declares
 abbrev pub static_field_of : Table → Id → List ℕ → Place → Result ℕ Refusal
-static_field_of t c n p =
-    with (asked t.known c.name c.place) (λ k. static_in (λ (x : Field). x.is_static) t.fields n p (table.own_field t k n))
+static_field_of t c n p = with (asked t.known c.name c.place) (λ k. static_field_in t n p (table.own_field t k n))
+
+abbrev pub static_method_at : List ℕ → Place → ℕ → Option Heading → Result ℕ Refusal
+static_method_at n p m None = Err (Unknown n p)
+static_method_at n p m (Some x) = in_own x.is_static n p m
+
+abbrev pub static_method_in : Table → List ℕ → Place → Option ℕ → Result ℕ Refusal
+static_method_in t n p None = Err (Unknown n p)
+static_method_in t n p (Some m) = static_method_at n p m (slice_get t.headings m)
 
 -- a static method that the class itself declares
 abbrev pub static_method_of : Table → Id → List ℕ → Place → Result ℕ Refusal
-static_method_of t c n p = with (asked t.known c.name c.place) (λ k. static_in (λ (x : Heading). x.is_static) t.headings n p (own_method t k n))
+static_method_of t c n p = with (asked t.known c.name c.place) (λ k. static_method_in t n p (own_method t k n))
 
 -- a call by a simple name: of this static method, or of an instance method on `this`
 abbrev pub called_static : Bool → List ℕ → Place → ℕ → Result (Option ℕ) Refusal

@@ -7,13 +7,8 @@ use Rattle.java_print.proofs.DeclAdding.{each_step, each_end}
 use Rattle.java_print.proofs.decls.put_decls.Goals as goal
 
 pub loop-decl-preserved : goal.loop-decl-preserved
-loop-decl-preserved c = each_step (λ (ds : List Decl). decls_items (decls ds)) (λ (d : Decl). decl_items (decl_of d)) (λ x xs r. refl)
-    c.args.into.now.items c.loop-decl.into.items c.put_decl.new.into.items c.args.list.now c.loop-decl.decl-index c.decl-item.result
-    ((λ (ds : List Decl). decls_items (decls ds)) c.args.list.now) c.loop-decl-test.true c.decl-item.is c.loop-decl.invariant
-    (c.in_ok-put_decl.ensures.value)
+loop-decl-preserved c = each_step (λ (ds : List Decl). decls_items (decls ds)) (λ (d : Decl). decl_items (decl_of d)) (λ x xs r. refl) _
+    c.loop-decl-test.true c.decl-item.is c.loop-decl.invariant c.in_ok-put_decl.ensures.value
 
 pub returns : goal.returns
-returns c = record {
-  value = each_end (λ (ds : List Decl). decls_items (decls ds)) c.args.into.now.items c.loop-decl.into.items c.args.list.now
-      c.loop-decl.decl-index ((λ (ds : List Decl). decls_items (decls ds)) c.args.list.now) c.loop-decl-test.false c.loop-decl.invariant;
-}
+returns c = record { value = each_end (λ (ds : List Decl). decls_items (decls ds)) _ c.loop-decl-test.false c.loop-decl.invariant }

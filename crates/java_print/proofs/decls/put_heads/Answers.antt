@@ -11,13 +11,8 @@ use Rattle.java_print.proofs.decls.put_heads.Goals as goal
 
 pub loop-head-preserved : goal.loop-head-preserved
 loop-head-preserved c = each_step (λ (hs : List Head). heads_items (heads hs)) (λ (h : Head) (r : List Item). margin_then 2
-    (head_items (head_of h) (stop_then r))) (λ x xs r. refl) c.args.into.now.items c.loop-head.into.items c.put_stop.new.into.items c.args.list.now
-    c.loop-head.head-index c.head-item.result ((λ (hs : List Head). heads_items (heads hs)) c.args.list.now) c.loop-head-test.true c.head-item.is
-    c.loop-head.invariant (λ r. adds_then (c.in_ok-put_margin.ensures.value (head_items (head_of c.head-item.result) (stop_then r)))
-    (adds_then (c.in_ok-put_head.ensures.value (stop_then r)) (c.in_ok-put_stop.ensures.value r)))
+    (head_items (head_of h) (stop_then r))) (λ x xs r. refl) _ c.loop-head-test.true c.head-item.is c.loop-head.invariant
+    (λ r. adds_then (c.in_ok-put_margin.ensures.value _) (adds_then (c.in_ok-put_head.ensures.value _) (c.in_ok-put_stop.ensures.value r)))
 
 pub returns : goal.returns
-returns c = record {
-  value = each_end (λ (hs : List Head). heads_items (heads hs)) c.args.into.now.items c.loop-head.into.items c.args.list.now
-      c.loop-head.head-index ((λ (hs : List Head). heads_items (heads hs)) c.args.list.now) c.loop-head-test.false c.loop-head.invariant;
-}
+returns c = record { value = each_end (λ (hs : List Head). heads_items (heads hs)) _ c.loop-head-test.false c.loop-head.invariant }

@@ -7,14 +7,8 @@ use Rattle.java_print.proofs.DeclAdding.{each_step, each_end}
 use Rattle.java_print.proofs.decls.put_members.Goals as goal
 
 pub loop-member-preserved : goal.loop-member-preserved
-loop-member-preserved c = each_step (λ (ms : List Member). members_items (members ms)) (λ (m : Member). member_items (member_of m)) (λ x xs r. refl)
-    c.args.into.now.items c.loop-member.into.items c.put_member.new.into.items c.args.list.now c.loop-member.member-index c.member-item.result
-    ((λ (ms : List Member). members_items (members ms)) c.args.list.now) c.loop-member-test.true c.member-item.is c.loop-member.invariant
-    (c.in_ok-put_member.ensures.value)
+loop-member-preserved c = each_step (λ (ms : List Member). members_items (members ms)) (λ (m : Member). member_items (member_of m)) (λ x xs r. refl) _
+    c.loop-member-test.true c.member-item.is c.loop-member.invariant c.in_ok-put_member.ensures.value
 
 pub returns : goal.returns
-returns c = record {
-  value = each_end (λ (ms : List Member). members_items (members ms)) c.args.into.now.items c.loop-member.into.items
-      c.args.list.now c.loop-member.member-index ((λ (ms : List Member). members_items (members ms)) c.args.list.now) c.loop-member-test.false
-      c.loop-member.invariant;
-}
+returns c = record { value = each_end (λ (ms : List Member). members_items (members ms)) _ c.loop-member-test.false c.loop-member.invariant }

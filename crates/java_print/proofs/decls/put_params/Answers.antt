@@ -1,4 +1,3 @@
-use Rattle.std.proofs.Common.{false}
 use Rattle.java_print.specs.Layout.{params_items}
 use Rattle.java_print.proofs.Adding.{adds_then, on_ok}
 use Rattle.std.proofs.Common.{refl}
@@ -7,13 +6,10 @@ use Rattle.java_print.proofs.DeclAdding.{comma_step, comma_end}
 use Rattle.java_print.proofs.decls.put_params.Goals as goal
 
 pub loop-i-preserved : goal.loop-i-preserved
-loop-i-preserved c = comma_step params_items param_items (λ b x xs r. refl) c.args.into.now.items c.loop-i.into.items c.put_comma.new.into.items
-    c.put_param.new.into.items c.args.params.now c.loop-i.i c.index-params-i.result (params_items false c.args.params.now)
-    c.loop-i-test.true c.index-params-i.is c.loop-i.invariant c.in_ok-put_comma.ensures.value c.in_ok-put_param.ensures.value
+loop-i-preserved c = comma_step params_items param_items (λ b x xs r. refl) _ c.loop-i-test.true c.index-params-i.is c.loop-i.invariant
+    c.in_ok-put_comma.ensures.value c.in_ok-put_param.ensures.value
 
 pub returns : goal.returns
 returns c = record {
-  value = on_ok c.put_mark.result c.put_mark.ensures.value
-      (λ h r. adds_then (comma_end params_items c.args.into.now.items c.loop-i.into.items c.args.params.now c.loop-i.i
-      (params_items false c.args.params.now) c.loop-i-test.false c.loop-i.invariant r) (h r));
+  value = on_ok c.put_mark.result c.put_mark.ensures.value (λ h r. adds_then (comma_end params_items _ c.loop-i-test.false c.loop-i.invariant r) (h r));
 }

@@ -1,12 +1,9 @@
 -- Each part is added after the one before it.
 use Rattle.std.proofs.lemmas.Int.{to_z-of_z}
-use Rattle.std.proofs.Common.{w32, rules, ◌∙◌, ap, sym, suc, add-one, arith, List, ◌∷◌, false}
-use Rattle.java_lex.specs.declared.Mark.TheVariants as marks
-use Rattle.kaba_base.specs.declared.Keyword.TheVariants as keys
+use Rattle.std.proofs.Common.{w32, rules, ◌∙◌, ap, sym, suc, add-one, arith, false}
 use Rattle.java_tree.specs.Syntax.{IntLit, CallOf, CallOn, SuperCallOf, NewOf, expr_of, exprs}
 use Rattle.java_tree.specs.Size.{expr_size, exprs_size}
-use Rattle.java_print.specs.Items.{Item, Space}
-use Rattle.java_print.specs.Layout.{mark_then, key_then, word_then, base_items, more_dims_items, in_round, fits, fits_cast, expr_items, args_items, called_items}
+use Rattle.java_print.specs.Layout.{fits, fits_cast, args_items}
 use Rattle.java_print.proofs.Adding.{adds_then, on_ok, round_as, puts_along, puts_int}
 use Rattle.java_print.proofs.Opened.{call_alone, call_upon, call_above, creation, arg_size, args_step, args_end}
 use Rattle.java_print.proofs.exprs.+printing.Goals as goal
@@ -109,69 +106,54 @@ put_expr-returns-in-New t c = record {
 
 pub put_field-returns : goal.put_field-returns
 put_field-returns t c = record {
-  value = on_ok c.put_name.result c.put_name.ensures.value (λ h r.
-      adds_then (round_as _ _ _ c.fits.ensures.value c.in_ok-put_operand.ensures.value (mark_then marks.Dot (word_then c.args.name.now r)))
-      (adds_then (c.in_ok-put_mark.ensures.value (word_then c.args.name.now r)) (h r)));
+  value = on_ok c.put_name.result c.put_name.ensures.value (λ h r. adds_then (round_as _ _ _ c.fits.ensures.value c.in_ok-put_operand.ensures.value _)
+      (adds_then (c.in_ok-put_mark.ensures.value _) (h r)));
 }
 
 pub put_call-returns : goal.put_call-returns
 put_call-returns t c = record {
-  value = on_ok c.put_args.result c.put_args.ensures.value (λ h r.
-      adds_then (c.in_ok-put_name.ensures.value (mark_then marks.OpenRound (args_items false (exprs c.args.args.now) r)))
-      (adds_then (c.in_ok-put_mark.ensures.value (args_items false (exprs c.args.args.now) r)) (h r)));
+  value = on_ok c.put_args.result c.put_args.ensures.value (λ h r. adds_then (c.in_ok-put_name.ensures.value _)
+      (adds_then (c.in_ok-put_mark.ensures.value _) (h r)));
 }
 
 pub put_call_on-returns : goal.put_call_on-returns
 put_call_on-returns t c = record {
-  value = on_ok c.put_call.result c.put_call.ensures.value (λ h r.
-      adds_then (round_as _ _ _ c.fits.ensures.value c.in_ok-put_operand.ensures.value
-      (mark_then marks.Dot (called_items c.args.name.now (exprs c.args.args.now) r)))
-      (adds_then (c.in_ok-put_mark.ensures.value (called_items c.args.name.now (exprs c.args.args.now) r)) (h r)));
+  value = on_ok c.put_call.result c.put_call.ensures.value (λ h r. adds_then (round_as _ _ _ c.fits.ensures.value c.in_ok-put_operand.ensures.value _)
+      (adds_then (c.in_ok-put_mark.ensures.value _) (h r)));
 }
 
 pub put_super_call-returns : goal.put_super_call-returns
 put_super_call-returns t c = record {
-  value = on_ok c.put_call.result c.put_call.ensures.value (λ h r.
-      adds_then (c.in_ok-put_key.ensures.value (mark_then marks.Dot (called_items c.args.name.now (exprs c.args.args.now) r)))
-      (adds_then (c.in_ok-put_mark.ensures.value (called_items c.args.name.now (exprs c.args.args.now) r)) (h r)));
+  value = on_ok c.put_call.result c.put_call.ensures.value (λ h r. adds_then (c.in_ok-put_key.ensures.value _)
+      (adds_then (c.in_ok-put_mark.ensures.value _) (h r)));
 }
 
 pub put_new-returns : goal.put_new-returns
 put_new-returns t c = record {
-  value = on_ok c.put_call.result c.put_call.ensures.value (λ h r.
-      adds_then (c.in_ok-put_key.ensures.value (Space ∷ called_items c.args.class.now (exprs c.args.args.now) r))
-      (adds_then (c.in_ok-put_space.ensures.value (called_items c.args.class.now (exprs c.args.args.now) r)) (h r)));
+  value = on_ok c.put_call.result c.put_call.ensures.value (λ h r. adds_then (c.in_ok-put_key.ensures.value _)
+      (adds_then (c.in_ok-put_space.ensures.value _) (h r)));
 }
 
 pub put_new_array-returns : goal.put_new_array-returns
 put_new_array-returns t c = record {
-  value = on_ok c.put_more_dims.result c.put_more_dims.ensures.value (λ h r.
-      let s : List Item = mark_then marks.CloseSquare (more_dims_items c.args.ty.now.dim r) in
-      let u : List Item = mark_then marks.OpenSquare (expr_items (expr_of c.args.size.now) s) in
-      adds_then (c.in_ok-put_key.ensures.value (Space ∷ base_items c.args.ty.now.base u))
-      (adds_then (c.in_ok-put_space.ensures.value (base_items c.args.ty.now.base u))
-      (adds_then (c.in_ok-put_base.ensures.value u) (adds_then (c.in_ok-put_mark.ensures.value (expr_items (expr_of c.args.size.now) s))
-      (adds_then (c.in_ok-put_expr.ensures.value s)
-      (adds_then (c.in_ok-put_mark-2.ensures.value (more_dims_items c.args.ty.now.dim r)) (h r)))))));
+  value = on_ok c.put_more_dims.result c.put_more_dims.ensures.value (λ h r. adds_then (c.in_ok-put_key.ensures.value _)
+      (adds_then (c.in_ok-put_space.ensures.value _) (adds_then (c.in_ok-put_base.ensures.value _) (adds_then (c.in_ok-put_mark.ensures.value _)
+      (adds_then (c.in_ok-put_expr.ensures.value _) (adds_then (c.in_ok-put_mark-2.ensures.value _) (h r)))))));
 }
 
 pub put_cast-returns : goal.put_cast-returns
 put_cast-returns t c = record {
-  value = on_ok c.put_operand.result c.put_operand.ensures.value (λ h r.
-      let s : List Item = in_round (fits_cast c.args.ty.now.base (expr_of c.args.value.now)) (expr_items (expr_of c.args.value.now)) r in
-      adds_then (c.in_ok-put_mark.ensures.value (base_items c.args.ty.now.base (mark_then marks.CloseRound (Space ∷ s))))
-      (adds_then (c.in_ok-put_base.ensures.value (mark_then marks.CloseRound (Space ∷ s)))
-      (adds_then (c.in_ok-put_mark-2.ensures.value (Space ∷ s)) (adds_then (c.in_ok-put_space.ensures.value s)
+  value = on_ok c.put_operand.result c.put_operand.ensures.value (λ h r. adds_then (c.in_ok-put_mark.ensures.value _)
+      (adds_then (c.in_ok-put_base.ensures.value _) (adds_then (c.in_ok-put_mark-2.ensures.value _) (adds_then (c.in_ok-put_space.ensures.value _)
       (round_as _ _ _ c.fits_cast.ensures.value h r)))));
 }
 
 pub put_instance_of-returns : goal.put_instance_of-returns
 put_instance_of-returns t c = record {
   value = on_ok c.put_name.result c.put_name.ensures.value (λ h r.
-      let n = word_then c.args.class.now r in
-      adds_then (round_as _ _ _ c.fits.ensures.value c.in_ok-put_operand.ensures.value (Space ∷ key_then keys.InstanceOf (Space ∷ n)))
-      (adds_then (c.in_ok-put_space.ensures.value (key_then keys.InstanceOf (Space ∷ n)))
-      (adds_then (c.in_ok-put_key.ensures.value (Space ∷ n)) (adds_then (c.in_ok-put_space-2.ensures.value n) (h r)))));
+      adds_then (round_as _ _ _ c.fits.ensures.value c.in_ok-put_operand.ensures.value _)
+      (adds_then (c.in_ok-put_space.ensures.value _)
+      (adds_then (c.in_ok-put_key.ensures.value _) (adds_then (c.in_ok-put_space-2.ensures.value _) (h r)))));
 }
 
 pub put_binary-returns : goal.put_binary-returns
@@ -179,7 +161,6 @@ put_binary-returns t c = record {
   value = on_ok c.put_operand-2.result c.put_operand-2.ensures.value (λ h r.
       let left = c.fits.ensures.value ∙ ap (λ k. fits k (expr_of c.args.left.now)) c.level_of.ensures.value in
       let right = c.fits-2.ensures.value ∙ ap (λ k. fits k (expr_of c.args.right.now)) (add-one c.level_of-2.result ∙ ap suc c.level_of-2.ensures.value) in
-      let g = round_as _ _ _ right h r in
       adds_then (round_as _ _ _ left c.in_ok-put_operand.ensures.value _) (adds_then (c.in_ok-put_space.ensures.value _)
-      (adds_then (c.in_ok-put_mark.ensures.value _) (adds_then (c.in_ok-put_space-2.ensures.value _) g))));
+      (adds_then (c.in_ok-put_mark.ensures.value _) (adds_then (c.in_ok-put_space-2.ensures.value _) (round_as _ _ _ right h r)))));
 }

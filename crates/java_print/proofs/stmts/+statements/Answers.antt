@@ -1,8 +1,6 @@
-use Rattle.std.proofs.Common.{◌∙◌, ap, sym, arith, List, ◌∷◌, ◌+◌, false}
-use Rattle.kaba_base.specs.declared.Keyword.TheVariants as keys
+use Rattle.std.proofs.Common.{◌∙◌, ap, sym, arith, false}
 use Rattle.java_tree.specs.Syntax.{expr_of, value_of, stmt_of, stmts, arms_seen, else_seen, BlockOf, IfOf, WhileOf, ForOf}
-use Rattle.java_print.specs.Items.{Item, End}
-use Rattle.java_print.specs.Layout.{key_then, close_body, stmts_items, condition_items, body_block, arms_items, else_items}
+use Rattle.java_print.specs.Layout.{stmts_items, arms_items}
 use Rattle.java_tree.specs.Syntax.{boxed_step}
 use Rattle.java_print.proofs.Adding.{adds_then, on_ok}
 use Rattle.java_print.proofs.StmtAdding.{block_of, while_of, for_of, if_of, bare_along, stmt_smaller, stmts_step, stmts_end, arm_smaller, arms_step, arms_end, deeper_as, other_along}
@@ -11,38 +9,31 @@ use Rattle.java_print.proofs.stmts.+statements.Goals as goal
 
 pub put_while-returns : goal.put_while-returns
 put_while-returns t c = record {
-  value = on_ok c.put_end.result c.put_end.ensures.value
-      (λ h r. adds_then (c.in_ok-put_key.ensures.value (condition_items (expr_of c.args.test.now) (body_block c.args.margin (stmts c.args.body.now)
-      (End ∷ r)))) (adds_then (c.in_ok-put_condition.ensures.value (body_block c.args.margin (stmts c.args.body.now) (End ∷ r)))
-      (adds_then (c.in_ok-put_body.ensures.value (End ∷ r)) (h r))));
+  value = on_ok c.put_end.result c.put_end.ensures.value (λ h r. adds_then (c.in_ok-put_key.ensures.value _)
+      (adds_then (c.in_ok-put_condition.ensures.value _) (adds_then (c.in_ok-put_body.ensures.value _) (h r))));
 }
 
 pub put_for-returns : goal.put_for-returns
 put_for-returns t c = record {
-  value = on_ok c.put_end.result c.put_end.ensures.value
-      (λ h r. adds_then (c.in_ok-put_for_head.ensures.value (body_block c.args.margin (stmts c.args.body.now) (End ∷ r)))
-      (adds_then (c.in_ok-put_body.ensures.value (End ∷ r)) (h r)));
+  value = on_ok c.put_end.result c.put_end.ensures.value (λ h r. adds_then (c.in_ok-put_for_head.ensures.value _)
+      (adds_then (c.in_ok-put_body.ensures.value _) (h r)));
 }
 
 pub put_arm-returns : goal.put_arm-returns
 put_arm-returns t c = record {
-  value = on_ok c.put_body.result c.put_body.ensures.value
-      (λ h r. adds_then (c.in_ok-put_key.ensures.value (condition_items (expr_of c.args.test.now) (body_block c.args.margin (stmts c.args.body.now) r)))
-      (adds_then (c.in_ok-put_condition.ensures.value (body_block c.args.margin (stmts c.args.body.now) r)) (h r)));
+  value = on_ok c.put_body.result c.put_body.ensures.value (λ h r. adds_then (c.in_ok-put_key.ensures.value _)
+      (adds_then (c.in_ok-put_condition.ensures.value _) (h r)));
 }
 
 pub put_last-returns : goal.put_last-returns
 put_last-returns t c = record {
-  value = on_ok c.put_end.result c.put_end.ensures.value
-      (λ h r. adds_then (c.in_ok-put_space.ensures.value (key_then keys.Else (body_block c.args.margin (stmts c.args.body.now) (End ∷ r))))
-      (adds_then (c.in_ok-put_key.ensures.value (body_block c.args.margin (stmts c.args.body.now) (End ∷ r)))
-      (adds_then (c.in_ok-put_body.ensures.value (End ∷ r)) (h r))));
+  value = on_ok c.put_end.result c.put_end.ensures.value (λ h r. adds_then (c.in_ok-put_space.ensures.value _)
+      (adds_then (c.in_ok-put_key.ensures.value _) (adds_then (c.in_ok-put_body.ensures.value _) (h r))));
 }
 
 pub put_if-returns : goal.put_if-returns
 put_if-returns t c = record {
-  value = on_ok c.put_other.result c.put_other.ensures.value
-      (λ h r. adds_then (c.in_ok-put_arms.ensures.value (else_items c.args.margin (else_seen c.args.other.now) r)) (h r));
+  value = on_ok c.put_other.result c.put_other.ensures.value (λ h r. adds_then (c.in_ok-put_arms.ensures.value _) (h r));
 }
 
 pub put_stmts-put_stmt-requires : goal.put_stmts-put_stmt-requires
@@ -131,19 +122,16 @@ put_stmt-returns-in-For t c = record {
 
 pub put_body-returns : goal.put_body-returns
 put_body-returns t c = record {
-  value = on_ok c.put_close_body.result c.put_close_body.ensures.value
-      (λ h r. adds_then (c.in_ok-put_open_body.ensures.value (stmts_items (c.args.margin + 2) (stmts c.args.body.now) (close_body c.args.margin r)))
-      (adds_then (deeper_as _ _ (stmts c.args.body.now) c.in_ok-deeper.ensures.value c.in_ok-put_stmts.ensures.value (close_body c.args.margin r)) (h r)));
+  value = on_ok c.put_close_body.result c.put_close_body.ensures.value (λ h r. adds_then (c.in_ok-put_open_body.ensures.value _)
+      (adds_then (deeper_as _ _ (stmts c.args.body.now) c.in_ok-deeper.ensures.value c.in_ok-put_stmts.ensures.value _) (h r)));
 }
 
 pub put_block-returns : goal.put_block-returns
 put_block-returns t c = record {
-  value = on_ok c.put_end-2.result c.put_end-2.ensures.value (λ h r.
-      let w : List Item = close_body c.args.margin (End ∷ r) in
-      adds_then (c.in_ok-put_mark.ensures.value (End ∷ stmts_items (c.args.margin + 2) (stmts c.args.body.now) w))
-      (adds_then (c.in_ok-put_end.ensures.value (stmts_items (c.args.margin + 2) (stmts c.args.body.now) w))
-      (adds_then (deeper_as _ _ (stmts c.args.body.now) c.in_ok-deeper.ensures.value c.in_ok-put_stmts.ensures.value w)
-      (adds_then (c.in_ok-put_close_body.ensures.value (End ∷ r)) (h r)))));
+  value = on_ok c.put_end-2.result c.put_end-2.ensures.value (λ h r. adds_then (c.in_ok-put_mark.ensures.value _)
+      (adds_then (c.in_ok-put_end.ensures.value _)
+      (adds_then (deeper_as _ _ (stmts c.args.body.now) c.in_ok-deeper.ensures.value c.in_ok-put_stmts.ensures.value _)
+      (adds_then (c.in_ok-put_close_body.ensures.value _) (h r)))));
 }
 
 pub put_other-put_last-requires : goal.put_other-put_last-requires

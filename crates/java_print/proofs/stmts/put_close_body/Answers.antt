@@ -1,10 +1,7 @@
-use Rattle.java_lex.specs.declared.Mark.TheVariants as marks
-use Rattle.java_print.specs.Layout.{mark_then}
 use Rattle.java_print.proofs.Adding.{adds_then, on_ok}
 use Rattle.java_print.proofs.stmts.put_close_body.Goals as goal
 
 pub returns : goal.returns
 returns c = record {
-  value = on_ok c.put_mark.result c.put_mark.ensures.value
-      (λ h r. adds_then (c.in_ok-put_margin.ensures.value (mark_then marks.CloseBrace r)) (h r));
+  value = on_ok c.put_mark.result c.put_mark.ensures.value (λ h r. adds_then (c.in_ok-put_margin.ensures.value _) (h r));
 }

@@ -1,7 +1,5 @@
-use Rattle.std.proofs.Common.{sym, subst, ◌∷◌}
-use Rattle.kaba_base.specs.declared.Keyword.TheVariants as keys
-use Rattle.java_print.specs.Items.{Space}
-use Rattle.java_print.specs.Layout.{key_then, else_then}
+use Rattle.std.proofs.Common.{sym, subst}
+use Rattle.java_print.specs.Layout.{else_then}
 use Rattle.java_print.specs.Adds.{Puts}
 use Rattle.java_print.proofs.Adding.{adds_then}
 use Rattle.java_print.proofs.stmts.put_else.Goals as goal
@@ -9,6 +7,6 @@ use Rattle.java_print.proofs.stmts.put_else.Goals as goal
 pub returns-in_ok-put_space-2 : goal.returns-in_ok-put_space-2
 returns-in_ok-put_space-2 c = record {
   value = subst (λ b. Puts c.args.into.now.items c.put_space-then-more.new.into.items (else_then b))
-      (sym c.if-more.true) (λ r. adds_then (c.in_ok-put_space.ensures.value (key_then keys.Else (Space ∷ r)))
-      (adds_then (c.in_ok-put_key.ensures.value (Space ∷ r)) (c.in_ok-put_space-2.ensures.value r)));
+      (sym c.if-more.true) (λ r. adds_then (c.in_ok-put_space.ensures.value _)
+      (adds_then (c.in_ok-put_key.ensures.value _) (c.in_ok-put_space-2.ensures.value r)));
 }

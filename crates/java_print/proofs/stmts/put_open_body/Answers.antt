@@ -1,13 +1,8 @@
-use Rattle.std.proofs.Common.{◌∷◌}
-use Rattle.java_lex.specs.declared.Mark.TheVariants as marks
-use Rattle.java_print.specs.Items.{End}
-use Rattle.java_print.specs.Layout.{mark_then}
 use Rattle.java_print.proofs.Adding.{adds_then, on_ok}
 use Rattle.java_print.proofs.stmts.put_open_body.Goals as goal
 
 pub returns : goal.returns
 returns c = record {
-  value = on_ok c.put_end.result c.put_end.ensures.value
-      (λ h r. adds_then (c.in_ok-put_space.ensures.value (mark_then marks.OpenBrace (End ∷ r)))
-      (adds_then (c.in_ok-put_mark.ensures.value (End ∷ r)) (h r)));
+  value = on_ok c.put_end.result c.put_end.ensures.value (λ h r. adds_then (c.in_ok-put_space.ensures.value _)
+      (adds_then (c.in_ok-put_mark.ensures.value _) (h r)));
 }
