@@ -1,7 +1,7 @@
 -- What is over its limit, and the numbers of a numbering.
 use Rattle.std.proofs.Common.{◌≡◌, ℕ, ◌+◌, ◌<◌, ◌≤◌, List, [], ◌∷◌, ◌++◌, length, refl, sym, ap, ◌∙◌, subst}
 use Rattle.std.specs.List.{flat_map}
-use Rattle.std.specs.Prelude.{Option, Some, None, cond, nat_eq, map}
+use Rattle.std.specs.Prelude.{Bool, Option, Some, None, cond, nat_eq, map}
 use Rattle.std.proofs.lemmas.Bool.{lt-ltb, le-ltb}
 use Rattle.java_core.specs.Programs.{Plain}
 use Rattle.flow_rules.specs.declared.faults.Counted.{Counted}
@@ -23,7 +23,7 @@ use Rattle.flow_rules.specs.declared.items.Outline as declared
 use Rattle.flow_rules.specs.Ordered.{by_place, once, each}
 use Rattle.flow_rules.specs.Lists.{Numbers}
 use Rattle.flow_facts.specs.Views.{outline_seen}
-use Rattle.flow_facts.proofs.Along.{map-by_place}
+use Rattle.flow_facts.proofs.Along.{map-by_place, once_as}
 use Rattle.flow_rules.specs.Numbered.{Body, Outline, bodies_of, field_rows, method_rows, field_columns, method_columns, form_sites, listed, static_points, outline_if, number_among, same_row, same_column, same_point, rows_of, columns_of, sites_of, points_of, row_number, column_number, site_number, point_number}
 use Rattle.flow_rules.specs.Facts.{TooMany, over, too_many, numbers, FieldCell, fields_of, site_cells, cells_of, first_interface, IsOver, IsRefused, call_seen}
 use Rattle.flow_facts.specs.Seen.{call_at, calls_seen}
@@ -34,56 +34,37 @@ over_here limit n what rest h = ap (λ b. cond b (Some (record { what = what; nu
 pub over_not : (limit n : ℕ) (what : Counted) (rest : Option TooMany) → n ≤ limit → over limit n what rest ≡ rest
 over_not limit n what rest h = ap (λ b. cond b (Some (record { what = what; number = limit + 1 })) rest) (le-ltb limit n h)
 
-pub numbers_are : (P Q : Plain) (rs : List RowItem) (cs : List ColumnItem) (ss : List ℕ) (ps : List PointItem) → rs ≡ map (λ r. r.item) (rows_of P Q)
-    → cs ≡ map (λ c. c.item) (columns_of P Q)
-    → ss ≡ map (λ s. s.number) (sites_of P Q) → ps ≡ map (λ p. p.item) (points_of P Q)
-    → record {
+-- the numbers of items among rows, columns, sites and flow points
+abbrev numbers_among : List RowItem → List ColumnItem → List ℕ → List PointItem → Numbers
+numbers_among rs cs ss ps =
+    record {
       row = number_among same_row rs;
       column = number_among same_column cs;
       site = number_among nat_eq ss;
-      point = number_among same_point
-          ps;
-    } ≡ numbers P Q
+      point = number_among same_point ps;
+    }
+
+pub numbers_are : (P Q : Plain) (rs : List RowItem) (cs : List ColumnItem) (ss : List ℕ) (ps : List PointItem) → rs ≡ map (λ r. r.item) (rows_of P Q)
+    → cs ≡ map (λ c. c.item) (columns_of P Q)
+    → ss ≡ map (λ s. s.number) (sites_of P Q) → ps ≡ map (λ p. p.item) (points_of P Q) → numbers_among rs cs ss ps ≡ numbers P Q
 unfolding numbers row_number column_number site_number point_number
 numbers_are P Q rs cs ss ps r c s p =
-    ap (λ k. record {
-      row = number_among same_row k;
-      column = number_among same_column cs;
-      site = number_among nat_eq ss;
-      point = number_among
-          same_point ps;
-    }) r
-    ∙ ap (λ k. record {
-      row = number_among same_row (map (λ r. r.item) (rows_of P Q));
-      column = number_among same_column k;
-      site = number_among nat_eq
-          ss;
-      point = number_among same_point ps;
-    }) c
-    ∙ ap (λ k. record {
-      row = number_among same_row (map (λ r. r.item) (rows_of P Q));
-      column = number_among same_column
-          (map (λ c. c.item) (columns_of P Q));
-      site = number_among nat_eq k;
-      point = number_among same_point ps;
-    }) s
-    ∙ ap (λ k. record {
-      row = number_among same_row (map (λ r. r.item) (rows_of P Q));
-      column = number_among same_column
-          (map (λ c. c.item) (columns_of P Q));
-      site = number_among nat_eq (map (λ s. s.number) (sites_of P Q));
-      point = number_among same_point k;
-    }) p
+    let R = map (λ r. r.item) (rows_of P Q) in
+    let C = map (λ c. c.item) (columns_of P Q) in
+    let S = map (λ s. s.number) (sites_of P Q) in
+    ap (λ k. numbers_among k cs ss ps) r ∙ ap (λ k. numbers_among R k ss ps) c ∙ ap (λ k. numbers_among R C k ps) s
+    ∙ ap (λ k. numbers_among R C S k) p
 
-pub rows_are : (P Q : Plain) (xs : List Row) → xs ≡ each field_rows 0 Q.fields ++ each (method_rows P Q) 0 Q.methods
-    → once same_row (λ r. r.item) (by_place (λ r. r.place.at) xs) ≡ rows_of P Q
+pub rows_are : (P Q : Plain) (xs : List Row) {same : RowItem → RowItem → Bool} → same ≡ same_row
+    → xs ≡ each field_rows 0 Q.fields ++ each (method_rows P Q) 0 Q.methods → once same (λ r. r.item) (by_place (λ r. r.place.at) xs) ≡ rows_of P Q
 unfolding rows_of
-rows_are P Q xs e = ap (λ l. once same_row (λ r. r.item) (by_place (λ r. r.place.at) l)) e
+rows_are P Q xs h e = once_as (λ r. r.item) h (ap (by_place (λ r. r.place.at)) e)
 
-pub columns_are : (P Q : Plain) (xs : List Column) → xs ≡ each field_columns 0 Q.fields ++ each (method_columns P Q) 0 Q.methods
-    → once same_column (λ c. c.item) (by_place (λ c. c.place.at) xs) ≡ columns_of P Q
+pub columns_are : (P Q : Plain) (xs : List Column) {same : ColumnItem → ColumnItem → Bool} → same ≡ same_column
+    → xs ≡ each field_columns 0 Q.fields ++ each (method_columns P Q) 0 Q.methods
+    → once same (λ c. c.item) (by_place (λ c. c.place.at) xs) ≡ columns_of P Q
 unfolding columns_of
-columns_are P Q xs e = ap (λ l. once same_column (λ c. c.item) (by_place (λ c. c.place.at) l)) e
+columns_are P Q xs h e = once_as (λ c. c.item) h (ap (by_place (λ c. c.place.at)) e)
 
 -- the numbers of the rows
 rows_numbered : (P Q : Plain) (keys : List RowItem) → keys ≡ map (λ r. r.item) (rows_of P Q) → number_among same_row keys ≡ row_number P Q
@@ -99,13 +80,14 @@ sites_are P Q keys bs xs k b e =
     (e ∙ ap (λ n. flat_map (λ c. flat_map (form_sites n) c.parts) bs) (rows_numbered P Q keys k)
     ∙ ap (λ l. flat_map (λ c. flat_map (form_sites (row_number P Q)) c.parts) l) b)
 
-pub points_are : (P Q : Plain) (keys : List RowItem) (ss : List PointAt) (os : List Outline) (xs : List Point) → keys ≡ map (λ r. r.item) (rows_of P Q)
+pub points_are : (P Q : Plain) (keys : List RowItem) (ss : List PointAt) (os : List Outline) (xs : List Point) {same : PointItem → PointItem → Bool}
+    → same ≡ same_point → keys ≡ map (λ r. r.item) (rows_of P Q)
     → ss ≡ by_place (λ p. p.place.at) (each static_points 0 Q.fields) → os ≡ by_place (λ o. o.place.at) (each (outline_if P Q) 0 Q.methods)
     → xs ≡ flat_map (listed (number_among same_row keys)) ss ++ flat_map (λ o. flat_map (listed (number_among same_row keys)) o.points) os
-    → once same_point (λ p. p.item) xs ≡ points_of P Q
+    → once same (λ p. p.item) xs ≡ points_of P Q
 unfolding points_of
-points_are P Q keys ss os xs k s o e =
-    ap (once same_point (λ p. p.item))
+points_are P Q keys ss os xs h k s o e =
+    once_as (λ p. p.item) h
     (e ∙ ap (λ n. flat_map (listed n) ss ++ flat_map (λ u. flat_map (listed n) u.points) os) (rows_numbered P Q keys k)
     ∙ ap (λ l. flat_map (listed (row_number P Q)) l ++ flat_map (λ u. flat_map (listed (row_number P Q)) u.points) os) s
     ∙ ap (λ l. flat_map (listed (row_number P Q)) (by_place (λ p. p.place.at) (each static_points 0 Q.fields))

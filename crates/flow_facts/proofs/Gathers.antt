@@ -59,15 +59,19 @@ module _ (N : Numbers) (P : Plain) where
 
   pub body_more : {bs : List Body} {b : Body} {mid new : Lists} → AreGathered N P bs mid → ArePartsAdded N P b.number b.slot b.parts mid new
       → AreGathered N P (bs ++ b ∷ []) new
-  body_more {bs} {b} g h = record {
-    news = last (λ b. flat_map (news_of N b.number) b.parts) bs b g.news h.news;
-    flows = last (λ b. flat_map (flows_of N b.number) b.parts) bs b g.flows h.flows;
-    loads = last (λ b. flat_map (loads_of N) b.parts) bs b g.loads h.loads;
-    stores = last (λ b. flat_map (stores_of N) b.parts) bs b g.stores h.stores;
-    casts = last (λ b. flat_map (casts_of N) b.parts) bs b g.casts h.casts;
-    tests = last (λ b. flat_map (tests_of N) b.parts) bs b g.tests h.tests;
-    accesses = last (λ b. flat_map (accesses_of N) b.parts) bs b g.accesses h.accesses;
-    supers = last (λ b. flat_map (supers_of N b.number) b.parts) bs b g.supers h.supers;
-    ties = last (λ b. flat_map (ties_of N P b.number b.slot) b.parts) bs b g.ties h.ties;
-    calls = last (λ b. flat_map (calls_of N) b.parts) bs b g.calls h.calls;
-  }
+  body_more {bs} {b} g h =
+      let c = g.unordered in
+      record {
+        unordered = record {
+          news = last (λ b. flat_map (news_of N b.number) b.parts) bs b c.news h.news;
+          flows = last (λ b. flat_map (flows_of N b.number) b.parts) bs b c.flows h.flows;
+          loads = last (λ b. flat_map (loads_of N) b.parts) bs b c.loads h.loads;
+          stores = last (λ b. flat_map (stores_of N) b.parts) bs b c.stores h.stores;
+          casts = last (λ b. flat_map (casts_of N) b.parts) bs b c.casts h.casts;
+          accesses = last (λ b. flat_map (accesses_of N) b.parts) bs b c.accesses h.accesses;
+          supers = last (λ b. flat_map (supers_of N b.number) b.parts) bs b c.supers h.supers;
+          ties = last (λ b. flat_map (ties_of N P b.number b.slot) b.parts) bs b c.ties h.ties;
+        };
+        tests = last (λ b. flat_map (tests_of N) b.parts) bs b g.tests h.tests;
+        calls = last (λ b. flat_map (calls_of N) b.parts) bs b g.calls h.calls;
+      }

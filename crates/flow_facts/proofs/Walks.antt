@@ -105,17 +105,9 @@ module _ (P : Plain) (m : ℕ) (k : PlainMethod) {u : Bool} {E : Ex} where
             (length mid) (n + size B) w.parts w.grown last;
       })
 
-  pub static_walked : {t : Tag} {d : ℕ} {es : Exs} {old new : List Part} {o : Operand} → E ≡ static_call t d es
-      → IsMade old new (1 + sizes es) (a_static_call t.place d (args_from P m k (length old + 1) es) (static_operand P m (length old) d)
-      ∷ parts_from P m k false (length old + 1) es) o (static_operand P m (length old) d)
-      → IsWalked P m k u E old new o
-  static_walked is h = as_form is (record { grown = h.grown; value = h.value; parts = h.parts })
-
-  pub super_walked : {t : Tag} {x : List ℕ} {es : Exs} {old new : List Part} {o : Operand} → E ≡ super_call t x es
-      → IsMade old new (1 + sizes es) (a_super_call t.place (super_method P k.owner x) (args_from P m k (length old + 1) es)
-      (super_operand P m (length old) k.owner x) ∷ parts_from P m k false (length old + 1) es) o
-      (super_operand P m (length old) k.owner x) → IsWalked P m k u E old new o
-  super_walked is h = as_form is (record { grown = h.grown; value = h.value; parts = h.parts })
+  pub made_walked : {F : Ex} {old new : List Part} {o : Operand} → E ≡ F
+      → IsMade old new (size F) (parts P (object_type P k) m k u (label (length old) F)) o (is_of P m k (label (length old) F)) → IsWalked P m k u E old new o
+  made_walked is h = as_form is (record { grown = h.grown; value = h.value; parts = h.parts })
 
   pub creation_walked : {t : Tag} {i c : ℕ} {es : Exs} {old mid new : List Part} {o : Operand} {os : List Operand} → E ≡ create t i c es
       → IsAdded old mid 1 (a_creation t.place u o ∷ [])

@@ -3,13 +3,15 @@ use Rattle.std.specs.Prelude.{◌≡◌, List, map}
 use Rattle.std.specs.List.{flat_map}
 use Rattle.std.specs.Str.{bytes_eq, encode_utf8_all}
 use Rattle.java_core.specs.Programs.{Plain}
-use Rattle.flow_rules.specs.Lists.{Numbers, news_of, flows_of, loads_of, stores_of, calls_of, casts_of, tests_of, accesses_of, supers_of, ties_of}
+use Rattle.flow_rules.specs.Lists.{Numbers, calls_of, tests_of}
 use Rattle.flow_rules.specs.Numbered.{Body}
 use Rattle.flow_rules.specs.Ordered.{by_place, once, each}
 use Rattle.flow_rules.specs.Facts.{row_info, column_info, site_info, column_body, class_seen, class_facts, all_names, all_variables, call_seen, body_seen as plain_body}
+use Rattle.fact_model.specs.declared.facts.CallInfo.{CallInfo}
+use Rattle.flow_facts.specs.declared.gathering.Lists.{Lists}
+use Rattle.flow_facts.specs.Gathered.{AreUnordered}
 use Rattle.flow_facts.specs.declared.assembled.Tables.{Tables}
 use Rattle.flow_facts.specs.declared.assembled.Texts.{Texts}
-use Rattle.flow_facts.specs.declared.assembled.Ordered.{Ordered}
 use Rattle.flow_facts.specs.declared.assembled.Said.{Said}
 use Rattle.flow_facts.specs.declared.top.Numbered.{Numbered}
 use Rattle.flow_facts.specs.Seen.{numbers_seen}
@@ -30,20 +32,13 @@ pub record AreTexts (Q : Plain) (t : Texts) : Type 0 where
   pub variables : t.variables.items ≡ all_variables Q
 
 -- what the parts of the bodies give to each list, the calls and the tests by their place
-pub record AreOrdered (N : Numbers) (P : Plain) (bs : List Body) (o : Ordered) : Type 0 where
-  pub news : o.news.items ≡ flat_map (λ b. flat_map (news_of N b.number) b.parts) bs
-  pub flows : o.flows.items ≡ flat_map (λ b. flat_map (flows_of N b.number) b.parts) bs
-  pub loads : o.loads.items ≡ flat_map (λ b. flat_map (loads_of N) b.parts) bs
-  pub stores : o.stores.items ≡ flat_map (λ b. flat_map (stores_of N) b.parts) bs
-  pub casts : o.casts.items ≡ flat_map (λ b. flat_map (casts_of N) b.parts) bs
-  pub accesses : o.accesses.items ≡ flat_map (λ b. flat_map (accesses_of N) b.parts) bs
-  pub supers : o.supers.items ≡ flat_map (λ b. flat_map (supers_of N b.number) b.parts) bs
-  pub ties : o.ties.items ≡ flat_map (λ b. flat_map (ties_of N P b.number b.slot) b.parts) bs
-  pub calls : map call_seen o.calls.items ≡ map (λ c. c.item) (by_place (λ c. c.place.at) (flat_map (λ b. flat_map (calls_of N) b.parts) bs))
-  pub tests : o.tests.items ≡ by_place (λ t. t.place.at) (flat_map (λ b. flat_map (tests_of N) b.parts) bs)
+pub record AreOrdered (N : Numbers) (P : Plain) (bs : List Body) (l : Lists) (listed : List CallInfo) : Type 0 where
+  pub unordered : AreUnordered N P bs l.unordered
+  pub calls : map call_seen listed ≡ map (λ c. c.item) (by_place (λ c. c.place.at) (flat_map (λ b. flat_map (calls_of N) b.parts) bs))
+  pub tests : l.tests.items ≡ by_place (λ t. t.place.at) (flat_map (λ b. flat_map (tests_of N) b.parts) bs)
 
 -- all of it
 pub record IsSaid (P Q : Plain) (d : Numbered) (s : Said) : Type 0 where
   pub tables : AreTables Q d s.tables
   pub texts : AreTexts Q s.texts
-  pub lists : AreOrdered (numbers_seen d.numbering) P (map body_seen d.bodies.items) s.lists
+  pub lists : AreOrdered (numbers_seen d.numbering) P (map body_seen d.bodies.items) s.lists s.calls.items

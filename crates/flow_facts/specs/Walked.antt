@@ -1,20 +1,34 @@
 -- What a walk over a tree adds to the parts of a body.
-use Rattle.std.specs.Prelude.{◌≡◌, ℕ, ◌+◌, ◌++◌, ◌∷◌, Bool, true, List, length}
+use Rattle.std.specs.Prelude.{◌≡◌, ℕ, ◌+◌, ◌++◌, ◌∷◌, Bool, true, List, length, Option}
 use Rattle.kaba_base.specs.declared.Place.{Place}
-use Rattle.java_core.specs.Trees.{Ex, Exs}
-use Rattle.java_core.specs.Programs.{Plain, PlainMethod}
+use Rattle.java_core.specs.Trees.{at_place, no_place, Ex, Exs}
+use Rattle.java_core.specs.Programs.{Plain, PlainMethod, program_of, method_seen}
+use Rattle.flow_rules.specs.declared.items.ObjectType.{ObjectType}
 use Rattle.flow_rules.specs.declared.items.Operand.{Operand}
 use Rattle.flow_rules.specs.declared.items.Part.{Part}
 use Rattle.flow_rules.specs.Labels.{size, sizes, label, label_all}
 use Rattle.flow_rules.specs.Operands.{operand_of, operands_of, call_slot, call_declaration}
 use Rattle.flow_rules.specs.Types.{object_type}
 use Rattle.flow_rules.specs.Parts as plain
+use Rattle.flow_facts.specs.declared.walk.Enclosing.{Enclosing}
 use Rattle.flow_facts.specs.Views.{parts_seen, call_operand}
+
+-- what is said of the body of a method, by its program, the types there, its number and itself
+abbrev pub in_body : {X : Type 0} → Enclosing → (Plain → (Ex → Option ObjectType) → ℕ → PlainMethod → X) → X
+in_body w f =
+    let P = program_of no_place w.program.now in
+    let k = method_seen at_place w.method.now in
+    f P (object_type P k) w.number k
 
 -- so many parts more, which are these
 pub record IsAdded (old new : List Part) (n : ℕ) (ps : List plain.Part) : Type 0 where
   pub grown : length new ≡ length old + n
   pub parts : parts_seen new ≡ parts_seen old ++ ps
+
+-- the parts of something in the body of a method more, which is labelled from the length of the list on
+abbrev pub IsGained : {X : Type 0} → Enclosing → List Part → List Part → (X → ℕ) → (Plain → (Ex → Option ObjectType) → ℕ → PlainMethod → X → List plain.Part)
+    → (ℕ → X → X) → X → Type 0
+IsGained w old new size ps label x = IsAdded old new (size x) (in_body w ps (label (length old) x))
 
 -- the same, and the operand that is given is the one that is wanted
 pub record IsMade (old new : List Part) (n : ℕ) (ps : List plain.Part) (given wanted : Operand) : Type 0 where

@@ -20,10 +20,7 @@ use crate::lists::PlacedCall;
 use crate::names::{class_infos, variables, words};
 use crate::ordered::by_place;
 use crate::top::Numbered;
-use fact_model::{
-    AccessInfo, BodyInfo, CallInfo, CastInfo, ClassInfo, ColumnInfo, Facts, FlowInfo, LoadInfo,
-    NewInfo, RowInfo, SiteInfo, StoreInfo, SuperInfo, TestInfo, TieInfo,
-};
+use fact_model::{BodyInfo, CallInfo, ClassInfo, ColumnInfo, Facts, RowInfo, SiteInfo};
 use java_core::Program;
 use kaba_base::{Name, RowId};
 use std::alloc::{AllocError, Global};
@@ -98,41 +95,17 @@ fn list_texts(alloc: Global, program: &Program) -> Result<Texts, AllocError>
     })
 }
 
-/// The lists that the bodies give, in their order.
-#[derive(Drop)]
-pub struct Ordered {
-    pub news: Vec<NewInfo>,
-    pub flows: Vec<FlowInfo>,
-    pub loads: Vec<LoadInfo>,
-    pub stores: Vec<StoreInfo>,
-    pub calls: Vec<CallInfo>,
-    pub casts: Vec<CastInfo>,
-    pub tests: Vec<TestInfo>,
-    pub accesses: Vec<AccessInfo>,
-    pub supers: Vec<SuperInfo>,
-    pub ties: Vec<TieInfo>,
-}
-
-/// The lists with their calls and tests by place.
-fn in_order(alloc: Global, mut lists: Lists) -> Result<Ordered, AllocError>
-    ensures { (N : Numbers) (P : Plain) (bs : List numbered.Body) → AreGathered N P bs lists → IfOk result (λ o. AreOrdered N P bs o) }
+/// Puts the tests in the order of their places, and takes the calls out by theirs.
+fn put_in_order(alloc: Global, lists: &mut Lists) -> Result<Vec<CallInfo>, AllocError>
+    ensures { (N : Numbers) (P : Plain) (bs : List numbered.Body) → AreGathered N P bs lists.old
+        → IfOk result (λ calls. AreOrdered N P bs lists.new calls.items) }
 {
     let calls = replace(&mut lists.calls, Vec::new(alloc));
     let tests = replace(&mut lists.tests, Vec::new(alloc));
-    let calls = made!(calls_in_order(alloc, calls); lists, tests);
-    let tests = made!(by_place(tests); lists, calls);
-    Ok(Ordered {
-        news: lists.news,
-        flows: lists.flows,
-        loads: lists.loads,
-        stores: lists.stores,
-        calls,
-        casts: lists.casts,
-        tests,
-        accesses: lists.accesses,
-        supers: lists.supers,
-        ties: lists.ties,
-    })
+    let calls = made!(calls_in_order(alloc, calls); tests);
+    let tests = made!(by_place(tests); calls);
+    lists.tests = tests;
+    Ok(calls)
 }
 
 /// What is said of what is numbered, the names of the text, and the lists that the bodies give.
@@ -140,7 +113,8 @@ fn in_order(alloc: Global, mut lists: Lists) -> Result<Ordered, AllocError>
 pub struct Said {
     pub tables: Tables,
     pub texts: Texts,
-    pub lists: Ordered,
+    pub lists: Lists,
+    pub calls: Vec<CallInfo>,
 }
 
 /// Says all of what is numbered.
@@ -151,15 +125,16 @@ fn say(alloc: Global, program: &Program, numbered: &Numbered) -> Result<Said, Al
 {
     let tables = made!(list_tables(alloc, program, numbered));
     let texts = made!(list_texts(alloc, program); tables);
-    let lists = made!(
+    let mut lists = made!(
         gather(alloc, program, &numbered.numbering, &numbered.bodies);
         tables, texts
     );
-    let lists = made!(in_order(alloc, lists); tables, texts);
+    let calls = made!(put_in_order(alloc, &mut lists); tables, texts, lists);
     Ok(Said {
         tables,
         texts,
         lists,
+        calls,
     })
 }
 
@@ -169,6 +144,7 @@ fn assemble(alloc: Global, numbered: Numbered, said: Said) -> Facts
     ensures { (P Q : Plain) → IsNumbered P Q numbered → IsSaid P Q numbered said → IsFactsOf P Q result × AreNamesOf Q result }
 {
     let (tables, texts, lists) = (said.tables, said.texts, said.lists);
+    let unordered = lists.unordered;
     Facts {
         rows: tables.rows,
         columns: tables.columns,
@@ -176,16 +152,16 @@ fn assemble(alloc: Global, numbered: Numbered, said: Said) -> Facts
         classes: texts.classes,
         points: tables.points,
         cells: numbered.cells,
-        news: lists.news,
-        flows: lists.flows,
-        loads: lists.loads,
-        stores: lists.stores,
+        news: unordered.news,
+        flows: unordered.flows,
+        loads: unordered.loads,
+        stores: unordered.stores,
         bodies: tables.bodies,
-        calls: lists.calls,
-        casts: lists.casts,
-        accesses: lists.accesses,
-        supers: lists.supers,
-        ties: lists.ties,
+        calls: said.calls,
+        casts: unordered.casts,
+        accesses: unordered.accesses,
+        supers: unordered.supers,
+        ties: unordered.ties,
         tests: lists.tests,
         words: texts.words,
         vars: texts.variables,

@@ -22,19 +22,25 @@ use java_core::Program;
 use std::alloc::{AllocError, Global};
 use std::mem::drop;
 
-/// The lists that the parts of bodies give.
+/// The lists that the parts of bodies give and that are read as sets.
 #[derive(Drop)]
-pub struct Lists {
+pub struct Unordered {
     pub news: Vec<NewInfo>,
     pub flows: Vec<FlowInfo>,
     pub loads: Vec<LoadInfo>,
     pub stores: Vec<StoreInfo>,
-    pub calls: Vec<PlacedCall>,
     pub casts: Vec<CastInfo>,
-    pub tests: Vec<TestInfo>,
     pub accesses: Vec<AccessInfo>,
     pub supers: Vec<SuperInfo>,
     pub ties: Vec<TieInfo>,
+}
+
+/// The lists that the parts of bodies give.
+#[derive(Drop)]
+pub struct Lists {
+    pub unordered: Unordered,
+    pub calls: Vec<PlacedCall>,
+    pub tests: Vec<TestInfo>,
 }
 
 /// Adds what a part of a method's body gives. The slot is the method's.
@@ -50,16 +56,16 @@ fn add_part(
     requires { IsFormed (program_of no_place program.now) }
     ensures { OnOk result (IsPartAdded (numbers_seen n.now) (program_of no_place program.now) m slot (part_seen part.now) lists.old lists.new) }
 {
-    made!(add_news(n, m, part, &mut lists.news));
-    made!(add_flows(n, m, part, &mut lists.flows));
-    made!(add_loads(n, part, &mut lists.loads));
-    made!(add_stores(n, part, &mut lists.stores));
+    made!(add_news(n, m, part, &mut lists.unordered.news));
+    made!(add_flows(n, m, part, &mut lists.unordered.flows));
+    made!(add_loads(n, part, &mut lists.unordered.loads));
+    made!(add_stores(n, part, &mut lists.unordered.stores));
     made!(add_calls(alloc, n, part, &mut lists.calls));
-    made!(add_casts(n, part, &mut lists.casts));
+    made!(add_casts(n, part, &mut lists.unordered.casts));
     made!(add_tests(n, part, &mut lists.tests));
-    made!(add_accesses(n, part, &mut lists.accesses));
-    made!(add_supers(n, m, part, &mut lists.supers));
-    add_ties(program, n, m, slot, part, &mut lists.ties)
+    made!(add_accesses(n, part, &mut lists.unordered.accesses));
+    made!(add_supers(n, m, part, &mut lists.unordered.supers));
+    add_ties(program, n, m, slot, part, &mut lists.unordered.ties)
 }
 
 /// Adds what the parts of a method's body give. The slot is the method's.
@@ -91,17 +97,20 @@ pub fn gather(
     requires { IsFormed (program_of no_place program.now) }
     ensures { IfOk result (λ l. AreGathered (numbers_seen n.now) (program_of no_place program.now) (map body_seen bodies.now.items) l) }
 {
-    let mut lists = Lists {
+    let unordered = Unordered {
         news: Vec::new(alloc),
         flows: Vec::new(alloc),
         loads: Vec::new(alloc),
         stores: Vec::new(alloc),
-        calls: Vec::new(alloc),
         casts: Vec::new(alloc),
-        tests: Vec::new(alloc),
         accesses: Vec::new(alloc),
         supers: Vec::new(alloc),
         ties: Vec::new(alloc),
+    };
+    let mut lists = Lists {
+        unordered,
+        calls: Vec::new(alloc),
+        tests: Vec::new(alloc),
     };
     for body in bodies {
         made!(

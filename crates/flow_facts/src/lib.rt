@@ -39,7 +39,6 @@ mod expr_rows;
 mod gathering;
 mod infos;
 mod labels;
-mod listing;
 mod lists;
 mod names;
 mod numbering;

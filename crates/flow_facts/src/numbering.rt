@@ -1,6 +1,6 @@
 //! The numbers of rows, columns, sites and flow points.
 
-ghost use Rattle.std.specs.Prelude.{◌≡◌, ◌<◌, ◌++◌, true, IfOk, IfSome, OnOk, length, map, nat_eq};
+ghost use Rattle.std.specs.Prelude.{◌≡◌, ◌<◌, ◌++◌, true, IfOk, OnOk, length, map, nat_eq};
 ghost use Rattle.std.specs.List.{flat_map};
 ghost use Rattle.flow_rules.specs.Numbered.{number_among, same_row, same_column, same_point, form_sites, listed};
 ghost use Rattle.flow_rules.specs.Parts as plain;
@@ -13,37 +13,17 @@ use flow_rules::{
 use indexmap::IndexSet;
 use kaba_base::Place;
 use std::alloc::{AllocError, Global};
+use std::hash::Hash;
 
-/// Where an item stands among the rows.
-fn place_of_row(rows: &IndexSet<RowItem>, item: RowItem) -> Option<usize>
-    ensures value { result ≡ number_among same_row rows.now.keys item }
-    ensures within { IfSome result (λ i. i < length rows.now.keys) }
+/// The number of an item among others.
+fn number_of<K: Eq + Hash + Copy>(keys: &IndexSet<K>, item: K) -> Option<u32>
+    requires { length keys.now.keys < 4294967295 }
+    ensures value { result ≡ number_among K.eq keys.now.keys item }
 {
-    rows.get_index_of(&item)
-}
-
-/// Where an item stands among the columns.
-fn place_of_column(columns: &IndexSet<ColumnItem>, item: ColumnItem) -> Option<usize>
-    ensures value { result ≡ number_among same_column columns.now.keys item }
-    ensures within { IfSome result (λ i. i < length columns.now.keys) }
-{
-    columns.get_index_of(&item)
-}
-
-/// Where a creation stands among the sites.
-fn place_of_site(sites: &IndexSet<u64>, creation: u64) -> Option<usize>
-    ensures value { result ≡ number_among nat_eq sites.now.keys creation }
-    ensures within { IfSome result (λ i. i < length sites.now.keys) }
-{
-    sites.get_index_of(&creation)
-}
-
-/// Where an item stands among the flow points.
-fn place_of_point(points: &IndexSet<PointItem>, item: PointItem) -> Option<usize>
-    ensures value { result ≡ number_among same_point points.now.keys item }
-    ensures within { IfSome result (λ i. i < length points.now.keys) }
-{
-    points.get_index_of(&item)
+    match keys.get_index_of(&item) {
+        Some(number) => Some(number as u32),
+        None => None,
+    }
 }
 
 /// The items of the rows, the columns and the flow points, and the numbers of the creations that are sites, each in their order.
@@ -71,30 +51,21 @@ impl Numbering {
     pub fn column(&self, item: ColumnItem) -> Option<u32>
         ensures value { result ≡ number_among same_column self.now.columns.keys item }
     {
-        match place_of_column(&self.columns, item) {
-            Some(number) => Some(number as u32),
-            None => None,
-        }
+        number_of(&self.columns, item)
     }
 
     /// The number of the site of a creation.
     pub fn site(&self, creation: u64) -> Option<u32>
         ensures value { result ≡ number_among nat_eq self.now.sites.keys creation }
     {
-        match place_of_site(&self.sites, creation) {
-            Some(number) => Some(number as u32),
-            None => None,
-        }
+        number_of(&self.sites, creation)
     }
 
     /// The number of a flow point.
     pub fn point(&self, item: PointItem) -> Option<u32>
         ensures value { result ≡ number_among same_point self.now.points.keys item }
     {
-        match place_of_point(&self.points, item) {
-            Some(number) => Some(number as u32),
-            None => None,
-        }
+        number_of(&self.points, item)
     }
 }
 
@@ -103,10 +74,7 @@ pub fn number_of_row(rows: &IndexSet<RowItem>, item: RowItem) -> Option<u32>
     requires { length rows.now.keys < 4294967295 }
     ensures value { result ≡ number_among same_row rows.now.keys item }
 {
-    match place_of_row(rows, item) {
-        Some(number) => Some(number as u32),
-        None => None,
-    }
+    number_of(rows, item)
 }
 
 /// Adds the site of a creation.

@@ -162,3 +162,15 @@ pub fn once<K: Eq + Hash + Copy + Drop, T: HasKey<K> + Copy>(
     }
     Ok(Listed { items, keys })
 }
+
+/// The first of each key by their places.
+pub fn once_by_place<K: Eq + Hash + Copy + Drop, T: HasPlace + HasKey<K> + Copy + Drop>(
+    alloc: Global,
+    all: Vec<T>,
+) -> Result<Listed<T, K>, AllocError>
+    ensures items { IfOk result (λ l. l.items.items ≡ once K.eq T.key (by_place T.at all.items)) }
+    ensures keys { IfOk result (λ l. l.keys.keys ≡ map T.key (once K.eq T.key (by_place T.at all.items))) }
+{
+    let all = made!(by_place(all));
+    once(alloc, &all)
+}

@@ -14,9 +14,8 @@ ghost use Rattle.flow_facts.specs.Views.{body_seen, outline_seen};
 
 use crate::assembled::facts_over;
 use crate::cells::{cells_of, fields_of};
-use crate::listing::{list_columns, list_points, list_rows, list_sites};
 use crate::numbering::{Numbering, all_points, all_sites};
-use crate::ordered::{Listed, by_place};
+use crate::ordered::{Listed, by_place, once, once_by_place};
 use crate::survey::survey;
 use fact_model::{CellInfo, Facts};
 use flow_rules::{
@@ -67,7 +66,7 @@ fn number_rows(
     ensures most { IfOk result (λ l. length (rows_of (program_of no_place program.now) (program_of at_place program.now)) ≤ 16384) }
     ensures refused { IfErr result (λ e. IsOver (program_of no_place program.now) (program_of at_place program.now) e) }
 {
-    let listed = made!(list_rows(alloc, rows) => FactsFault;);
+    let listed = made!(once_by_place(alloc, rows) => FactsFault;);
     made!(within(listed.items.len(), 16384, Counted::Rows); listed);
     Ok(listed)
 }
@@ -87,7 +86,7 @@ fn number_columns(
     ensures most { IfOk result (λ l. length (columns_of (program_of no_place program.now) (program_of at_place program.now)) ≤ 8192) }
     ensures refused { IfErr result (λ e. IsOver (program_of no_place program.now) (program_of at_place program.now) e) }
 {
-    let listed = made!(list_columns(alloc, columns) => FactsFault;);
+    let listed = made!(once_by_place(alloc, columns) => FactsFault;);
     made!(within(listed.items.len(), 8192, Counted::Columns); listed);
     Ok(listed)
 }
@@ -109,7 +108,7 @@ fn number_sites(
     ensures refused { IfErr result (λ e. IsOver (program_of no_place program.now) (program_of at_place program.now) e) }
 {
     let sites = made!(all_sites(alloc, rows, bodies) => FactsFault;);
-    let listed = made!(list_sites(alloc, sites) => FactsFault;);
+    let listed = made!(once_by_place(alloc, sites) => FactsFault;);
     made!(within(listed.items.len(), 8192, Counted::Sites); listed);
     Ok(listed)
 }
@@ -143,7 +142,7 @@ fn number_points(
     );
     drop(statics);
     drop(outlines);
-    let listed = made!(list_points(alloc, points) => FactsFault;);
+    let listed = made!(once(alloc, &points) => FactsFault;);
     made!(within(listed.items.len(), 65536, Counted::Points); listed);
     Ok(listed)
 }

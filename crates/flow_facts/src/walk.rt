@@ -23,6 +23,15 @@ use java_core::{BinOp, Method, Program, RExpr, super_method};
 use kaba_base::{ClassId, Name, Place};
 use std::alloc::{AllocError, Global};
 
+/// The method whose body is walked, by its number in its program.
+#[derive(Clone, Copy)]
+pub struct Enclosing<'a> {
+    pub alloc: Global,
+    pub program: &'a Program,
+    pub number: u64,
+    pub method: &'a Method,
+}
+
 /// No flow point, no row and no type that a row can have.
 pub const NOTHING: Operand = Operand {
     point: None,
@@ -39,13 +48,13 @@ pub fn class_object(class: ClassId) -> Option<ObjectType>
 }
 
 /// What `this` is.
-pub fn this_operand(m: u64, method: &Method) -> Operand
-    ensures value { result ≡ this_operand m (method_seen at_place method.now) }
+pub fn this_operand(within: &Enclosing) -> Operand
+    ensures value { result ≡ this_operand within.now.number (method_seen at_place within.now.method.now) }
 {
     Operand {
-        point: Some(PointItem::This(m)),
-        row: Some(RowItem::This(m)),
-        ty: class_object(method.owner),
+        point: Some(PointItem::This(within.number)),
+        row: Some(RowItem::This(within.number)),
+        ty: class_object(within.method.owner),
         created: None,
     }
 }
@@ -61,13 +70,13 @@ pub fn variable_row(m: u64, method: &Method, local: u64) -> RowItem
 }
 
 /// What a parameter or a local is.
-pub fn variable_operand(m: u64, method: &Method, local: u32) -> Operand
-    ensures value { result ≡ variable_operand m (method_seen at_place method.now) local }
+pub fn variable_operand(within: &Enclosing, local: u32) -> Operand
+    ensures value { result ≡ variable_operand within.now.number (method_seen at_place within.now.method.now) local }
 {
     Operand {
-        point: Some(PointItem::Local(m, local as u64)),
-        row: Some(variable_row(m, method, local as u64)),
-        ty: variable_object(method, local),
+        point: Some(PointItem::Local(within.number, local as u64)),
+        row: Some(variable_row(within.number, within.method, local as u64)),
+        ty: variable_object(within.method, local),
         created: None,
     }
 }
@@ -139,16 +148,13 @@ fn fill(parts: &mut Vec<Part>, at: usize, part: Part)
 /// Adds the parts of an expression, and gives what it is. `used` says whether a creation there is a flow point.
 #[cycle(walk)]
 pub fn walk(
-    alloc: Global,
-    program: &Program,
-    m: u64,
-    method: &Method,
+    within: &Enclosing,
     used: bool,
     e: &RExpr,
     parts: &mut Vec<Part>,
 ) -> Result<Operand, AllocError>
-    requires { IsFormed (program_of no_place program.now) }
-    ensures { IfOk result (λ o. IsWalked (program_of no_place program.now) m (method_seen at_place method.now)
+    requires { IsFormed (program_of no_place within.now.program.now) }
+    ensures { IfOk result (λ o. IsWalked (program_of no_place within.now.program.now) within.now.number (method_seen at_place within.now.method.now)
         used (expr_of at_place e.now) parts.old.items parts.new.items o) }
 {
     match e {
@@ -157,31 +163,41 @@ pub fn walk(
         | RExpr::Str { .. }
         | RExpr::Bool { .. }
         | RExpr::Null { .. } => Ok(NOTHING),
-        RExpr::This { .. } => Ok(this_operand(m, method)),
-        RExpr::Local { local, .. } => Ok(variable_operand(m, method, *local)),
+        RExpr::This { .. } => Ok(this_operand(within)),
+        RExpr::Local { local, .. } => Ok(variable_operand(within, *local)),
         RExpr::Static { field, .. } => Ok(Operand {
             point: Some(PointItem::Static(field.0 as u64)),
             row: Some(RowItem::Field(field.0 as u64)),
-            ty: field_object(program, field.0),
+            ty: field_object(within.program, field.0),
             created: None,
         }),
         RExpr::Own { field, place } => {
             let row = Some(RowItem::Field(field.0 as u64));
-            let own = labelled(m, parts.len(), row, field_object(program, field.0));
-            let this = this_operand(m, method);
+            let own = labelled(
+                within.number,
+                parts.len(),
+                row,
+                field_object(within.program, field.0),
+            );
+            let this = this_operand(within);
             made!(add(parts, Part::Load(*place, this, Some(field.0), own)));
             Ok(own)
         }
         RExpr::Field { base, name, place } => {
             let accessed = is_accessed(base);
-            let base = made!(walk(alloc, program, m, method, accessed, base, parts));
-            add_load(program, m, *place, base, name, parts)
+            let base = made!(walk(within, accessed, base, parts));
+            add_load(within, *place, base, name, parts)
         }
         RExpr::Index { base, at, place } => {
-            let base = made!(walk(alloc, program, m, method, true, base, parts));
-            let own = labelled(m, parts.len(), base.row, element_object(base.ty));
+            let base = made!(walk(within, true, base, parts));
+            let own = labelled(
+                within.number,
+                parts.len(),
+                base.row,
+                element_object(base.ty),
+            );
             made!(add(parts, Part::Element(*place, base, own)));
-            made!(walk(alloc, program, m, method, false, at, parts));
+            made!(walk(within, false, at, parts));
             Ok(own)
         }
         RExpr::Call {
@@ -191,21 +207,21 @@ pub fn walk(
             place,
         } => match base {
             None => {
-                let this = this_operand(m, method);
-                add_call(alloc, program, m, method, *place, this, name, args, parts)
+                let this = this_operand(within);
+                add_call(within, *place, this, name, args, parts)
             }
             Some(base) => {
-                let base = made!(walk(alloc, program, m, method, true, base, parts));
-                add_call(alloc, program, m, method, *place, base, name, args, parts)
+                let base = made!(walk(within, true, base, parts));
+                add_call(within, *place, base, name, args, parts)
             }
         },
         RExpr::StaticCall {
             method: callee,
             args,
             place,
-        } => { add_static_call(alloc, program, m, method, *place, callee.0, args, parts) }
+        } => { add_static_call(within, *place, callee.0, args, parts) }
         RExpr::SuperCall { name, args, place } => {
-            add_super_call(alloc, program, m, method, *place, name, args, parts)
+            add_super_call(within, *place, name, args, parts)
         }
         RExpr::New {
             number,
@@ -213,9 +229,9 @@ pub fn walk(
             args,
             place,
         } => {
-            let own = creation(m, parts.len(), *number, class_object(*class));
+            let own = creation(within.number, parts.len(), *number, class_object(*class));
             made!(add(parts, Part::New(*place, used, own)));
-            let _args = made!(walk_all(alloc, program, m, method, false, args, parts));
+            let _args = made!(walk_all(within, false, args, parts));
             Ok(own)
         }
         RExpr::NewArray {
@@ -224,9 +240,9 @@ pub fn walk(
             size,
             place,
         } => {
-            let own = creation(m, parts.len(), *number, object_of(*ty));
+            let own = creation(within.number, parts.len(), *number, object_of(*ty));
             made!(add(parts, Part::New(*place, used, own)));
-            made!(walk(alloc, program, m, method, false, size, parts));
+            made!(walk(within, false, size, parts));
             Ok(own)
         }
         RExpr::Cast {
@@ -236,10 +252,10 @@ pub fn walk(
             place,
         } => {
             let row = Some(RowItem::Cast(*number as u64));
-            let own = labelled(m, parts.len(), row, object_of(*ty));
+            let own = labelled(within.number, parts.len(), row, object_of(*ty));
             let at = parts.len();
             made!(add(parts, Part::Test(*place, NOTHING, own)));
-            let value = made!(walk(alloc, program, m, method, true, value, parts));
+            let value = made!(walk(within, true, value, parts));
             fill(parts, at, Part::Test(*place, value, own));
             Ok(own)
         }
@@ -249,14 +265,14 @@ pub fn walk(
             class,
             place,
         } => {
-            let value = made!(walk(alloc, program, m, method, true, value, parts));
+            let value = made!(walk(within, true, value, parts));
             let row = Some(RowItem::Test(*number as u64));
-            let own = labelled(m, parts.len(), row, class_object(*class));
+            let own = labelled(within.number, parts.len(), row, class_object(*class));
             made!(add(parts, Part::Test(*place, value, own)));
             Ok(NOTHING)
         }
         RExpr::Unary { value, .. } => {
-            made!(walk(alloc, program, m, method, false, value, parts));
+            made!(walk(within, false, value, parts));
             Ok(NOTHING)
         }
         RExpr::Binary {
@@ -265,8 +281,8 @@ pub fn walk(
             right,
             ..
         } => {
-            let left = made!(walk(alloc, program, m, method, false, left, parts));
-            let right = made!(walk(alloc, program, m, method, false, right, parts));
+            let left = made!(walk(within, false, left, parts));
+            let right = made!(walk(within, false, right, parts));
             made!(add(parts, Part::Pair(*op, left, right)));
             Ok(NOTHING)
         }
@@ -275,28 +291,27 @@ pub fn walk(
 
 /// Adds the read of a field, and gives what it is.
 fn add_load(
-    program: &Program,
-    m: u64,
+    within: &Enclosing,
     place: Place,
     base: Operand,
     name: &Name,
     parts: &mut Vec<Part>,
 ) -> Result<Operand, AllocError>
-    requires { IsFormed (program_of no_place program.now) }
+    requires { IsFormed (program_of no_place within.now.program.now) }
     ensures { IfOk result (λ o. IsMade parts.old.items parts.new.items 1
-        (plain.a_load place base (object_field (program_of no_place program.now) base.ty name.now)
-        (load_operand (program_of no_place program.now) m (length parts.old.items) base.ty name.now) ∷ []) o
-        (load_operand (program_of no_place program.now) m (length parts.old.items) base.ty name.now)) }
+        (plain.a_load place base (object_field (program_of no_place within.now.program.now) base.ty name.now)
+        (load_operand (program_of no_place within.now.program.now) within.now.number (length parts.old.items) base.ty name.now) ∷ []) o
+        (load_operand (program_of no_place within.now.program.now) within.now.number (length parts.old.items) base.ty name.now)) }
 {
-    let field = object_field(program, base.ty, name);
+    let field = object_field(within.program, base.ty, name);
     let (row, ty) = match field {
         Some(field) => (
             Some(RowItem::Field(field as u64)),
-            field_object(program, field),
+            field_object(within.program, field),
         ),
         None => (None, None),
     };
-    let own = labelled(m, parts.len(), row, ty);
+    let own = labelled(within.number, parts.len(), row, ty);
     made!(add(parts, Part::Load(place, base, field, own)));
     Ok(own)
 }
@@ -304,21 +319,18 @@ fn add_load(
 /// Adds the parts of arguments, and gives what they are.
 #[cycle(walk)]
 fn walk_all(
-    alloc: Global,
-    program: &Program,
-    m: u64,
-    method: &Method,
+    within: &Enclosing,
     used: bool,
     args: &Vec<RExpr>,
     parts: &mut Vec<Part>,
 ) -> Result<Vec<Operand>, AllocError>
-    requires { IsFormed (program_of no_place program.now) }
-    ensures { IfOk result (λ o. AreWalked (program_of no_place program.now) m (method_seen at_place method.now) used
+    requires { IsFormed (program_of no_place within.now.program.now) }
+    ensures { IfOk result (λ o. AreWalked (program_of no_place within.now.program.now) within.now.number (method_seen at_place within.now.method.now) used
         (exprs at_place args.now.items) parts.old.items parts.new.items o.items) }
 {
-    let mut list = Vec::new(alloc);
+    let mut list = Vec::new(within.alloc);
     for e in args {
-        let operand = made!(walk(alloc, program, m, method, used, e, parts));
+        let operand = made!(walk(within, used, e, parts));
         made!(put(&mut list, operand));
     }
     Ok(list)
@@ -327,28 +339,25 @@ fn walk_all(
 /// Adds the parts of a call on a receiver, and gives what it is.
 #[cycle(walk)]
 fn add_call(
-    alloc: Global,
-    program: &Program,
-    m: u64,
-    method: &Method,
+    within: &Enclosing,
     place: Place,
     base: Operand,
     name: &Name,
     args: &Vec<RExpr>,
     parts: &mut Vec<Part>,
 ) -> Result<Operand, AllocError>
-    requires { IsFormed (program_of no_place program.now) }
+    requires { IsFormed (program_of no_place within.now.program.now) }
     ensures { IfOk result (λ o. IsMade parts.old.items parts.new.items (1 + sizes (exprs at_place args.now.items))
-        (call_from (program_of no_place program.now) m (method_seen at_place method.now) place base name.now
+        (call_from (program_of no_place within.now.program.now) within.now.number (method_seen at_place within.now.method.now) place base name.now
         (length parts.old.items) (exprs at_place args.now.items)) o
-        (call_operand (program_of no_place program.now) m (length parts.old.items) base.ty name.now)) }
+        (call_operand (program_of no_place within.now.program.now) within.now.number (length parts.old.items) base.ty name.now)) }
 {
     let at = parts.len();
     made!(add(parts, Part::Pair(BinOp::Both, NOTHING, NOTHING)));
-    let args = made!(walk_all(alloc, program, m, method, true, args, parts));
-    let declaration = call_declaration(program, base.ty, name);
-    let slot = slot_of_method(program, declaration);
-    let own = call_operand(program, m, at, slot);
+    let args = made!(walk_all(within, true, args, parts));
+    let declaration = call_declaration(within.program, base.ty, name);
+    let slot = slot_of_method(within.program, declaration);
+    let own = call_operand(within, at, slot);
     fill(
         parts,
         at,
@@ -358,46 +367,48 @@ fn add_call(
 }
 
 /// What the call of a slot is.
-fn call_operand(program: &Program, m: u64, label: usize, slot: Option<u32>) -> Operand
+fn call_operand(within: &Enclosing, label: usize, slot: Option<u32>) -> Operand
     ensures value { (s : Option ObjectType) (x : List ℕ)
-        → slot ≡ call_slot (program_of no_place program.now) s x
-        → result ≡ call_operand (program_of no_place program.now) m label s x }
+        → slot ≡ call_slot (program_of no_place within.now.program.now) s x
+        → result ≡ call_operand (program_of no_place within.now.program.now) within.now.number label s x }
 {
     match slot {
         Some(slot) => {
             let row = Some(RowItem::Return(slot as u64));
-            labelled(m, label, row, slot_object(program, slot))
+            labelled(within.number, label, row, slot_object(within.program, slot))
         }
-        None => labelled(m, label, None, None),
+        None => labelled(within.number, label, None, None),
     }
 }
 
 /// Adds the parts of a call of a static method, and gives what it is.
 #[cycle(walk)]
 fn add_static_call(
-    alloc: Global,
-    program: &Program,
-    m: u64,
-    method: &Method,
+    within: &Enclosing,
     place: Place,
     callee: u32,
     args: &Vec<RExpr>,
     parts: &mut Vec<Part>,
 ) -> Result<Operand, AllocError>
-    requires { IsFormed (program_of no_place program.now) }
+    requires { IsFormed (program_of no_place within.now.program.now) }
     ensures { IfOk result (λ o. IsMade parts.old.items parts.new.items (1 + sizes (exprs at_place args.now.items))
-        (plain.a_static_call place callee (args_from (program_of no_place program.now) m (method_seen at_place method.now)
+        (plain.a_static_call place callee (args_from (program_of no_place within.now.program.now) within.now.number (method_seen at_place within.now.method.now)
         (length parts.old.items + 1) (exprs at_place args.now.items))
-        (static_operand (program_of no_place program.now) m (length parts.old.items) callee)
-        ∷ parts_from (program_of no_place program.now) m (method_seen at_place method.now) false
+        (static_operand (program_of no_place within.now.program.now) within.now.number (length parts.old.items) callee)
+        ∷ parts_from (program_of no_place within.now.program.now) within.now.number (method_seen at_place within.now.method.now) false
         (length parts.old.items + 1) (exprs at_place args.now.items)) o
-        (static_operand (program_of no_place program.now) m (length parts.old.items) callee)) }
+        (static_operand (program_of no_place within.now.program.now) within.now.number (length parts.old.items) callee)) }
 {
     let at = parts.len();
     made!(add(parts, Part::Pair(BinOp::Both, NOTHING, NOTHING)));
-    let args = made!(walk_all(alloc, program, m, method, false, args, parts));
+    let args = made!(walk_all(within, false, args, parts));
     let row = Some(RowItem::Result(callee as u64));
-    let own = labelled(m, at, row, method_object(program, callee));
+    let own = labelled(
+        within.number,
+        at,
+        row,
+        method_object(within.program, callee),
+    );
     fill(parts, at, Part::StaticCall(place, callee, args, own));
     Ok(own)
 }
@@ -405,46 +416,43 @@ fn add_static_call(
 /// Adds the parts of a super call, and gives what it is.
 #[cycle(walk)]
 fn add_super_call(
-    alloc: Global,
-    program: &Program,
-    m: u64,
-    method: &Method,
+    within: &Enclosing,
     place: Place,
     name: &Name,
     args: &Vec<RExpr>,
     parts: &mut Vec<Part>,
 ) -> Result<Operand, AllocError>
-    requires { IsFormed (program_of no_place program.now) }
+    requires { IsFormed (program_of no_place within.now.program.now) }
     ensures { IfOk result (λ o. IsMade parts.old.items parts.new.items (1 + sizes (exprs at_place args.now.items))
-        (plain.a_super_call place (super_method (program_of no_place program.now) method.now.owner.0 name.now)
-        (args_from (program_of no_place program.now) m (method_seen at_place method.now)
+        (plain.a_super_call place (super_method (program_of no_place within.now.program.now) within.now.method.now.owner.0 name.now)
+        (args_from (program_of no_place within.now.program.now) within.now.number (method_seen at_place within.now.method.now)
         (length parts.old.items + 1) (exprs at_place args.now.items))
-        (super_operand (program_of no_place program.now) m (length parts.old.items) method.now.owner.0 name.now)
-        ∷ parts_from (program_of no_place program.now) m (method_seen at_place method.now) false
+        (super_operand (program_of no_place within.now.program.now) within.now.number (length parts.old.items) within.now.method.now.owner.0 name.now)
+        ∷ parts_from (program_of no_place within.now.program.now) within.now.number (method_seen at_place within.now.method.now) false
         (length parts.old.items + 1) (exprs at_place args.now.items)) o
-        (super_operand (program_of no_place program.now) m (length parts.old.items) method.now.owner.0 name.now)) }
+        (super_operand (program_of no_place within.now.program.now) within.now.number (length parts.old.items) within.now.method.now.owner.0 name.now)) }
 {
     let at = parts.len();
     made!(add(parts, Part::Pair(BinOp::Both, NOTHING, NOTHING)));
-    let args = made!(walk_all(alloc, program, m, method, false, args, parts));
-    let callee = number_of(super_method(program, method.owner, name));
-    let own = super_operand(program, m, at, callee);
+    let args = made!(walk_all(within, false, args, parts));
+    let callee = number_of(super_method(within.program, within.method.owner, name));
+    let own = super_operand(within, at, callee);
     fill(parts, at, Part::SuperCall(place, callee, args, own));
     Ok(own)
 }
 
 /// What a super call of a method is.
-fn super_operand(program: &Program, m: u64, label: usize, callee: Option<u32>) -> Operand
-    ensures value { (c : ℕ) (x : List ℕ) → callee ≡ super_method (program_of no_place program.now) c x
-        → result ≡ super_operand (program_of no_place program.now) m label c x }
+fn super_operand(within: &Enclosing, label: usize, callee: Option<u32>) -> Operand
+    ensures value { (c : ℕ) (x : List ℕ) → callee ≡ super_method (program_of no_place within.now.program.now) c x
+        → result ≡ super_operand (program_of no_place within.now.program.now) within.now.number label c x }
 {
-    let row = match slot_of_method(program, callee) {
+    let row = match slot_of_method(within.program, callee) {
         Some(slot) => Some(RowItem::Return(slot as u64)),
         None => None,
     };
     let ty = match callee {
-        Some(callee) => method_object(program, callee),
+        Some(callee) => method_object(within.program, callee),
         None => None,
     };
-    labelled(m, label, row, ty)
+    labelled(within.number, label, row, ty)
 }

@@ -8,4 +8,4 @@ pub list_tables-requires : goal.list_tables-requires
 list_tables-requires c = few_columns (program_of no_place c.args.program.now) (program_of at_place c.args.program.now) c.args.numbered.now c.requires.numbered
 
 pub returns : goal.returns
-returns c = record { tables = c.in-Ok.ensures; texts = c.in-Ok-list_texts.ensures; lists = c.in-Ok-in_order.ensures _ _ _ c.in-Ok-gather.ensures }
+returns c = record { tables = c.in-Ok.ensures; texts = c.in-Ok-list_texts.ensures; lists = c.in-Ok-put_in_order.ensures _ _ _ c.in-Ok-gather.ensures }

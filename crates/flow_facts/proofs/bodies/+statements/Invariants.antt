@@ -10,23 +10,23 @@ use Rattle.flow_facts.proofs.bodies.+statements.Given as goal
 
 abbrev pub invariant-walk_stmts-loop-s : goal.invariant-walk_stmts-loop-s
 invariant-walk_stmts-loop-s l =
-    let P = program_of no_place l.program in
-    let K = method_seen at_place l.method in
+    let P = program_of no_place l.within.program.now in
+    let K = method_seen at_place l.within.method.now in
     let rest = stmts at_place (drop l.s-index l.body.items) in
     record {
       grown : length l.parts.items + size_sts rest ≡ length l.fn.parts.items + size_sts (stmts at_place l.body.items);
-      parts : parts_seen l.parts.items ++ parts_sts P (object_type P K) l.m K (label_sts (length l.parts.items) rest)
-          ≡ parts_seen l.fn.parts.items ++ parts_sts P (object_type P K) l.m K (label_sts (length l.fn.parts.items) (stmts at_place l.body.items));
+      parts : parts_seen l.parts.items ++ parts_sts P (object_type P K) l.within.number K (label_sts (length l.parts.items) rest)
+          ≡ parts_seen l.fn.parts.items ++ parts_sts P (object_type P K) l.within.number K (label_sts (length l.fn.parts.items) (stmts at_place l.body.items));
     }
 
 abbrev pub invariant-walk_arms-loop-arm : goal.invariant-walk_arms-loop-arm
 invariant-walk_arms-loop-arm l =
-    let P = program_of no_place l.program in
-    let K = method_seen at_place l.method in
+    let P = program_of no_place l.within.program.now in
+    let K = method_seen at_place l.within.method.now in
     let rest = arms_seen at_place (drop l.arm-index l.arms.items) (else_seen at_place l.other) in
     let all = arms_seen at_place l.arms.items (else_seen at_place l.other) in
     record {
       grown : length l.parts.items + size_arms rest ≡ length l.fn.parts.items + size_arms all;
-      parts : parts_seen l.parts.items ++ parts_arms P (object_type P K) l.m K (label_arms (length l.parts.items) rest)
-          ≡ parts_seen l.fn.parts.items ++ parts_arms P (object_type P K) l.m K (label_arms (length l.fn.parts.items) all);
+      parts : parts_seen l.parts.items ++ parts_arms P (object_type P K) l.within.number K (label_arms (length l.parts.items) rest)
+          ≡ parts_seen l.fn.parts.items ++ parts_arms P (object_type P K) l.within.number K (label_arms (length l.fn.parts.items) all);
     }

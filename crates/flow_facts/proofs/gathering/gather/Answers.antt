@@ -9,16 +9,18 @@ use Rattle.flow_facts.proofs.gathering.gather.Goals as goal
 
 pub loop-body-init : goal.loop-body-init
 loop-body-init c = record {
-  news = c.new.ensures.items;
-  flows = c.new-2.ensures.items;
-  loads = c.new-3.ensures.items;
-  stores = c.new-4.ensures.items;
-  calls = ap calls_seen c.new-5.ensures.items;
-  casts = c.new-6.ensures.items;
-  tests = c.new-7.ensures.items;
-  accesses = c.new-8.ensures.items;
-  supers = c.new-9.ensures.items;
-  ties = c.new-10.ensures.items;
+  unordered = record {
+    news = c.new.ensures.items;
+    flows = c.new-2.ensures.items;
+    loads = c.new-3.ensures.items;
+    stores = c.new-4.ensures.items;
+    casts = c.new-5.ensures.items;
+    accesses = c.new-6.ensures.items;
+    supers = c.new-7.ensures.items;
+    ties = c.new-8.ensures.items;
+  };
+  calls = ap calls_seen c.new-9.ensures.items;
+  tests = c.new-10.ensures.items;
 }
 
 pub loop-body-preserved : goal.loop-body-preserved

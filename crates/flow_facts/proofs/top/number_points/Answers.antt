@@ -2,6 +2,7 @@ use Rattle.std.proofs.Common.{◌≡◌, length, ◌∙◌, ap, map, arith}
 use Rattle.java_core.specs.Trees.{at_place, no_place}
 use Rattle.java_core.specs.Programs.{program_of}
 use Rattle.flow_rules.specs.declared.faults.Counted.TheVariants as counted
+use Rattle.flow_rules.proofs.Same.{same_points}
 use Rattle.flow_facts.proofs.Counts.{points_are, outlines_are}
 use Rattle.flow_rules.specs.Ordered.{by_place}
 use Rattle.flow_facts.proofs.Refusals.{at_most, refused, too_many_points}
@@ -11,33 +12,22 @@ pub returns-in-Err-within-clause-refused : goal.returns-in-Err-within-clause-ref
 returns-in-Err-within-clause-refused c =
     let P = program_of no_place c.args.program.now in
     let Q = program_of at_place c.args.program.now in
-    let n : c.len.result ≡ length c.in-Ok-list_points.made.items.items = omega (arith, c.in-Ok-list_points.made.items.ok.0) in
-    refused P Q 65536 counted.Points c.in-Err-within.fault n (c.in-Ok-list_points.ensures.items
-    ∙ points_are P Q _ _ _ _ c.requires.keys (c.in-Ok.ensures.value ∙ ap (by_place (λ p. p.place.at)) c.requires.statics)
+    let n : c.len.result ≡ length c.in-Ok-once.made.items.items = omega (arith, c.in-Ok-once.made.items.ok.0) in
+    refused P Q 65536 counted.Points c.in-Err-within.fault n (c.in-Ok-once.ensures.items
+    ∙ points_are P Q _ _ _ _ same_points c.requires.keys (c.in-Ok.ensures.value ∙ ap (by_place (λ p. p.place.at)) c.requires.statics)
     (outlines_are P Q _ _ c.requires.outlines c.in-Ok-by_place.ensures.value) c.in-Ok-all_points.ensures.value) c.in-Err-within.ensures.refused
     (too_many_points P Q c.requires.rows c.requires.columns c.requires.sites)
 
-pub returns-clause-items : goal.returns-clause-items
-returns-clause-items c =
+pub returns : goal.returns
+returns c =
     let P = program_of no_place c.args.program.now in
     let Q = program_of at_place c.args.program.now in
-    (c.in-Ok-list_points.ensures.items ∙ points_are P Q _ _ _ _ c.requires.keys (c.in-Ok.ensures.value
-    ∙ ap (by_place (λ p. p.place.at)) c.requires.statics) (outlines_are P Q _ _ c.requires.outlines c.in-Ok-by_place.ensures.value)
-    c.in-Ok-all_points.ensures.value)
-
-pub returns-clause-keys : goal.returns-clause-keys
-returns-clause-keys c =
-    let P = program_of no_place c.args.program.now in
-    let Q = program_of at_place c.args.program.now in
-    c.in-Ok-list_points.ensures.keys ∙ ap (map (λ p. p.item)) (points_are P Q _ _ _ _ c.requires.keys (c.in-Ok.ensures.value
-    ∙ ap (by_place (λ p. p.place.at)) c.requires.statics) (outlines_are P Q _ _ c.requires.outlines c.in-Ok-by_place.ensures.value)
-    c.in-Ok-all_points.ensures.value)
-
-pub returns-clause-most : goal.returns-clause-most
-returns-clause-most c =
-    let P = program_of no_place c.args.program.now in
-    let Q = program_of at_place c.args.program.now in
-    let n : c.len.result ≡ length c.in-Ok-list_points.made.items.items = omega (arith, c.in-Ok-list_points.made.items.ok.0) in
-    at_most n (c.in-Ok-list_points.ensures.items ∙ points_are P Q _ _ _ _ c.requires.keys (c.in-Ok.ensures.value
-    ∙ ap (by_place (λ p. p.place.at)) c.requires.statics) (outlines_are P Q _ _ c.requires.outlines c.in-Ok-by_place.ensures.value)
-    c.in-Ok-all_points.ensures.value) c.in-Ok-within.ensures.ok
+    let all = points_are P Q _ _ _ _ same_points c.requires.keys (c.in-Ok.ensures.value ∙ ap (by_place (λ p. p.place.at)) c.requires.statics)
+    (outlines_are P Q _ _ c.requires.outlines c.in-Ok-by_place.ensures.value) c.in-Ok-all_points.ensures.value in
+    let n : c.len.result ≡ length c.in-Ok-once.made.items.items = omega (arith, c.in-Ok-once.made.items.ok.0) in
+    record {
+      items = c.in-Ok-once.ensures.items ∙ all;
+      keys = c.in-Ok-once.ensures.keys ∙ ap (map (λ p. p.item)) all;
+      most = at_most n (c.in-Ok-once.ensures.items ∙ all) c.in-Ok-within.ensures.ok;
+      refused = tt;
+    }

@@ -10,26 +10,20 @@ pub returns-in-Err-within-clause-refused : goal.returns-in-Err-within-clause-ref
 returns-in-Err-within-clause-refused c =
     let P = program_of no_place c.args.program.now in
     let Q = program_of at_place c.args.program.now in
-    let n : c.len.result ≡ length c.in-Ok-list_sites.made.items.items = omega (arith, c.in-Ok-list_sites.made.items.ok.0) in
-    refused P Q 8192 counted.Sites c.in-Err-within.fault n (c.in-Ok-list_sites.ensures.items
+    let n : c.len.result ≡ length c.in-Ok-once_by_place.made.items.items = omega (arith, c.in-Ok-once_by_place.made.items.ok.0) in
+    refused P Q 8192 counted.Sites c.in-Err-within.fault n (c.in-Ok-once_by_place.ensures.items
     ∙ sites_are P Q _ _ _ c.requires.keys c.requires.bodies c.in-Ok.ensures.value) c.in-Err-within.ensures.refused
     (over_sites P Q c.requires.rows c.requires.columns)
 
-pub returns-clause-items : goal.returns-clause-items
-returns-clause-items c =
+pub returns : goal.returns
+returns c =
     let P = program_of no_place c.args.program.now in
     let Q = program_of at_place c.args.program.now in
-    (c.in-Ok-list_sites.ensures.items ∙ sites_are P Q _ _ _ c.requires.keys c.requires.bodies c.in-Ok.ensures.value)
-
-pub returns-clause-keys : goal.returns-clause-keys
-returns-clause-keys c =
-    let P = program_of no_place c.args.program.now in
-    let Q = program_of at_place c.args.program.now in
-    c.in-Ok-list_sites.ensures.keys ∙ ap (map (λ s. s.number)) (sites_are P Q _ _ _ c.requires.keys c.requires.bodies c.in-Ok.ensures.value)
-
-pub returns-clause-most : goal.returns-clause-most
-returns-clause-most c =
-    let P = program_of no_place c.args.program.now in
-    let Q = program_of at_place c.args.program.now in
-    let n : c.len.result ≡ length c.in-Ok-list_sites.made.items.items = omega (arith, c.in-Ok-list_sites.made.items.ok.0) in
-    at_most n (c.in-Ok-list_sites.ensures.items ∙ sites_are P Q _ _ _ c.requires.keys c.requires.bodies c.in-Ok.ensures.value) c.in-Ok-within.ensures.ok
+    let all = sites_are P Q _ _ _ c.requires.keys c.requires.bodies c.in-Ok.ensures.value in
+    let n : c.len.result ≡ length c.in-Ok-once_by_place.made.items.items = omega (arith, c.in-Ok-once_by_place.made.items.ok.0) in
+    record {
+      items = c.in-Ok-once_by_place.ensures.items ∙ all;
+      keys = c.in-Ok-once_by_place.ensures.keys ∙ ap (map (λ s. s.number)) all;
+      most = at_most n (c.in-Ok-once_by_place.ensures.items ∙ all) c.in-Ok-within.ensures.ok;
+      refused = tt;
+    }
