@@ -6,9 +6,8 @@ use Rattle.std.specs.Prelude.{Some, Result, Ok, Err, IfOk}
 use Rattle.java_core.specs.declared.Ty.{Ty}
 use Rattle.java_core.specs.declared.UnOp.{UnOp}
 use Rattle.java_core.specs.declared.BinOp.{BinOp}
-use Rattle.java_core.specs.Trees.{Tag, Ex, Exs, this, own_field, field, index, call, static_call, super_call, create, create_array, cast, instance_of, unary, binary}
+use Rattle.java_core.specs.Trees.{Tag, Ex, Exs, this, own_field, field, index, call, create, create_array, cast, instance_of, unary, binary}
 use Rattle.java_core.specs.Programs.{Plain, PlainMethod}
-use Rattle.java_core.specs.Classes.{super_method}
 use Rattle.flow_rules.specs.declared.items.Operand.{Operand}
 use Rattle.flow_rules.specs.declared.items.Part.{Part}
 use Rattle.flow_rules.specs.declared.items.RowItem.TheVariants as row
@@ -18,8 +17,8 @@ use Rattle.flow_rules.specs.Operands.{operand_of, this_operand, object_of, class
 use Rattle.flow_rules.specs.Types.{object_type, field_object, element_object}
 use Rattle.flow_rules.specs.Parts.{is_accessed, nothing, parts, parts_all, a_load, an_element, a_creation, a_call, a_static_call, a_super_call, a_test, a_pair}
 use Rattle.flow_rules.specs.Parts as plain
-use Rattle.flow_facts.specs.Views.{parts_seen, part_seen, labelled_operand, load_operand, call_operand, static_operand, super_operand}
-use Rattle.flow_facts.specs.Walked.{IsAdded, IsMade, IsWalked, AreWalked, args_from, parts_from, call_from}
+use Rattle.flow_facts.specs.Views.{parts_seen, part_seen, labelled_operand, load_operand, call_operand}
+use Rattle.flow_facts.specs.Walked.{IsAdded, IsMade, IsWalked, AreWalked, parts_from, call_from}
 use Rattle.flow_facts.proofs.Composed.{then, then_at}
 
 pub if_ok : {A E : Type 0} {p q : A → Type 0} (r : Result A E) → ((a : A) → p a → q a) → IfOk r p → IfOk r q
