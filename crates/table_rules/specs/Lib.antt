@@ -3,3 +3,4 @@ pub mod Closed
 pub mod Asked
 pub mod Above
 pub mod Gathered
+pub mod Words

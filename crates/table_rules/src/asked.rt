@@ -2,15 +2,9 @@
 //! those that some row has beside it.
 
 ghost use Rattle.std.specs.Prelude.{◌≡◌, ℕ, ◌<◌, ◌&&◌, length, All, Some, IfOk};
-ghost use Rattle.kaba_bits.specs.Sets.{bit, row, IsSubset};
-ghost use Rattle.fact_model.specs.InRange.{InRange};
-ghost use Rattle.fact_model.specs.Entries.{IsEntry, IsDeclaredBy, Hides};
-ghost use Rattle.table_rules.specs.Marks.{Marked, AreEntries, Grow};
 ghost use Rattle.table_rules.specs.Closed.{ColumnFlows};
-ghost use Rattle.fact_model.specs.Items.{column_at, row_this};
-ghost use Rattle.points_to.specs.Above.{IsAboveRow};
-ghost use Rattle.table_rules.specs.Above.{AreAbove};
-ghost use Rattle.table_rules.specs.Asked.{ArePairs, AreAsked, AreHidden, HaveAll, HaveMethods, IsMethod, IsNoted, IsMetAt, IsThisAsked};
+ghost use Rattle.table_rules.specs.Asked.{ArePairs, HaveAll, IsNoted, IsMetAt, IsThisAsked};
+ghost use Rattle.table_rules.specs.Words.{bit, row, IsSubset, InRange, IsEntry, IsDeclaredBy, Hides, Marked, AreEntries, Grow, column_at, row_this, IsAboveRow, AreAbove, AreAsked, AreHidden, HaveMethods, IsMethod};
 
 use crate::above::above_of;
 use crate::columns::{hides, is_declared_by, is_method, slot_of, this_of};

@@ -2,15 +2,12 @@
 //! gain; one turn over what is in the table then shows that nothing was left out.
 
 ghost use Rattle.std.specs.Prelude.{◌≡◌, ℕ, ◌<◌, ◌≤◌, ◌-◌, length, All, Contains, Some, IfOk, IfSome, MatchOption, OnOk};
-ghost use Rattle.std.specs.Bool.{OnTrue, OnFalse};
-ghost use Rattle.kaba_bits.specs.Sets.{bit, row, IsStep, IsNoneFrom};
-ghost use Rattle.fact_model.specs.InRange.{InRange};
+ghost use Rattle.kaba_bits.specs.Sets.{IsNoneFrom};
 ghost use Rattle.fact_model.specs.InOrder.{InOrder, ColumnsStandAbove, BodiesAreOwn};
-ghost use Rattle.fact_model.specs.Flowing.{AreSets, IsInRow};
-ghost use Rattle.fact_model.specs.Entries.{IsRawTable, IsTable, IsEntry};
-ghost use Rattle.table_rules.specs.Marks.{AreEntries, Grow};
+ghost use Rattle.fact_model.specs.Entries.{IsTable};
 ghost use Rattle.table_rules.specs.Closed.{IsTieClosed, IsSiteClosedAt, IsSiteClosed, AreClosed};
-ghost use Rattle.table_rules.specs.Asked.{AreAsked, AreOpen, is_beyond, IsIndex, IsMet, IsRowAsked, IsRowClosed};
+ghost use Rattle.table_rules.specs.Asked.{is_beyond, IsMet, IsRowAsked, IsRowClosed};
+ghost use Rattle.table_rules.specs.Words.{OnTrue, OnFalse, bit, row, IsStep, InRange, AreSets, IsInRow, IsRawTable, IsEntry, AreEntries, Grow, AreAsked, AreOpen, IsIndex};
 
 use crate::asked::{Columns, ask_this, columns_of, meet_at};
 use crate::columns::site_at;

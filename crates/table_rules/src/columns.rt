@@ -1,14 +1,10 @@
 //! Tests of columns, rows and sites.
 
 ghost use Rattle.std.specs.Prelude.{◌≡◌, ℕ, ◌<◌, ◌↔◌, ◌⊎◌, true, length, IsTrue};
-ghost use Rattle.kaba_bits.specs.Sets.{bit, row};
-ghost use Rattle.fact_model.specs.Items.{column_at, column_slot, row_at, row_this, site_at, IsColumn};
+ghost use Rattle.fact_model.specs.Items.{column_slot, row_at, site_at, IsColumn};
 ghost use Rattle.fact_model.specs.Classes.{IsStrictlyBelow};
-ghost use Rattle.fact_model.specs.InRange.{InRange};
-ghost use Rattle.fact_model.specs.Entries.{IsDeclaredBy, Hides};
-ghost use Rattle.points_to.specs.Above.{IsAboveRow};
-ghost use Rattle.table_rules.specs.Asked.{IsMethod};
 ghost use Rattle.fact_model.specs.declared.facts.ColKind.TheVariants.{Dcl, Def, Is};
+ghost use Rattle.table_rules.specs.Words.{bit, row, column_at, row_this, InRange, IsDeclaredBy, Hides, IsAboveRow, IsMethod};
 
 use fact_model::{ColKind, ColumnInfo, Facts, SiteInfo};
 use kaba_base::{ClassId, ColId};

@@ -1,9 +1,9 @@
 //! Lists by column and by row, each made once.
 
 ghost use Rattle.std.specs.Prelude.{◌≡◌, ℕ, ◌<◌, ◌+◌, length, IfOk, OnOk};
-ghost use Rattle.fact_model.specs.InRange.{InRange};
 ghost use Rattle.points_to.specs.Listed.{KeepNumbers};
-ghost use Rattle.table_rules.specs.Asked.{place_of, AreHidden, HaveMethods, IsPlain, IsIndex};
+ghost use Rattle.table_rules.specs.Asked.{place_of, IsPlain};
+ghost use Rattle.table_rules.specs.Words.{InRange, AreHidden, HaveMethods, IsIndex};
 
 use crate::columns::{is_method, slot_of};
 use fact_model::Facts;

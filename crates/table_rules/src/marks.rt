@@ -1,12 +1,8 @@
 //! What adds to a table, where the rules say so.
 
 ghost use Rattle.std.specs.Prelude.{◌≡◌, ℕ, ◌<◌, true, length};
-ghost use Rattle.std.specs.Bool.{OnFalse};
-ghost use Rattle.kaba_bits.specs.Sets.{bit, row, IsSubset, IsStep};
-ghost use Rattle.fact_model.specs.Entries.{IsRawEntry, IsEntry};
-ghost use Rattle.table_rules.specs.Marks.{AreRaw, AreEntries, Grow, Marked};
 ghost use Rattle.table_rules.specs.Closed.{RowFlows};
-ghost use Rattle.table_rules.specs.Asked.{AreAsked};
+ghost use Rattle.table_rules.specs.Words.{OnFalse, bit, row, IsSubset, IsStep, IsRawEntry, IsEntry, AreRaw, AreEntries, Grow, Marked, AreAsked};
 
 use fact_model::Facts;
 use kaba_bits::{BitRow, join, join_with, row_at, set_at};

@@ -1,14 +1,11 @@
 //! The entries of the rules without premises: T1, T2, T3, T4, T7 and T11.
 
 ghost use Rattle.std.specs.Prelude.{◌≡◌, ℕ, ◌<◌, true, length, All, Contains, Some, IfOk};
-ghost use Rattle.kaba_bits.specs.Sets.{bit, row};
 ghost use Rattle.fact_model.specs.Items.{site_class, site_row, IsColumn};
 ghost use Rattle.fact_model.specs.Classes.{finds};
-ghost use Rattle.fact_model.specs.InRange.{InRange};
-ghost use Rattle.fact_model.specs.Flowing.{AreSets};
-ghost use Rattle.fact_model.specs.Entries.{IsRawEntry, IsRawTable};
 ghost use Rattle.points_to.specs.Chains.{AreBodies};
-ghost use Rattle.table_rules.specs.Marks.{AreRaw, Grow, Marked, IsAccessMarked, IsSuperMarked, IsThisMarked, IsNeedMarked, IsCallMarked, IsMarkMarkedAt, IsMarkMarked, IsTestMarked, IsArrayMarked, AreMarked};
+ghost use Rattle.table_rules.specs.Marks.{IsAccessMarked, IsSuperMarked, IsThisMarked, IsNeedMarked, IsCallMarked, IsMarkMarkedAt, IsMarkMarked, IsTestMarked, IsArrayMarked, AreMarked};
+ghost use Rattle.table_rules.specs.Words.{bit, row, InRange, AreSets, IsRawEntry, IsRawTable, AreRaw, Grow, Marked};
 
 use crate::columns::{is_mark, site_at, this_of};
 use crate::marks::mark;

@@ -1,10 +1,8 @@
 //! What rows have, into the rows of the sites of their sets: that of rows with the same set at once.
 
 ghost use Rattle.std.specs.Prelude.{◌≡◌, ◌<◌, length};
-ghost use Rattle.fact_model.specs.InRange.{InRange};
-ghost use Rattle.fact_model.specs.Flowing.{AreSets, IsInRow};
-ghost use Rattle.table_rules.specs.Marks.{AreEntries};
 ghost use Rattle.table_rules.specs.Gathered.{HaveAllSites};
+ghost use Rattle.table_rules.specs.Words.{InRange, AreSets, IsInRow, AreEntries};
 
 use crate::closing::next_site;
 use crate::columns::site_at;

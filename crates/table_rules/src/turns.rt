@@ -1,12 +1,7 @@
 //! The table by a worklist: a row that grew passes on what it has, and a column that is new in a row asks for what it can.
 
 ghost use Rattle.std.specs.Prelude.{◌≡◌, ℕ, ◌<◌, length, OnOk};
-ghost use Rattle.std.specs.Bool.{OnTrue};
-ghost use Rattle.fact_model.specs.InRange.{InRange};
-ghost use Rattle.fact_model.specs.Flowing.{AreSets};
-ghost use Rattle.fact_model.specs.Entries.{IsEntry};
-ghost use Rattle.table_rules.specs.Marks.{AreEntries};
-ghost use Rattle.table_rules.specs.Asked.{AreAsked, AreOpen, IsIndex};
+ghost use Rattle.table_rules.specs.Words.{OnTrue, InRange, AreSets, IsEntry, AreEntries, AreAsked, AreOpen, IsIndex};
 
 use crate::asked::{ask_body, meet_at};
 use crate::closing::{join_tie, next_beyond, next_column};
