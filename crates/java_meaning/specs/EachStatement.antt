@@ -1,6 +1,6 @@
 -- What holds in each statement of a body, and of those in it, where it is said what holds of an expression, a declaration, an assignment and what is returned.
 use Rattle.std.specs.Prelude.{ℕ, Option, Some, None}
-use Rattle.java_core.specs.Trees.{Ex, Target, St, Sts, Arms, declare, block, assign, act, print, choose, loop, return, no_st, st_then, no_other, otherwise, arm}
+use Rattle.java_core.specs.Trees.{Ex, Target, St, Sts, Arms, declare, block, assign, act, print, choose, loop, return, break, continue, no_st, st_then, no_other, otherwise, arm}
 
 -- it holds of an expression, where there is one
 abbrev pub OfOption : (Ex → Type 0) → Option Ex → Type 0
@@ -25,7 +25,8 @@ module _ (A : Asked) where
     InSt (choose t a) = InArms a
     InSt (loop t is_while first test step body) = InSts first × OfOption A.Of test × InSts step × InSts body
     InSt (return t e) = A.Returned e
-    InSt x = Unit {0}
+    InSt (break t) = Unit {0}
+    InSt (continue t) = Unit {0}
 
     pub InSts : Sts → Type 0
     InSts no_st = Unit {0}
