@@ -5,9 +5,7 @@ ghost use Rattle.java_tree.specs.Syntax.{expr_of, stmt_of, stmts, head_of, membe
 ghost use Rattle.java_tree.specs.Formed.{IsFormedTree, IsGiven};
 ghost use Rattle.kaba_work.specs.Sample as sample;
 
-use crate::names::{
-    class_name, extra_name, field_name, id, int_type, method_name, nowhere, word,
-};
+use crate::names::{class_name, extra_name, field_name, id, int_type, method_name, nowhere, word};
 use crate::steps::{add_steps, sum_of};
 use java_tree::{
     Decl, Expr, Head, Id, Member, Modifier, Param, Stmt, Tree, TypeBase, TypeName, build, made,

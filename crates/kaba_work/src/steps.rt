@@ -4,9 +4,7 @@ ghost use Rattle.std.specs.Prelude.{◌≡◌, ◌<◌, ◌++◌, map, IfOk, OnO
 ghost use Rattle.java_tree.specs.Syntax.{expr_of, stmt_of};
 ghost use Rattle.kaba_work.specs.Sample as sample;
 
-use crate::names::{
-    class_name, class_type, extra_name, id, method_name, nowhere, variable_name,
-};
+use crate::names::{class_name, class_type, extra_name, id, method_name, nowhere, variable_name};
 use java_lex::Mark;
 use java_tree::{Expr, Stmt, build, made};
 use kaba_base::put;
