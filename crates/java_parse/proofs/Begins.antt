@@ -10,7 +10,7 @@ use Rattle.java_lex.specs.declared.Mark.TheVariants as marks
 use denote.Enum.Bare.{sameb, same_true}
 use Rattle.java_lex.specs.contracts.Mark.{the_type as mark_type}
 use Rattle.java_tree.specs.Syntax.{Expression}
-use Rattle.java_tree.specs.Tokens.{token, mark, is_sign}
+use Rattle.java_tree.specs.Tokens.{token, mark, is_sign, casts_kind}
 use Rattle.java_tree.specs.Nesting.{next_is}
 use Rattle.java_tree.specs.Expressions.{IsExpr, binary, instance_of, operand, IsPrefixed, signed, least, cast_named, cast_int, cast_char, bare, IsPost, field, call_on, index, name, call, super_call, round, new_object, new_array, int_literal, char_literal, string_literal, true_literal, false_literal, null_literal, this_word}
 use Rattle.java_parse.specs.Front.{after, least_next, sign_next, stepping_next, after_by, least_by, least_kind, closes}
@@ -18,18 +18,9 @@ use Rattle.java_parse.proofs.Fronts.{bool_cases}
 
 -- the tokens that begin an expression without prefix operators
 abbrev pub begins_post : TokenKind → Bool
-begins_post (kinds.Word n) = true
-begins_post (kinds.Int v) = true
-begins_post (kinds.Char c) = true
-begins_post (kinds.Str u) = true
 begins_post (kinds.Mark marks.OpenRound) = true
-begins_post (kinds.Key keys.This) = true
-begins_post (kinds.Key keys.Super) = true
-begins_post (kinds.Key keys.New) = true
-begins_post (kinds.Key keys.True) = true
-begins_post (kinds.Key keys.False) = true
-begins_post (kinds.Key keys.Null) = true
-begins_post _ = false
+begins_post (kinds.Mark m) = false
+begins_post k = casts_kind k
 
 -- and any expression
 abbrev pub begins_mark : Mark → Bool
@@ -44,19 +35,7 @@ pub post_begins : {b : Bool} {ts rest : List Token} {e : Expression} → IsPost 
 post_begins (field d) = post_begins d
 post_begins (call_on d a) = post_begins d
 post_begins (index d i) = post_begins d
-post_begins int_literal = refl
-post_begins char_literal = refl
-post_begins string_literal = refl
-post_begins true_literal = refl
-post_begins false_literal = refl
-post_begins null_literal = refl
-post_begins this_word = refl
-post_begins name = refl
-post_begins (call a) = refl
-post_begins (super_call a) = refl
-post_begins (round d) = refl
-post_begins (new_object a) = refl
-post_begins (new_array b e d) = refl
+post_begins _ = refl
 
 wider_mark : (m : Mark) → begins_post (kinds.Mark m) ≡ true → begins_mark m ≡ true
 wider_mark marks.OpenRound h = refl

@@ -218,18 +218,7 @@ post_no_cast (field d) h = post_no_cast d refl
 post_no_cast (call_on d a) h = post_no_cast d refl
 post_no_cast (index d i) h = post_no_cast d refl
 post_no_cast (round {p = p} {q = q} {ts = ts} {rest = rest} d) h = cast_none p q ts rest (expr_begins d) (λ n r c vs e. alone_expr d e) h
-post_no_cast int_literal h = refl
-post_no_cast char_literal h = refl
-post_no_cast string_literal h = refl
-post_no_cast true_literal h = refl
-post_no_cast false_literal h = refl
-post_no_cast null_literal h = refl
-post_no_cast this_word h = refl
-post_no_cast name h = refl
-post_no_cast (call a) h = refl
-post_no_cast (super_call a) h = refl
-post_no_cast (new_object a) h = refl
-post_no_cast (new_array b e d) h = refl
+post_no_cast _ h = refl
 
 index_here : (z : End) (p : Place) (us : List Token) → is_array z ≡ false → index_next z (mark marks.OpenSquare p ∷ us) ≡ Some (p, us)
 index_here z p us h = rw h refl

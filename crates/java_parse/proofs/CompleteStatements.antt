@@ -184,19 +184,8 @@ post_no_local : {b : Bool} {ts rest : List Token} {e : Expression} → IsPost b 
 post_no_local (field d) h = post_no_local d refl
 post_no_local (call_on d a) h = post_no_local d refl
 post_no_local (index {us = us} d i) h = post_no_local d (no_closes us (expr_begins i))
-post_no_local int_literal h = refl
-post_no_local char_literal h = refl
-post_no_local string_literal h = refl
-post_no_local true_literal h = refl
-post_no_local false_literal h = refl
-post_no_local null_literal h = refl
-post_no_local this_word h = refl
 post_no_local name h = h
-post_no_local (call a) h = refl
-post_no_local (super_call a) h = refl
-post_no_local (round d) h = refl
-post_no_local (new_object a) h = refl
-post_no_local (new_array b e d) h = refl
+post_no_local _ h = refl
 
 target_no_local : {ts rest : List Token} {e : Expression} → IsTarget ts rest e → follows_word rest ≡ false → starts_local ts ≡ false
 target_no_local to_name h = h
@@ -351,15 +340,9 @@ other_no_if : (ts : List Token) → start ts ≡ SOther → after_key keys.If ts
 other_no_if ts h = let z = start_is ts in subst (λ s. Starts s ts) h z
 
 stmt_no_if : {o : Bool} {ts rest : List Token} {s : Statement} → IsStmt o ts rest s → is_choice s ≡ false → after_key keys.If ts ≡ None
-stmt_no_if (block d) h = refl
-stmt_no_if empty h = refl
 stmt_no_if (acting {ts = ts} d) h = other_no_if ts (act_starts d).other
 stmt_no_if (choice d) h = cc
-stmt_no_if (while_loop e d) h = refl
-stmt_no_if (for_loop a b c d) h = refl
-stmt_no_if (return_word v) h = refl
-stmt_no_if break_word h = refl
-stmt_no_if continue_word h = refl
+stmt_no_if _ h = refl
 
 never : {P : Type 0} → false ≡ true → P
 never h = absurd (let g : ⊥ = cc in g)

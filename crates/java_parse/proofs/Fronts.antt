@@ -18,7 +18,7 @@ use Rattle.java_tree.specs.Tokens.{token, mark, key, word, level, is_sign, compo
 use Rattle.java_tree.specs.Expressions.{IsBase, int_base, boolean_base, char_base, named_base, IsPrefixed, cast_named, cast_int, cast_char, IsPost, int_literal, char_literal, string_literal, true_literal, false_literal, null_literal, this_word}
 use Rattle.java_tree.specs.Statements.{IsFinal, not_final, is_final}
 use Rattle.java_parse.specs.declared.End.{End}
-use Rattle.java_parse.specs.Front.{after, after_by, after_key, after_key_by, word_next, word_by, operator, operator_by, instance_next, least_next, least_by, least_kind, sign_next, sign_by, cast_next, may_cast, base_next, base_by, literal_next, literal_by, index_next, is_array, final_of, stepping_next, stepping_by, compound_next, compound_by, operator_of, Start, SBlock, SEmpty, SIf, SWhile, SFor, SReturn, SBreak, SContinue, SOther, start, start_by, modifier_next, modifier_by}
+use Rattle.java_parse.specs.Front.{after, after_by, after_key, after_key_by, word_next, word_by, operator, operator_by, instance_next, least_next, least_by, least_kind, sign_next, sign_by, cast_next, may_cast, base_next, base_by, literal_next, literal_by, index_next, is_array, final_of, stands_next, stands_by, operator_of, Start, SBlock, SEmpty, SIf, SWhile, SFor, SReturn, SBreak, SContinue, SOther, start, start_by, modifier_next, modifier_by}
 use denote.Enum.Bare.{sameb, same_true}
 use Rattle.java_lex.specs.contracts.Mark.{the_type as mark_type}
 use Rattle.kaba_base.specs.contracts.words.Keyword.{the_type as key_type}
@@ -39,11 +39,14 @@ both_true : (a b : Bool) → (a && b) ≡ true → (a ≡ true) × (b ≡ true)
 both_true true b h = (refl, h)
 both_true false b h = cc
 
+-- the token that passes a test is the one that is looked for
+same_kind : {B : Type 0} (f : B → Place → Token) (k m : B) (b : Bool) (p : Place) (ts : List Token) (w : Place × List Token) → (b ≡ true → k ≡ m)
+    → (if b then Some (p, ts) else None) ≡ Some w → f k p ∷ ts ≡ f m w.0 ∷ w.1
+same_kind f k m b p ts w e h = let c = chosen b (p, ts) w h in
+    subst (λ (w : Place × List Token). f k p ∷ ts ≡ f m w.0 ∷ w.1) c.1 (ap (λ m. f m p ∷ ts) (e c.0))
+
 after_kind : (m : Mark) (k : TokenKind) (p : Place) (ts : List Token) (w : Place × List Token) → after_by m k p ts ≡ Some w → token k p ∷ ts ≡ mark m w.0 ∷ w.1
-after_kind m (kinds.Mark k) p ts w h =
-    let c = chosen (sameb mark_type k m) (p, ts) w h in
-    let e : k ≡ m = same_true mark_type tt k m c.0 in
-    subst (λ (w : Place × List Token). mark k p ∷ ts ≡ mark m w.0 ∷ w.1) c.1 (ap (λ m. mark m p ∷ ts) e)
+after_kind m (kinds.Mark k) p ts w h = same_kind mark k m (sameb mark_type k m) p ts w (same_true mark_type tt k m) h
 after_kind m _ p ts w h = cc
 
 pub after_is : (m : Mark) (ts : List Token) (w : Place × List Token) → after m ts ≡ Some w → ts ≡ mark m w.0 ∷ w.1
@@ -52,10 +55,7 @@ after_is m (t ∷ ts) w h = after_kind m t.kind t.place ts w h
 
 after_key_kind : (m : Keyword) (k : TokenKind) (p : Place) (ts : List Token) (w : Place × List Token) → after_key_by m k p ts ≡ Some w
     → token k p ∷ ts ≡ key m w.0 ∷ w.1
-after_key_kind m (kinds.Key k) p ts w h =
-    let c = chosen (sameb key_type k m) (p, ts) w h in
-    let e : k ≡ m = same_true key_type tt k m c.0 in
-    subst (λ (w : Place × List Token). key k p ∷ ts ≡ key m w.0 ∷ w.1) c.1 (ap (λ m. key m p ∷ ts) e)
+after_key_kind m (kinds.Key k) p ts w h = same_kind key k m (sameb key_type k m) p ts w (same_true key_type tt k m) h
 after_key_kind m _ p ts w h = cc
 
 pub after_key_is : (m : Keyword) (ts : List Token) (w : Place × List Token) → after_key m ts ≡ Some w → ts ≡ key m w.0 ∷ w.1
@@ -214,23 +214,15 @@ stepped_by f m p ts None w g h = cc
 stepped_by f m p ts (Some o) w g h = let e : (o, p, ts) ≡ w = cc in subst (λ (w : Mark × Place × List Token). (n : Mark)
     × (mark m p ∷ ts ≡ mark n w.1 ∷ w.2) × (f n ≡ Some w.0)) e (m, refl, g)
 
-stepping_kind : (k : TokenKind) (p : Place) (ts : List Token) (w : Mark × Place × List Token) → stepping_by k p ts ≡ Some w → (n : Mark)
-    × (token k p ∷ ts ≡ mark n w.1 ∷ w.2) × (stepping n ≡ Some w.0)
-stepping_kind (kinds.Mark m) p ts w h = stepped_by stepping m p ts (stepping m) w refl h
-stepping_kind _ p ts w h = cc
+stands_kind : (f : Mark → Option Mark) (k : TokenKind) (p : Place) (ts : List Token) (w : Mark × Place × List Token) → stands_by f k p ts ≡ Some w
+    → (n : Mark) × (token k p ∷ ts ≡ mark n w.1 ∷ w.2) × (f n ≡ Some w.0)
+stands_kind f (kinds.Mark m) p ts w h = stepped_by f m p ts (f m) w refl h
+stands_kind f _ p ts w h = cc
 
-pub stepping_is : (ts : List Token) (w : Mark × Place × List Token) → stepping_next ts ≡ Some w → (n : Mark) × (ts ≡ mark n w.1 ∷ w.2) × (stepping n ≡ Some w.0)
-stepping_is [] w h = cc
-stepping_is (t ∷ ts) w h = stepping_kind t.kind t.place ts w h
-
-compound_kind : (k : TokenKind) (p : Place) (ts : List Token) (w : Mark × Place × List Token) → compound_by k p ts ≡ Some w → (n : Mark)
-    × (token k p ∷ ts ≡ mark n w.1 ∷ w.2) × (compound n ≡ Some w.0)
-compound_kind (kinds.Mark m) p ts w h = stepped_by compound m p ts (compound m) w refl h
-compound_kind _ p ts w h = cc
-
-pub compound_is : (ts : List Token) (w : Mark × Place × List Token) → compound_next ts ≡ Some w → (n : Mark) × (ts ≡ mark n w.1 ∷ w.2) × (compound n ≡ Some w.0)
-compound_is [] w h = cc
-compound_is (t ∷ ts) w h = compound_kind t.kind t.place ts w h
+pub stands_is : (f : Mark → Option Mark) (ts : List Token) (w : Mark × Place × List Token) → stands_next f ts ≡ Some w
+    → (n : Mark) × (ts ≡ mark n w.1 ∷ w.2) × (f n ≡ Some w.0)
+stands_is f [] w h = cc
+stands_is f (t ∷ ts) w h = stands_kind f t.kind t.place ts w h
 
 modifier_kind : (k : TokenKind) (p : Place) (ts : List Token) (w : Modifier × List Token) → modifier_by k p ts ≡ Some w
     → (token k p ∷ ts ≡ key w.0.word w.0.place ∷ w.1) × (is_modifier w.0.word ≡ true)

@@ -13,7 +13,7 @@ use Rattle.java_parse.specs.Want.{NInit, NLocal, NValue, NAct, NActRest, NTested
 use Rattle.java_parse.specs.Front.{after, after_key, word_next, stmt_snoc, arm_snoc, stepping_next, compound_next, named, is_target, is_call, stepped, done, starts_local, Start, start}
 use Rattle.java_tree.specs.Expressions.{IsExpr}
 use Rattle.java_tree.specs.Statements.{is_choice, printed, no_value, a_value, no_init, an_init, a_local, IsTarget, to_name, IsCall, IsAct, assign, assign_by, step_after, step_before, do_call, print, do_new, no_first, first_local, first_act, no_step, a_step, local_item, stmt_item, IsItems, no_items, next_item, IsStmt, block, empty, acting, choice, while_loop, for_loop, return_word, break_word, continue_word, IsArms, last_arm, else_arm, more_arms}
-use Rattle.java_parse.proofs.Fronts.{option_cases, bool_cases, after_is, after_key_is, word_is, final_is, stepping_is, compound_is, start_cases, Starts, start_is}
+use Rattle.java_parse.proofs.Fronts.{option_cases, bool_cases, after_is, after_key_is, word_is, final_is, stands_is, start_cases, Starts, start_is}
 use Rattle.java_parse.proofs.Post.{Ended, by_name, by_target, by_call, by_new, by_array, by_other, stmt_append, arm_append, Tested, Itemed, Stmted, Headed, Branched, Post}
 use Rattle.java_parse.proofs.Runs.{Good}
 use Rattle.java_parse.specs.ReadStatements.{init_step, local_step, value_step, act_step, act_rest_step, tested_step, item_step, items_step, stmt_step, for_head_step, first_step, step_step, branches_step}
@@ -123,23 +123,12 @@ shut {o = true} c d = let n = c refl in cc
 
 act_no_choice : {ts rest : List Token} {s : Statement} → IsAct ts rest s → is_choice s ≡ false
 act_no_choice (assign t e) = refl
-act_no_choice (assign_by h e) = refl
-act_no_choice (step_after h) = refl
-act_no_choice (step_before h) = refl
-act_no_choice (do_call c h) = refl
-act_no_choice (print c h) = refl
-act_no_choice (do_new a) = refl
+act_no_choice _ = refl
 
 no_choice : {o : Bool} {ts rest : List Token} {s : Statement} → IsStmt o ts rest s → after_key keys.If ts ≡ None → is_choice s ≡ false
-no_choice (block d) h = refl
-no_choice empty h = refl
 no_choice (acting d) h = act_no_choice d
 no_choice (choice d) h = cc
-no_choice (while_loop e d) h = refl
-no_choice (for_loop a b c d) h = refl
-no_choice (return_word d) h = refl
-no_choice break_word h = refl
-no_choice continue_word h = refl
+no_choice _ h = refl
 
 end_good : {ts us vs : List Token} {e : Expression} {s : Statement} (a : Arms) → after_key keys.Else vs ≡ None → Tested ts e us → Stmted us s vs
     → Branched a ts (arm_snoc a e (as_body s)) no_else vs
@@ -201,7 +190,7 @@ value_good ts = option_cases (after marks.Semi ts)
 pub act_good : (ts : List Token) → Good Post (act_step ts) (Post NAct ts)
 act_good ts = option_cases (stepping_next ts)
     (λ n0. rw (n0, act_step) (λ v1 r1 d1. (λ v r d. d d1)))
-    (λ w0 y0. let e0 = stepping_is ts w0 y0 in rw (y0, act_step) (option_cases (word_next w0.2)
+    (λ w0 y0. let e0 = stands_is stepping ts w0 y0 in rw (y0, act_step) (option_cases (word_next w0.2)
     (λ n1. rw n1 tt)
     (λ w1 y1. let e1 = word_is w0.2 w1 y1 in rw y1 (before_act e0 e1))))
 
@@ -212,10 +201,10 @@ act_rest_good ss e z ts = option_cases (after marks.Assign ts)
     (λ n2. rw n2 (bool_cases (is_call z)
     (λ y3. rw y3 (λ h. call_act h y3))
     (λ y3. rw y3 tt)))
-    (λ w2 y2. let e2 = stepping_is ts w2 y2 in rw y2 (option_cases (named z e)
+    (λ w2 y2. let e2 = stands_is stepping ts w2 y2 in rw y2 (option_cases (named z e)
     (λ n3. rw n3 tt)
     (λ w3 y3. rw y3 (λ h. after_act e2 y3 h))))))
-    (λ w1 y1. let e1 = compound_is ts w1 y1 in rw y1 (option_cases (named z e)
+    (λ w1 y1. let e1 = stands_is compound ts w1 y1 in rw y1 (option_cases (named z e)
     (λ n2. rw n2 tt)
     (λ w2 y2. rw y2 (λ v3 r3 d3. (λ h. compound_act e1 y2 h d3)))))))
     (λ w0 y0. let e0 = after_is marks.Assign ts w0 y0 in rw (y0, act_rest_step) (bool_cases (is_target z)

@@ -158,23 +158,22 @@ abbrev pub operator_of : Option Mark → Place → List Token → Option (Mark �
 operator_of None p ts = None
 operator_of (Some o) p ts = Some (o, p, ts)
 
-abbrev pub stepping_by : TokenKind → Place → List Token → Option (Mark × Place × List Token)
-stepping_by (kinds.Mark m) p ts = operator_of (stepping m) p ts
-stepping_by _ p ts = None
+abbrev pub stands_by : (Mark → Option Mark) → TokenKind → Place → List Token → Option (Mark × Place × List Token)
+stands_by f (kinds.Mark m) p ts = operator_of (f m) p ts
+stands_by f _ p ts = None
+
+-- the operator that the mark at the front stands for, its place and the rest
+abbrev pub stands_next : (Mark → Option Mark) → List Token → Option (Mark × Place × List Token)
+stands_next f [] = None
+stands_next f (t ∷ ts) = stands_by f t.kind t.place ts
 
 -- `++` or `--`
 abbrev pub stepping_next : List Token → Option (Mark × Place × List Token)
-stepping_next [] = None
-stepping_next (t ∷ ts) = stepping_by t.kind t.place ts
-
-abbrev pub compound_by : TokenKind → Place → List Token → Option (Mark × Place × List Token)
-compound_by (kinds.Mark m) p ts = operator_of (compound m) p ts
-compound_by _ p ts = None
+stepping_next = stands_next stepping
 
 -- a compound assignment
 abbrev pub compound_next : List Token → Option (Mark × Place × List Token)
-compound_next [] = None
-compound_next (t ∷ ts) = compound_by t.kind t.place ts
+compound_next = stands_next compound
 
 -- the name that an expression is, where it has no round brackets
 abbrev pub named : End → Expression → Option (List ℕ × Place)

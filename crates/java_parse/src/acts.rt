@@ -13,9 +13,10 @@ ghost use Rattle.java_tree.specs.Tokens.{first_place};
 ghost use Rattle.java_parse.specs.Front.{done, stepped, is_target, is_call};
 
 use crate::End;
+use crate::parts::name_of;
 use java_lex::{Mark, Token, TokenKind};
 use java_tree::build::binary;
-use java_tree::{Expr, Stmt, is_output, is_text};
+use java_tree::{Expr, Stmt, is_output, is_text, made};
 use kaba_base::{Name, Place};
 use std::alloc::{AllocError, Global};
 use std::mem::drop;
@@ -51,21 +52,9 @@ pub fn compound_assignment(
 ) -> Result<Stmt, AllocError>
     ensures value { IfOk result (λ s. stmt_of s ≡ AssignOf (NameRef found.now place) (BinaryOf operator (NameRef found.now place) (expr_of value) at) at) }
 {
-    let left = match found.copy(alloc) {
-        Ok(name) => Expr::Name { name, place },
-        Err(short) => {
-            drop(value);
-            return Err(short);
-        }
-    };
+    let left = made!(name_of(alloc, found, place); value);
     let value = binary(alloc, operator, left, value, at)?;
-    let target = match found.copy(alloc) {
-        Ok(name) => Expr::Name { name, place },
-        Err(short) => {
-            drop(value);
-            return Err(short);
-        }
-    };
+    let target = made!(name_of(alloc, found, place); value);
     Ok(Stmt::Assign {
         target,
         value,

@@ -22,7 +22,7 @@ use crate::expr::type_at;
 use crate::front::{final_at, key_at, mark_at, modifier_at, word_at};
 use crate::stmt::items;
 use java_lex::{Mark, Token};
-use java_tree::{Decl, Head, Id, Member, Modifier, Param, Stmt, TypeName};
+use java_tree::{Decl, Head, Id, Member, Modifier, Param, Stmt, TypeName, made};
 use kaba_base::{Keyword, Name, Place};
 use std::alloc::Global;
 use std::mem::drop;
@@ -51,9 +51,7 @@ fn names(alloc: Global, tokens: &[Token]) -> Result<(Vec<Id>, &[Token]), Stop<'_
     let mut all = Vec::new(alloc);
     let mut rest = tokens;
     'more: loop {
-        let Some((found, place, behind)) = word_at(rest) else {
-            return Err(Stop::At(rest));
-        };
+        found!((found, place, behind) = word_at(rest), rest);
         let name = found.copy(alloc)?;
         all.push(Id { name, place })?;
         let Some((_, after)) = mark_at(Mark::Comma, behind) else {
@@ -71,9 +69,7 @@ fn parent(alloc: Global, tokens: &[Token]) -> Result<(Option<Id>, &[Token]), Sto
     let Some((_, inner)) = key_at(Keyword::Extends, tokens) else {
         return Ok((None, tokens));
     };
-    let Some((found, place, rest)) = word_at(inner) else {
-        return Err(Stop::At(inner));
-    };
+    found!((found, place, rest) = word_at(inner), inner);
     let name = found.copy(alloc)?;
     Ok((Some(Id { name, place }), rest))
 }
@@ -96,14 +92,8 @@ fn param(alloc: Global, tokens: &[Token]) -> Result<(Param, &[Token]), Stop<'_>>
 {
     let (is_final, rest) = final_at(tokens);
     let (ty, rest) = type_at(alloc, rest)?;
-    let Some((found, place, behind)) = word_at(rest) else {
-        drop(ty);
-        return Err(Stop::At(rest));
-    };
-    let Ok(name) = found.copy(alloc) else {
-        drop(ty);
-        return Err(Stop::Memory);
-    };
+    found!((found, place, behind) = word_at(rest), rest; ty);
+    copied!(name = found.copy(alloc); ty);
     Ok((
         Param {
             is_final,
@@ -121,22 +111,7 @@ fn params(alloc: Global, tokens: &[Token]) -> Result<(Vec<Param>, &[Token]), Sto
     ensures reads { Reads NParams tokens.now (seen (λ (v : Vec Param Global). v.items) result) }
     ensures shorter { IfOk result (λ x. length x.1.now < length tokens.now) }
 {
-    if let Some((_, rest)) = mark_at(Mark::CloseRound, tokens) {
-        return Ok((Vec::new(alloc), rest));
-    }
-    let mut all = Vec::new(alloc);
-    let mut rest = tokens;
-    'more: loop {
-        let (next, behind) = param(alloc, rest)?;
-        all.push(next)?;
-        if let Some((_, end)) = mark_at(Mark::CloseRound, behind) {
-            return Ok((all, end));
-        }
-        let Some((_, after)) = mark_at(Mark::Comma, behind) else {
-            return Err(Stop::At(behind));
-        };
-        rest = after;
-    }
+    in_round!(alloc, tokens, param)
 }
 
 // The type of a method's result; `void` is none.
@@ -148,8 +123,7 @@ fn result_type(alloc: Global, tokens: &[Token]) -> Result<(Option<TypeName>, &[T
     if let Some((_, rest)) = key_at(Keyword::Void, tokens) {
         return Ok((None, rest));
     }
-    let (ty, rest) = type_at(alloc, tokens)?;
-    Ok((Some(ty), rest))
+    some!(type_at(alloc, tokens))
 }
 
 // A method up to its body.
@@ -160,25 +134,10 @@ fn head(alloc: Global, tokens: &[Token]) -> Result<(Head, &[Token]), Stop<'_>>
 {
     let (mods, rest) = modifiers(alloc, tokens)?;
     let (ty, rest) = result_type(alloc, rest)?;
-    let Some((found, place, behind)) = word_at(rest) else {
-        drop(ty);
-        return Err(Stop::At(rest));
-    };
-    let Some((_, inner)) = mark_at(Mark::OpenRound, behind) else {
-        drop(ty);
-        return Err(Stop::At(behind));
-    };
-    let (params, rest) = match params(alloc, inner) {
-        Ok(read) => read,
-        Err(stop) => {
-            drop(ty);
-            return Err(stop);
-        }
-    };
-    let Ok(name) = found.copy(alloc) else {
-        drop(ty);
-        return Err(Stop::Memory);
-    };
+    found!((found, place, behind) = word_at(rest), rest; ty);
+    found!((_, inner) = mark_at(Mark::OpenRound, behind), behind; ty);
+    let (params, rest) = made!(params(alloc, inner); ty);
+    copied!(name = found.copy(alloc); ty);
     Ok((
         Head {
             mods,
@@ -200,11 +159,8 @@ fn body(alloc: Global, tokens: &[Token]) -> Result<(Option<Vec<Stmt>>, &[Token])
     if let Some((_, rest)) = mark_at(Mark::Semi, tokens) {
         return Ok((None, rest));
     }
-    let Some((_, inner)) = mark_at(Mark::OpenBrace, tokens) else {
-        return Err(Stop::At(tokens));
-    };
-    let (all, rest) = items(alloc, inner)?;
-    Ok((Some(all), rest))
+    found!((_, inner) = mark_at(Mark::OpenBrace, tokens), tokens);
+    some!(items(alloc, inner))
 }
 
 fn member(alloc: Global, tokens: &[Token]) -> Result<(Member, &[Token]), Stop<'_>>
@@ -214,24 +170,15 @@ fn member(alloc: Global, tokens: &[Token]) -> Result<(Member, &[Token]), Stop<'_
 {
     let (mods, rest) = modifiers(alloc, tokens)?;
     let (ty, rest) = result_type(alloc, rest)?;
-    let Some((found, place, behind)) = word_at(rest) else {
-        drop(ty);
-        return Err(Stop::At(rest));
-    };
-    let Ok(name) = found.copy(alloc) else {
-        drop(ty);
-        return Err(Stop::Memory);
-    };
+    found!((found, place, behind) = word_at(rest), rest; ty);
+    copied!(name = found.copy(alloc); ty);
     if let Some((_, inner)) = mark_at(Mark::OpenRound, behind) {
         return method(alloc, mods, ty, name, place, inner);
     }
     let Some(ty) = ty else {
         return Err(Stop::At(behind));
     };
-    let Some((_, end)) = mark_at(Mark::Semi, behind) else {
-        drop(ty);
-        return Err(Stop::At(behind));
-    };
+    found!((_, end) = mark_at(Mark::Semi, behind), behind; ty);
     Ok((
         Member::Field {
             mods,
@@ -256,20 +203,8 @@ fn method(
     ensures reads { Reads (NMethod mods.items ty name place) tokens.now (seen member_of result) }
     ensures shorter { IfOk result (λ x. length x.1.now < length tokens.now) }
 {
-    let (params, rest) = match params(alloc, tokens) {
-        Ok(read) => read,
-        Err(stop) => {
-            drop(ty);
-            return Err(stop);
-        }
-    };
-    let (body, rest) = match body(alloc, rest) {
-        Ok(read) => read,
-        Err(stop) => {
-            drop(ty);
-            return Err(stop);
-        }
-    };
+    let (params, rest) = made!(params(alloc, tokens); ty);
+    let (body, rest) = made!(body(alloc, rest); ty);
     let head = Head {
         mods,
         result: ty,
@@ -286,16 +221,7 @@ fn all_members(alloc: Global, tokens: &[Token]) -> Result<(Vec<Member>, &[Token]
     ensures reads { Reads (NMembers []) tokens.now (seen (λ (v : Vec Member Global). members v.items) result) }
     ensures shorter { IfOk result (λ x. length x.1.now < length tokens.now) }
 {
-    let mut all = Vec::new(alloc);
-    let mut rest = tokens;
-    'more: loop {
-        if let Some((_, end)) = mark_at(Mark::CloseBrace, rest) {
-            return Ok((all, end));
-        }
-        let (next, after) = member(alloc, rest)?;
-        all.push(next)?;
-        rest = after;
-    }
+    in_braces!(alloc, tokens, member)
 }
 
 // The heads behind an opening brace, and what follows the closing one.
@@ -311,10 +237,7 @@ fn all_heads(alloc: Global, tokens: &[Token]) -> Result<(Vec<Head>, &[Token]), S
             return Ok((all, end));
         }
         let (next, behind) = head(alloc, rest)?;
-        let Some((_, after)) = mark_at(Mark::Semi, behind) else {
-            drop(next);
-            return Err(Stop::At(behind));
-        };
+        found!((_, after) = mark_at(Mark::Semi, behind), behind; next);
         all.push(next)?;
         rest = after;
     }
@@ -326,29 +249,12 @@ fn class(alloc: Global, mods: Vec<Modifier>, tokens: &[Token]) -> Result<(Decl, 
     ensures reads { Reads (NClass mods.items) tokens.now (seen decl_of result) }
     ensures shorter { IfOk result (λ x. length x.1.now < length tokens.now) }
 {
-    let Some((found, place, behind)) = word_at(tokens) else {
-        return Err(Stop::At(tokens));
-    };
+    found!((found, place, behind) = word_at(tokens), tokens);
     let name = found.copy(alloc)?;
     let (parent, rest) = parent(alloc, behind)?;
-    let (faces, rest) = match listed(alloc, Keyword::Implements, rest) {
-        Ok(read) => read,
-        Err(stop) => {
-            drop(parent);
-            return Err(stop);
-        }
-    };
-    let Some((_, inner)) = mark_at(Mark::OpenBrace, rest) else {
-        drop(parent);
-        return Err(Stop::At(rest));
-    };
-    let (members, rest) = match all_members(alloc, inner) {
-        Ok(read) => read,
-        Err(stop) => {
-            drop(parent);
-            return Err(stop);
-        }
-    };
+    let (faces, rest) = made!(listed(alloc, Keyword::Implements, rest); parent);
+    found!((_, inner) = mark_at(Mark::OpenBrace, rest), rest; parent);
+    let (members, rest) = made!(all_members(alloc, inner); parent);
     Ok((
         Decl::Class {
             mods,
@@ -372,14 +278,10 @@ fn interface(
     ensures reads { Reads (NInterface mods.items) tokens.now (seen decl_of result) }
     ensures shorter { IfOk result (λ x. length x.1.now < length tokens.now) }
 {
-    let Some((found, place, behind)) = word_at(tokens) else {
-        return Err(Stop::At(tokens));
-    };
+    found!((found, place, behind) = word_at(tokens), tokens);
     let name = found.copy(alloc)?;
     let (parents, rest) = listed(alloc, Keyword::Extends, behind)?;
-    let Some((_, inner)) = mark_at(Mark::OpenBrace, rest) else {
-        return Err(Stop::At(rest));
-    };
+    found!((_, inner) = mark_at(Mark::OpenBrace, rest), rest);
     let (heads, rest) = all_heads(alloc, inner)?;
     Ok((
         Decl::Interface {
@@ -402,9 +304,7 @@ fn decl(alloc: Global, tokens: &[Token]) -> Result<(Decl, &[Token]), Stop<'_>>
     if let Some((_, inner)) = key_at(Keyword::Class, rest) {
         return class(alloc, mods, inner);
     }
-    let Some((_, inner)) = key_at(Keyword::Interface, rest) else {
-        return Err(Stop::At(rest));
-    };
+    found!((_, inner) = key_at(Keyword::Interface, rest), rest);
     interface(alloc, mods, inner)
 }
 

@@ -22,7 +22,7 @@ use crate::parts::{
 use crate::{End, Stop};
 use java_lex::{Mark, Token};
 use java_tree::build::{binary, index, unary};
-use java_tree::{Expr, TypeName, level_of};
+use java_tree::{Expr, TypeName, level_of, made};
 use kaba_base::{Keyword, Place};
 use std::alloc::Global;
 use std::mem::drop;
@@ -38,9 +38,7 @@ fn dims(first: u32, tokens: &[Token]) -> Result<(u32, &[Token]), Stop<'_>>
     let Some((_, inner)) = mark_at(Mark::OpenSquare, tokens) else {
         return Ok((first, tokens));
     };
-    let Some((_, rest)) = mark_at(Mark::CloseSquare, inner) else {
-        return Err(Stop::At(inner));
-    };
+    found!((_, rest) = mark_at(Mark::CloseSquare, inner), inner);
     dims(first + 1, rest)
 }
 
@@ -50,9 +48,7 @@ pub fn type_at(alloc: Global, tokens: &[Token]) -> Result<(TypeName, &[Token]), 
     ensures reads { Reads NType tokens.now (seen (λ (t : TypeName). t) result) }
     ensures shorter { IfOk result (λ x. length x.1.now < length tokens.now) }
 {
-    let Some((base, place, rest)) = base_at(tokens) else {
-        return Err(Stop::At(tokens));
-    };
+    found!((base, place, rest) = base_at(tokens), tokens);
     let (dim, rest) = dims(0, rest)?;
     let base = base_of(alloc, base)?;
     Ok((TypeName { base, dim, place }, rest))
@@ -99,10 +95,7 @@ fn more(
     let Some((place, rest)) = instance_at(at_least, at_most, tokens) else {
         return Ok((left, tokens));
     };
-    let Some((found, at, rest)) = word_at(rest) else {
-        drop(left);
-        return Err(Stop::At(rest));
-    };
+    found!((found, at, rest) = word_at(rest), rest; left);
     let whole = instance_of_named(alloc, left, found, at, place)?;
     more(alloc, at_least, 7, whole, rest)
 }
@@ -168,18 +161,13 @@ fn atom(alloc: Global, tokens: &[Token]) -> Result<((Expr, End), &[Token]), Stop
     }
     if let Some((_, inner)) = mark_at(Mark::OpenRound, tokens) {
         let (whole, behind) = expr(alloc, 1, inner)?;
-        let Some((_, rest)) = mark_at(Mark::CloseRound, behind) else {
-            drop(whole);
-            return Err(Stop::At(behind));
-        };
+        found!((_, rest) = mark_at(Mark::CloseRound, behind), behind; whole);
         return Ok(((whole, End::Other), rest));
     }
     if let Some((place, rest)) = key_at(Keyword::New, tokens) {
         return created(alloc, place, rest);
     }
-    let Some((_, rest)) = key_at(Keyword::Super, tokens) else {
-        return Err(Stop::At(tokens));
-    };
+    found!((_, rest) = key_at(Keyword::Super, tokens), tokens);
     above(alloc, rest)
 }
 
@@ -190,15 +178,9 @@ fn above(alloc: Global, tokens: &[Token]) -> Result<((Expr, End), &[Token]), Sto
     ensures reads { Reads NSuper tokens.now (seen seen_post result) }
     ensures shorter { IfOk result (λ x. length x.1.now < length tokens.now) }
 {
-    let Some((_, dotted)) = mark_at(Mark::Dot, tokens) else {
-        return Err(Stop::At(tokens));
-    };
-    let Some((found, place, behind)) = word_at(dotted) else {
-        return Err(Stop::At(dotted));
-    };
-    let Some((_, inner)) = mark_at(Mark::OpenRound, behind) else {
-        return Err(Stop::At(behind));
-    };
+    found!((_, dotted) = mark_at(Mark::Dot, tokens), tokens);
+    found!((found, place, behind) = word_at(dotted), dotted);
+    found!((_, inner) = mark_at(Mark::OpenRound, behind), behind);
     let (args, rest) = args(alloc, inner)?;
     let whole = super_call_of(alloc, found, args, place)?;
     Ok(((whole, End::Call), rest))
@@ -216,9 +198,7 @@ fn created(
     ensures shorter { IfOk result (λ x. length x.1.now < length tokens.now) }
 {
     let Some((found, at, behind)) = word_at(tokens) else {
-        let Some((base, at, rest)) = base_at(tokens) else {
-            return Err(Stop::At(tokens));
-        };
+        found!((base, at, rest) = base_at(tokens), tokens);
         return sized(alloc, place, base, at, rest);
     };
     let Some((_, inner)) = mark_at(Mark::OpenRound, behind) else {
@@ -242,21 +222,10 @@ fn sized<'a>(
     ensures reads { Reads (NSized place (base_seen base.entry) at) tokens.now (seen seen_post result) }
     ensures shorter { IfOk result (λ x. length x.1.now < length tokens.now) }
 {
-    let Some((_, inner)) = mark_at(Mark::OpenSquare, tokens) else {
-        return Err(Stop::At(tokens));
-    };
+    found!((_, inner) = mark_at(Mark::OpenSquare, tokens), tokens);
     let (size, behind) = expr(alloc, 1, inner)?;
-    let Some((_, rest)) = mark_at(Mark::CloseSquare, behind) else {
-        drop(size);
-        return Err(Stop::At(behind));
-    };
-    let (dim, rest) = match dims(1, rest) {
-        Ok(read) => read,
-        Err(stop) => {
-            drop(size);
-            return Err(stop);
-        }
-    };
+    found!((_, rest) = mark_at(Mark::CloseSquare, behind), behind; size);
+    let (dim, rest) = made!(dims(1, rest); size);
     let whole = new_array_of(alloc, base, at, dim, size, place)?;
     Ok(((whole, End::Array), rest))
 }
@@ -274,39 +243,20 @@ fn tail(
     ensures shorter { IfOk result (λ x. length x.1.now ≤ length tokens.now) }
 {
     if let Some((_, dotted)) = mark_at(Mark::Dot, tokens) {
-        let Some((found, place, behind)) = word_at(dotted) else {
-            drop(base);
-            return Err(Stop::At(dotted));
-        };
+        found!((found, place, behind) = word_at(dotted), dotted; base);
         let Some((_, inner)) = mark_at(Mark::OpenRound, behind) else {
             let whole = field_of(alloc, base, found, place)?;
             return tail(alloc, whole, End::Target, behind);
         };
-        let (args, rest) = match args(alloc, inner) {
-            Ok(read) => read,
-            Err(stop) => {
-                drop(base);
-                return Err(stop);
-            }
-        };
+        let (args, rest) = made!(args(alloc, inner); base);
         let whole = call_on_of(alloc, base, found, args, place)?;
         return tail(alloc, whole, End::Call, rest);
     }
     let Some((place, inner)) = index_at(end, tokens) else {
         return Ok(((base, end), tokens));
     };
-    let (at, behind) = match expr(alloc, 1, inner) {
-        Ok(read) => read,
-        Err(stop) => {
-            drop(base);
-            return Err(stop);
-        }
-    };
-    let Some((_, rest)) = mark_at(Mark::CloseSquare, behind) else {
-        drop(base);
-        drop(at);
-        return Err(Stop::At(behind));
-    };
+    let (at, behind) = made!(expr(alloc, 1, inner); base);
+    found!((_, rest) = mark_at(Mark::CloseSquare, behind), behind; base, at);
     let whole = index(alloc, base, at, place)?;
     tail(alloc, whole, End::Target, rest)
 }
@@ -318,20 +268,5 @@ pub fn args(alloc: Global, tokens: &[Token]) -> Result<(Vec<Expr>, &[Token]), St
     ensures reads { Reads NArgs tokens.now (seen (λ (v : Vec Expr Global). exprs v.items) result) }
     ensures shorter { IfOk result (λ x. length x.1.now < length tokens.now) }
 {
-    if let Some((_, rest)) = mark_at(Mark::CloseRound, tokens) {
-        return Ok((Vec::new(alloc), rest));
-    }
-    let mut all = Vec::new(alloc);
-    let mut rest = tokens;
-    'more: loop {
-        let (next, behind) = expr(alloc, 1, rest)?;
-        all.push(next)?;
-        if let Some((_, end)) = mark_at(Mark::CloseRound, behind) {
-            return Ok((all, end));
-        }
-        let Some((_, after)) = mark_at(Mark::Comma, behind) else {
-            return Err(Stop::At(behind));
-        };
-        rest = after;
-    }
+    in_round!(alloc, tokens, expr, 1)
 }

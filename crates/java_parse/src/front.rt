@@ -16,19 +16,26 @@ use java_lex::{Mark, Token, TokenKind};
 use java_tree::{Modifier, level_of};
 use kaba_base::{Keyword, Name, Place};
 
+/// The place of the first token and what follows it, where that is the same mark or keyword.
+macro_rules! same_at {
+    ($tokens:ident, $kind:path, $same:ident) => {{
+        if let [first, rest @ ..] = $tokens {
+            if let $kind(found) = first.kind {
+                if found == $same {
+                    return Some((first.place, rest));
+                }
+            }
+        }
+        None
+    }};
+}
+
 /// The place of the mark and what follows it, if it is at the front.
 pub fn mark_at(mark: Mark, tokens: &[Token]) -> Option<(Place, &[Token])>
     ensures value { option_map seen_at result ≡ after mark tokens.now }
     ensures shorter { IfSome result (λ x. length x.1.now < length tokens.now) }
 {
-    if let [first, rest @ ..] = tokens {
-        if let TokenKind::Mark(found) = first.kind {
-            if found == mark {
-                return Some((first.place, rest));
-            }
-        }
-    }
-    None
+    same_at!(tokens, TokenKind::Mark, mark)
 }
 
 /// The place of the keyword and what follows it, if it is at the front.
@@ -36,14 +43,7 @@ pub fn key_at(key: Keyword, tokens: &[Token]) -> Option<(Place, &[Token])>
     ensures value { option_map seen_at result ≡ after_key key tokens.now }
     ensures shorter { IfSome result (λ x. length x.1.now < length tokens.now) }
 {
-    if let [first, rest @ ..] = tokens {
-        if let TokenKind::Key(found) = first.kind {
-            if found == key {
-                return Some((first.place, rest));
-            }
-        }
-    }
-    None
+    same_at!(tokens, TokenKind::Key, key)
 }
 
 /// The word at the front.

@@ -1,6 +1,70 @@
 //! The parser: from tokens to the tree that the grammar gives them.
 #![tactic(auto)]
 
+/// Names what is found at the front of these tokens; where it is not there, what is held is let go, and the function stops at them.
+macro_rules! found {
+    ($found:pat = $front:expr, $tokens:ident $(; $($held:ident),+)?) => {
+        let Some($found) = $front else {
+            $($(drop($held);)+)?
+            return Err(Stop::At($tokens));
+        };
+    };
+}
+
+/// Names the copy; where memory is short, what is held is let go, and the function stops.
+macro_rules! copied {
+    ($name:ident = $copy:expr; $($held:ident),+) => {
+        let Ok($name) = $copy else {
+            $(drop($held);)+
+            return Err(Stop::Memory);
+        };
+    };
+}
+
+/// Reads a part that may be left out.
+macro_rules! some {
+    ($read:expr) => {{
+        let (read, rest) = $read?;
+        Ok((Some(read), rest))
+    }};
+}
+
+/// Reads parts up to a closing brace, with what follows that.
+macro_rules! in_braces {
+    ($alloc:ident, $tokens:ident, $read:ident) => {{
+        let mut all = Vec::new($alloc);
+        let mut rest = $tokens;
+        'more: loop {
+            if let Some((_, end)) = mark_at(Mark::CloseBrace, rest) {
+                return Ok((all, end));
+            }
+            let (next, after) = $read($alloc, rest)?;
+            all.push(next)?;
+            rest = after;
+        }
+    }};
+}
+
+/// Reads parts with commas between them up to a closing round bracket, which may come at once, with what follows that.
+macro_rules! in_round {
+    ($alloc:ident, $tokens:ident, $read:ident $(, $with:expr)*) => {{
+        if let Some((_, rest)) = mark_at(Mark::CloseRound, $tokens) {
+            return Ok((Vec::new($alloc), rest));
+        }
+        let mut all = Vec::new($alloc);
+        let mut rest = $tokens;
+        'more: loop {
+            let (next, behind) = $read($alloc, $($with,)* rest)?;
+            all.push(next)?;
+            if let Some((_, end)) = mark_at(Mark::CloseRound, behind) {
+                return Ok((all, end));
+            }
+            found!((_, after) = mark_at(Mark::Comma, behind), behind);
+            rest = after;
+        }
+    }};
+}
+
 ghost use Rattle.std.specs.Prelude.{◌<◌, ◌≤◌, ◌*◌, ℕ, List, length, IfOk, IfErr, IsErrAnd};
 ghost use Rattle.java_tree.specs.Syntax.{DeclTree, tree_of};
 ghost use Rattle.java_tree.specs.Size.{tree_size};
@@ -66,7 +130,7 @@ impl<'a, T: Drop> From<AllocFailed<T>> for Stop<'a> {
 }
 
 /// Why a list of tokens has no tree.
-#[derive(Clone, Copy, Debug, Error)]
+#[derive(Clone, Copy, Debug, PartialEq, Eq, Error)]
 pub enum ParseFault {
     /// The tokens are no program of the grammar. The number is one from 0 to their count.
     #[error("not a program")]

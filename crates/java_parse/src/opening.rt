@@ -13,6 +13,20 @@ use java_lex::{Mark, Token, TokenKind};
 use java_tree::Expr;
 use kaba_base::{Keyword, Name, Place};
 
+/// The operator that the first token has, with its place and what follows it.
+macro_rules! operator_at {
+    ($tokens:ident, $operator_of:ident) => {{
+        if let [first, rest @ ..] = $tokens {
+            if let TokenKind::Mark(mark) = first.kind {
+                if let Some(operator) = $operator_of(mark) {
+                    return Some((operator, first.place, rest));
+                }
+            }
+        }
+        None
+    }};
+}
+
 // The operator of `++` and `--`.
 fn stepping_of(mark: Mark) -> Option<Mark>
     ensures value { result ≡ stepping mark }
@@ -29,14 +43,7 @@ pub fn stepping_at(tokens: &[Token]) -> Option<(Mark, Place, &[Token])>
     ensures value { option_map seen_two result ≡ stepping_next tokens.now }
     ensures shorter { IfSome result (λ x. length x.2.now < length tokens.now) }
 {
-    if let [first, rest @ ..] = tokens {
-        if let TokenKind::Mark(mark) = first.kind {
-            if let Some(operator) = stepping_of(mark) {
-                return Some((operator, first.place, rest));
-            }
-        }
-    }
-    None
+    operator_at!(tokens, stepping_of)
 }
 
 // The operator of a compound assignment.
@@ -58,14 +65,7 @@ pub fn compound_at(tokens: &[Token]) -> Option<(Mark, Place, &[Token])>
     ensures value { option_map seen_two result ≡ compound_next tokens.now }
     ensures shorter { IfSome result (λ x. length x.2.now < length tokens.now) }
 {
-    if let [first, rest @ ..] = tokens {
-        if let TokenKind::Mark(mark) = first.kind {
-            if let Some(operator) = compound_of(mark) {
-                return Some((operator, first.place, rest));
-            }
-        }
-    }
-    None
+    operator_at!(tokens, compound_of)
 }
 
 /// The name that an expression is, where it has no round brackets.

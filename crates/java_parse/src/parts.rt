@@ -11,7 +11,7 @@ use java_tree::build::{
     call, call_on, cast, field, for_loop, instance_of, new_array, new_object, super_call,
     while_loop,
 };
-use java_tree::{Arm, Expr, Id, Stmt, TypeBase, TypeName};
+use java_tree::{Arm, Expr, Id, Stmt, TypeBase, TypeName, made};
 use kaba_base::{Name, Place};
 use std::alloc::{AllocError, Global};
 use std::mem::drop;
@@ -88,13 +88,8 @@ pub fn name_of(alloc: Global, found: &Name, place: Place) -> Result<Expr, AllocE
 pub fn field_of(alloc: Global, base: Expr, found: &Name, place: Place) -> Result<Expr, AllocError>
     ensures value { IfOk result (λ e. expr_of e ≡ FieldOf (expr_of base) found.now place) }
 {
-    match found.copy(alloc) {
-        Ok(name) => field(alloc, base, name, place),
-        Err(short) => {
-            drop(base);
-            Err(short)
-        }
-    }
+    let name = made!(found.copy(alloc); base);
+    field(alloc, base, name, place)
 }
 
 /// A call without a base. `AllocError` where memory is short.
@@ -106,13 +101,8 @@ pub fn call_of(
 ) -> Result<Expr, AllocError>
     ensures value { IfOk result (λ e. expr_of e ≡ CallOf found.now (exprs args.items) place) }
 {
-    match found.copy(alloc) {
-        Ok(name) => Ok(call(name, args, place)),
-        Err(short) => {
-            drop(args);
-            Err(short)
-        }
-    }
+    let name = made!(found.copy(alloc); args);
+    Ok(call(name, args, place))
 }
 
 /// A call with a base. `AllocError` where memory is short.
@@ -125,14 +115,8 @@ pub fn call_on_of(
 ) -> Result<Expr, AllocError>
     ensures value { IfOk result (λ e. expr_of e ≡ CallOn (expr_of base) found.now (exprs args.items) place) }
 {
-    match found.copy(alloc) {
-        Ok(name) => call_on(alloc, base, name, args, place),
-        Err(short) => {
-            drop(base);
-            drop(args);
-            Err(short)
-        }
-    }
+    let name = made!(found.copy(alloc); base, args);
+    call_on(alloc, base, name, args, place)
 }
 
 /// A call of a method above. `AllocError` where memory is short.
@@ -144,13 +128,8 @@ pub fn super_call_of(
 ) -> Result<Expr, AllocError>
     ensures value { IfOk result (λ e. expr_of e ≡ SuperCallOf found.now (exprs args.items) place) }
 {
-    match found.copy(alloc) {
-        Ok(name) => Ok(super_call(name, args, place)),
-        Err(short) => {
-            drop(args);
-            Err(short)
-        }
-    }
+    let name = made!(found.copy(alloc); args);
+    Ok(super_call(name, args, place))
 }
 
 /// A new object of the class of this name, which stands `at` there. `AllocError` where memory is short.
@@ -163,13 +142,8 @@ pub fn new_object_of(
 ) -> Result<Expr, AllocError>
     ensures value { IfOk result (λ e. expr_of e ≡ NewOf (record { name = found.now; place = at }) (exprs args.items) place) }
 {
-    match found.copy(alloc) {
-        Ok(name) => Ok(new_object(Id { name, place: at }, args, place)),
-        Err(short) => {
-            drop(args);
-            Err(short)
-        }
-    }
+    let name = made!(found.copy(alloc); args);
+    Ok(new_object(Id { name, place: at }, args, place))
 }
 
 /// A new array, whose type stands `at` there. `AllocError` where memory is short.
@@ -183,20 +157,13 @@ pub fn new_array_of(
 ) -> Result<Expr, AllocError>
     ensures value { IfOk result (λ e. expr_of e ≡ NewArrayOf (record { base = base_seen base.entry; dim = dim; place = at }) (expr_of size) place) }
 {
-    match base_of(alloc, base) {
-        Ok(base) => {
-            let ty = TypeName {
-                base,
-                dim,
-                place: at,
-            };
-            new_array(alloc, ty, size, place)
-        }
-        Err(short) => {
-            drop(size);
-            Err(short)
-        }
-    }
+    let base = made!(base_of(alloc, base); size);
+    let ty = TypeName {
+        base,
+        dim,
+        place: at,
+    };
+    new_array(alloc, ty, size, place)
 }
 
 /// A cast to the type that stands `at` there. `AllocError` where memory is short.
@@ -209,20 +176,13 @@ pub fn cast_of(
 ) -> Result<Expr, AllocError>
     ensures value { IfOk result (λ e. expr_of e ≡ CastOf (record { base = base_seen base.entry; dim = 0; place = at }) (expr_of value) place) }
 {
-    match base_of(alloc, base) {
-        Ok(base) => {
-            let ty = TypeName {
-                base,
-                dim: 0,
-                place: at,
-            };
-            cast(alloc, ty, value, place)
-        }
-        Err(short) => {
-            drop(value);
-            Err(short)
-        }
-    }
+    let base = made!(base_of(alloc, base); value);
+    let ty = TypeName {
+        base,
+        dim: 0,
+        place: at,
+    };
+    cast(alloc, ty, value, place)
 }
 
 /// A test for the class of this name, which stands `at` there. `AllocError` where memory is short.
@@ -235,13 +195,8 @@ pub fn instance_of_named(
 ) -> Result<Expr, AllocError>
     ensures value { IfOk result (λ e. expr_of e ≡ InstanceOfClass (expr_of value) (record { name = found.now; place = at }) place) }
 {
-    match found.copy(alloc) {
-        Ok(name) => instance_of(alloc, value, Id { name, place: at }, place),
-        Err(short) => {
-            drop(value);
-            Err(short)
-        }
-    }
+    let name = made!(found.copy(alloc); value);
+    instance_of(alloc, value, Id { name, place: at }, place)
 }
 
 /// The list of a block; another statement is a list of one. `AllocError` where memory is short.
@@ -262,26 +217,16 @@ pub fn body_of(alloc: Global, stmt: Stmt) -> Result<Vec<Stmt>, AllocError>
 pub fn while_of(alloc: Global, test: Expr, stmt: Stmt, place: Place) -> Result<Stmt, AllocError>
     ensures value { IfOk result (λ s. stmt_of s ≡ WhileOf (expr_of test) (as_body (stmt_of stmt)) place) }
 {
-    match body_of(alloc, stmt) {
-        Ok(body) => Ok(while_loop(test, body, place)),
-        Err(short) => {
-            drop(test);
-            Err(short)
-        }
-    }
+    let body = made!(body_of(alloc, stmt); test);
+    Ok(while_loop(test, body, place))
 }
 
 /// A `for` with this statement. `AllocError` where memory is short.
 pub fn for_of(alloc: Global, head: ForHead, stmt: Stmt, place: Place) -> Result<Stmt, AllocError>
     ensures value { IfOk result (λ s. stmt_of s ≡ ForOf (step_seen head.first) (value_of head.test) (step_seen head.step) (as_body (stmt_of stmt)) place) }
 {
-    match body_of(alloc, stmt) {
-        Ok(body) => for_loop(alloc, head.first, head.test, head.step, body, place),
-        Err(short) => {
-            drop(head);
-            Err(short)
-        }
-    }
+    let body = made!(body_of(alloc, stmt); head);
+    for_loop(alloc, head.first, head.test, head.step, body, place)
 }
 
 /// An arm of an `if` with this statement. `AllocError` where memory is short.
@@ -289,11 +234,6 @@ pub fn arm_of(alloc: Global, test: Expr, stmt: Stmt) -> Result<Arm, AllocError>
     ensures test { IfOk result (λ a. expr_of a.test ≡ expr_of test) }
     ensures body { IfOk result (λ a. stmts a.body.items ≡ as_body (stmt_of stmt)) }
 {
-    match body_of(alloc, stmt) {
-        Ok(body) => Ok(Arm { test, body }),
-        Err(short) => {
-            drop(test);
-            Err(short)
-        }
-    }
+    let body = made!(body_of(alloc, stmt); test);
+    Ok(Arm { test, body })
 }

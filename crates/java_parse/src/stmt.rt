@@ -21,7 +21,7 @@ use crate::parts::{ForHead, arm_of, body_of, for_of, while_of};
 use crate::{End, Stop};
 use java_lex::{Mark, Token};
 use java_tree::build::{block, choice};
-use java_tree::{Arm, Expr, Stmt};
+use java_tree::{Arm, Expr, Stmt, made};
 use kaba_base::Keyword;
 use std::alloc::Global;
 use std::mem::drop;
@@ -49,8 +49,7 @@ fn init(alloc: Global, tokens: &[Token]) -> Result<(Option<Expr>, &[Token]), Sto
     let Some((_, inner)) = mark_at(Mark::Assign, tokens) else {
         return Ok((None, tokens));
     };
-    let (value, rest) = expr(alloc, 1, inner)?;
-    Ok((Some(value), rest))
+    some!(expr(alloc, 1, inner))
 }
 
 // The declaration of a local, without its semicolon.
@@ -61,10 +60,7 @@ fn local(alloc: Global, tokens: &[Token]) -> Result<(Stmt, &[Token]), Stop<'_>>
 {
     let (is_final, rest) = final_at(tokens);
     let (ty, rest) = type_at(alloc, rest)?;
-    let Some((found, place, behind)) = word_at(rest) else {
-        drop(ty);
-        return Err(Stop::At(rest));
-    };
+    found!((found, place, behind) = word_at(rest), rest; ty);
     let (value, rest) = match init(alloc, behind) {
         Ok(read) => read,
         Err(stop) => {
@@ -98,8 +94,7 @@ fn value(alloc: Global, tokens: &[Token]) -> Result<(Option<Expr>, &[Token]), St
     if let Some(_) = mark_at(Mark::Semi, tokens) {
         return Ok((None, tokens));
     }
-    let (value, rest) = expr(alloc, 1, tokens)?;
-    Ok((Some(value), rest))
+    some!(expr(alloc, 1, tokens))
 }
 
 // What may stand before a semicolon, or steps a `for`.
@@ -109,9 +104,7 @@ fn act(alloc: Global, tokens: &[Token]) -> Result<(Stmt, &[Token]), Stop<'_>>
     ensures shorter { IfOk result (λ x. length x.1.now < length tokens.now) }
 {
     if let Some((operator, at, inner)) = stepping_at(tokens) {
-        let Some((found, place, rest)) = word_at(inner) else {
-            return Err(Stop::At(inner));
-        };
+        found!((found, place, rest) = word_at(inner), inner);
         let whole = steps_of(alloc, operator, found, place, at)?;
         return Ok((whole, rest));
     }
@@ -136,13 +129,7 @@ fn act_rest<'a>(
             drop(first);
             return Err(Stop::At(tokens));
         }
-        let (value, rest) = match expr(alloc, 1, inner) {
-            Ok(read) => read,
-            Err(stop) => {
-                drop(first);
-                return Err(stop);
-            }
-        };
+        let (value, rest) = made!(expr(alloc, 1, inner); first);
         return Ok((
             Stmt::Assign {
                 target: first,
@@ -153,27 +140,15 @@ fn act_rest<'a>(
         ));
     }
     if let Some((operator, at, inner)) = compound_at(tokens) {
-        let Some((found, place)) = named_by(end, &first) else {
-            drop(first);
-            return Err(Stop::At(tokens));
-        };
-        let (value, rest) = match expr(alloc, 1, inner) {
-            Ok(read) => read,
-            Err(stop) => {
-                drop(first);
-                return Err(stop);
-            }
-        };
+        found!((found, place) = named_by(end, &first), tokens; first);
+        let (value, rest) = made!(expr(alloc, 1, inner); first);
         let made = compound_assignment(alloc, operator, found, place, value, at);
         drop(first);
         let whole = made?;
         return Ok((whole, rest));
     }
     if let Some((operator, at, rest)) = stepping_at(tokens) {
-        let Some((found, place)) = named_by(end, &first) else {
-            drop(first);
-            return Err(Stop::At(tokens));
-        };
+        found!((found, place) = named_by(end, &first), tokens; first);
         let made = steps_of(alloc, operator, found, place, at);
         drop(first);
         let whole = made?;
@@ -192,14 +167,9 @@ fn tested(alloc: Global, tokens: &[Token]) -> Result<(Expr, &[Token]), Stop<'_>>
     ensures reads { Reads NTested tokens.now (seen expr_of result) }
     ensures shorter { IfOk result (λ x. length x.1.now < length tokens.now) }
 {
-    let Some((_, inner)) = mark_at(Mark::OpenRound, tokens) else {
-        return Err(Stop::At(tokens));
-    };
+    found!((_, inner) = mark_at(Mark::OpenRound, tokens), tokens);
     let (test, behind) = expr(alloc, 1, inner)?;
-    let Some((_, rest)) = mark_at(Mark::CloseRound, behind) else {
-        drop(test);
-        return Err(Stop::At(behind));
-    };
+    found!((_, rest) = mark_at(Mark::CloseRound, behind), behind; test);
     Ok((test, rest))
 }
 
@@ -213,11 +183,9 @@ fn first_step(alloc: Global, tokens: &[Token]) -> Result<(Option<Stmt>, &[Token]
         return Ok((None, tokens));
     }
     if begins_local(tokens) {
-        let (whole, rest) = local(alloc, tokens)?;
-        return Ok((Some(whole), rest));
+        return some!(local(alloc, tokens));
     }
-    let (whole, rest) = act(alloc, tokens)?;
-    Ok((Some(whole), rest))
+    some!(act(alloc, tokens))
 }
 
 // What a `for` goes on with, if no closing bracket is next.
@@ -229,8 +197,7 @@ fn next_step(alloc: Global, tokens: &[Token]) -> Result<(Option<Stmt>, &[Token])
     if let Some(_) = mark_at(Mark::CloseRound, tokens) {
         return Ok((None, tokens));
     }
-    let (whole, rest) = act(alloc, tokens)?;
-    Ok((Some(whole), rest))
+    some!(act(alloc, tokens))
 }
 
 // What stands in the round brackets of a `for`.
@@ -239,40 +206,13 @@ fn for_head(alloc: Global, tokens: &[Token]) -> Result<(ForHead, &[Token]), Stop
     ensures reads { Reads NForHead tokens.now (seen seen_steps result) }
     ensures shorter { IfOk result (λ x. length x.1.now < length tokens.now) }
 {
-    let Some((_, inner)) = mark_at(Mark::OpenRound, tokens) else {
-        return Err(Stop::At(tokens));
-    };
+    found!((_, inner) = mark_at(Mark::OpenRound, tokens), tokens);
     let (first, rest) = first_step(alloc, inner)?;
-    let Some((_, middle)) = mark_at(Mark::Semi, rest) else {
-        drop(first);
-        return Err(Stop::At(rest));
-    };
-    let (test, rest) = match value(alloc, middle) {
-        Ok(read) => read,
-        Err(stop) => {
-            drop(first);
-            return Err(stop);
-        }
-    };
-    let Some((_, last)) = mark_at(Mark::Semi, rest) else {
-        drop(first);
-        drop(test);
-        return Err(Stop::At(rest));
-    };
-    let (step, rest) = match next_step(alloc, last) {
-        Ok(read) => read,
-        Err(stop) => {
-            drop(first);
-            drop(test);
-            return Err(stop);
-        }
-    };
-    let Some((_, end)) = mark_at(Mark::CloseRound, rest) else {
-        drop(first);
-        drop(test);
-        drop(step);
-        return Err(Stop::At(rest));
-    };
+    found!((_, middle) = mark_at(Mark::Semi, rest), rest; first);
+    let (test, rest) = made!(value(alloc, middle); first);
+    found!((_, last) = mark_at(Mark::Semi, rest), rest; first, test);
+    let (step, rest) = made!(next_step(alloc, last); first, test);
+    found!((_, end) = mark_at(Mark::CloseRound, rest), rest; first, test, step);
     Ok((ForHead { first, test, step }, end))
 }
 
@@ -296,16 +236,7 @@ pub fn items(alloc: Global, tokens: &[Token]) -> Result<(Vec<Stmt>, &[Token]), S
     ensures reads { Reads (NItems no_statements) tokens.now (seen (λ (v : Vec Stmt Global). stmts v.items) result) }
     ensures shorter { IfOk result (λ x. length x.1.now < length tokens.now) }
 {
-    let mut all = Vec::new(alloc);
-    let mut rest = tokens;
-    'more: loop {
-        if let Some((_, end)) = mark_at(Mark::CloseBrace, rest) {
-            return Ok((all, end));
-        }
-        let (next, after) = item(alloc, rest)?;
-        all.push(next)?;
-        rest = after;
-    }
+    in_braces!(alloc, tokens, item)
 }
 
 #[cycle(stmts)]
@@ -326,25 +257,13 @@ fn stmt(alloc: Global, tokens: &[Token]) -> Result<(Stmt, &[Token]), Stop<'_>>
         }
         Begin::While(place, inner) => {
             let (test, behind) = tested(alloc, inner)?;
-            let (body, rest) = match stmt(alloc, behind) {
-                Ok(read) => read,
-                Err(stop) => {
-                    drop(test);
-                    return Err(stop);
-                }
-            };
+            let (body, rest) = made!(stmt(alloc, behind); test);
             let whole = while_of(alloc, test, body, place)?;
             Ok((whole, rest))
         }
         Begin::For(place, inner) => {
             let (head, behind) = for_head(alloc, inner)?;
-            let (body, rest) = match stmt(alloc, behind) {
-                Ok(read) => read,
-                Err(stop) => {
-                    drop(head);
-                    return Err(stop);
-                }
-            };
+            let (body, rest) = made!(stmt(alloc, behind); head);
             let whole = for_of(alloc, head, body, place)?;
             Ok((whole, rest))
         }

@@ -12,26 +12,18 @@ returns-in-Some-clause-none c = λ h _. (goes_deep _ _ c.in-Some.k c.as_slice-al
 pub returns-in-Some-clause-accepted : goal.returns-in-Some-clause-accepted
 returns-in-Some-clause-accepted c = λ h _ _. (goes_deep _ _ c.in-Some.k c.as_slice-all.ensures.value (rw c.in-Some.is at c.in-Ok.ensures.deep)).not_nested h
 
-pub returns-in-Ok-all_decls-clause-found : goal.returns-in-Ok-all_decls-clause-found
-returns-in-Ok-all_decls-clause-found c =
-    (accepted _ _ _ _ c.as_slice-all.ensures.value c.in-Ok-all_decls.ensures.reads (c.in-Ok.ensures.shallow c.in_default-deep.is)).placed
-
-pub returns-in-Ok-all_decls-clause-nested : goal.returns-in-Ok-all_decls-clause-nested
-returns-in-Ok-all_decls-clause-nested c =
-    (accepted _ _ _ _ c.as_slice-all.ensures.value c.in-Ok-all_decls.ensures.reads (c.in-Ok.ensures.shallow c.in_default-deep.is)).nested
-
-pub returns-in-Ok-all_decls-clause-small : goal.returns-in-Ok-all_decls-clause-small
-returns-in-Ok-all_decls-clause-small c =
-    (accepted _ _ _ _ c.as_slice-all.ensures.value c.in-Ok-all_decls.ensures.reads (c.in-Ok.ensures.shallow c.in_default-deep.is)).small
-
-pub returns-in-Ok-all_decls-clause-deep : goal.returns-in-Ok-all_decls-clause-deep
-returns-in-Ok-all_decls-clause-deep c =
-    (accepted _ _ _ _ c.as_slice-all.ensures.value c.in-Ok-all_decls.ensures.reads (c.in-Ok.ensures.shallow c.in_default-deep.is)).not_deep
-
-pub returns-in-Ok-all_decls-clause-none : goal.returns-in-Ok-all_decls-clause-none
-returns-in-Ok-all_decls-clause-none c =
-    λ _ no. no _ (accepted _ _ _ _ c.as_slice-all.ensures.value c.in-Ok-all_decls.ensures.reads
-    (c.in-Ok.ensures.shallow c.in_default-deep.is)).derives
+pub returns-in-Ok-all_decls : goal.returns-in-Ok-all_decls
+returns-in-Ok-all_decls c =
+    let a = accepted _ _ _ _ c.as_slice-all.ensures.value c.in-Ok-all_decls.ensures.reads (c.in-Ok.ensures.shallow c.in_default-deep.is) in
+    record {
+      found = a.placed;
+      nested = a.nested;
+      small = a.small;
+      refused = tt;
+      deep = a.not_deep;
+      none = λ _ no. no _ a.derives;
+      accepted = λ _ _ _. tt;
+    }
 
 pub returns-in-Err-At-clause-refused : goal.returns-in-Err-At-clause-refused
 returns-in-Err-At-clause-refused c =
