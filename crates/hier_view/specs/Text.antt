@@ -10,6 +10,7 @@ use Rattle.fact_model.specs.declared.facts.Facts.{Facts}
 use Rattle.fact_model.specs.declared.facts.ClassInfo.{ClassInfo}
 use Rattle.fact_model.specs.declared.facts.ColKind.{ColKind}
 use Rattle.fact_model.specs.declared.facts.ColKind.TheVariants.{Fld, Dcl, Def, Is}
+use Rattle.lattice_view.specs.Lists.{part_text}
 use Rattle.hier_model.specs.Hierarchies.{Hierarchy, stands_at, place_of_row, type_name, member_name, origin_of, any_below, is_class_node}
 
 -- the numbers below n that pass a test, in rising order
@@ -41,15 +42,6 @@ columns_at F H n = those_below (length F.columns.items) (stands_at H n)
 
 abbrev pub rows_at : Facts → Hierarchy → ℕ → List ℕ
 rows_at F H n = those_below (length F.rows.items) (λ r. place_of_row H r == n)
-
--- numbers, each with a mark before it; an empty list is a dash
-abbrev pub marks_text : List ℕ → List ℕ → List ℕ
-marks_text mark [] = codes " -"
-marks_text mark (n ∷ ns) = flat_map (λ m. codes " " ++ (mark ++ decimal m)) (n ∷ ns)
-
--- such a list after its name
-abbrev pub part_text : List ℕ → List ℕ → List ℕ → List ℕ
-part_text name mark ns = name ++ marks_text mark ns
 
 -- the name of a member after a colon; the mark of a tested type has none
 abbrev pub is_mark : ColKind → Bool

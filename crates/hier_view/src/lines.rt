@@ -5,12 +5,13 @@ ghost use Rattle.std.specs.Str.{encode_utf8_all};
 ghost use Rattle.kaba_order.specs.Orders.{is_live};
 ghost use Rattle.fact_model.specs.InRange.{InRange, IsClass};
 ghost use Rattle.hier_model.specs.Hierarchies.{IsHierarchyOf};
-ghost use Rattle.hier_view.specs.Text.{is_mark, kind_text, origin_text, head_text, marks_text, part_text, column_part, columns_text, node_lines, node_line, hierarchy_text};
+ghost use Rattle.hier_view.specs.Text.{is_mark, kind_text, origin_text, head_text, column_part, columns_text, node_lines, node_line, hierarchy_text};
 
 use crate::lists::{columns_at, covers, live_nodes, rows_at};
 use fact_model::{ColKind, Facts, class_at};
 use hier_model::Hier;
 use kaba_base::{ClassId, ColId, NodeId};
+use lattice_view::add_part;
 use std::alloc::{AllocError, Global};
 
 /// Appends the count of the live nodes, and for each a line: its number, whether it is a class or an
@@ -120,29 +121,6 @@ fn origin_text(facts: &Facts, origin: Option<ClassId>) -> &str
         None => "-",
         Some(class) => class_at(facts, class).name.as_str(),
     }
-}
-
-/// Adds numbers after their name.
-fn add_part(text: &mut String, name: &str, mark: &str, numbers: &[u32]) -> Result<(), AllocError>
-    ensures { OnOk result (string_bytes text.new ≡ string_bytes text.old ++ part_text name.now mark.now numbers.now) }
-{
-    text.push_str(name)?;
-    add_marks(text, mark, numbers)?;
-    Ok(())
-}
-
-/// Adds numbers, each with a mark before it.
-fn add_marks(text: &mut String, mark: &str, numbers: &[u32]) -> Result<(), AllocError>
-    ensures { OnOk result (string_bytes text.new ≡ string_bytes text.old ++ marks_text mark.now numbers.now) }
-{
-    if numbers.is_empty() {
-        text.push_str(" -")?;
-        return Ok(());
-    }
-    for number in numbers {
-        write!(text, " {mark}{number}")?;
-    }
-    Ok(())
 }
 
 /// Adds columns after their name, each with the name of its member.

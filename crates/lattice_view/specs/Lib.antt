@@ -1,3 +1,4 @@
 pub mod Text
 pub mod Json
 pub mod Table
+pub mod Lists

@@ -1,19 +1,10 @@
 -- The text of a lattice.
 use Rattle.std.specs.Prelude.{ℕ, ◌+◌, List, [], ◌∷◌, ◌++◌, length, map, codes}
-use Rattle.std.specs.List.{flat_map}
 use Rattle.std.specs.Fmt.{decimal}
 use Rattle.kaba_bits.specs.Sets.{size}
 use Rattle.fact_model.specs.declared.sets.Concept.{Concept}
 use Rattle.fact_model.specs.declared.sets.Lattice.{Lattice}
-
--- a list of numbers, each with a mark before it; an empty one is a dash
-abbrev pub list_text : List ℕ → List ℕ → List ℕ
-list_text mark [] = codes " -"
-list_text mark (n ∷ ns) = flat_map (λ m. codes " " ++ (mark ++ decimal m)) (n ∷ ns)
-
--- such a list after its name
-abbrev pub part_text : List ℕ → List ℕ → List ℕ → List ℕ
-part_text name mark ns = name ++ list_text mark ns
+use Rattle.lattice_view.specs.Lists.{part_text}
 
 -- the line of a concept: its number, the sizes of extent and intent, the columns and rows that stand there, and its upper covers
 abbrev pub concept_text : ℕ → Concept → List ℕ

@@ -1,8 +1,9 @@
 //! The lines.
 
 ghost use Rattle.std.specs.Prelude.{◌≡◌, ◌++◌, map, IfOk, OnOk, OnErr, string_bytes};
-ghost use Rattle.lattice_view.specs.Text.{list_text, part_text, concept_text, concepts_text, lattice_text};
+ghost use Rattle.lattice_view.specs.Text.{concept_text, concepts_text, lattice_text};
 
+use crate::lists::add_part;
 use fact_model::{Concept, Lattice};
 use kaba_base::{ColId, RowId};
 use std::alloc::{AllocError, Global};
@@ -73,27 +74,4 @@ pub fn row_numbers(alloc: Global, rows: &[RowId]) -> Result<Vec<u32>, AllocError
     ensures { IfOk result (λ v. v.items ≡ map (λ r. r.0) rows.now) }
 {
     rows.iter().map(|r| r.0).collect(alloc)
-}
-
-/// Adds a list after its name.
-fn add_part(text: &mut String, name: &str, mark: &str, numbers: &[u32]) -> Result<(), AllocError>
-    ensures { OnOk result (string_bytes text.new ≡ string_bytes text.old ++ part_text name.now mark.now numbers.now) }
-{
-    text.push_str(name)?;
-    add_list(text, mark, numbers)?;
-    Ok(())
-}
-
-/// Adds a list of numbers, each with a mark before it.
-fn add_list(text: &mut String, mark: &str, numbers: &[u32]) -> Result<(), AllocError>
-    ensures { OnOk result (string_bytes text.new ≡ string_bytes text.old ++ list_text mark.now numbers.now) }
-{
-    if numbers.is_empty() {
-        text.push_str(" -")?;
-        return Ok(());
-    }
-    for number in numbers {
-        write!(text, " {mark}{number}")?;
-    }
-    Ok(())
 }
