@@ -2,9 +2,8 @@
 #![tactic(auto)]
 
 ghost use Rattle.std.specs.Prelude.{◌≡◌, ◌≤◌, ◌++◌, [], IfOk, length};
-ghost use Rattle.kaba_top.specs.Words.{at_place, no_place, program_of, IsTable, AreSets, IsHierarchyOf, AreProgramFacts, HasText, Gives, line, most_bytes, AnalysisAnswers, edit_status, IsTask};
+ghost use Rattle.kaba_top.specs.Words.{MeetsEdit, at_place, no_place, program_of, IsTable, AreSets, IsHierarchyOf, AreProgramFacts, HasText, Gives, line, most_bytes, AnalysisAnswers, edit_status, IsTask};
 ghost use Rattle.fact_model.specs.declared.sets.Table.{Table};
-ghost use Rattle.hier_rules.specs.First.{MeetsEdit};
 ghost use Rattle.tree_view.specs.Lines.{log_text, no_tree_text};
 ghost use Rattle.kaba_top.specs.RegenAnswers.{RegenOf};
 ghost use Rattle.kaba_top.specs.Answers.{RegenAnswers};
