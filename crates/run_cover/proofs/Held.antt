@@ -10,7 +10,7 @@ use Rattle.java_core.specs.declared.TyBase.TheVariants.{Int, Boolean, Char, Str,
 use Rattle.java_core.specs.declared.Fault.{Fault}
 use Rattle.java_core.specs.declared.Fault.TheVariants as fault
 use Rattle.java_core.specs.Types.{element_in}
-use Rattle.java_meaning.specs.Moment.{Value, Number, Truth, CodeUnit, Nothing, Text, Object, Kind, an_object, an_array, Cell, own_class, State, End, Ended, Faulted, Going, Wrong, Escaped, Outcome, stop, step, step_of, with_some, or_fault, with_result, on_bool}
+use Rattle.java_meaning.specs.Moment.{Value, Number, Truth, CodeUnit, Nothing, Text, Object, Kind, an_object, an_array, Cell, own_class, State, End, Faulted, Going, Wrong, Escaped, Outcome, stop, step, step_of, with_some, or_fault, with_result, on_bool}
 use Rattle.java_meaning.specs.Values.{default_in, widened, convert, and_argument, arguments}
 use Rattle.java_meaning.specs.Meaning.{on_test, with_cell, element_type, texts}
 use Rattle.run_cover.specs.Families.{Set, Sub, ArePlain}
@@ -20,10 +20,7 @@ use Rattle.java_meaning.proofs.Sound.{get_add, fault_has, result_has}
 
 abbrev pub Stays : End → Type 0
 Stays Escaped = ⊥
-Stays Ended = Unit {0}
-Stays (Faulted x) = Unit {0}
-Stays Going = Unit {0}
-Stays Wrong = Unit {0}
+Stays _ = Unit {0}
 
 pub of_sub : (h : List Cell) (v : Value) (X Y : Set) → Sub X Y → Of h v X → Of h v Y
 of_sub h (Object a) X Y s r = record { cell = r.cell; there = r.there; member = s r.cell.site r.member }
