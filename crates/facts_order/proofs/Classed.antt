@@ -8,7 +8,7 @@ use Rattle.std.proofs.lemmas.List.Elements.{Contains-append_left}
 use Rattle.java_core.specs.Trees.{Ex, this, local, static_field, own_field, field, index, call, static_call, super_call, create, create_array, cast}
 use Rattle.java_core.specs.Programs.{Plain, PlainMethod}
 use Rattle.java_core.specs.Classes.{super_method, slot_of_method}
-use Rattle.java_core.specs.Types.{Env, env_of, types_of, element_of, static}
+use Rattle.java_core.specs.Types.{env_of, types_of, element_of, static}
 use Rattle.java_core.specs.Typing.{IsTyped, Typed, t_index}
 use Rattle.java_core.specs.Formed.{IsFormed}
 use Rattle.java_core.specs.Untagged.{bare}
@@ -28,6 +28,7 @@ use Rattle.flow_rules.specs.Facts.{IsFactsOf}
 use Rattle.flow_rules.proofs.TypeLemmas.{types_are}
 use Rattle.run_cover.proofs.Untagging.{unlabel}
 use Rattle.flow_rules.proofs.Listed.{first}
+use Rattle.run_cover.proofs.Walked.{walked}
 use Rattle.facts_order.proofs.Pairs.{IsPlaced}
 use Rattle.facts_order.proofs.Rows.{own_of, row_types}
 use Rattle.facts_order.proofs.Sites.{own_typed}
@@ -37,14 +38,9 @@ use Rattle.facts_order.proofs.Operands.{field_type, return_type, result_type, su
 
 module _ (P Q : Plain) (placed : IsPlaced P Q) (formed : IsFormed P) (typed : IsTyped P) (F : Facts) (facts : IsFactsOf P Q F) (m : ℕ)
     (k : PlainMethod) (stands : slice_get Q.methods m ≡ Some k) where
-  abbrev type : Ex → Option ObjectType
-  type = type_in P m k
-
-  abbrev plain : PlainMethod
-  plain = (placed.methods m k stands).plain
-
-  abbrev g : Env
-  g = env_of m plain
+  open walked P m k use {type}
+  open placed.methods m k stands use {plain}
+  open walked P m plain use {env as g}
 
   -- a type, whose class is that of the row's type, which has as many brackets or more
   pub record Classed (x : Row) (t : Option ObjectType) : Type 0 where

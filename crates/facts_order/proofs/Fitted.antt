@@ -9,7 +9,7 @@ use Rattle.java_core.specs.declared.Ty.{Ty}
 use Rattle.java_core.specs.Trees.{Tag, Ex, Exs, no_ex, ex_then, this, local, static_field, own_field, field, index, call, static_call, super_call, create, create_array, cast, instance_of, binary, Target, to_local, to_static, to_own, to_field, to_element, no_target, declare, assign, return}
 use Rattle.java_core.specs.Programs.{Plain, PlainMethod}
 use Rattle.java_core.specs.Classes.{IsSubclass, super_method, has_body, slot_of}
-use Rattle.java_core.specs.Types.{Static, a_value, or_nothing, Env, env_of, types_of, class_of, class_type, fits_in, field_in, field_type, Signature, call_signature, super_signature, signature_of_method, static, target_type}
+use Rattle.java_core.specs.Types.{Static, a_value, or_nothing, types_of, class_of, class_type, fits_in, field_in, field_type, Signature, call_signature, super_signature, signature_of_method, static, target_type}
 use Rattle.java_core.specs.Typing.{IsTyped, Typed, t_this, t_field, t_local, t_static_field, t_index, t_call, t_static_call, t_super_call, t_cast, t_instance_of, t_binary, TypedArgs, t_ex_then, t_to_field, t_to_element, TypedSt, t_declare_as, t_assign, t_return}
 use Rattle.java_core.specs.Formed.{IsFormed, IsOwnField, FormedSt, f_assign, f_to_own, FormedEx, f_own_field, f_create, f_create_array, f_cast, f_instance_of}
 use Rattle.java_core.specs.Untagged.{bare, bare_all, bare_target}
@@ -32,6 +32,7 @@ use Rattle.flow_rules.specs.Facts.{owner_of, IsFactsOf}
 use Rattle.flow_rules.proofs.TypeLemmas.{class_is, object_field_is}
 use Rattle.run_cover.proofs.Types.{class_apart, slot_called}
 use Rattle.flow_rules.proofs.Listed.{first, more, one_from}
+use Rattle.run_cover.proofs.Walked.{walked}
 use Rattle.facts_order.proofs.Pairs.{IsPlaced}
 use Rattle.facts_order.proofs.Forms.{own, own_assign, From, from_ex, from_assign, from_declare, from_return}
 use Rattle.facts_order.proofs.Rows.{part_from}
@@ -43,14 +44,9 @@ use Rattle.facts_order.proofs.Sound.{is_apart, variable_apart, item_type, IsSoun
 
 module _ (P Q : Plain) (placed : IsPlaced P Q) (formed : IsFormed P) (typed : IsTyped P) (F : Facts) (facts : IsFactsOf P Q F) (m : ℕ)
     (k : PlainMethod) (stands : slice_get Q.methods m ≡ Some k) where
-  abbrev type : Ex → Option ObjectType
-  type = type_in P m k
-
-  abbrev plain : PlainMethod
-  plain = (placed.methods m k stands).plain
-
-  abbrev g : Env
-  g = env_of m plain
+  open walked P m k use {type}
+  open placed.methods m k stands use {plain}
+  open walked P m plain use {env as g}
 
   abbrev pub IsGood : Operand → Type 0
   IsGood o = IsSound P Q placed formed typed F facts m k stands o
