@@ -1,7 +1,6 @@
 -- The labels of a body: each part that is a flow point has its own.
-use Rattle.std.proofs.Common.{◌≡◌, ℕ, zero, suc, ◌+◌, List, [], ◌∷◌, ◌++◌, Option, Some, None, refl, sym, ◌∙◌, subst, arith}
+use Rattle.std.proofs.Common.{◌≡◌, ℕ, zero, suc, ◌+◌, List, [], ◌∷◌, ◌++◌, Option, Some, None, refl, sym, ◌∙◌, arith}
 use Rattle.std.specs.Prelude.{◌≤◌, Bool, true, false, Contains}
-use Rattle.std.proofs.lemmas.Option.{same_Some}
 use Rattle.java_core.specs.Trees.{Tag, Ex, Exs, no_ex, ex_then, local, own_field, field, index, call, static_call, super_call, create, create_array, cast, instance_of, unary, binary, Target, to_local, to_static, to_own, to_field, to_element, no_target, St, Sts, Arms, declare, block, assign, act, print, choose, loop, return, break, continue, no_st, st_then, no_other, otherwise, arm}
 use Rattle.java_core.specs.Programs.{Plain, PlainMethod}
 use Rattle.flow_rules.specs.declared.items.ObjectType.{ObjectType}
@@ -49,33 +48,24 @@ join (with e k r) s = with e k (join r s)
 
 above : {a b : ℕ} {ps : List Part} (p : Part) (l : ℕ) → Labelled a ps b → Contains ps p → part_label p ≡ Some l → a ≤ l
 above p l (none h) c e = absurd (omega (arith, c.1))
-above p l (plain d r) (zero, lt, q) e = absurd (none_some (sym (subst (λ z. part_label z ≡ None) q d) ∙ e))
-  where
-    none_some : None ≡ Some l → ⊥
-    none_some d = cc
+above p l (plain d r) (zero, lt, q) e = absurd (cc)
 above p l (plain d r) (suc k, lt, q) e = above p l r (k, omega (arith, lt), q) e
-above p l (with {a = a} {l = n} d h r) (zero, lt, q) e = subst (λ z. a ≤ z) (same_Some n l (sym (subst (λ z. part_label z ≡ Some n) q d) ∙ e)) h
+above p l (with {a = a} {l = n} d h r) (zero, lt, q) e = let s : n ≡ l = cc in omega (arith, h, s)
 above p l (with d h r) (suc k, lt, q) e = omega (arith, h, above p l r (k, omega (arith, lt), q) e)
 
 -- two parts of one label are one
 one_label : {a b : ℕ} {ps : List Part} (p q : Part) (l : ℕ) → Labelled a ps b → Contains ps p → Contains ps q → part_label p ≡ Some l
     → part_label q ≡ Some l → p ≡ q
 one_label p q l (none h) c d e f = absurd (omega (arith, c.1))
-one_label p q l (plain g r) (zero, lt, x) d e f = absurd (none_some (sym (subst (λ z. part_label z ≡ None) x g) ∙ e))
-  where
-    none_some : None ≡ Some l → ⊥
-    none_some d = cc
-one_label p q l (plain g r) (suc i, lt, x) (zero, mt, y) e f = absurd (none_some (sym (subst (λ z. part_label z ≡ None) y g) ∙ f))
-  where
-    none_some : None ≡ Some l → ⊥
-    none_some d = cc
+one_label p q l (plain g r) (zero, lt, x) d e f = absurd (cc)
+one_label p q l (plain g r) (suc i, lt, x) (zero, mt, y) e f = absurd (cc)
 one_label p q l (plain g r) (suc i, lt, x) (suc j, mt, y) e f = one_label p q l r (i, omega (arith, lt), x) (j, omega (arith, mt), y) e f
 one_label p q l (with g h r) (zero, lt, x) (zero, mt, y) e f = sym x ∙ y
 one_label p q l (with {l = n} g h r) (zero, lt, x) (suc j, mt, y) e f =
-    let s : n ≡ l = same_Some n l (sym (subst (λ z. part_label z ≡ Some n) x g) ∙ e) in
+    let s : n ≡ l = cc in
     absurd (omega (arith, s, above q l r (j, omega (arith, mt), y) f))
 one_label p q l (with {l = n} g h r) (suc i, lt, x) (zero, mt, y) e f =
-    let s : n ≡ l = same_Some n l (sym (subst (λ z. part_label z ≡ Some n) y g) ∙ f) in
+    let s : n ≡ l = cc in
     absurd (omega (arith, s, above p l r (i, omega (arith, lt), x) e))
 one_label p q l (with g h r) (suc i, lt, x) (suc j, mt, y) e f = one_label p q l r (i, omega (arith, lt), x) (j, omega (arith, mt), y) e f
 
