@@ -13,7 +13,6 @@ use Rattle.fact_model.specs.declared.facts.Facts.{Facts}
 use Rattle.fact_model.specs.declared.facts.ColKind.TheVariants as kind
 use Rattle.flow_rules.specs.declared.items.RowItem.{RowItem}
 use Rattle.flow_rules.specs.declared.items.RowItem.TheVariants as row
-use Rattle.flow_rules.specs.declared.items.PointItem.{PointItem}
 use Rattle.flow_rules.specs.declared.items.PointItem.TheVariants as point
 use Rattle.flow_rules.specs.declared.items.PointAt.{PointAt}
 use Rattle.flow_rules.specs.declared.items.Row.{Row}
@@ -60,10 +59,6 @@ abbrev this_number : RowItem → Option ℕ
 this_number (row.This m) = Some m
 this_number _ = None
 
-abbrev def_number : ColumnItem → Option ℕ
-def_number (column.Def m) = Some m
-def_number _ = None
-
 module _ (P Q : Plain) (placed : IsPlaced P Q) (formed : IsFormed P) (typed : IsTyped P) where
   pub given_labelled : (m : ℕ) (k : PlainMethod) (p : Part) (a : PointAt) → slice_get Q.methods m ≡ Some k → Contains (parts_of P m k) p → IsGiven a p
       → (l : ℕ) × (a.item ≡ point.Expr m l)
@@ -73,17 +68,10 @@ module _ (P Q : Plain) (placed : IsPlaced P Q) (formed : IsFormed P) (typed : Is
 
   -- the row of the point of a `this`
   this_follows : (m : ℕ) (a : PointAt) → Follows P Q a → a.item ≡ point.This m → a.row ≡ row.This m
-  this_follows m a (a_this n k e i r) h = r ∙ ap this_item (sym i ∙ h)
-    where
-      this_item : PointItem → RowItem
-      this_item (point.This m) = row.This m
-      this_item (point.Static f) = row.Field f
-      this_item (point.Local m i) = row.Field m
-      this_item (point.Result m) = row.Field m
-      this_item (point.Expr m l) = row.Field m
-  this_follows m a (a_static f k e i r) h = absurd (let d = sym i ∙ h in cc)
-  this_follows m a (a_variable n k j e i r) h = absurd (let d = sym i ∙ h in cc)
-  this_follows m a (a_result n k e i r) h = absurd (let d = sym i ∙ h in cc)
+  this_follows m a (a_this n k e i r) h = cc
+  this_follows m a (a_static f k e i r) h = absurd (cc)
+  this_follows m a (a_variable n k j e i r) h = absurd (cc)
+  this_follows m a (a_result n k e i r) h = absurd (cc)
   this_follows m a (a_form n k p e c g) h = absurd (let d = sym (given_labelled n k p a e c g).1 ∙ h in cc)
 
   module _ (F : Facts) (facts : IsFactsOf P Q F) where
@@ -184,9 +172,9 @@ module _ (P Q : Plain) (placed : IsPlaced P Q) (formed : IsFormed P) (typed : Is
 
     pub this_method : (m : ℕ) (x : Row) → Types P Q x → x.item ≡ row.This m → IsThisMethod m x
     this_method m x (types_this n l d b s i t) h =
-        let g = same_Some n m (sym (ap this_number i) ∙ ap this_number h) in
+        let g : n ≡ m = cc in
         record { method = l; stands = subst (λ z. slice_get Q.methods z ≡ Some l) g d; bodied = b; instance = s; type = same_Some _ _ (sym t) }
-    this_method m x (types_field f l d i t) h = absurd (let g = sym (ap this_number i) ∙ ap this_number h in cc)
+    this_method m x (types_field f l d i t) h = absurd (cc)
     this_method m x (types_result n l d i t) h =
         absurd (let g = sym (all_results this_number None (λ s. refl) (λ m. refl) l.slot n) ∙ sym (ap this_number i) ∙ ap this_number h in cc)
     this_method m x (types_variable n l j v d u i t) h =
@@ -229,7 +217,7 @@ module _ (P Q : Plain) (placed : IsPlaced P Q) (formed : IsFormed P) (typed : Is
     same_def m n d a b =
         let x = (numbered_columns P Q).at (column.Def m) d a in
         let y = (numbered_columns P Q).at (column.Def n) d b in
-        same_Some m n (ap def_number (sym x.2 ∙ ap (λ z. z.item) (same_Some _ _ (sym x.1 ∙ y.1)) ∙ y.2))
+        let g : column.Def m ≡ column.Def n = sym x.2 ∙ ap (λ z. z.item) (same_Some _ _ (sym x.1 ∙ y.1)) ∙ y.2 in cc
 
     pub one_this : (d : ℕ) → d < length F.columns.items → IsDef F d → HasOneThis F d
     unfolding numbers

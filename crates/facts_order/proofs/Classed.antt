@@ -5,10 +5,10 @@ use Rattle.std.specs.Option.{option_map, is_some}
 use Rattle.std.proofs.lemmas.Option.{same_Some}
 use Rattle.std.proofs.lemmas.List.{map-append}
 use Rattle.std.proofs.lemmas.List.Elements.{Contains-append_left}
-use Rattle.java_core.specs.Trees.{Ex, number, character, text, truth, null, this, local, static_field, own_field, field, index, call, static_call, super_call, create, create_array, cast, instance_of, unary, binary}
+use Rattle.java_core.specs.Trees.{Ex, this, local, static_field, own_field, field, index, call, static_call, super_call, create, create_array, cast}
 use Rattle.java_core.specs.Programs.{Plain, PlainMethod}
 use Rattle.java_core.specs.Classes.{super_method, slot_of_method}
-use Rattle.java_core.specs.Types.{Env, env_of, types_of, element_of, static}
+use Rattle.java_core.specs.Types.{env_of, types_of, element_of, static}
 use Rattle.java_core.specs.Typing.{IsTyped, Typed, t_index}
 use Rattle.java_core.specs.Formed.{IsFormed}
 use Rattle.java_core.specs.Untagged.{bare}
@@ -28,6 +28,7 @@ use Rattle.flow_rules.specs.Facts.{IsFactsOf}
 use Rattle.flow_rules.proofs.TypeLemmas.{types_are}
 use Rattle.run_cover.proofs.Untagging.{unlabel}
 use Rattle.flow_rules.proofs.Listed.{first}
+use Rattle.run_cover.proofs.Walked.{walked}
 use Rattle.facts_order.proofs.Pairs.{IsPlaced}
 use Rattle.facts_order.proofs.Rows.{own_of, row_types}
 use Rattle.facts_order.proofs.Sites.{own_typed}
@@ -37,14 +38,9 @@ use Rattle.facts_order.proofs.Operands.{field_type, return_type, result_type, su
 
 module _ (P Q : Plain) (placed : IsPlaced P Q) (formed : IsFormed P) (typed : IsTyped P) (F : Facts) (facts : IsFactsOf P Q F) (m : ℕ)
     (k : PlainMethod) (stands : slice_get Q.methods m ≡ Some k) where
-  abbrev type : Ex → Option ObjectType
-  type = type_in P m k
-
-  abbrev plain : PlainMethod
-  plain = (placed.methods m k stands).plain
-
-  abbrev g : Env
-  g = env_of m plain
+  open walked P m k use {type}
+  open placed.methods m k stands use {plain}
+  open walked P m plain use {env as g}
 
   -- a type, whose class is that of the row's type, which has as many brackets or more
   pub record Classed (x : Row) (t : Option ObjectType) : Type 0 where
@@ -145,14 +141,6 @@ module _ (P Q : Plain) (placed : IsPlaced P Q) (formed : IsFormed P) (typed : Is
   -- the row of an expression whose parts stand in the body
   typing : (n : ℕ) (u : Bool) (e : Ex) → Typed P g (bare e) → ((q : Part) → Contains (parts P type m k u (label n e)) q → Contains (parts_of P m k) q)
       → Typing (row_of P type m k (label n e)) (object_type P k (label n e))
-  typing n u (number t i) a w = none_item _
-  typing n u (character t c) a w = none_item _
-  typing n u (text t s) a w = none_item _
-  typing n u (truth t b) a w = none_item _
-  typing n u (null t) a w = none_item _
-  typing n u (instance_of t i e c) a w = none_item _
-  typing n u (unary t o e) a w = none_item _
-  typing n u (binary t o e d) a w = none_item _
   typing n u (this t) a w = this_typing
   typing n u (local t i) a w = local_typing i
   typing n u (static_field t f) a w = field_typing (Some f)
@@ -176,6 +164,7 @@ module _ (P Q : Plain) (placed : IsPlaced P Q) (formed : IsFormed P) (typed : Is
       as_type _ (label n (cast t i v e))
       (own_typing (a_test t.place (operand_of P type m k (label (n + 1) e)) (operand_of P type m k (label n (cast t i v e)))) _
       (w _ (first _ _)) refl)
+  typing n u e a w = none_item _
 
   -- the row of an operand has the class of its type
   pub operand_typing : (n : ℕ) (u : Bool) (e : Ex) → Typed P g (bare e) → ((q : Part) → Contains (parts P type m k u (label n e)) q

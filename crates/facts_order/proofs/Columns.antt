@@ -142,8 +142,5 @@ module _ (P Q : Plain) where
     slot_below c x e = go (slice_get F.columns.items c) refl
       where
         go : (o : Option ColumnInfo) → slice_get F.columns.items c ≡ o → c < length F.columns.items
-        go None h = absurd (none_some (sym (ap (λ z. z.slot) (index_past F.columns.items c _ h)) ∙ e))
-          where
-            none_some : None ≡ Some x → ⊥
-            none_some d = cc
+        go None h = absurd (let z = sym (ap (λ z. z.slot) (index_past F.columns.items c _ h)) ∙ e in cc)
         go (Some k) h = at_below F.columns.items c k h

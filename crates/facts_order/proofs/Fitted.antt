@@ -6,10 +6,10 @@ use Rattle.std.proofs.lemmas.List.{length-map}
 use Rattle.std.proofs.lemmas.List.Elements.{Contains-append_left, Contains-append_right}
 use Rattle.kaba_base.specs.declared.Place.{Place}
 use Rattle.java_core.specs.declared.Ty.{Ty}
-use Rattle.java_core.specs.Trees.{Tag, Ex, Exs, no_ex, ex_then, number, character, text, truth, null, this, local, static_field, own_field, field, index, call, static_call, super_call, create, create_array, cast, instance_of, unary, binary, Target, to_local, to_static, to_own, to_field, to_element, no_target, declare, assign, return}
+use Rattle.java_core.specs.Trees.{Tag, Ex, Exs, no_ex, ex_then, this, local, static_field, own_field, field, index, call, static_call, super_call, create, create_array, cast, instance_of, binary, Target, to_local, to_static, to_own, to_field, to_element, no_target, declare, assign, return}
 use Rattle.java_core.specs.Programs.{Plain, PlainMethod}
 use Rattle.java_core.specs.Classes.{IsSubclass, super_method, has_body, slot_of}
-use Rattle.java_core.specs.Types.{Static, a_value, or_nothing, Env, env_of, types_of, class_of, class_type, fits_in, field_in, field_type, Signature, call_signature, super_signature, signature_of_method, static, target_type}
+use Rattle.java_core.specs.Types.{Static, a_value, or_nothing, types_of, class_of, class_type, fits_in, field_in, field_type, Signature, call_signature, super_signature, signature_of_method, static, target_type}
 use Rattle.java_core.specs.Typing.{IsTyped, Typed, t_this, t_field, t_local, t_static_field, t_index, t_call, t_static_call, t_super_call, t_cast, t_instance_of, t_binary, TypedArgs, t_ex_then, t_to_field, t_to_element, TypedSt, t_declare_as, t_assign, t_return}
 use Rattle.java_core.specs.Formed.{IsFormed, IsOwnField, FormedSt, f_assign, f_to_own, FormedEx, f_own_field, f_create, f_create_array, f_cast, f_instance_of}
 use Rattle.java_core.specs.Untagged.{bare, bare_all, bare_target}
@@ -32,6 +32,7 @@ use Rattle.flow_rules.specs.Facts.{owner_of, IsFactsOf}
 use Rattle.flow_rules.proofs.TypeLemmas.{class_is, object_field_is}
 use Rattle.run_cover.proofs.Types.{class_apart, slot_called}
 use Rattle.flow_rules.proofs.Listed.{first, more, one_from}
+use Rattle.run_cover.proofs.Walked.{walked}
 use Rattle.facts_order.proofs.Pairs.{IsPlaced}
 use Rattle.facts_order.proofs.Forms.{own, own_assign, From, from_ex, from_assign, from_declare, from_return}
 use Rattle.facts_order.proofs.Rows.{part_from}
@@ -43,14 +44,9 @@ use Rattle.facts_order.proofs.Sound.{is_apart, variable_apart, item_type, IsSoun
 
 module _ (P Q : Plain) (placed : IsPlaced P Q) (formed : IsFormed P) (typed : IsTyped P) (F : Facts) (facts : IsFactsOf P Q F) (m : ℕ)
     (k : PlainMethod) (stands : slice_get Q.methods m ≡ Some k) where
-  abbrev type : Ex → Option ObjectType
-  type = type_in P m k
-
-  abbrev plain : PlainMethod
-  plain = (placed.methods m k stands).plain
-
-  abbrev g : Env
-  g = env_of m plain
+  open walked P m k use {type}
+  open placed.methods m k stands use {plain}
+  open walked P m plain use {env as g}
 
   abbrev pub IsGood : Operand → Type 0
   IsGood o = IsSound P Q placed formed typed F facts m k stands o
@@ -220,15 +216,6 @@ module _ (P Q : Plain) (placed : IsPlaced P Q) (formed : IsFormed P) (typed : Is
   -- the part of a form
   form_fitted : {scope : List ℕ} (n : ℕ) (u : Bool) (e : Ex) (p : Part) → Typed P g (bare e) → FormedEx P plain scope (bare e) → Into n u e
       → Contains (own P type m k plain (parts_of P m k) u (label n e)) p → IsFitted p
-  form_fitted n u (number t i) p a f w c = unlisted p c
-  form_fitted n u (character t i) p a f w c = unlisted p c
-  form_fitted n u (text t i) p a f w c = unlisted p c
-  form_fitted n u (truth t i) p a f w c = unlisted p c
-  form_fitted n u (null t) p a f w c = unlisted p c
-  form_fitted n u (this t) p a f w c = unlisted p c
-  form_fitted n u (local t i) p a f w c = unlisted p c
-  form_fitted n u (static_field t i) p a f w c = unlisted p c
-  form_fitted n u (unary t o e) p a f w c = unlisted p c
   form_fitted n u (own_field t i) p a (f_own_field x y) w c =
       is _ p c (
         good_at n u (own_field t i) a w,
@@ -338,6 +325,7 @@ module _ (P Q : Plain) (placed : IsPlaced P Q) (formed : IsFormed P) (typed : Is
             (Contains-append_right (parts P type m k false (label n e)) _ q z))),
         (λ y s x q h. takes_paired P o (static P g (bare e)) (static P g (bare d)) s x v y (as_type n e ∙ q) (as_type (n + size e) d ∙ h)),
       )
+  form_fitted n u e p a f w c = unlisted p c
 
   -- an assignment
   local_fitted : (t : Tag) (i n : ℕ) (u : Bool) (e : Ex) → Typed P g (bare e) → Into n u e

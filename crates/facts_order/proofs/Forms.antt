@@ -3,7 +3,7 @@ use Rattle.std.proofs.Common.{ℕ, ◌+◌, List, [], ◌∷◌, ◌++◌, Optio
 use Rattle.std.specs.Prelude.{Bool, true, false, Contains}
 use Rattle.std.proofs.lemmas.List.Elements.{Contains-append_cases, Contains-append_left, Contains-append_right}
 use Rattle.kaba_base.specs.declared.Place.{Place}
-use Rattle.java_core.specs.Trees.{Tag, Ex, Exs, no_ex, ex_then, number, character, text, truth, null, this, local, static_field, own_field, field, index, call, static_call, super_call, create, create_array, cast, instance_of, unary, binary, Target, to_local, to_static, to_own, to_field, to_element, no_target, St, Sts, Arms, declare, block, assign, act, print, choose, loop, return, break, continue, no_st, st_then, no_other, otherwise, arm}
+use Rattle.java_core.specs.Trees.{Tag, Ex, Exs, no_ex, ex_then, local, static_field, own_field, field, index, call, static_call, super_call, create, create_array, cast, instance_of, unary, binary, Target, to_local, to_static, to_own, to_field, to_element, no_target, St, Sts, Arms, declare, block, assign, act, print, choose, loop, return, no_st, st_then, no_other, otherwise, arm}
 use Rattle.java_core.specs.Programs.{Plain, PlainMethod}
 use Rattle.java_core.specs.Classes.{super_method}
 use Rattle.java_core.specs.Types.{Env, env_of}
@@ -28,14 +28,6 @@ module _ (P : Plain) (type : Ex → Option ObjectType) (m : ℕ) (k h : PlainMet
 
   -- the part of a form itself
   abbrev pub own : Bool → Ex → List Part
-  own u (number t n) = []
-  own u (character t c) = []
-  own u (text t s) = []
-  own u (truth t b) = []
-  own u (null t) = []
-  own u (this t) = []
-  own u (local t i) = []
-  own u (static_field t f) = []
   own u (own_field t f) = a_load t.place (this_operand m k) (Some f) (at (own_field t f)) ∷ []
   own u (field t e x) = a_load t.place (at e) (object_field P (type e) x) (at (field t e x)) ∷ []
   own u (index t e i) = an_element t.place (at e) (at (index t e i)) ∷ []
@@ -46,8 +38,8 @@ module _ (P : Plain) (type : Ex → Option ObjectType) (m : ℕ) (k h : PlainMet
   own u (create_array t n v e) = a_creation t.place u (at (create_array t n v e)) ∷ []
   own u (cast t n v e) = a_test t.place (at e) (at (cast t n v e)) ∷ []
   own u (instance_of t n e c) = a_test t.place (at e) (test_operand m t n c) ∷ []
-  own u (unary t o e) = []
   own u (binary t o e d) = a_pair o (at e) (at d) ∷ []
+  own u e = []
 
   abbrev pub own_assign : Place → Target → Ex → List Part
   own_assign p (to_local t i) e = a_set (at (local t i)) (at e) ∷ []
@@ -124,14 +116,6 @@ module _ (P : Plain) (type : Ex → Option ObjectType) (m : ℕ) (k h : PlainMet
   mutual
     ex_from : {p : Part} {scope : List ℕ} (n : ℕ) (u : Bool) (e : Ex) → Typed P g (bare e) → FormedEx P h scope (bare e)
         → Into (parts P type m k u (label n e)) ps → Contains (parts P type m k u (label n e)) p → FromEx p
-    ex_from n u (number t i) a f into c = unless c
-    ex_from n u (character t i) a f into c = unless c
-    ex_from n u (text t i) a f into c = unless c
-    ex_from n u (truth t i) a f into c = unless c
-    ex_from n u (null t) a f into c = unless c
-    ex_from n u (this t) a f into c = unless c
-    ex_from n u (local t i) a f into c = unless c
-    ex_from n u (static_field t i) a f into c = unless c
     ex_from n u (own_field t i) a f into c =
         of_form n u (own_field t i) a f into c
     ex_from n u (field t e x) (t_field a b) (f_field d i) into c =
@@ -171,6 +155,7 @@ module _ (P : Plain) (type : Ex → Option ObjectType) (m : ℕ) (k h : PlainMet
         (λ way z. split (parts P type m k false (label n e)) (parts P type m k false (label (n + size e) i)) way z
         (λ way z. ex_from n false e a d way z) (λ way z. ex_from (n + size e) false i b q way z))
         (λ way z. of_form n u (binary t o e i) (t_binary a b v) (f_binary d q) into z)
+    ex_from n u e a f into c = unless c
 
     all_from : {p : Part} {scope : List ℕ} {us : List Ty} (n : ℕ) (u : Bool) (es : Exs) → TypedArgs P g (bare_all es) us
         → FormedExs P h scope (bare_all es) → Into (parts_all P type m k u (label_all n es)) ps → Contains (parts_all P type m k u (label_all n es)) p
@@ -238,7 +223,6 @@ module _ (P : Plain) (type : Ex → Option ObjectType) (m : ℕ) (k h : PlainMet
   mutual
     st_from : {p : Part} {in_loop : Bool} {scope : List ℕ} (n : ℕ) (x : St) → TypedSt P g (bare_st x) → FormedSt P h in_loop scope (bare_st x)
         → Into (parts_st P type m k (label_st n x)) ps → Contains (parts_st P type m k (label_st n x)) p → From p
-    st_from n (declare t i None) a f into c = unless c
     st_from n (declare t i (Some e)) (t_declare_as a b) (f_declare d (f_some f)) into c =
         split (parts P type m k false (label n e)) _ into c (λ way z. from_ex (ex_from n false e a f way z))
         (λ way z. from_declare (record {
@@ -254,7 +238,6 @@ module _ (P : Plain) (type : Ex → Option ObjectType) (m : ℕ) (k h : PlainMet
     st_from n (block t xs) (t_block a) (f_block f) into c = sts_from n xs a f into c
     st_from n (assign t b e) a f into c = target_from n t _ b e a f into c
     st_from n (act t e) (t_act a) (f_act d f) into c = from_ex (ex_from n false e a f into c)
-    st_from n (print t l None) a f into c = unless c
     st_from n (print t l (Some e)) (t_print a b) (f_print d (f_some f)) into c = from_ex (ex_from n false e a f into c)
     st_from n (choose t (arm e xs more)) (t_choose a) (f_choose f) into c = arms_from n (arm e xs more) a f into c
     st_from n (choose t no_other) a f into c = elim f [ ]
@@ -269,7 +252,6 @@ module _ (P : Plain) (type : Ex → Option ObjectType) (m : ℕ) (k h : PlainMet
         (λ way z. sts_from n first a d way z) (λ way z. from_ex (test_from (n + size_sts first) test b f way z)))
         (λ way z. sts_from (n + size_sts first + size_if test) step v q way z))
         (λ way z. sts_from (n + size_sts first + size_if test + size_sts step) body w r way z)
-    st_from n (return t None) a f into c = unless c
     st_from n (return t (Some e)) (t_return a b v) (f_return (f_some f)) into c =
         split (parts P type m k false (label n e)) _ into c (λ way z. from_ex (ex_from n false e a f way z))
         (λ way z. from_return (record {
@@ -281,8 +263,7 @@ module _ (P : Plain) (type : Ex → Option ObjectType) (m : ℕ) (k h : PlainMet
               (Contains-append_left (parts P type m k false (label n e)) _ q y);
           own_part = z;
         }))
-    st_from n (break t) a f into c = unless c
-    st_from n (continue t) a f into c = unless c
+    st_from n x a f into c = unless c
 
     pub sts_from : {p : Part} {in_loop : Bool} {scope : List ℕ} (n : ℕ) (xs : Sts) → TypedSts P g (bare_sts xs)
         → FormedSts P h in_loop scope (bare_sts xs) → Into (parts_sts P type m k (label_sts n xs)) ps

@@ -27,7 +27,6 @@ use Rattle.flow_rules.specs.declared.items.ObjectType.{ObjectType}
 use Rattle.flow_rules.specs.declared.items.Operand.{Operand}
 use Rattle.flow_rules.specs.declared.items.PointItem.{PointItem}
 use Rattle.flow_rules.specs.declared.items.PointItem.TheVariants as point
-use Rattle.flow_rules.specs.declared.items.ColumnItem.{ColumnItem}
 use Rattle.flow_rules.specs.declared.items.ColumnItem.TheVariants as column
 use Rattle.flow_rules.specs.Ordered.{each}
 use Rattle.flow_rules.specs.Operands.{object_if, class_object}
@@ -49,10 +48,6 @@ use Rattle.facts_order.proofs.Fitted.{IsFitted, IsValue, part_fitted}
 use Rattle.facts_order.proofs.Supers.{super_above}
 use Rattle.facts_order.proofs.Pointed.{point_type, number_type, point_item_of, operand_type, made_type, has_type}
 use Rattle.facts_order.proofs.Called.{runs_body, arg_at, param_at}
-
-field_number : ColumnItem → Option ℕ
-field_number (column.Fld f) = Some f
-field_number _ = None
 
 module _ (P Q : Plain) (placed : IsPlaced P Q) (formed : IsFormed P) (typed : IsTyped P) (F : Facts) (facts : IsFactsOf P Q F) where
   -- a site goes into what has the type
@@ -104,11 +99,10 @@ module _ (P Q : Plain) (placed : IsPlaced P Q) (formed : IsFormed P) (typed : Is
       go (Some k) h e = let z = placed.methods d k h in ap (λ o. object_if (option_and_then (λ k. k.result) o)) z.stands ∙ ap object_if z.result ∙ e
 
   same_field : (f g c : ℕ) → column_number P Q (column.Fld f) ≡ Some c → column_number P Q (column.Fld g) ≡ Some c → f ≡ g
-  unfolding field_number
   same_field f g c a b =
       let x = (numbered_columns P Q).at (column.Fld f) c a in
       let y = (numbered_columns P Q).at (column.Fld g) c b in
-      same_Some f g (ap field_number (sym x.2 ∙ ap (λ z. z.item) (same_Some _ _ (sym x.1 ∙ y.1)) ∙ y.2))
+      let s : column.Fld f ≡ column.Fld g = sym x.2 ∙ ap (λ z. z.item) (same_Some _ _ (sym x.1 ∙ y.1)) ∙ y.2 in cc
 
   module _ (m : ℕ) (k : PlainMethod) (stands : slice_get Q.methods m ≡ Some k) where
     abbrev IsGood : Operand → Type 0

@@ -1,8 +1,7 @@
 -- The labels of a body: each part that is a flow point has its own.
-use Rattle.std.proofs.Common.{◌≡◌, ℕ, zero, suc, ◌+◌, List, [], ◌∷◌, ◌++◌, Option, Some, None, refl, sym, ◌∙◌, subst, arith}
+use Rattle.std.proofs.Common.{◌≡◌, ℕ, zero, suc, ◌+◌, List, [], ◌∷◌, ◌++◌, Option, Some, None, refl, sym, ◌∙◌, arith}
 use Rattle.std.specs.Prelude.{◌≤◌, Bool, true, false, Contains}
-use Rattle.std.proofs.lemmas.Option.{same_Some}
-use Rattle.java_core.specs.Trees.{Tag, Ex, Exs, no_ex, ex_then, number, character, text, truth, null, this, local, static_field, own_field, field, index, call, static_call, super_call, create, create_array, cast, instance_of, unary, binary, Target, to_local, to_static, to_own, to_field, to_element, no_target, St, Sts, Arms, declare, block, assign, act, print, choose, loop, return, break, continue, no_st, st_then, no_other, otherwise, arm}
+use Rattle.java_core.specs.Trees.{Tag, Ex, Exs, no_ex, ex_then, local, own_field, field, index, call, static_call, super_call, create, create_array, cast, instance_of, unary, binary, Target, to_local, to_static, to_own, to_field, to_element, no_target, St, Sts, Arms, declare, block, assign, act, print, choose, loop, return, break, continue, no_st, st_then, no_other, otherwise, arm}
 use Rattle.java_core.specs.Programs.{Plain, PlainMethod}
 use Rattle.flow_rules.specs.declared.items.ObjectType.{ObjectType}
 use Rattle.flow_rules.specs.declared.items.PointItem.{PointItem}
@@ -13,12 +12,8 @@ use Rattle.flow_rules.specs.Operands.{type_in}
 
 -- the label of what an expression gives
 abbrev pub label_in : Option PointItem → Option ℕ
-label_in None = None
 label_in (Some (point.Expr m l)) = Some l
-label_in (Some (point.Static f)) = None
-label_in (Some (point.This m)) = None
-label_in (Some (point.Local m i)) = None
-label_in (Some (point.Result m)) = None
+label_in _ = None
 
 abbrev pub part_label : Part → Option ℕ
 part_label (a_load p b f o) = label_in o.point
@@ -53,33 +48,24 @@ join (with e k r) s = with e k (join r s)
 
 above : {a b : ℕ} {ps : List Part} (p : Part) (l : ℕ) → Labelled a ps b → Contains ps p → part_label p ≡ Some l → a ≤ l
 above p l (none h) c e = absurd (omega (arith, c.1))
-above p l (plain d r) (zero, lt, q) e = absurd (none_some (sym (subst (λ z. part_label z ≡ None) q d) ∙ e))
-  where
-    none_some : None ≡ Some l → ⊥
-    none_some d = cc
+above p l (plain d r) (zero, lt, q) e = absurd (cc)
 above p l (plain d r) (suc k, lt, q) e = above p l r (k, omega (arith, lt), q) e
-above p l (with {a = a} {l = n} d h r) (zero, lt, q) e = subst (λ z. a ≤ z) (same_Some n l (sym (subst (λ z. part_label z ≡ Some n) q d) ∙ e)) h
+above p l (with {a = a} {l = n} d h r) (zero, lt, q) e = let s : n ≡ l = cc in omega (arith, h, s)
 above p l (with d h r) (suc k, lt, q) e = omega (arith, h, above p l r (k, omega (arith, lt), q) e)
 
 -- two parts of one label are one
 one_label : {a b : ℕ} {ps : List Part} (p q : Part) (l : ℕ) → Labelled a ps b → Contains ps p → Contains ps q → part_label p ≡ Some l
     → part_label q ≡ Some l → p ≡ q
 one_label p q l (none h) c d e f = absurd (omega (arith, c.1))
-one_label p q l (plain g r) (zero, lt, x) d e f = absurd (none_some (sym (subst (λ z. part_label z ≡ None) x g) ∙ e))
-  where
-    none_some : None ≡ Some l → ⊥
-    none_some d = cc
-one_label p q l (plain g r) (suc i, lt, x) (zero, mt, y) e f = absurd (none_some (sym (subst (λ z. part_label z ≡ None) y g) ∙ f))
-  where
-    none_some : None ≡ Some l → ⊥
-    none_some d = cc
+one_label p q l (plain g r) (zero, lt, x) d e f = absurd (cc)
+one_label p q l (plain g r) (suc i, lt, x) (zero, mt, y) e f = absurd (cc)
 one_label p q l (plain g r) (suc i, lt, x) (suc j, mt, y) e f = one_label p q l r (i, omega (arith, lt), x) (j, omega (arith, mt), y) e f
 one_label p q l (with g h r) (zero, lt, x) (zero, mt, y) e f = sym x ∙ y
 one_label p q l (with {l = n} g h r) (zero, lt, x) (suc j, mt, y) e f =
-    let s : n ≡ l = same_Some n l (sym (subst (λ z. part_label z ≡ Some n) x g) ∙ e) in
+    let s : n ≡ l = cc in
     absurd (omega (arith, s, above q l r (j, omega (arith, mt), y) f))
 one_label p q l (with {l = n} g h r) (suc i, lt, x) (zero, mt, y) e f =
-    let s : n ≡ l = same_Some n l (sym (subst (λ z. part_label z ≡ Some n) y g) ∙ f) in
+    let s : n ≡ l = cc in
     absurd (omega (arith, s, above p l r (i, omega (arith, lt), x) e))
 one_label p q l (with g h r) (suc i, lt, x) (suc j, mt, y) e f = one_label p q l r (i, omega (arith, lt), x) (j, omega (arith, mt), y) e f
 
@@ -89,14 +75,6 @@ module _ (P : Plain) (type : Ex → Option ObjectType) (m : ℕ) (k : PlainMetho
 
   mutual
     ex_labels : (n : ℕ) (u : Bool) (e : Ex) → Labelled n (in_ex u (label n e)) (n + size e)
-    ex_labels n u (number t i) = none (omega arith)
-    ex_labels n u (character t c) = none (omega arith)
-    ex_labels n u (text t s) = none (omega arith)
-    ex_labels n u (truth t b) = none (omega arith)
-    ex_labels n u (null t) = none (omega arith)
-    ex_labels n u (this t) = none (omega arith)
-    ex_labels n u (local t i) = none (omega arith)
-    ex_labels n u (static_field t f) = none (omega arith)
     ex_labels n u (own_field t f) = with {l = n} refl (omega arith) (none (omega arith))
     ex_labels n u (field t e x) = join (ex_labels n (is_accessed (label n e)) e) (with {l = n + size e} refl (omega arith) (none (omega arith)))
     ex_labels n u (index t e i) = join (ex_labels n true e) (with {l = n + size e} refl (omega arith) (upto (omega arith) (ex_labels (n + size e + 1) false i)))
@@ -110,6 +88,7 @@ module _ (P : Plain) (type : Ex → Option ObjectType) (m : ℕ) (k : PlainMetho
     ex_labels n u (instance_of t i e c) = join (ex_labels n true e) (with {l = n + size e} refl (omega arith) (none (omega arith)))
     ex_labels n u (unary t o e) = ex_labels n false e
     ex_labels n u (binary t o e d) = join (join (ex_labels n false e) (ex_labels (n + size e) false d)) (plain refl (none (omega arith)))
+    ex_labels n u e = none (omega arith)
 
     all_labels : (n : ℕ) (u : Bool) (es : Exs) → Labelled n (parts_all P type m k u (label_all n es)) (n + sizes es)
     all_labels n u no_ex = none (omega arith)

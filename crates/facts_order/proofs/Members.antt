@@ -8,7 +8,7 @@ use Rattle.java_core.specs.Classes.{IsSubclass}
 use Rattle.java_core.specs.Formed.{IsFormed, IsInSlot}
 use Rattle.fact_model.specs.Items.{column_at as info_at, column_class, column_kind, column_slot}
 use Rattle.fact_model.specs.Classes.{IsBelow}
-use Rattle.fact_model.specs.InOrder.{IsDef, name_of, AreMembersInOrder}
+use Rattle.fact_model.specs.InOrder.{name_of, AreMembersInOrder}
 use Rattle.fact_model.specs.declared.facts.ColumnInfo.{ColumnInfo}
 use Rattle.fact_model.specs.declared.facts.Facts.{Facts}
 use Rattle.fact_model.specs.declared.facts.ColKind.{ColKind}

@@ -43,14 +43,6 @@ result_result : (o : Option ℕ) (m s : ℕ) → result_number (result_in o m) �
 result_result None m s e = same_Some m s e
 result_result (Some r) m s e = absurd (cc)
 
-abbrev local_number : RowItem → Option (ℕ × ℕ)
-local_number (row.Local m i) = Some (m, i)
-local_number _ = None
-
-abbrev param_number : RowItem → Option (ℕ × ℕ)
-param_number (row.Param s i) = Some (s, i)
-param_number _ = None
-
 abbrev is_variable : RowItem → Bool
 is_variable (row.Param s i) = true
 is_variable (row.Local m i) = true
@@ -79,10 +71,10 @@ module _ (P Q : Plain) (placed : IsPlaced P Q) (formed : IsFormed P) (typed : Is
     where
       go : Types P Q x → field_object P f ≡ Some x.ty
       go (for_field g k d i u) =
-          let s = same_Some g f (sym (ap field_number i) ∙ ap field_number h) in
+          let s : g ≡ f = cc in
           let z = placed.fields g k d in
           ap (field_object P) (sym s) ∙ ap (λ o. object_if (option_map (λ k. k.ty) o)) z.stands ∙ ap object_of z.type ∙ u
-      go (for_this m k d b s i u) = absurd (let g = sym (ap field_number i) ∙ ap field_number h in cc)
+      go (for_this m k d b s i u) = absurd (cc)
       go (for_result m k d i u) = absurd (let g = sym (all_results field_number None (λ s. refl) (λ m. refl) k.slot m) ∙ sym (ap field_number i)
           ∙ ap field_number h in cc)
       go (for_variable m k j v d b i u) =
@@ -144,30 +136,25 @@ module _ (P Q : Plain) (placed : IsPlaced P Q) (formed : IsFormed P) (typed : Is
       front_type k.params k.locals i h ∙ ap (λ z. object_if (slice_get z i)) (sym x.params ∙ u.params)
       ∙ sym (ap (λ o. object_if (option_and_then (λ z. slice_get z.params i) o)) u.stands)
 
+  local_case : (m n i j : ℕ) (k l : PlainMethod) → slice_get Q.methods m ≡ Some k → slice_get Q.methods n ≡ Some l → row.Local m i ≡ row.Local n j
+      → variable_object k i ≡ variable_object l j
+  local_case m n i j k l e d h =
+      let s : m ≡ n = cc in
+      same_variable k l i j (same_Some k l (sym e ∙ ap (slice_get Q.methods) s ∙ d)) (cc)
+
   variable_cases : (m n i j : ℕ) (k l : PlainMethod) (a b : Option ℕ) (u v : Bool) → slice_get Q.methods m ≡ Some k → slice_get Q.methods n ≡ Some l
       → k.slot ≡ a → l.slot ≡ b → nat_lt i (length k.params) ≡ u → nat_lt j (length l.params) ≡ v
       → variable_in a u m i ≡ variable_in b v n j → variable_object k i ≡ variable_object l j
-  variable_cases m n i j k l None None u v e d a b p q h =
-      let s = same_Some _ _ (ap local_number h) in
-      same_variable k l i j (same_Some k l (sym e ∙ ap (slice_get Q.methods) (ap (λ z. z.0) s) ∙ d)) (ap (λ z. z.1) s)
-  variable_cases m n i j k l (Some c) None false v e d a b p q h =
-      let s = same_Some _ _ (ap local_number h) in
-      same_variable k l i j (same_Some k l (sym e ∙ ap (slice_get Q.methods) (ap (λ z. z.0) s) ∙ d)) (ap (λ z. z.1) s)
-  variable_cases m n i j k l None (Some c) u false e d a b p q h =
-      let s = same_Some _ _ (ap local_number h) in
-      same_variable k l i j (same_Some k l (sym e ∙ ap (slice_get Q.methods) (ap (λ z. z.0) s) ∙ d)) (ap (λ z. z.1) s)
-  variable_cases m n i j k l (Some c) (Some f) false false e d a b p q h =
-      let s = same_Some _ _ (ap local_number h) in
-      same_variable k l i j (same_Some k l (sym e ∙ ap (slice_get Q.methods) (ap (λ z. z.0) s) ∙ d)) (ap (λ z. z.1) s)
   variable_cases m n i j k l (Some c) (Some f) true true e d a b p q h =
-      let s = same_Some _ _ (ap param_number h) in
-      let y : i ≡ j = ap (λ z. z.1) s in
-      slot_param m i c k e a (grind (arith, p)) ∙ ap (λ z. param_object P z i) (ap (λ z. z.0) s) ∙ ap (param_object P f) y
+      let s : c ≡ f = cc in
+      let y : i ≡ j = cc in
+      slot_param m i c k e a (grind (arith, p)) ∙ ap (λ z. param_object P z i) s ∙ ap (param_object P f) y
       ∙ sym (slot_param n j f l d b (grind (arith, q)))
-  variable_cases m n i j k l (Some c) None true v e d a b p q h = absurd (let g = ap param_number h in cc)
-  variable_cases m n i j k l None (Some c) u true e d a b p q h = absurd (let g = ap local_number h in cc)
-  variable_cases m n i j k l (Some c) (Some f) true false e d a b p q h = absurd (let g = ap param_number h in cc)
-  variable_cases m n i j k l (Some c) (Some f) false true e d a b p q h = absurd (let g = ap local_number h in cc)
+  variable_cases m n i j k l None None u v e d a b p q h = local_case m n i j k l e d h
+  variable_cases m n i j k l (Some c) None false v e d a b p q h = local_case m n i j k l e d h
+  variable_cases m n i j k l None (Some c) u false e d a b p q h = local_case m n i j k l e d h
+  variable_cases m n i j k l (Some c) (Some f) false false e d a b p q h = local_case m n i j k l e d h
+  variable_cases m n i j k l _ _ _ _ e d a b p q h = absurd (cc)
 
   pub variable_type : (m i : ℕ) (k : PlainMethod) (r : ℕ) (x : Row) → slice_get Q.methods m ≡ Some k → slice_get (rows_of P Q) r ≡ Some x
       → x.item ≡ variable_row m k i → variable_object k i ≡ Some x.ty
@@ -188,9 +175,8 @@ module _ (P Q : Plain) (placed : IsPlaced P Q) (formed : IsFormed P) (typed : Is
 
   -- the row of a parameter of a slot has its type
   variable_param : (o : Option ℕ) (b : Bool) (m i s j : ℕ) → variable_in o b m i ≡ row.Param s j → (o ≡ Some s) × (b ≡ true) × (i ≡ j)
-  variable_param (Some r) true m i s j e = let z = same_Some _ _ (ap param_number e) in (ap (λ w. Some w.0) z, refl, ap (λ w. w.1) z)
-  variable_param (Some r) false m i s j e = absurd (let z = ap param_number e in cc)
-  variable_param None b m i s j e = absurd (let z = ap param_number e in cc)
+  variable_param (Some r) true m i s j e = (cc, refl, cc)
+  variable_param o b m i s j e = absurd (cc)
 
   pub param_type : (s i r : ℕ) (x : Row) → slice_get (rows_of P Q) r ≡ Some x → x.item ≡ row.Param s i → param_object P s i ≡ Some x.ty
   param_type s i r x e h = go (row_types P Q r x e)

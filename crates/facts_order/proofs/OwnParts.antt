@@ -3,7 +3,7 @@ use Rattle.std.proofs.Common.{◌≡◌, ℕ, List, [], ◌∷◌, Option, Some,
 use Rattle.std.specs.Prelude.{Bool, Contains}
 use Rattle.std.specs.Option.{option_map}
 use Rattle.kaba_base.specs.declared.Place.{Place}
-use Rattle.java_core.specs.Trees.{Ex, number, character, text, truth, null, this, local, static_field, own_field, field, index, call, static_call, super_call, create, create_array, cast, instance_of, unary, binary, Target, to_local, to_static, to_own, to_field, to_element, no_target}
+use Rattle.java_core.specs.Trees.{Ex, own_field, field, index, call, static_call, super_call, create, create_array, cast, instance_of, binary, Target, no_target}
 use Rattle.java_core.specs.Programs.{Plain, PlainMethod}
 use Rattle.flow_rules.specs.declared.items.ObjectType.{ObjectType}
 use Rattle.flow_rules.specs.declared.items.Operand.{Operand}
@@ -11,7 +11,7 @@ use Rattle.flow_rules.specs.declared.items.RowItem.{RowItem}
 use Rattle.flow_rules.specs.declared.items.RowItem.TheVariants as row
 use Rattle.flow_rules.specs.declared.items.PointItem.TheVariants as point
 use Rattle.flow_rules.specs.Labels.{label}
-use Rattle.flow_rules.specs.Parts.{Part, a_load, an_element, a_creation, a_call, a_static_call, a_super_call, a_test, a_pair, a_set, a_store, an_element_store, a_return}
+use Rattle.flow_rules.specs.Parts.{Part, a_creation, a_test}
 use Rattle.flow_rules.proofs.Listed.{one_from}
 use Rattle.run_cover.proofs.Numbers.{number_in}
 use Rattle.facts_order.proofs.Forms.{own, own_assign, From, from_ex, from_assign, from_declare, from_return}
@@ -29,16 +29,7 @@ HasNumber i = (n : ℕ) × (number_in i ≡ n ∷ [])
 abbrev pub IsNumbered : Part → Type 0
 IsNumbered (a_creation p u o) = HasNumber o.row × (o.row ≡ option_map row.New o.created)
 IsNumbered (a_test p e o) = HasNumber o.row
-IsNumbered (a_load p b f o) = Unit {0}
-IsNumbered (an_element p b o) = Unit {0}
-IsNumbered (a_call p b s d es o) = Unit {0}
-IsNumbered (a_static_call p m es o) = Unit {0}
-IsNumbered (a_super_call p m es o) = Unit {0}
-IsNumbered (a_pair o l r) = Unit {0}
-IsNumbered (a_set v o) = Unit {0}
-IsNumbered (a_store p b f o) = Unit {0}
-IsNumbered (an_element_store p b o) = Unit {0}
-IsNumbered (a_return o) = Unit {0}
+IsNumbered _ = Unit {0}
 
 -- both
 abbrev pub IsMade : ℕ → Part → Type 0
@@ -52,14 +43,6 @@ module _ (P : Plain) (type : Ex → Option ObjectType) (m : ℕ) (k h : PlainMet
   is q p c n = subst (λ z. IsMade m z) (one_from q p c) n
 
   own_made : (u : Bool) (e : Ex) (p : Part) → Contains (in_own u e) p → IsMade m p
-  own_made u (number t n) p c = absurd (omega (arith, c.1))
-  own_made u (character t n) p c = absurd (omega (arith, c.1))
-  own_made u (text t n) p c = absurd (omega (arith, c.1))
-  own_made u (truth t n) p c = absurd (omega (arith, c.1))
-  own_made u (null t) p c = absurd (omega (arith, c.1))
-  own_made u (this t) p c = absurd (omega (arith, c.1))
-  own_made u (local t n) p c = absurd (omega (arith, c.1))
-  own_made u (static_field t n) p c = absurd (omega (arith, c.1))
   own_made u (own_field t f) p c = is _ p c ((t.label, refl), tt)
   own_made u (field t e x) p c = is _ p c ((t.label, refl), tt)
   own_made u (index t e i) p c = is _ p c ((t.label, refl), tt)
@@ -70,16 +53,12 @@ module _ (P : Plain) (type : Ex → Option ObjectType) (m : ℕ) (k h : PlainMet
   own_made u (create_array t n v e) p c = is _ p c ((t.label, refl), ((n, refl), refl))
   own_made u (cast t n v e) p c = is _ p c ((t.label, refl), (n, refl))
   own_made u (instance_of t n e d) p c = is _ p c ((t.label, refl), (n, refl))
-  own_made u (unary t o e) p c = absurd (omega (arith, c.1))
   own_made u (binary t o e d) p c = is _ p c (tt, tt)
+  own_made u e p c = absurd (omega (arith, c.1))
 
   assign_made : (w : Place) (t : Target) (e : Ex) (p : Part) → Contains (own_assign P type m k h ps w t e) p → IsMade m p
-  assign_made w (to_local t i) e p c = is _ p c (tt, tt)
-  assign_made w (to_static t f) e p c = is _ p c (tt, tt)
-  assign_made w (to_own t f) e p c = is _ p c (tt, tt)
-  assign_made w (to_field t b x) e p c = is _ p c (tt, tt)
-  assign_made w (to_element t b i) e p c = is _ p c (tt, tt)
   assign_made w no_target e p c = is _ p c (tt, tt)
+  assign_made w t e p c = is _ p c (tt, tt)
 
   pub from_made : (p : Part) → From P type m k h ps p → IsMade m p
   from_made p (from_ex z) = own_made z.used (label z.number z.form) p z.own_part

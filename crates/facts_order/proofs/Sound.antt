@@ -6,7 +6,7 @@ use Rattle.std.proofs.lemmas.Option.{same_Some}
 use Rattle.std.proofs.lemmas.Bool.{false≢true, eqb-true, eq-eqb}
 use Rattle.std.proofs.lemmas.List.Elements.{Contains-append_left, Contains-append_right}
 use Rattle.kaba_base.specs.declared.Place.{Place}
-use Rattle.java_core.specs.Trees.{Ex, number, character, text, truth, null, this, local, static_field, own_field, field, index, call, static_call, super_call, create, create_array, cast, instance_of, unary, binary}
+use Rattle.java_core.specs.Trees.{Ex, this, local, static_field, own_field, field, index, call, static_call, super_call, create, create_array, cast}
 use Rattle.java_core.specs.Programs.{Plain, PlainMethod}
 use Rattle.java_core.specs.Types.{Env, env_of}
 use Rattle.java_core.specs.Typing.{IsTyped, Typed, t_index}
@@ -68,13 +68,7 @@ type_found (q ∷ ps) p l one c e = go (is_label (part_label q) l) refl (λ d. t
 abbrev pub is_apart : RowItem → Bool
 is_apart (row.This m) = false
 is_apart (row.New n) = false
-is_apart (row.Field f) = true
-is_apart (row.Return s) = true
-is_apart (row.Param s i) = true
-is_apart (row.Result m) = true
-is_apart (row.Local m i) = true
-is_apart (row.Cast n) = true
-is_apart (row.Test n) = true
+is_apart _ = true
 
 pub variable_apart : (s : Option ℕ) (b : Bool) (m i : ℕ) → is_apart (variable_in s b m i) ≡ true
 variable_apart None b m i = refl
@@ -191,14 +185,6 @@ module _ (P Q : Plain) (placed : IsPlaced P Q) (formed : IsFormed P) (typed : Is
 
   -- an operand of a typed form
   pub sound : (n : ℕ) (u : Bool) (e : Ex) → Typed P g (bare e) → Into n u e → IsSound (at n e)
-  sound n u (number t i) a w = none_sound _ refl refl refl
-  sound n u (character t c) a w = none_sound _ refl refl refl
-  sound n u (text t s) a w = none_sound _ refl refl refl
-  sound n u (truth t b) a w = none_sound _ refl refl refl
-  sound n u (null t) a w = none_sound _ refl refl refl
-  sound n u (instance_of t i e c) a w = none_sound _ refl refl refl
-  sound n u (unary t o e) a w = none_sound _ refl refl refl
-  sound n u (binary t o e d) a w = none_sound _ refl refl refl
   sound n u (this t) a w = record {
     classed = typing_at n u (this t) a w;
     pointed = λ i d. ap (item_type P Q) (same_Some i (point.This m) (sym d)) ∙ ap (option_and_then (λ k. class_object k.owner)) stands
@@ -252,6 +238,7 @@ module _ (P Q : Plain) (placed : IsPlaced P Q) (formed : IsFormed P) (typed : Is
       (λ j d. record { row_is = ap (λ z. Some (row.New z)) (same_Some i j d); place = t.place; used = u; part = w _ (first _ _) })
   sound n u (cast t i v e) a w = form_sound _ (at n (cast t i v e)) n (w _ (first _ _)) refl refl (typing_at n u (cast t i v e) a w)
       (apart_own row.Cast (Some i) (at n (cast t i v e)) refl (λ i. refl)) (no_creation (at n (cast t i v e)) refl)
+  sound n u e a w = none_sound _ refl refl refl
 
   -- what an `instanceof` gives
   pub test_sound : (p : Part) (o : Operand) (n l : ℕ) → Contains (parts_of P m k) p → own_of p ≡ Some o → given_by p ≡ Some o

@@ -55,10 +55,6 @@ label_given (a_super_call p m es q) o e = ap (λ z. label_in z.point) (same_Some
 label_given (a_test p d q) o e = ap (λ z. label_in z.point) (same_Some q o e)
 label_given _ o e = absurd (cc)
 
-abbrev expr_body : PointItem → Option ℕ
-expr_body (point.Expr m l) = Some m
-expr_body _ = None
-
 body_there : (P : Plain) (type : Ex → Option ObjectType) (m : ℕ) (k : PlainMethod) (b : Option Sts) (p : Part) → Contains (parts_body P type m k b) p
     → is_some b ≡ true
 body_there P type m k None p c = absurd (omega (arith, c.1))
@@ -231,15 +227,15 @@ module _ (P Q : Plain) (placed : IsPlaced P Q) (formed : IsFormed P) (typed : Is
       → o.row ≡ Some a.row
   part_follows m k p o l a e c g h (a_form n j q d b v) i =
       let y = subst (λ z. HasLabel n z) v.given (part_labelled P Q placed formed typed q (record { number = n; method = j; stands = d; part = b })) in
-      let s : n ≡ m = same_Some n m (ap expr_body (same_Some _ _ (sym y.1 ∙ v.point_is ∙ ap Some i))) in
+      let s : n ≡ m = let x = sym y.1 ∙ v.point_is ∙ ap Some i in cc in
       let kk : j ≡ k = same_Some j k (sym d ∙ ap (slice_get Q.methods) s ∙ e) in
       let cc1 = subst (λ z. Contains (parts_of P m z) q) kk (subst (λ z. Contains (parts_of P z j) q) s b) in
       let same = label_apart P m k q p l cc1 c (label_given q v.operand v.given ∙ ap label_in (v.point_is ∙ ap Some i)) (label_given p o g ∙ ap label_in h) in
       ap (λ z. z.row) (same_Some _ _ (sym g ∙ ap given_by (sym same) ∙ v.given)) ∙ v.row_is
-  part_follows m k p o l a e c g h (a_static f j d r s) i = absurd (let z = sym r ∙ i in cc)
-  part_follows m k p o l a e c g h (a_this n j d r s) i = absurd (let z = sym r ∙ i in cc)
-  part_follows m k p o l a e c g h (a_variable n j q d r s) i = absurd (let z = sym r ∙ i in cc)
-  part_follows m k p o l a e c g h (a_result n j d r s) i = absurd (let z = sym r ∙ i in cc)
+  part_follows m k p o l a e c g h (a_static f j d r s) i = absurd (cc)
+  part_follows m k p o l a e c g h (a_this n j d r s) i = absurd (cc)
+  part_follows m k p o l a e c g h (a_variable n j q d r s) i = absurd (cc)
+  part_follows m k p o l a e c g h (a_result n j d r s) i = absurd (cc)
 
   cast_of : (x : TestInfo) → IsTestPart x → HasCast F x
   cast_of x t =

@@ -1,12 +1,12 @@
 -- A program has one answer: two that it may have are the same.
-use Rattle.std.proofs.Common.{◌≡◌, List, Some, None, refl, sym, ap, ◌∙◌}
+use Rattle.std.proofs.Common.{◌≡◌, List, refl, sym, ap, ◌∙◌}
 use Rattle.std.specs.Prelude.{◌≢◌}
 use Rattle.std.proofs.lemmas.Option.{same_Some}
 use Rattle.java_core.specs.Programs.{Plain}
 use Rattle.fact_model.specs.declared.facts.Facts.{Facts}
 use Rattle.flow_rules.specs.declared.faults.FactsFault.{FactsFault}
 use Rattle.flow_rules.specs.declared.faults.FactsFault.TheVariants as fault
-use Rattle.flow_rules.specs.Facts.{IsRefused, IsSameSet, IsWithin, TooMany}
+use Rattle.flow_rules.specs.Facts.{IsRefused, IsSameSet, IsWithin}
 use Rattle.program_facts.specs.Known.{AreProgramFacts}
 use Rattle.program_facts.specs.Same.{AreSame}
 
@@ -43,24 +43,18 @@ same_facts P Q F G f g =
       vars = both _ _ _ f.names.vars g.names.vars;
     }
 
-some_none : {A : Type 0} (x : A) → Some x ≡ None → ⊥
-some_none x e = cc
-
-same_limit : (x y : TooMany) → Some x ≡ Some y → fault.TooMany x.what x.number ≡ fault.TooMany y.what y.number
-same_limit x y e = ap (λ t. fault.TooMany t.what t.number) (same_Some x y e)
-
 pub same_faults : (P Q : Plain) (e f : FactsFault) → IsRefused P Q e → IsRefused P Q f → e ≢ fault.Memory → f ≢ fault.Memory → e ≡ f
 same_faults P Q (fault.HasInterface x) (fault.HasInterface y) a b m n = cc
-same_faults P Q (fault.HasInterface x) (fault.TooMany k i) a b m n = absurd (some_none _ (sym a ∙ b.0))
-same_faults P Q (fault.TooMany k i) (fault.HasInterface y) a b m n = absurd (some_none _ (sym b ∙ a.0))
+same_faults P Q (fault.HasInterface x) (fault.TooMany k i) a b m n = absurd (let e = sym a ∙ b.0 in cc)
+same_faults P Q (fault.TooMany k i) (fault.HasInterface y) a b m n = absurd (let e = sym b ∙ a.0 in cc)
 same_faults P Q (fault.TooMany k i) (fault.TooMany l j) a b m n =
-    same_limit (record { what = k; number = i }) (record { what = l; number = j }) (sym a.1 ∙ b.1)
+    ap (λ t. fault.TooMany t.what t.number) (same_Some (record { what = k; number = i }) (record { what = l; number = j }) (sym a.1 ∙ b.1))
 same_faults P Q fault.Memory f a b m n = absurd (m refl)
 same_faults P Q (fault.HasInterface x) fault.Memory a b m n = absurd (n refl)
 same_faults P Q (fault.TooMany k i) fault.Memory a b m n = absurd (n refl)
 
 -- a program that has facts is refused for want of memory alone
 pub not_refused : (P Q : Plain) (e : FactsFault) → IsWithin P Q → IsRefused P Q e → e ≡ fault.Memory
-not_refused P Q (fault.HasInterface x) w r = absurd (some_none _ (sym r ∙ w.interfaces))
-not_refused P Q (fault.TooMany k i) w r = absurd (some_none _ (sym r.1 ∙ w.counts))
+not_refused P Q (fault.HasInterface x) w r = absurd (let e = sym r ∙ w.interfaces in cc)
+not_refused P Q (fault.TooMany k i) w r = absurd (let e = sym r.1 ∙ w.counts in cc)
 not_refused P Q fault.Memory w r = refl

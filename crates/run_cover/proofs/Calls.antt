@@ -1,6 +1,6 @@
 -- What closed sets give along a call: from its receiver, arguments and the body's result to the body's variables and the call.
 use Rattle.std.proofs.Common.{◌≡◌, ℕ, zero, suc, List, [], ◌∷◌, ◌++◌, Option, Some, None, sym, ap, ◌∙◌, subst, arith}
-use Rattle.std.specs.Prelude.{Bool, true, slice_get, Contains, map}
+use Rattle.std.specs.Prelude.{◌<◌, Bool, true, slice_get, Contains, map, length}
 use Rattle.std.specs.Option.{option_map_or}
 use Rattle.std.specs.List.{flat_map, AllByRecursion}
 use Rattle.std.proofs.lemmas.Option.{same_Some}
@@ -55,6 +55,29 @@ module _ (P Q : Plain) (F : Facts) (S : Sets) where
   pub result_is : (m : ℕ) (k : PlainMethod) → slice_get Q.methods m ≡ Some k → result_object m ≡ object_if k.result
   result_is m k e = ap (λ z. option_map_or (λ k. object_if k.result) z None) e
 
+  -- each variable of an object type has a point
+  abbrev HavePoints : ℕ → PlainMethod → Type 0
+  HavePoints c h = (i : ℕ) (t : ObjectType) → variable_object h i ≡ Some t → (q : ℕ) × ((numbers P Q).point (point.Local c i) ≡ Some q)
+
+  -- what goes to the point of a variable is in the variable, and what the result's point hands on is in what the call gives
+  module _ (c : ℕ) (es : List Operand) (o : Operand) (h : PlainMethod) (stands : slice_get Q.methods c ≡ Some h) (kinded : IsKindedCall P Q F h es o) where
+    argument_goes : HavePoints c h → (i : ℕ) (a : Operand) → slice_get es i ≡ Some a → (b : ObjectType) → a.ty ≡ Some b → (t : ℕ)
+        → ((q : ℕ) → i < length h.params → (numbers P Q).point (point.Local c i) ≡ Some q → S.point q t ≡ true) → local_sites c i t ≡ true
+    argument_goes vars i a e b d t goes =
+        let u = kinded.args i a b e d in
+        let q = vars i u.0 u.1 in
+        when_is (local_object c i) u.0 (at_point P Q F S ((numbers P Q).point (point.Local c i))) t (local_is c h i stands ∙ u.1)
+        (is_at P Q F S ((numbers P Q).point (point.Local c i)) q.0 t q.1 (goes q.0 u.2 q.1))
+
+    result_goes : o.created ≡ None → (t : ℕ)
+        → ((a q : ℕ) → (numbers P Q).point (point.Result c) ≡ Some a → point_at (numbers P Q) o ≡ Some q → S.point a t ≡ true → S.point q t ≡ true)
+        → result_sites c t ≡ true → (looks_in P Q F S o.created o t ≡ true) × (value_sites P Q F S o t ≡ true)
+    result_goes plain t goes r =
+        let w = when_some (result_object c) (at_point P Q F S ((numbers P Q).point (point.Result c))) t r in
+        let from = at_is P Q F S ((numbers P Q).point (point.Result c)) t w.1 in
+        let q = kinded.result w.0.0 (sym (result_is c h stands) ∙ w.0.1) in
+        point_sites_of P Q F S o t plain q (goes from.number q.number from.there q.point from.holds)
+
   module _ (closed : (ps : List Fact) (f : Fact) → Inclusion F ps f → AllByRecursion (λ p. has S p ≡ true) ps → has S f ≡ true)
       (facts : IsFactsOf P Q F) (m : ℕ) (k : PlainMethod) (stands : slice_get Q.methods m ≡ Some k) where
     call_given : (p : Part) → Contains (parts_of P m k) p → (x : Placed PlainCall) → Contains (calls_of (numbers P Q) p) x → (c : CallInfo)
@@ -75,62 +98,35 @@ module _ (P Q : Plain) (F : Facts) (S : Sets) where
     pub call_goes : (p : Place) (b : Operand) (j : ℕ) (d : Option ℕ) (es : List Operand) (o : Operand)
         → Contains (parts_of P m k) (a_call p b (Some j) d es o) → IsUsed P Q F S b → o.created ≡ None → (s : ℕ) → value_sites P Q F S b s ≡ true
         → (c : ℕ) (h : PlainMethod) → slice_get Q.methods c ≡ Some h → FindsBody P Q F (site_class F s) j c h → IsKindedCall P Q F h es o
-        → ((i : ℕ) (t : ObjectType) → variable_object h i ≡ Some t → (q : ℕ) × ((numbers P Q).point (point.Local c i) ≡ Some q))
-        → CallGoes c es o s
+        → HavePoints c h → CallGoes c es o s
     call_goes p b j d es o there ub plain s v c h eh body kc vars =
         let base = (used_at P Q F S b s ub v).1 in
-        let x : Placed PlainCall = record {
+        let seen : ℕ → Placed PlainCall = λ r. record {
           place = p;
-          item = record {
-            receiver = base.number;
-            slot = j;
-            args = map (point_at (numbers P Q)) es;
-            result = point_at (numbers P Q) o;
-          };
+          item = record { receiver = r; slot = j; args = map (point_at (numbers P Q)) es; result = point_at (numbers P Q) o };
         } in
-        let call = call_given (a_call p b (Some j) d es o) there x
-        (subst (λ z. Contains (option_map_or
-        (λ r. record {
-          place = p;
-          item = record {
-            receiver = r;
-            slot = j;
-            args = map (point_at (numbers P Q)) es;
-            result = point_at (numbers P Q)
-                o;
-          };
-        } ∷ []) z []) x) (sym base.there) (one x)) in
+        let call = call_given (a_call p b (Some j) d es o) there (seen base.number)
+        (subst (λ z. Contains (option_map_or (λ r. seen r ∷ []) z []) (seen base.number)) (sym base.there) (one (seen base.number))) in
         go call.0 call.1 base.number base.holds (ap (λ z. z.receiver) call.2) (ap (λ z. z.slot) call.2) (ap (λ z. z.args) call.2) (ap (λ z. z.result) call.2)
       where
         go : (call : CallInfo) → Contains F.calls.items call → (r : ℕ) → S.point r s ≡ true → call.receiver ≡ r → call.slot ≡ j
             → call.args.items ≡ map (point_at (numbers P Q)) es → call.result ≡ point_at (numbers P Q) o → CallGoes c es o s
         go call listed r base er ej ea eo =
-            let runs : Runs F call s body.body = record {
-              called = listed;
-              listed = body.is_body.listed;
-              found = ap (λ z. finds F (site_class F s) z)
-                  ej ∙ body.found;
-            } in
+            let runs : Runs F call s body.body =
+            record { called = listed; listed = body.is_body.listed; found = ap (λ z. finds F (site_class F s) z) ej ∙ body.found } in
             let received : S.point call.receiver s ≡ true = subst (λ z. S.point z s ≡ true) (sym er) base in
             record {
               self = is_at P Q F S ((numbers P Q).point (point.This c)) body.body.this s body.is_body.this
                   (closed (in_point call.receiver s ∷ []) (in_point body.body.this s) (by_this call s body.body runs) (received, tt));
               args = λ i a ei ua t va.
                   let w = used_at P Q F S a t ua va in
-                  let u = kc.args i a w.0.0 ei w.0.1 in
-                  let q = vars i u.0 u.1 in
-                  when_is (local_object c i) u.0 (at_point P Q F S ((numbers P Q).point (point.Local c i))) t (local_is c h i eh
-                  ∙ u.1) (is_at P Q F S ((numbers P Q).point (point.Local c i)) q.0 t q.1
-                  (closed (in_point call.receiver s ∷ in_point w.1.number t ∷ []) (in_point q.0 t) (by_argument call s body.body i w.1.number q.0 t runs
-                  (ap (λ z. listed_at z i) ea ∙ listed_map (point_at (numbers P Q)) es i a ei ∙ w.1.there) (body.is_body.params i u.2 ∙ q.1))
-                  (received, (w.1.holds, tt))));
-              result = λ t rt.
-                  let w = when_some (result_object c) (at_point P Q F S ((numbers P Q).point (point.Result c))) t rt in
-                  let from = at_is P Q F S ((numbers P Q).point (point.Result c)) t w.1 in
-                  let q = kc.result w.0.0 (sym (result_is c h eh) ∙ w.0.1) in
-                  point_sites_of P Q F S o t plain q
-                  (closed (in_point call.receiver s ∷ in_point from.number t ∷ []) (in_point q.number t) (by_result call s body.body from.number q.number t runs
-                  (sym body.is_body.result ∙ from.there) (eo ∙ q.point)) (received, (from.holds, tt)));
+                  argument_goes c es o h eh kc vars i a ei w.0.0 w.0.1 t (λ q below at.
+                  closed (in_point call.receiver s ∷ in_point w.1.number t ∷ []) (in_point q t) (by_argument call s body.body i w.1.number q t runs
+                  (ap (λ z. listed_at z i) ea ∙ listed_map (point_at (numbers P Q)) es i a ei ∙ w.1.there) (body.is_body.params i below ∙ at))
+                  (received, (w.1.holds, tt)));
+              result = λ t. result_goes c es o h eh kc plain t (λ a q from at holds.
+                  closed (in_point call.receiver s ∷ in_point a t ∷ []) (in_point q t) (by_result call s body.body a q t runs
+                  (sym body.is_body.result ∙ from) (eo ∙ at)) (received, (holds, tt)));
             }
 
     -- what a static or super call gives and takes
@@ -143,37 +139,27 @@ module _ (P Q : Plain) (F : Facts) (S : Sets) where
         → ((x : FlowInfo) → Contains (moved_args (numbers P Q) c es) x → Contains (flows_of (numbers P Q) m p) x)
         → ((x : FlowInfo) → Contains (moved ((numbers P Q).point (point.Result c)) (point_at (numbers P Q) o)) x
         → Contains (flows_of (numbers P Q) m p) x)
-        → (h : PlainMethod) → slice_get Q.methods c ≡ Some h → IsKindedCall P Q F h es o → ((i : ℕ) (t : ObjectType) → variable_object h i ≡ Some t
-        → (q : ℕ) × ((numbers P Q).point (point.Local c i) ≡ Some q)) → StaticGoes c es o
+        → (h : PlainMethod) → slice_get Q.methods c ≡ Some h → IsKindedCall P Q F h es o → HavePoints c h → StaticGoes c es o
     one_body p there c es o plain hn hf hr h eh kc vars = record {
       args = λ i a ei ua t va.
           let w = value_typed P Q F S a t ua va in
-          let u = kc.args i a w.0 ei w.1 in
-          let q = vars i u.0 u.1 in
-          when_is (local_object c i) u.0 (at_point P Q F S ((numbers P Q).point (point.Local c i))) t (local_is c h i eh
-          ∙ u.1) (is_at P Q F S ((numbers P Q).point (point.Local c i)) q.0 t q.1
-          (operand_goes P Q F S closed facts m k stands p there a ((numbers P Q).point (point.Local c i)) q.0 t
+          argument_goes c es o h eh kc vars i a ei w.0 w.1 t (λ q below at.
+          operand_goes P Q F S closed facts m k stands p there a ((numbers P Q).point (point.Local c i)) q t
           (λ x d. hn x (each_has (λ i o. created (numbers P Q) o ((numbers P Q).point (point.Local c i))) 0 es i a x ei i (omega arith) d))
-          (λ x d. hf x (each_has (λ i o. moved (point_at (numbers P Q) o) ((numbers P Q).point (point.Local c i))) 0 es i a x ei i (omega arith) d)) q.1 va));
-      result = λ t rt.
-          let w = when_some (result_object c) (at_point P Q F S ((numbers P Q).point (point.Result c))) t rt in
-          let from = at_is P Q F S ((numbers P Q).point (point.Result c)) t w.1 in
-          let q = kc.result w.0.0 (sym (result_is c h eh) ∙ w.0.1) in
-          point_sites_of P Q F S o t plain q (flow_goes P Q F S closed facts m k stands p there ((numbers P Q).point (point.Result c))
-          (point_at (numbers P Q) o) from.number q.number t hr from.there q.point from.holds);
+          (λ x d. hf x (each_has (λ i o. moved (point_at (numbers P Q) o) ((numbers P Q).point (point.Local c i))) 0 es i a x ei i (omega arith) d)) at va);
+      result = λ t. result_goes c es o h eh kc plain t (λ a q. flow_goes P Q F S closed facts m k stands p there ((numbers P Q).point (point.Result c))
+          (point_at (numbers P Q) o) a q t hr);
     }
 
     pub static_goes : (p : Place) (c : ℕ) (es : List Operand) (o : Operand) → Contains (parts_of P m k) (a_static_call p c es o) → o.created ≡ None
-        → (h : PlainMethod) → slice_get Q.methods c ≡ Some h → IsKindedCall P Q F h es o
-        → ((i : ℕ) (t : ObjectType) → variable_object h i ≡ Some t → (q : ℕ) × ((numbers P Q).point (point.Local c i) ≡ Some q)) → StaticGoes c es o
+        → (h : PlainMethod) → slice_get Q.methods c ≡ Some h → IsKindedCall P Q F h es o → HavePoints c h → StaticGoes c es o
     static_goes p c es o there plain h eh kc vars = one_body (a_static_call p c es o) there c es o plain (λ x d. d)
         (λ x d. Contains-append_left (moved_args (numbers P Q) c es) (moved ((numbers P Q).point (point.Result c)) (point_at (numbers P Q) o)) x d)
         (λ x d. Contains-append_right (moved_args (numbers P Q) c es) (moved ((numbers P Q).point (point.Result c)) (point_at (numbers P Q) o)) x d) h
         eh kc vars
 
     pub super_goes : (p : Place) (c : ℕ) (es : List Operand) (o : Operand) → Contains (parts_of P m k) (a_super_call p (Some c) es o)
-        → o.created ≡ None → (h : PlainMethod) → slice_get Q.methods c ≡ Some h → IsKindedCall P Q F h es o
-        → ((i : ℕ) (t : ObjectType) → variable_object h i ≡ Some t → (q : ℕ) × ((numbers P Q).point (point.Local c i) ≡ Some q)) → StaticGoes c es o
+        → o.created ≡ None → (h : PlainMethod) → slice_get Q.methods c ≡ Some h → IsKindedCall P Q F h es o → HavePoints c h → StaticGoes c es o
     super_goes p c es o there plain h eh kc vars = one_body (a_super_call p (Some c) es o) there c es o plain (λ x d. d)
         (λ x d. Contains-append_left (moved_args (numbers P Q) c es ++ moved ((numbers P Q).point (point.Result c)) (point_at (numbers P Q) o))
         (moved ((numbers P Q).point (point.This m)) ((numbers P Q).point (point.This c))) x (Contains-append_left (moved_args (numbers P Q) c es)

@@ -14,7 +14,7 @@ use Rattle.java_core.specs.declared.Op.{Op}
 use Rattle.java_core.specs.declared.Fault.TheVariants as fault
 use Rattle.java_core.specs.Trees.{Ex, Exs, no_ex, ex_then}
 use Rattle.java_core.specs.Types.{Env, class_type, element_in, StringMethod, LengthOf, CharAt, Equals}
-use Rattle.java_meaning.specs.Moment.{Value, Number, Truth, CodeUnit, Nothing, Text, Object, Kind, an_object, an_array, Cell, own_type, own_class, Spot, held, bound, self_of, result_of, set_static, kept, put_in, touched, tested, Met, State, Frame, Faulted, Wrong, Escaped, Outcome, stop, Body, Lang, with_some, on_bool, look, look_all}
+use Rattle.java_meaning.specs.Moment.{Value, Number, Truth, CodeUnit, Nothing, Object, Kind, an_object, an_array, Cell, own_type, own_class, Spot, held, bound, self_of, result_of, set_static, kept, put_in, touched, tested, Met, State, Frame, Faulted, Wrong, Escaped, Outcome, stop, Body, Lang, with_some, on_bool, look, look_all}
 use Rattle.java_meaning.specs.Values.{default_of, convert, number_of, truth_of, natural_of, text_of, arith, unary_value, cast_number, same_value, compared, join, defaults, equals_value}
 use Rattle.java_meaning.specs.Meaning.{Flow, Next, Broke, Continued, Gave, ToValue, ToFlow, add_cell, set_value, set_local, give_string, write_static, read_field, write_field, names_length, read_member, element_type, place_in, read_element, on_fitting, write_element, given, string_call, make_cell, make_object, make_array, is_number_type, cast_object, cast_to, test_class, after_left, join_values, compute, operate, write_local, after_one, after_turn}
 use Rattle.run_cover.specs.Families.{Set, Family, ArePlain, Reads, Writes, ReadsElement, WritesElement, Passes, Makes, Tests, Casts, AreIncluded}
@@ -188,11 +188,7 @@ module _ (L : Lang) (Made : Option ℕ → Kind → Type 0) (V : Family) (inc : 
       some_fine (slice_get s.cells b) s _ (λ d ed. bool_fine (L.is_sub (own_type d.kind) t) s go _
       (λ z. h (record { cell = d; there = ed; member = f d.site d.kind (ok.cells b d ed).made z (member_of s.cells b d X iu ed) }))
       (fine_stop (Faulted fault.ArrayStore) s tt))
-  fitting_fine (Number n) X Y t s go ok iu f h = h tt
-  fitting_fine (Truth n) X Y t s go ok iu f h = h tt
-  fitting_fine (CodeUnit n) X Y t s go ok iu f h = h tt
-  fitting_fine Nothing X Y t s go ok iu f h = h tt
-  fitting_fine (Text n) X Y t s go ok iu f h = h tt
+  fitting_fine u X Y t s go ok iu f h = h tt
 
   pub write_element_fine : (g : Env) (e d : Ex) → WritesElement L Made V g e d → (v : Value) (i : ℤ) (u : Value) (s : State) (k : State → Outcome)
       → Good s.cells s.statics → Of s.cells v (V.value g.body e) → Of s.cells u (V.value g.body d) → KS s.cells k → Fine (write_element L v i u s k)
@@ -240,10 +236,6 @@ module _ (L : Lang) (Made : Option ℕ → Kind → Type 0) (V : Family) (inc : 
       → Good s.cells s.statics → Of s.cells v (V.value g.body e) → KV s.cells (V.value g.body d) k → Fine (cast_object L g.body d t v s k)
   unfolding Tests Casts
   cast_object_fine g d e t ts cs Nothing s k ok iv h = h Nothing s (here s.cells s.statics ok) tt
-  cast_object_fine g d e t ts cs (Number n) s k ok iv h = fine_stop Wrong s tt
-  cast_object_fine g d e t ts cs (Truth n) s k ok iv h = fine_stop Wrong s tt
-  cast_object_fine g d e t ts cs (CodeUnit n) s k ok iv h = fine_stop Wrong s tt
-  cast_object_fine g d e t ts cs (Text n) s k ok iv h = fine_stop Wrong s tt
   cast_object_fine g d e t ts cs (Object a) s k ok iv h =
       some_fine (slice_get s.cells a) s _ (λ c ec.
       let mem = member_of s.cells a c (V.value g.body e) iv ec in
@@ -254,6 +246,7 @@ module _ (L : Lang) (Made : Option ℕ → Kind → Type 0) (V : Family) (inc : 
       (record { cell = c; there = ec; member = p.0 }) (λ m2.
       h (Object a) (record s { met = m2 }) (here s.cells s.statics ok) (record { cell = c; there = ec; member = p.1 })))
       (fine_stop (Faulted fault.ClassCast) (record s { met = m1 }) tt)))
+  cast_object_fine g d e t ts cs v s k ok iv h = fine_stop Wrong s tt
 
   cast_number_plain : (b : TyBase) (n : ℤ) (h : List Cell) (X : Set) → Of h (cast_number b n) X
   cast_number_plain Char n h X = tt
@@ -269,15 +262,12 @@ module _ (L : Lang) (Made : Option ℕ → Kind → Type 0) (V : Family) (inc : 
       → Good s.cells s.statics → Of s.cells v (V.value g.body e) → KV s.cells (V.value g.body d) k → Fine (test_class L g.body d t v s k)
   unfolding Tests
   test_class_fine g d e t ts Nothing s k ok iv h = h (Truth false) s (here s.cells s.statics ok) tt
-  test_class_fine g d e t ts (Number n) s k ok iv h = fine_stop Wrong s tt
-  test_class_fine g d e t ts (Truth n) s k ok iv h = fine_stop Wrong s tt
-  test_class_fine g d e t ts (CodeUnit n) s k ok iv h = fine_stop Wrong s tt
-  test_class_fine g d e t ts (Text n) s k ok iv h = fine_stop Wrong s tt
   test_class_fine g d e t ts (Object a) s k ok iv h =
       some_fine (slice_get s.cells a) s _ (λ c ec.
       look_fine (tested g.body d (L.is_sub (own_type c.kind) (class_type t))) (Object a) s _
       (record { cell = c; there = ec; member = ts c.site c.kind (ok.cells a c ec).made (member_of s.cells a c (V.value g.body e) iv ec) }) (λ m.
       h _ (record s { met = m }) (here s.cells s.statics ok) tt))
+  test_class_fine g d e t ts v s k ok iv h = fine_stop Wrong s tt
 
   -- a body that runs
   pub record FrameIn (h : List Cell) (f : Frame) : Type 0 where

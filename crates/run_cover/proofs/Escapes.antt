@@ -8,7 +8,7 @@ use Rattle.java_core.specs.declared.Ty.{Ty}
 use Rattle.java_core.specs.Programs.{Plain}
 use Rattle.java_core.specs.Classes.{lookup, super_method}
 use Rattle.java_core.specs.Types.{field_type, types_of}
-use Rattle.java_meaning.specs.Moment.{Value, Number, Truth, CodeUnit, Nothing, Text, Object, Cell, Spot, held, bound, self_of, result_of, set_static, kept, put_in, touched, tested, ran, End, Escaped, Body}
+use Rattle.java_meaning.specs.Moment.{Value, Nothing, Object, Cell, Spot, held, bound, result_of, set_static, kept, End, Escaped, Body}
 use Rattle.java_meaning.specs.Values.{default_of}
 use Rattle.java_meaning.specs.Languages.{layout, default_at, body_with}
 use Rattle.java_meaning.proofs.Moves.{then_some}
@@ -53,23 +53,15 @@ module _ (P Q : Plain) (F : Facts) (S : Sets) where
   typed_sub : (p : Spot) (s : ℕ) → typed_sites P Q F S p s ≡ true → sites_at P Q F S p s ≡ true
   typed_sub (held m e) s h = looks_held (operand_at P Q m e).created (operand_at P Q m e) s h
   typed_sub (bound m i) s h = (when_some (local_object P Q F S m i) (at_point P Q F S ((numbers P Q).point (point.Local m i))) s h).1
-  typed_sub (self_of m) s h = h
   typed_sub (result_of m) s h = (when_some (result_object P Q F S m) (at_point P Q F S ((numbers P Q).point (point.Result m))) s h).1
   typed_sub (set_static f) s h = (when_some (field_object P f) (at_point P Q F S ((numbers P Q).point (point.Static f))) s h).1
   typed_sub (kept o f) s h = (when_some (field_object P f) (at_cell P Q F S (option_and_then (field_cell P Q F f) (site_in (numbers P Q) o))) s h).1
-  typed_sub (put_in o) s h = h
-  typed_sub (touched m e f) s h = h
-  typed_sub (tested m d b) s h = h
-  typed_sub (ran m d b) s h = h
+  typed_sub p s h = h
 
   value_seen : (p : Spot) (v : Value) (h : List Cell) → Of h v ((family P Q F S).spot p) → is_seen P Q F S (spot_set P Q F S p) v h ≡ true
   value_seen p (Object a) h o = subst (λ z. option_map_or (λ c. spot_set P Q F S p c.site) z false ≡ true) (sym o.there)
       (passes_map (typed_sites P Q F S p) (sites_at P Q F S p) (site_in (numbers P Q) o.cell.site) (typed_sub p) o.member)
-  value_seen p (Number n) h o = refl
-  value_seen p (Truth b) h o = refl
-  value_seen p (CodeUnit c) h o = refl
-  value_seen p Nothing h o = refl
-  value_seen p (Text a) h o = refl
+  value_seen p v h o = refl
 
   all_seen : (b i : ℕ) (vs : List Value) (h : List Cell) → ((x y : ℕ) (v : Value) → y ≡ i + x → slice_get vs x ≡ Some v
       → Of h v ((family P Q F S).spot (bound b y))) → are_seen P Q F S b i vs h ≡ true

@@ -5,7 +5,7 @@ use Rattle.std.specs.Option.{option_map_or}
 use Rattle.java_core.specs.declared.TyBase.TheVariants.{Class, Str}
 use Rattle.java_core.specs.Trees.{no_ex, create, Sts, declare, no_st, st_then}
 use Rattle.java_core.specs.Programs.{Plain, PlainClass, PlainMethod, PlainLocal}
-use Rattle.java_meaning.specs.Moment.{Object, Cell, Spot, held, bound, self_of, result_of, set_static, kept as kept_in, put_in, touched, tested, ran, Ended, Escaped}
+use Rattle.java_meaning.specs.Moment.{Object, Cell, Spot, held, kept as kept_in, put_in, Ended, Escaped}
 use Rattle.java_meaning.specs.Meaning.{run_in}
 use Rattle.java_core.specs.Untagged.{bare_tag, untagged}
 use Rattle.fact_model.specs.declared.facts.Facts.{Facts}
@@ -93,15 +93,9 @@ module _ (P Q : Plain) (F : Facts) where
   nowhere : (p : Spot) (s : ℕ) → Flows p → sites_at P Q F none p s ≡ false
   unfolding Flows
   nowhere (held m e) s h = held_nowhere (operand_at P Q m e).created _ (operand_at P Q m e) s refl h
-  nowhere (bound m i) s h = at_no_point _ s
-  nowhere (self_of m) s h = at_no_point _ s
-  nowhere (result_of m) s h = at_no_point _ s
-  nowhere (set_static f) s h = at_no_point _ s
   nowhere (kept_in o f) s h = at_no_cell _ s
   nowhere (put_in o) s h = at_no_cell _ s
-  nowhere (touched m e f) s h = at_no_point _ s
-  nowhere (tested m d b) s h = at_no_point _ s
-  nowhere (ran m d b) s h = at_no_point _ s
+  nowhere p s h = at_no_point _ s
 
   stopped : (p : Spot) (a r : ℕ) (c : Cell) (h : List Cell) → slice_get h a ≡ Some c → site_in (numbers P Q) c.site ≡ Some r → Flows p
       → is_seen P Q F none (spot_set P Q F none p) (Object a) h ≡ false

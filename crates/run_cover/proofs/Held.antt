@@ -10,7 +10,7 @@ use Rattle.java_core.specs.declared.TyBase.TheVariants.{Int, Boolean, Char, Str,
 use Rattle.java_core.specs.declared.Fault.{Fault}
 use Rattle.java_core.specs.declared.Fault.TheVariants as fault
 use Rattle.java_core.specs.Types.{element_in}
-use Rattle.java_meaning.specs.Moment.{Value, Number, Truth, CodeUnit, Nothing, Text, Object, Kind, an_object, an_array, Cell, own_class, State, End, Ended, Faulted, Going, Wrong, Escaped, Outcome, stop, step, step_of, with_some, or_fault, with_result, on_bool}
+use Rattle.java_meaning.specs.Moment.{Value, Number, Truth, CodeUnit, Nothing, Text, Object, Kind, an_object, an_array, Cell, own_class, State, End, Faulted, Going, Wrong, Escaped, Outcome, stop, step, step_of, with_some, or_fault, with_result, on_bool}
 use Rattle.java_meaning.specs.Values.{default_in, widened, convert, and_argument, arguments}
 use Rattle.java_meaning.specs.Meaning.{on_test, with_cell, element_type, texts}
 use Rattle.run_cover.specs.Families.{Set, Sub, ArePlain}
@@ -20,18 +20,11 @@ use Rattle.java_meaning.proofs.Sound.{get_add, fault_has, result_has}
 
 abbrev pub Stays : End → Type 0
 Stays Escaped = ⊥
-Stays Ended = Unit {0}
-Stays (Faulted x) = Unit {0}
-Stays Going = Unit {0}
-Stays Wrong = Unit {0}
+Stays _ = Unit {0}
 
 pub of_sub : (h : List Cell) (v : Value) (X Y : Set) → Sub X Y → Of h v X → Of h v Y
 of_sub h (Object a) X Y s r = record { cell = r.cell; there = r.there; member = s r.cell.site r.member }
-of_sub h (Number n) X Y s r = tt
-of_sub h (Truth n) X Y s r = tt
-of_sub h (CodeUnit n) X Y s r = tt
-of_sub h Nothing X Y s r = tt
-of_sub h (Text n) X Y s r = tt
+of_sub h v X Y s r = tt
 
 -- each object keeps its creation
 pub Keeps : List Cell → List Cell → Type 0
@@ -40,11 +33,7 @@ Keeps h k = (a : ℕ) (c : Cell) → slice_get h a ≡ Some c → (d : Cell) × 
 pub of_kept : (h k : List Cell) (v : Value) (X : Set) → Keeps h k → Of h v X → Of k v X
 unfolding Keeps
 of_kept h k (Object a) X r p = let d = r a p.cell p.there in record { cell = d.0; there = d.1; member = ap X d.2 ∙ p.member }
-of_kept h k (Number n) X r p = tt
-of_kept h k (Truth n) X r p = tt
-of_kept h k (CodeUnit n) X r p = tt
-of_kept h k Nothing X r p = tt
-of_kept h k (Text n) X r p = tt
+of_kept h k v X r p = tt
 
 pub keeps_same : (h : List Cell) → Keeps h h
 unfolding Keeps
@@ -71,11 +60,7 @@ member_of h a c X o e = subst (λ z. X z.site ≡ true) (same_Some o.cell c (sym
 -- what is no object is in each set
 pub plain_of : (h : List Cell) (v : Value) (X : Set) → ((a : ℕ) → v ≡ Object a → ⊥) → Of h v X
 plain_of h (Object a) X p = absurd (p a refl)
-plain_of h (Number n) X p = tt
-plain_of h (Truth n) X p = tt
-plain_of h (CodeUnit n) X p = tt
-plain_of h Nothing X p = tt
-plain_of h (Text n) X p = tt
+plain_of h v X p = tt
 
 pub of_widened : (h : List Cell) (b : TyBase) (d c : ℕ) (X : Set) → Of h (widened b d c) X
 of_widened h Int zero c X = tt
@@ -158,11 +143,7 @@ bool_fine false s x y h d = d
 
 pub test_fine : (v : Value) (s : State) (x y : State → Outcome) → Fine (x s) → Fine (y s) → Fine (on_test v s x y)
 test_fine (Truth z) s x y h d = bool_fine z s x y (λ e. h) d
-test_fine (Number n) s x y h d = fine_stop Wrong s tt
-test_fine (CodeUnit n) s x y h d = fine_stop Wrong s tt
-test_fine Nothing s x y h d = fine_stop Wrong s tt
-test_fine (Text a) s x y h d = fine_stop Wrong s tt
-test_fine (Object a) s x y h d = fine_stop Wrong s tt
+test_fine v s x y h d = fine_stop Wrong s tt
 
 pub some_fine : {A : Type 0} (o : Option A) (s : State) (k : A → Outcome) → ((a : A) → o ≡ Some a → Fine (k a)) → Fine (with_some o s k)
 some_fine None s k h = fine_stop Wrong s tt
@@ -185,7 +166,4 @@ pub cell_fine : (v : Value) (X : Set) (s : State) (k : ℕ → Cell → Outcome)
     → X c.site ≡ true → Fine (k a c)) → Fine (with_cell v s k)
 cell_fine Nothing X s k q h = fine_stop (Faulted fault.Null) s tt
 cell_fine (Object a) X s k q h = some_fine (slice_get s.cells a) s (λ c. k a c) (λ c e. h a c e (member_of s.cells a c X q e))
-cell_fine (Number n) X s k q h = fine_stop Wrong s tt
-cell_fine (Truth n) X s k q h = fine_stop Wrong s tt
-cell_fine (CodeUnit n) X s k q h = fine_stop Wrong s tt
-cell_fine (Text n) X s k q h = fine_stop Wrong s tt
+cell_fine v X s k q h = fine_stop Wrong s tt

@@ -6,7 +6,7 @@ use Rattle.std.proofs.lemmas.Option.{same_Some}
 use Rattle.std.proofs.lemmas.Bool.{eq-eqb}
 use Rattle.kaba_base.specs.declared.Place.{Place}
 use Rattle.java_core.specs.declared.Ty.{Ty}
-use Rattle.java_core.specs.Trees.{Tag, Ex, Exs, no_ex, ex_then, number, character, text, truth, null, this, local, static_field, own_field, field, index, call, static_call, super_call, create, create_array, cast, instance_of, unary, binary}
+use Rattle.java_core.specs.Trees.{Tag, Ex, Exs, no_ex, ex_then, this, local, static_field, own_field, field, index, call, static_call, super_call, create, create_array, cast, instance_of, unary, binary}
 use Rattle.java_core.specs.Programs.{PlainMethod}
 use Rattle.java_core.specs.Classes.{lookup, super_method}
 use Rattle.java_core.specs.Types.{types_of, class_type, field_type}
@@ -253,11 +253,6 @@ module _ (B : ClosedBody) where
   -- all that an expression does stays in the sets
   mutual
     pub included : (u : Bool) (e : Ex) → Stands (tree u e) → Included L Made V g e
-    included u (number t n) st = tt
-    included u (character t c) st = tt
-    included u (text t x) st = tt
-    included u (truth t b) st = tt
-    included u (null t) st = tt
     included u (this t) st = this_sub t
     included u (local t i) st = local_sub t i
     included u (static_field t f) st = static_sub t f
@@ -330,6 +325,7 @@ module _ (B : ClosedBody) where
       included false e (left (tree false e) (tree false d) (left (tree false e ++ tree false d) _ st)),
       included false d (right (tree false e) (tree false d) (left (tree false e ++ tree false d) _ st)),
     )
+    included u e st = tt
 
     included_all : (u : Bool) (es : Exs) → Stands (trees u es) → IncludedAll L Made V g es
     included_all u no_ex st = tt

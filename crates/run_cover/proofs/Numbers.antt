@@ -6,7 +6,7 @@ use Rattle.std.specs.List.{flat_map}
 use Rattle.std.proofs.lemmas.Option.{same_Some}
 use Rattle.std.proofs.lemmas.Grind.{flat_map-append}
 use Rattle.std.proofs.lemmas.List.Elements.{Contains-append_left, Contains-append_right}
-use Rattle.java_core.specs.Trees.{Tag, Ex, Exs, no_ex, ex_then, number, character, text, truth, null, this, local, static_field, own_field, field, index, call, static_call, super_call, create, create_array, cast, instance_of, unary, binary, Target, to_local, to_static, to_own, to_field, to_element, no_target, St, Sts, Arms, declare, block, assign, act, print, choose, loop, return, break, continue, no_st, st_then, no_other, otherwise, arm}
+use Rattle.java_core.specs.Trees.{Tag, Ex, Exs, no_ex, ex_then, local, field, index, call, static_call, super_call, create, create_array, cast, instance_of, unary, binary, Target, to_local, to_static, to_own, to_field, to_element, no_target, St, Sts, Arms, declare, block, assign, act, print, choose, loop, return, break, continue, no_st, st_then, no_other, otherwise, arm}
 use Rattle.java_core.specs.Programs.{Plain, PlainMethod}
 use Rattle.java_core.specs.Formed.{HasNoTwice, numbers, numbers_all, numbers_if, numbers_target, numbers_st, numbers_sts, numbers_arms, numbers_body, numbers_methods}
 use Rattle.java_core.specs.Untagged.{bare, bare_all, bare_if, bare_target, bare_st, bare_sts, bare_arms}
@@ -14,30 +14,19 @@ use Rattle.flow_rules.specs.declared.items.ObjectType.{ObjectType}
 use Rattle.flow_rules.specs.declared.items.RowItem.{RowItem}
 use Rattle.flow_rules.specs.declared.items.RowItem.TheVariants as row
 use Rattle.flow_rules.specs.Labels.{size, label, label_all, size_if, label_if, size_target, label_target, size_st, size_sts, label_st, label_sts, label_arms}
-use Rattle.flow_rules.specs.Parts.{Part, a_load, an_element, a_creation, a_call, a_static_call, a_super_call, a_test, is_accessed, parts, parts_all, parts_if, parts_set, parts_return, parts_assign, parts_st, parts_sts, parts_arms, parts_body, parts_of}
+use Rattle.flow_rules.specs.Parts.{Part, a_creation, a_test, is_accessed, parts, parts_all, parts_if, parts_set, parts_return, parts_assign, parts_st, parts_sts, parts_arms, parts_body, parts_of}
 use Rattle.flow_rules.specs.Operands.{type_in}
 use Rattle.flow_rules.proofs.Listed.{at_contains, at_below, flat_has, at_left}
 
 -- the number of what has a row of its own
 abbrev pub number_in : Option RowItem → List ℕ
-number_in None = []
 number_in (Some (row.New n)) = n ∷ []
 number_in (Some (row.Cast n)) = n ∷ []
 number_in (Some (row.Test n)) = n ∷ []
-number_in (Some (row.Field f)) = []
-number_in (Some (row.This m)) = []
-number_in (Some (row.Return s)) = []
-number_in (Some (row.Param s i)) = []
-number_in (Some (row.Result m)) = []
-number_in (Some (row.Local m i)) = []
+number_in _ = []
 
 abbrev pub part_number : Part → List ℕ
-part_number (a_load p b f o) = []
-part_number (an_element p b o) = []
 part_number (a_creation p u o) = option_to_list o.created
-part_number (a_call p b s d es o) = []
-part_number (a_static_call p m es o) = []
-part_number (a_super_call p m es o) = []
 part_number (a_test p e o) = number_in o.row
 part_number _ = []
 
@@ -64,15 +53,6 @@ module _ (P : Plain) (type : Ex → Option ObjectType) (m : ℕ) (k : PlainMetho
 
   mutual
     ex_numbers : (n : ℕ) (u : Bool) (e : Ex) → numbers_in (in_ex u (label n e)) ≡ numbers (bare e)
-    ex_numbers n u (number t i) = refl
-    ex_numbers n u (character t c) = refl
-    ex_numbers n u (text t s) = refl
-    ex_numbers n u (truth t b) = refl
-    ex_numbers n u (null t) = refl
-    ex_numbers n u (this t) = refl
-    ex_numbers n u (local t i) = refl
-    ex_numbers n u (static_field t f) = refl
-    ex_numbers n u (own_field t f) = refl
     ex_numbers n u (field t e x) = joined (in_ex (is_accessed (label n e)) (label n e)) _ (numbers (bare e)) (ex_numbers n (is_accessed (label n e)) e) refl
     ex_numbers n u (index t e i) = join (in_ex true (label n e)) _ (numbers (bare e)) (numbers (bare i)) (ex_numbers n true e)
         (ex_numbers (n + size e + 1) false i)
@@ -89,6 +69,7 @@ module _ (P : Plain) (type : Ex → Option ObjectType) (m : ℕ) (k : PlainMetho
         joined (in_ex false (label n e) ++ in_ex false (label (n + size e) d)) _ (numbers (bare e) ++ numbers (bare d))
         (join (in_ex false (label n e)) (in_ex false (label (n + size e) d)) (numbers (bare e)) (numbers (bare d)) (ex_numbers n false e)
         (ex_numbers (n + size e) false d)) refl
+    ex_numbers n u e = refl
 
     all_numbers : (n : ℕ) (u : Bool) (es : Exs) → numbers_in (in_all u (label_all n es)) ≡ numbers_all (bare_all es)
     all_numbers n u no_ex = refl

@@ -5,7 +5,7 @@ use Rattle.std.specs.Option.{option_map, is_some}
 use Rattle.std.proofs.lemmas.Option.{same_Some}
 use Rattle.kaba_base.specs.declared.Place.{Place}
 use Rattle.java_core.specs.declared.Ty.{Ty}
-use Rattle.java_core.specs.Trees.{Tag, Ex, Exs, no_ex, ex_then, number, character, text, truth, null, this, local, static_field, own_field, field, index, call, static_call, super_call, create, create_array, cast, instance_of, unary, binary}
+use Rattle.java_core.specs.Trees.{Tag, Ex, Exs, no_ex, ex_then, own_field, field, index, call, static_call, super_call, create, create_array, cast, instance_of, unary, binary}
 use Rattle.java_core.specs.Programs.{Plain, PlainMethod}
 use Rattle.java_core.specs.Classes.{super_method, slot_of}
 use Rattle.java_core.specs.Types.{a_value, types_of, class_of, element_of, Signature, signature_of_method, call_signature, super_signature, static}
@@ -188,14 +188,6 @@ module _ (B : TypedBody) where
   -- each part of a typed expression is kinded
   mutual
     pub kinds : (u : Bool) (sc : List ℕ) (e : Ex) → IsTyped e → IsFormedEx sc e → Stands (tree u e) → K (tree u e)
-    kinds u sc (number t n) ty fo st = of_nil _
-    kinds u sc (character t c) ty fo st = of_nil _
-    kinds u sc (text t x) ty fo st = of_nil _
-    kinds u sc (truth t b) ty fo st = of_nil _
-    kinds u sc (null t) ty fo st = of_nil _
-    kinds u sc (this t) ty fo st = of_nil _
-    kinds u sc (local t i) ty fo st = of_nil _
-    kinds u sc (static_field t f) ty fo st = of_nil _
     kinds u sc (own_field t f) ty fo st = of_cons _ [] (own_load_kind t f _ refl (here _ [] st)) (of_nil _)
     kinds u sc (field t e x) (t_field te some) (f_field fe n) st =
         of_append (tree (is_accessed e) e) _ (kinds (is_accessed e) sc e te fe (left (tree (is_accessed e) e) _ st))
@@ -228,6 +220,7 @@ module _ (B : TypedBody) where
         (of_append (tree false e) (tree false d) (kinds false sc e te fe (left (tree false e) (tree false d) both))
         (kinds false sc d td fd (right (tree false e) (tree false d) both)))
         (of_cons _ [] (pair_kind p (O e) (O d)) (of_nil _))
+    kinds u sc e ty fo st = of_nil _
 
     kinds_all : (u : Bool) (sc : List ℕ) (es : Exs) (us : List Ty) → TypedArgs P g (bare_all es) us → FormedExs P (untag_method k) sc (bare_all es)
         → Stands (parts_all P (type_in P m k) m k u es) → K (parts_all P (type_in P m k) m k u es)

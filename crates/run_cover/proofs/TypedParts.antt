@@ -9,7 +9,7 @@ use Rattle.kaba_base.specs.declared.Place.{Place}
 use Rattle.java_core.specs.declared.Ty.{Ty}
 use Rattle.java_core.specs.declared.TyBase.TheVariants.{Int}
 use Rattle.std.proofs.lemmas.Bool.{false≢true}
-use Rattle.java_core.specs.Trees.{Tag, Ex, Exs, no_ex, ex_then, number, character, text, truth, null, this, local, static_field, own_field, field, index, call, static_call, super_call, create, create_array, cast, instance_of, unary, binary}
+use Rattle.java_core.specs.Trees.{Tag, Ex, Exs, no_ex, ex_then, this, local, static_field, own_field, field, index, call, static_call, super_call, create, create_array, cast, unary, binary}
 use Rattle.java_core.specs.Programs.{Plain, PlainMethod, PlainLocal}
 use Rattle.java_core.specs.Classes.{super_method, nearest_of, parent_of, own_method, is_method_of, member_field, slot_of, slot_of_method}
 use Rattle.java_core.specs.Types.{Static, or_nothing, types_of, plain_type, is_length, class_of, element_of, length_or, field_type, field_in, access_type, Signature, signature_of_method, call_signature, super_signature, result_of, static}
@@ -238,11 +238,6 @@ module _ (B : TypedBody) where
   -- the row of an expression of a type of a row
   pub row_listed : (u : Bool) (scope : List ℕ) (e : Ex) → IsTyped e → IsFormedEx scope e → Stands (tree u e) → (t : ObjectType) → T e ≡ Some t
       → (r : ℕ) × (number_if (row_number P Q) (row_of P (type_in P m k) m k e) ≡ Some r)
-  row_listed u sc (number t n) ty fo st o h = none_typed (number t n) o refl h
-  row_listed u sc (character t c) ty fo st o h = none_typed (character t c) o refl h
-  row_listed u sc (text t x) ty fo st o h = none_typed (text t x) o refl h
-  row_listed u sc (truth t b) ty fo st o h = none_typed (truth t b) o refl h
-  row_listed u sc (null t) ty fo st o h = none_typed (null t) o refl h
   row_listed u sc (this t) ty (f_this s) st o h = this_row P Q m k stands body s
   row_listed u sc (local t i) ty fo st o h = variable_row_of Q formed m k i o stands (sym (local_type t i) ∙ h)
   row_listed u sc (static_field t f) ty fo st o h = field_row_of Q formed f o (sym (static_type t f) ∙ h)
@@ -263,9 +258,9 @@ module _ (B : TypedBody) where
       (T (create_array t n v e)) o (here _ _ st) (λ x d. d) h
   row_listed u sc (cast t n v e) ty fo st o h = own_row_there (a_test t.place (O e) (O (cast t n v e))) t.place (row.Cast n) (T (cast t n v e)) o
       (here _ _ st) (λ x d. d) h
-  row_listed u sc (instance_of t n e c) ty fo st o h = none_typed (instance_of t n e c) o refl h
   row_listed u sc (unary t p e) ty fo st o h = none_typed (unary t p e) o (unary_none p) h
   row_listed u sc (binary t p e d) ty fo st o h = none_typed (binary t p e d) o (binary_none p (static P g e) (static P g d)) h
+  row_listed u sc e ty fo st o h = none_typed e o refl h
 
   -- arguments and parameters
   pub args_typed : (es : Exs) (us : List Ty) → TypedArgs P g (bare_all es) us → (i : ℕ) (a : Operand) (t : ObjectType)

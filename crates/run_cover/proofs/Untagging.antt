@@ -1,7 +1,7 @@
 -- Tags do not matter to types.
 use Rattle.std.proofs.Common.{◌≡◌, ℕ, ◌+◌, List, [], ◌∷◌, ◌++◌, Option, Some, None, refl, ap}
 use Rattle.std.specs.Prelude.{map}
-use Rattle.java_core.specs.Trees.{Ex, Exs, no_ex, ex_then, number, character, text, truth, null, this, local, static_field, own_field, field, index, call, static_call, super_call, create, create_array, cast, instance_of, unary, binary, Target, to_local, to_static, to_own, to_field, to_element, no_target, St, Sts, Arms, declare, block, assign, act, print, choose, loop, return, break, continue, no_st, st_then, no_other, otherwise, arm}
+use Rattle.java_core.specs.Trees.{Ex, Exs, no_ex, ex_then, field, index, call, static_call, super_call, create, create_array, cast, instance_of, unary, binary, Target, to_local, to_static, to_own, to_field, to_element, no_target, St, Sts, Arms, declare, block, assign, act, print, choose, loop, return, break, continue, no_st, st_then, no_other, otherwise, arm}
 use Rattle.java_core.specs.Programs.{PlainMethod, PlainLocal}
 use Rattle.java_core.specs.Types.{env_of, types_of}
 use Rattle.flow_rules.specs.Labels.{label, label_all, label_if, label_target, label_st, label_sts, label_arms, size, size_target, size_st, size_sts, size_if}
@@ -9,15 +9,6 @@ use Rattle.java_core.specs.Untagged.{untag_local, untag_method, bare, bare_all, 
 
 mutual
   pub unlabel : (n : ℕ) (e : Ex) → bare (label n e) ≡ bare e
-  unlabel n (number t i) = refl
-  unlabel n (character t c) = refl
-  unlabel n (text t u) = refl
-  unlabel n (truth t b) = refl
-  unlabel n (null t) = refl
-  unlabel n (this t) = refl
-  unlabel n (local t i) = refl
-  unlabel n (static_field t f) = refl
-  unlabel n (own_field t f) = refl
   unlabel n (field t e x) = rw (unlabel n e) refl
   unlabel n (index t e i) = rw (unlabel n e, unlabel (n + size e + 1) i) refl
   unlabel n (call t e x es) = rw (unlabel n e, unlabel_all (n + size e + 1) es) refl
@@ -29,6 +20,7 @@ mutual
   unlabel n (instance_of t i e c) = rw (unlabel n e) refl
   unlabel n (unary t o e) = rw (unlabel n e) refl
   unlabel n (binary t o e d) = rw (unlabel n e, unlabel (n + size e) d) refl
+  unlabel n e = refl
 
   pub unlabel_all : (n : ℕ) (es : Exs) → bare_all (label_all n es) ≡ bare_all es
   unlabel_all n no_ex = refl
