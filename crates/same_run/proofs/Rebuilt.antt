@@ -112,7 +112,8 @@ first_plain (f ∷ fs) zero a e = default_plain f.ty.base f.ty.dim a (same_Some 
 first_plain (f ∷ fs) (suc i) a e = first_plain fs i a e
 
 module _ {Q : Plain} {F : Facts} {H : Hierarchy} {W : Plain} (K : Known (untagged Q) Q F H W) (pt : PointsTo) (t : Table) (X : IsGiven Q F H pt t) where
-  open X use {placed, typed, facts, in_range as A, in_order as O, sets as S, is_table as B, table, none, hierarchy}
+  open X use {placed, ready, table}
+  open ready use {typed, facts, in_range as A, in_order as O, sets as S, table as B, unbroken as none, hierarchy}
 
   abbrev P : Plain
   P = untagged Q
