@@ -17,7 +17,7 @@ use Rattle.java_meaning.specs.Meaning.{words_type, element_type, run_in}
 use Rattle.java_meaning.specs.Languages.{layout, body_with, language_of}
 use Rattle.java_meaning.proofs.Layouts.{places}
 use Rattle.run_cover.specs.Watched.{Of}
-use Rattle.twin_runs.specs.Twins.{shape_of, Link, value_at, same_number, same_text, same_local, same_own_field, same_field, same_index, same_call, same_super_call, same_create, same_create_array, same_cast, same_binary, same_no_ex, same_some, same_to_field, same_to_element, same_declare, same_assign, same_print, same_return, same_no_st, same_st_then, HasPair, SameBody, AreTwins}
+use Rattle.twin_runs.specs.Twins.{shape_of, Link, value_at, same_number, same_text, same_local, same_own_field, same_field, same_index, same_call, same_super_call, same_create, same_create_array, same_cast, same_binary, same_no_ex, same_some, same_to_field, same_to_element, same_declare, same_assign, same_print, same_return, same_no_st, same_st_then, HasPair, SameSts, SameBody, AreTwins}
 use Rattle.twin_runs.proofs.States.{Alike}
 use Rattle.twin_runs.proofs.SameRun.{same_run}
 use Rattle.java_meaning.proofs.Examples.{tag, variable, class, under, many, main_of, method as method_of}
@@ -252,27 +252,25 @@ store_made o q a b k l t u made held e d =
     (subst (λ z. old_language.is_sub (own_type (kind_in 1 2 q)) t ≡ new_language.is_sub (own_type z) u) held.new
     (store_same o q t u (ap element_type made.old ∙ e) (ap element_type made.new ∙ d)))
 
+-- bodies without parameters and locals are twins if their code is
+same_body : (i j c d : ℕ) (x y : List ℕ) (xs ys : Sts)
+    → SameSts old_language new_language link Made Pair (body_with i (method c x xs) xs).env (body_with j (method d y ys) ys).env xs ys
+    → SameBody old_language new_language link Made Pair (body_with i (method c x xs) xs) (body_with j (method d y ys) ys)
+same_body i j c d x y xs ys code = record {
+  env = record { locals = refl; result = refl };
+  params = refl;
+  rest = refl;
+  plain = λ i a e. absurd (cc);
+  ends = refl;
+  code = code;
+}
+
 bodies_same : (b c : Body) → Pair b c → SameBody old_language new_language link Made Pair b c
 unfolding below field_in member_field field_of search_order declaration_of lookup super_method layout
-bodies_same b c pair_first = record {
-  env = record { locals = refl; result = refl };
-  params = refl;
-  rest = refl;
-  plain = λ i a e. absurd (cc);
-  ends = refl;
-  code = same_st_then (same_return (same_some (same_own_field
-      (record { new = λ f e. refl; had = λ f e o c k made m. subst (λ z. ((z == 0) && is_first o) ≡ true) (same_Some 0 f e) m }))))
-      same_no_st;
-}
-bodies_same b c pair_second = record {
-  env = record { locals = refl; result = refl };
-  params = refl;
-  rest = refl;
-  plain = λ i a e. absurd (cc);
-  ends = refl;
-  code = same_st_then (same_return (same_some (same_binary
-      (same_super_call same_no_ex (λ b e. has_pair old_first_body new_first_body b _ pair_first e refl)) same_number))) same_no_st;
-}
+bodies_same b c pair_first = same_body 0 2 1 2 (codes "m") (codes "n") _ _ (same_st_then (same_return (same_some (same_own_field
+    (record { new = λ f e. refl; had = λ f e o c k made m. subst (λ z. ((z == 0) && is_first o) ≡ true) (same_Some 0 f e) m })))) same_no_st)
+bodies_same b c pair_second = same_body 1 1 2 3 (codes "m") (codes "n") _ _ (same_st_then (same_return (same_some (same_binary
+    (same_super_call same_no_ex (λ b e. has_pair old_first_body new_first_body b _ pair_first e refl)) same_number))) same_no_st)
 bodies_same b c pair_main = record {
   env = record { locals = refl; result = refl };
   params = refl;
