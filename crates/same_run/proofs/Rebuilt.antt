@@ -40,7 +40,7 @@ use Rattle.rebuild_model.specs.Members.{HasTypes, HasCode, new_types}
 use Rattle.rebuild_looks.specs.Known.{Known, Offers, sides}
 use Rattle.rebuild_looks.proofs.Fields as fields
 use Rattle.rebuild_looks.proofs.Fields.{one_old_field}
-use Rattle.rebuild_looks.proofs.Statics.{one_static_field, one_old_static_field, static_field_is, static_method_is}
+use Rattle.rebuild_looks.proofs.Statics.{static_fields, static_methods}
 use Rattle.rebuild_types.proofs.Asked.{SeesNew}
 use Rattle.rebuild_types.proofs.Bodies.{have_slots, body_some, copied_locals, this_class}
 use Rattle.rebuild_types.proofs.Served.{renewed, served, has_slot}
@@ -170,7 +170,7 @@ module _ {Q : Plain} {F : Facts} {H : Hierarchy} {W : Plain} (K : Known (untagge
   method_copied : (d n : ℕ) → IsStaticMethod P W R d n → BothPair L M link Made Pair (L.static_body d) (M.static_body n)
   unfolding labelled_body
   method_copied d n same b eb =
-      let x = static_method_is K d n same in
+      let x = (static_methods K).is d n same in
       let k = of_method Q K.old d x.same.old x.same.old_stands in
       let body = then_some (labelled_with P Q F (solved pt) d) (slice_get Q.methods d) b eb in
       let one : k.0 ≡ body.0 = same_Some k.0 body.0 (sym k.1 ∙ body.1) in
@@ -196,7 +196,7 @@ module _ {Q : Plain} {F : Facts} {H : Hierarchy} {W : Plain} (K : Known (untagge
 
   statics : StaticsTied Q W F (solved pt) R (has K t) (new_field K t) new_static Made Pair
   statics = record {
-    fields = λ f j a. record { static = static_old f j a; new = one_static_field K f j (new_static f) a (new_static_is f (static_old f j a)) };
+    fields = λ f j a. record { static = static_old f j a; new = (static_fields K).one_new f j (new_static f) a (new_static_is f (static_old f j a)) };
     methods = method_copied;
   }
 
@@ -332,12 +332,12 @@ module _ {Q : Plain} {F : Facts} {H : Hierarchy} {W : Plain} (K : Known (untagge
 
   static_shapes : (f : ℕ) → is_static_field P f ≡ true → option_map shape_of (field_type P f) ≡ option_map shape_of (field_type W (new_static f))
   static_shapes f h =
-      let x = static_field_is K f (new_static f) (new_static_is f h) in
+      let x = (static_fields K).is f (new_static f) (new_static_is f h) in
       field_shape f (new_static f) x.same.old x.same.new (R.row_type (row.Field f)) x.same.old_stands x.same.new_stands x.type
 
   statics_begin : (f : ℕ) → is_static_field P f ≡ true → slice_get (statics_of P) f ≡ slice_get (statics_of W) (new_static f)
   statics_begin f h =
-      let x = static_field_is K f (new_static f) (new_static_is f h) in
+      let x = (static_fields K).is f (new_static f) (new_static_is f h) in
       slice_get-map (λ (z : PlainField). default_of z.ty) P.fields f ∙ ap (option_map (λ (z : PlainField). default_of z.ty)) x.same.old_stands
       ∙ ap (λ z. Some z) (same_default x.same.old.ty (retyped (R.row_type (row.Field f)) x.same.old.ty) (shape_kept (R.row_type (row.Field f)) x.same.old.ty))
       ∙ ap (λ z. Some (default_of z)) (sym x.type)
@@ -356,7 +356,7 @@ module _ {Q : Plain} {F : Facts} {H : Hierarchy} {W : Plain} (K : Known (untagge
     new_places = places W;
     fields_apart = kept_apart;
     field_shapes = kept_shapes;
-    statics_apart = λ f g hf hg e. one_old_static_field K f g (new_static g) (subst (λ z. IsStaticField P W R f z) e (new_static_is f hf)) (new_static_is g hg);
+    statics_apart = λ f g hf hg e. (static_fields K).one_old f g (new_static g) (subst (λ z. IsStaticField P W R f z) e (new_static_is f hf)) (new_static_is g hg);
     static_shapes = static_shapes;
     statics = statics_begin;
     plain_statics = first_plain P.fields;
