@@ -12,7 +12,7 @@ use Rattle.java_core.specs.Trees.{no_ex, number, text, this, local, own_field, f
 use Rattle.java_core.specs.Programs.{Plain, PlainMethod, PlainLocal}
 use Rattle.java_core.specs.Classes.{below, field_of, member_field, search_order, declaration_of, lookup, super_method}
 use Rattle.java_core.specs.Types.{plain_type, class_type, field_in}
-use Rattle.java_meaning.specs.Moment.{Value, Number, Truth, CodeUnit, Nothing, Text, Object, Kind, an_object, an_array, Cell, own_type, own_class, Spot, touched, Ended, unnoted, Body, Lang}
+use Rattle.java_meaning.specs.Moment.{Value, Number, Nothing, Object, Kind, an_object, an_array, Cell, own_type, own_class, Spot, touched, Ended, unnoted, Body, Lang}
 use Rattle.java_meaning.specs.Meaning.{words_type, element_type, run_in}
 use Rattle.java_meaning.specs.Languages.{layout, body_with, language_of}
 use Rattle.java_meaning.proofs.Layouts.{places}
@@ -125,11 +125,7 @@ record Made (o : Option ℕ) (k l : Kind) : Type 0 where
 
 abbrev passes_at : (Option ℕ → Bool) → Value → List Cell → Bool
 passes_at X (Object a) h = option_map_or (λ c. X c.site) (slice_get h a) false
-passes_at X (Number n) h = true
-passes_at X (Truth n) h = true
-passes_at X (CodeUnit n) h = true
-passes_at X Nothing h = true
-passes_at X (Text n) h = true
+passes_at X v h = true
 
 abbrev all_there : List Value → List Cell → Bool
 all_there [] h = true
@@ -153,11 +149,7 @@ passes_of X (Object a) h e = go (slice_get h a) refl e
     go : (o : Option Cell) → slice_get h a ≡ o → option_map_or (λ c. X c.site) o false ≡ true → Of h (Object a) X
     go None d e = absurd (false≢true e)
     go (Some c) d e = record { cell = c; there = d; member = e }
-passes_of X (Number n) h e = tt
-passes_of X (Truth n) h e = tt
-passes_of X (CodeUnit n) h e = tt
-passes_of X Nothing h e = tt
-passes_of X (Text n) h e = tt
+passes_of X v h e = tt
 
 all_of : (vs : List Value) (h : List Cell) → all_there vs h ≡ true → (i : ℕ) (v : Value) → slice_get vs i ≡ Some v → Of h v (λ o. true)
 all_of [] h e i v d = absurd (cc)
