@@ -4,7 +4,7 @@ use Rattle.std.specs.Prelude.{map, slice_get}
 use Rattle.std.proofs.lemmas.Option.{same_Some}
 use Rattle.std.proofs.lemmas.List.{length-map, length-append}
 use Rattle.java_tree.specs.Syntax.{DeclTree}
-use Rattle.java_core.specs.Trees.{St, Sts, Arms, block, choose, loop, no_st, st_then, no_other, otherwise, arm}
+use Rattle.java_core.specs.Trees.{St, Sts, Arms, declare, block, assign, act, print, choose, loop, return, break, continue, no_st, st_then, no_other, otherwise, arm}
 use Rattle.java_core.specs.Programs.{Plain, PlainLocal, PlainMethod}
 use Rattle.java_core.specs.Formed.{variables_of}
 use Rattle.java_core.specs.Untagged.{bare_st, bare_sts, bare_arms, untag_local, untag_method, untagged}
@@ -17,10 +17,16 @@ use Rattle.body_rebuilds.proofs.Bodies.{body_some}
 
 mutual
   bare_declares : (x : St) → declares (bare_st x) ≡ declares x
+  bare_declares (declare t i e) = refl
   bare_declares (block t xs) = bare_declares_all xs
+  bare_declares (assign t b e) = refl
+  bare_declares (act t e) = refl
+  bare_declares (print t n e) = refl
   bare_declares (choose t xs) = bare_declares_arms xs
   bare_declares (loop t is_while first test step body) = rw (bare_declares_all first, bare_declares_all step, bare_declares_all body) refl
-  bare_declares x = refl
+  bare_declares (return t e) = refl
+  bare_declares (break t) = refl
+  bare_declares (continue t) = refl
 
   bare_declares_all : (xs : Sts) → declares_all (bare_sts xs) ≡ declares_all xs
   bare_declares_all no_st = refl

@@ -343,7 +343,8 @@ module _ {Q : Plain} {F : Facts} {H : Hierarchy} {W : Plain} (K : Known (untagge
     new_places = places W;
     fields_apart = kept_apart;
     field_shapes = kept_shapes;
-    statics_apart = λ f g hf hg e. (static_fields K).one_old f g (new_static g) (subst (λ z. IsStaticField P W R f z) e (new_static_is f hf)) (new_static_is g hg);
+    statics_apart = λ f g hf hg e.
+        (static_fields K).one_old f g (new_static g) (subst (λ z. IsStaticField P W R f z) e (new_static_is f hf)) (new_static_is g hg);
     static_shapes = static_shapes;
     statics = statics_begin;
     plain_statics = first_plain P.fields;

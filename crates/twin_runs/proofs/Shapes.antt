@@ -17,7 +17,8 @@ through_shape : {A : Type 0} (f : Ty → A) → ((t : Ty) → f (shape_of t) ≡
 through_shape f h t u e = sym (h t) ∙ ap f e ∙ h u
 
 -- where the class makes no difference, the shape has what the type has
-base_shape : {A : Type 0} (f : TyBase → A) → ((k : ℕ) → f (shape_in (Class (record { 0 = k }))) ≡ f (Class (record { 0 = k }))) → (b : TyBase) → f (shape_in b) ≡ f b
+base_shape : {A : Type 0} (f : TyBase → A) → ((k : ℕ) → f (shape_in (Class (record { 0 = k }))) ≡ f (Class (record { 0 = k })))
+    → (b : TyBase) → f (shape_in b) ≡ f b
 base_shape f h Int = refl
 base_shape f h Boolean = refl
 base_shape f h Char = refl
