@@ -179,12 +179,6 @@ module _ (Q : Plain) (H : Hierarchy) (U O : Plain) (T : Places) (K : KnowsNames 
 
     -- what is written of an expression is no name of a class
     pub no_class : (e : Ex) → IsFormedEx inner e → is_class_name O here.owner (bound_names bs) (text_of scope e) ≡ false
-    no_class (number t n) fo = refl
-    no_class (character t c) fo = refl
-    no_class (text t x) fo = refl
-    no_class (truth t b) fo = refl
-    no_class (null t) fo = refl
-    no_class (this t) fo = refl
     no_class (local t i) (f_local c l) = ap (λ z. not z && is_none (field_of O here.owner (variable_name old i)))
         (bound_if bs (variable_name old i) ∙ ap is_some (s.found i c))
     no_class (static_field t f) (f_static_field i) = go
@@ -205,10 +199,6 @@ module _ (Q : Plain) (H : Hierarchy) (U O : Plain) (T : Places) (K : KnowsNames 
         go = ap (λ z. is_class_name O here.owner (bound_names bs) (option_map_or
             (λ (g : PlainField). static_field_tree (is_simple old scope g.owner g.name) (class_name P g.owner) g.name) z (NullLit nowhere))) i.stands
             ∙ simple (is_simple old scope g.owner g.name) refl
-    no_class (own_field t f) fo = refl
-    no_class (field t e x) fo = refl
-    no_class (index t e i) fo = refl
-    no_class (call t e x es) fo = refl
     no_class (static_call t f es) fo = go (slice_get P.methods f)
       where
         tree_free : (b : Bool) (c x : List ℕ) (ts : Expressions) → is_class_name O here.owner (bound_names bs) (static_call_tree b c x ts) ≡ false
@@ -221,13 +211,7 @@ module _ (Q : Plain) (H : Hierarchy) (U O : Plain) (T : Places) (K : KnowsNames 
             (written_all P by_node H m old scope (bare_all es))) o (NullLit nowhere)) ≡ false
         go None = refl
         go (Some g) = tree_free (is_simple old scope g.owner g.name) (class_name P g.owner) g.name (written_all P by_node H m old scope (bare_all es))
-    no_class (super_call t x es) fo = refl
-    no_class (create t n c es) fo = refl
-    no_class (create_array t n v e) fo = refl
-    no_class (cast t n v e) fo = refl
-    no_class (instance_of t n e c) fo = refl
-    no_class (unary t o e) fo = refl
-    no_class (binary t o e d) fo = refl
+    no_class e fo = refl
 
     mutual
       pub matched : (u : Bool) (e d : Ex) → IsTyped e → IsFormedEx inner e → Stands (tree u e) → To (text_of scope e) d → Copies e d

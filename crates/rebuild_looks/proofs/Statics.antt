@@ -17,21 +17,16 @@ use Rattle.rebuild_model.specs.Members.{new_types, IsStaticFieldOf, IsStaticMeth
 use Rattle.rebuild_looks.specs.Known.{Known, sides}
 use Rattle.rebuild_looks.proofs.Fields.{field_holder, method_holder}
 
-module _ {A : Type 0} {static_of : A → Bool} {owner_of : A → ℕ} {name_of : A → List ℕ} {holder_of : ℕ → ℕ} {olds news : List A} where
-  -- where a class has one member of a name, a static member is copied to one
-  one_copy : (f g h : ℕ) (a : IsCopied static_of owner_of name_of holder_of olds news f g) (b : IsCopied static_of owner_of name_of holder_of olds news f h)
-      → ((x y : A) → slice_get news g ≡ Some x → slice_get news h ≡ Some y → owner_of x ≡ owner_of y → name_of x ≡ name_of y → g ≡ h) → g ≡ h
-  one_copy f g h a b once =
-      let same : a.old ≡ b.old = same_Some _ _ (sym a.old_stands ∙ b.old_stands) in
-      once a.new b.new a.new_stands b.new_stands (a.owner ∙ ap (λ z. holder_of (owner_of z)) same ∙ sym b.owner) (a.name ∙ ap name_of same ∙ sym b.name)
+-- static members: each has one copy, each copy is of one, and what a copy is besides
+pub record AreCopies (S Is : ℕ → ℕ → Type 0) : Type 0 where
+  pub one_new : (f g h : ℕ) → S f g → S f h → g ≡ h
+  pub one_old : (e f g : ℕ) → S e g → S f g → e ≡ f
+  pub is : (f g : ℕ) → S f g → Is f g
 
-  -- and of one, where each holder is of one class
-  one_copied : (e f g : ℕ) (a : IsCopied static_of owner_of name_of holder_of olds news e g) (b : IsCopied static_of owner_of name_of holder_of olds news f g)
-      → (holder_of (owner_of a.old) ≡ holder_of (owner_of b.old) → owner_of a.old ≡ owner_of b.old)
-      → ((x y : A) → slice_get olds e ≡ Some x → slice_get olds f ≡ Some y → owner_of x ≡ owner_of y → name_of x ≡ name_of y → e ≡ f) → e ≡ f
-  one_copied e f g a b holders once =
-      let same : a.new ≡ b.new = same_Some _ _ (sym a.new_stands ∙ b.new_stands) in
-      once a.old b.old a.old_stands b.old_stands (holders (sym a.owner ∙ ap owner_of same ∙ b.owner)) (sym a.name ∙ ap name_of same ∙ b.name)
+-- a class has one member of a name
+abbrev AreOnce : {A : Type 0} → (A → ℕ) → (A → List ℕ) → List A → Type 0
+AreOnce {A} owner_of name_of xs =
+    (f g : ℕ) (x y : A) → slice_get xs f ≡ Some x → slice_get xs g ≡ Some y → owner_of x ≡ owner_of y → name_of x ≡ name_of y → f ≡ g
 
 module _ {P Q : Plain} {F : Facts} {H : Hierarchy} {W : Plain} (K : Known P Q F H W) where
   open sides K use {places as T, renaming as R}
@@ -43,37 +38,40 @@ module _ {P Q : Plain} {F : Facts} {H : Hierarchy} {W : Plain} (K : Known P Q F 
   one_holder : (c d : ℕ) → is_holder P c ≡ true → is_holder P d ≡ true → R.holder_of c ≡ R.holder_of d → c ≡ d
   one_holder c d h k e = K.rebuilt.types.holders_once c d h k (sym (holder_is c) ∙ e ∙ holder_is d)
 
+  -- where a class has one member of a name in both, each holder is of one class, and each old member has a copy
+  copies : {A : Type 0} {static_of : A → Bool} {owner_of : A → ℕ} {name_of : A → List ℕ} {olds news : List A} {Is : ℕ → ℕ → Type 0}
+      → AreOnce owner_of name_of olds → AreOnce owner_of name_of news
+      → ((f : ℕ) (x : A) → slice_get olds f ≡ Some x → static_of x ≡ true → is_holder P (owner_of x) ≡ true)
+      → ((f : ℕ) (x : A) → slice_get olds f ≡ Some x → static_of x ≡ true → (g : ℕ) × Is f g)
+      → ((f g : ℕ) → Is f g → IsCopied static_of owner_of name_of R.holder_of olds news f g)
+      → AreCopies (IsCopied static_of owner_of name_of R.holder_of olds news) Is
+  copies {A} {static_of} {owner_of} {name_of} {olds} {news} {Is} old new holder each same = record {
+    one_new = one_new;
+    one_old = λ e f g a b.
+        let one : a.new ≡ b.new = same_Some _ _ (sym a.new_stands ∙ b.new_stands) in
+        old e f a.old b.old a.old_stands b.old_stands
+        (one_holder (owner_of a.old) (owner_of b.old) (holder e a.old a.old_stands a.old_static) (holder f b.old b.old_stands b.old_static)
+        (sym a.owner ∙ ap owner_of one ∙ b.owner)) (sym a.name ∙ ap name_of one ∙ b.name);
+    is = λ f g a. let x = each f a.old a.old_stands a.old_static in subst (λ z. Is f z) (one_new f x.0 g (same f x.0 x.1) a) x.1;
+  }
+    where
+      one_new : (f g h : ℕ) (a : IsCopied static_of owner_of name_of R.holder_of olds news f g)
+          (b : IsCopied static_of owner_of name_of R.holder_of olds news f h) → g ≡ h
+      one_new f g h a b =
+          let one : a.old ≡ b.old = same_Some _ _ (sym a.old_stands ∙ b.old_stands) in
+          new g h a.new b.new a.new_stands b.new_stands (a.owner ∙ ap (λ z. R.holder_of (owner_of z)) one ∙ sym b.owner) (a.name ∙ ap name_of one ∙ sym b.name)
+
   -- fields
-  pub one_static_field : (f g h : ℕ) → IsStaticField P W R f g → IsStaticField P W R f h → g ≡ h
-  one_static_field f g h a b = one_copy f g h a b (K.new.field_names g h)
-
-  pub one_old_static_field : (e f g : ℕ) → IsStaticField P W R e g → IsStaticField P W R f g → e ≡ f
-  one_old_static_field e f g a b = one_copied e f g a b
-      (one_holder a.old.owner b.old.owner (field_holder P e a.old a.old_stands a.old_static) (field_holder P f b.old b.old_stands b.old_static))
-      (K.old.field_names e f)
-
-  pub static_field_is : (f g : ℕ) → IsStaticField P W R f g → IsStaticFieldOf P Q F H W T f g
-  static_field_is f g a =
-      let x = K.rebuilt.statics.each_field f a.old a.old_stands a.old_static in
-      subst (λ z. IsStaticFieldOf P Q F H W T f z) (one_static_field f x.0 g x.1.same a) x.1
+  pub static_fields : AreCopies (IsStaticField P W R) (IsStaticFieldOf P Q F H W T)
+  static_fields = copies K.old.field_names K.new.field_names (field_holder P) K.rebuilt.statics.each_field (λ f g x. x.same)
 
   -- the new field has the type of the old one's row
   pub static_field_type : (f g : ℕ) (x : IsStaticFieldOf P Q F H W T f g) → field_type W g ≡ Some (retyped (R.row_type (row.Field f)) x.same.old.ty)
   static_field_type f g x = ap (option_map (λ (k : PlainField). k.ty)) x.same.new_stands ∙ ap Some x.type
 
   -- methods
-  pub one_static_method : (m g h : ℕ) → IsStaticMethod P W R m g → IsStaticMethod P W R m h → g ≡ h
-  one_static_method m g h a b = one_copy m g h a b (K.new.method_names g h)
-
-  pub one_old_static_method : (k m g : ℕ) → IsStaticMethod P W R k g → IsStaticMethod P W R m g → k ≡ m
-  one_old_static_method k m g a b = one_copied k m g a b
-      (one_holder a.old.owner b.old.owner (method_holder P k a.old a.old_stands a.old_static) (method_holder P m b.old b.old_stands b.old_static))
-      (K.old.method_names k m)
-
-  pub static_method_is : (m g : ℕ) → IsStaticMethod P W R m g → IsStaticMethodOf P Q F H W T m g
-  static_method_is m g a =
-      let x = K.rebuilt.statics.each_method m a.old a.old_stands a.old_static in
-      subst (λ z. IsStaticMethodOf P Q F H W T m z) (one_static_method m x.0 g x.1.same a) x.1
+  pub static_methods : AreCopies (IsStaticMethod P W R) (IsStaticMethodOf P Q F H W T)
+  static_methods = copies K.old.method_names K.new.method_names (method_holder P) K.rebuilt.statics.each_method (λ m g x. x.same)
 
   -- the new method has the signature of the old one's rows, and a body
   pub static_signature : (m g : ℕ) (x : IsStaticMethodOf P Q F H W T m g)
@@ -91,4 +89,4 @@ module _ {P Q : Plain} {F : Facts} {H : Hierarchy} {W : Plain} (K : Known P Q F 
 
   -- the run begins with the old main
   pub main_is : IsStaticMethodOf P Q F H W T P.main W.main
-  main_is = static_method_is P.main W.main K.rebuilt.main
+  main_is = static_methods.is P.main W.main K.rebuilt.main

@@ -61,7 +61,7 @@ use Rattle.rebuild_looks.proofs.Fields.{new_field, finds_field}
 use Rattle.rebuild_looks.proofs.Slots.{method_of_slot, offers_item}
 use Rattle.rebuild_looks.proofs.Declared.{new_body, finds_slot}
 use Rattle.rebuild_looks.proofs.Bodies.{number, bodied_there}
-use Rattle.rebuild_looks.proofs.Statics.{static_field_is, static_field_type, static_method_is}
+use Rattle.rebuild_looks.proofs.Statics.{static_fields, static_field_type, static_methods}
 use Rattle.rebuild_given.proofs.Rest.{half}
 use Rattle.rebuild_given.proofs.Needed as needed
 use Rattle.rebuild_given.proofs.Needed.{super_offers, super_slot, super_of, super_body}
@@ -153,10 +153,10 @@ module _ {Q : Plain} {F : Facts} {H : Hierarchy} {W : Plain} (K : Known (untagge
   renewed = record {
     numbered = λ i r e. (T.type_of (place_of_row H r), row_class_is i r e);
     static_fields = λ f g s.
-        let x = static_field_is K f g s in
+        let x = (static_fields K).is f g s in
         static_field_type K f g x ∙ sym (ap (λ z. retyped_if (R.row_type (row.Field f)) (option_map (λ (k : PlainField). k.ty) z)) x.same.old_stands);
     static_methods = λ d g s k e. let x =
-        static_method_is K d g s in method_types d k e x.same.old x.same.new x.same.old_stands x.types g x.same.new_stands;
+        (static_methods K).is d g s in method_types d k e x.same.old x.same.new x.same.old_stands x.types g x.same.new_stands;
   }
 
   -- a node that offers a field finds it

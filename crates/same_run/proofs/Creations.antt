@@ -81,7 +81,8 @@ retyped_free (Some w) v e = go v.base v.dim e
     go (Class c) d h = absurd (cc)
 
 module _ {Q : Plain} {F : Facts} {H : Hierarchy} {W : Plain} (K : Known (untagged Q) Q F H W) (pt : PointsTo) (t : Table) (X : IsGiven Q F H pt t) where
-  open X use {placed, typed, facts, in_range as A, in_order as O, sets as S, is_table as B, table, none, hierarchy}
+  open X use {placed, ready, table}
+  open ready use {typed, facts, in_range as A, in_order as O, sets as S, table as B, unbroken as none, hierarchy}
 
   abbrev P : Plain
   P = untagged Q

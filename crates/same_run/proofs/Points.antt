@@ -2,7 +2,7 @@
 use Rattle.std.proofs.Common.{◌≡◌, ℕ, ◌<◌, List, [], ◌∷◌, Option, Some, None, length, refl, sym, ap, ◌∙◌}
 use Rattle.std.specs.Prelude.{Bool, true, false, slice_get, Contains}
 use Rattle.std.proofs.lemmas.Option.{same_Some}
-use Rattle.java_core.specs.Trees.{Ex, number, character, text, truth, null, this, local, static_field, own_field, field, index, call, static_call, super_call, create, create_array, cast, instance_of, unary, binary}
+use Rattle.java_core.specs.Trees.{Ex, this, local, static_field, own_field, field, index, call, static_call, super_call, create, create_array, cast}
 use Rattle.java_core.specs.Programs.{Plain, PlainMethod}
 use Rattle.java_core.specs.Classes.{super_method}
 use Rattle.java_core.specs.Typing.{IsTyped}
@@ -93,11 +93,6 @@ module _ (P Q : Plain) (placed : IsPlaced P Q) (formed : IsFormed P) (typed : Is
 
     pub at_operand : (u : Bool) (e : Ex) → Stands (tree u e) → (q : ℕ) → point_at (numbers P Q) (O e) ≡ Some q
         → (row_at (numbers P Q) (O e) ≡ Some (point_row F q)) × (q < length F.points.items)
-    at_operand u (number t n) st = none_at (O (number t n)) refl
-    at_operand u (character t c) st = none_at (O (character t c)) refl
-    at_operand u (text t x) st = none_at (O (text t x)) refl
-    at_operand u (truth t b) st = none_at (O (truth t b)) refl
-    at_operand u (null t) st = none_at (O (null t)) refl
     at_operand u (this t) st = at_item (O (this t)) (point.This m) refl (λ a f i. ap Some (sym (this_row m a f i)))
     at_operand u (local t x) st = at_item (O (local t x)) (point.Local m x) refl (λ a f i. ap Some (sym (local_row m k x a stands f i)))
     at_operand u (static_field t x) st = at_item (O (static_field t x)) (point.Static x) refl (λ a f i. ap Some (sym (static_row x a f i)))
@@ -124,6 +119,4 @@ module _ (P Q : Plain) (placed : IsPlaced P Q) (formed : IsFormed P) (typed : Is
         (here p (tree false e) st) refl refl
     at_operand u (cast t n v e) st = let p = a_test t.place (O e) (O (cast t n v e)) in given_at p (O (cast t n v e)) t.label
         (here p (tree true e) st) refl refl
-    at_operand u (instance_of t n e c) st = none_at (O (instance_of t n e c)) refl
-    at_operand u (unary t o e) st = none_at (O (unary t o e)) refl
-    at_operand u (binary t o e d) st = none_at (O (binary t o e d)) refl
+    at_operand u e st = none_at (O e) refl

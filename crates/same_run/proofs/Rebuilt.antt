@@ -9,7 +9,7 @@ use Rattle.java_core.specs.Programs.{Plain, PlainField, PlainMethod, PlainLocal}
 use Rattle.java_core.specs.Classes.{is_static_field}
 use Rattle.java_core.specs.Types.{env_of, types_of, field_type}
 use Rattle.java_core.specs.Typing.{IsTypedMethod, TypedSts}
-use Rattle.java_meaning.specs.Moment.{Value, Number, Truth, CodeUnit, Nothing, Text, Object, Kind, Cell, bound, Body, Lang}
+use Rattle.java_meaning.specs.Moment.{Value, Nothing, Object, Kind, Cell, bound, Body, Lang}
 use Rattle.java_meaning.specs.Values.{default_of}
 use Rattle.java_meaning.specs.Meaning.{run_in}
 use Rattle.java_meaning.specs.Languages.{body_with, language_of, statics_of}
@@ -24,7 +24,7 @@ use Rattle.flow_rules.specs.declared.items.ColumnItem.TheVariants as column
 use Rattle.flow_rules.specs.declared.items.RowItem.TheVariants as row
 use Rattle.flow_rules.specs.Labels.{label_sts}
 use Rattle.flow_rules.specs.Operands.{variable_row, result_in}
-use Rattle.flow_rules.specs.Parts.{Part, a_load, an_element, a_creation, a_call, a_static_call, a_super_call, a_test, a_pair, a_set, a_store, an_element_store, a_return, parts_of}
+use Rattle.flow_rules.specs.Parts.{Part, a_load, a_creation, a_call, a_super_call, a_test, a_store, an_element_store, parts_of}
 use Rattle.flow_rules.specs.Lists.{site_in}
 use Rattle.flow_rules.specs.Facts.{numbers}
 use Rattle.run_cover.specs.Covers.{Sets, solved, is_seen, are_seen, spot_set, labelled_with, labelled_body, watched}
@@ -40,7 +40,7 @@ use Rattle.rebuild_model.specs.Members.{HasTypes, HasCode, new_types}
 use Rattle.rebuild_looks.specs.Known.{Known, Offers, sides}
 use Rattle.rebuild_looks.proofs.Fields as fields
 use Rattle.rebuild_looks.proofs.Fields.{one_old_field}
-use Rattle.rebuild_looks.proofs.Statics.{one_static_field, one_old_static_field, static_field_is, static_method_is}
+use Rattle.rebuild_looks.proofs.Statics.{static_fields, static_methods}
 use Rattle.rebuild_types.proofs.Asked.{SeesNew}
 use Rattle.rebuild_types.proofs.Bodies.{have_slots, body_some, copied_locals, this_class}
 use Rattle.rebuild_types.proofs.Served.{renewed, served, has_slot}
@@ -64,11 +64,7 @@ use Rattle.same_run.proofs.Statements.{twin_body}
 -- what the watch of sets lets pass is of the sets
 seen_of : (P Q : Plain) (F : Facts) (S : Sets) (X : Set) (v : Value) (h : List Cell) → is_seen P Q F S X v h ≡ true → Of h v X
 seen_of P Q F S X (Object a) h e = let c = some_test (slice_get h a) (λ c. X c.site) e in record { cell = c.0; there = c.1; member = c.2 }
-seen_of P Q F S X (Number n) h e = tt
-seen_of P Q F S X (Truth n) h e = tt
-seen_of P Q F S X (CodeUnit n) h e = tt
-seen_of P Q F S X Nothing h e = tt
-seen_of P Q F S X (Text n) h e = tt
+seen_of P Q F S X v h e = tt
 
 all_of : (P Q : Plain) (F : Facts) (S : Sets) (b n : ℕ) (vs : List Value) (h : List Cell) → are_seen P Q F S b n vs h ≡ true → (i j : ℕ) → j ≡ n + i
     → (v : Value) → slice_get vs i ≡ Some v → Of h v (spot_set P Q F S (bound b j))
@@ -112,7 +108,8 @@ first_plain (f ∷ fs) zero a e = default_plain f.ty.base f.ty.dim a (same_Some 
 first_plain (f ∷ fs) (suc i) a e = first_plain fs i a e
 
 module _ {Q : Plain} {F : Facts} {H : Hierarchy} {W : Plain} (K : Known (untagged Q) Q F H W) (pt : PointsTo) (t : Table) (X : IsGiven Q F H pt t) where
-  open X use {placed, typed, facts, in_range as A, in_order as O, sets as S, is_table as B, table, none, hierarchy}
+  open X use {placed, ready, table}
+  open ready use {typed, facts, in_range as A, in_order as O, sets as S, table as B, unbroken as none, hierarchy}
 
   abbrev P : Plain
   P = untagged Q
@@ -169,7 +166,7 @@ module _ {Q : Plain} {F : Facts} {H : Hierarchy} {W : Plain} (K : Known (untagge
   method_copied : (d n : ℕ) → IsStaticMethod P W R d n → BothPair L M link Made Pair (L.static_body d) (M.static_body n)
   unfolding labelled_body
   method_copied d n same b eb =
-      let x = static_method_is K d n same in
+      let x = (static_methods K).is d n same in
       let k = of_method Q K.old d x.same.old x.same.old_stands in
       let body = then_some (labelled_with P Q F (solved pt) d) (slice_get Q.methods d) b eb in
       let one : k.0 ≡ body.0 = same_Some k.0 body.0 (sym k.1 ∙ body.1) in
@@ -195,7 +192,7 @@ module _ {Q : Plain} {F : Facts} {H : Hierarchy} {W : Plain} (K : Known (untagge
 
   statics : StaticsTied Q W F (solved pt) R (has K t) (new_field K t) new_static Made Pair
   statics = record {
-    fields = λ f j a. record { static = static_old f j a; new = one_static_field K f j (new_static f) a (new_static_is f (static_old f j a)) };
+    fields = λ f j a. record { static = static_old f j a; new = (static_fields K).one_new f j (new_static f) a (new_static_is f (static_old f j a)) };
     methods = method_copied;
   }
 
@@ -204,28 +201,19 @@ module _ {Q : Plain} {F : Facts} {H : Hierarchy} {W : Plain} (K : Known (untagge
       → Ties Q W F (solved pt) R (has K t) (new_field K t) new_static Made Pair m c p
   tied m k e c (a_load w b (Some f) o) i = field_tied K placed facts pt t A O S B table none new_static b f
       (access_of K placed facts pt t A O S B table none new_static m k e (a_load w b (Some f) o) i)
-  tied m k e c (a_load w b None o) i = tt
-  tied m k e c (an_element w b o) i = tt
   tied m k e c (a_creation w u o) i = created K pt t X new_static Pair m k e
       (have_slots K placed typed facts pt t A O S B table none hierarchy) w u o i
   tied m k e c (a_call w b (Some s) (Some d) es o) i = call_tied K placed facts pt t A O S B table none new_static m k e w b s d es o i
       (has_slot K placed typed facts pt t A O S B table none hierarchy b s d
       (access_of K placed facts pt t A O S B table none new_static m k e (a_call w b (Some s) (Some d) es o) i))
-  tied m k e c (a_call w b (Some s) None es o) i = tt
-  tied m k e c (a_call w b None d es o) i = tt
-  tied m k e c (a_static_call w d es o) i = tt
   tied m k e c (a_super_call w (Some d) es o) i = λ x self instance ex.
       super_tied K placed facts pt t A O S B table none new_static m k e w d es o i c x self instance ex
-  tied m k e c (a_super_call w None es o) i = tt
   tied m k e c (a_test w x o) i = record { same = test_same K pt t X m k e w x o i }
-  tied m k e c (a_pair b l r) i = tt
-  tied m k e c (a_set v o) i = tt
   tied m k e c (a_store w b (Some f) o) i = field_tied K placed facts pt t A O S B table none new_static b f
       (access_of K placed facts pt t A O S B table none new_static m k e (a_store w b (Some f) o) i)
-  tied m k e c (a_store w b None o) i = tt
   tied m k e c (an_element_store w b o) i = λ pb po.
       record { same = store_same K pt t X m k e w b o i pb po }
-  tied m k e c (a_return o) i = tt
+  tied m k e c p i = tt
 
   -- a copy is the twin of its body
   copies_same : (b c : Body) → Pair b c → SameBody L M link Made Pair b c
@@ -331,12 +319,12 @@ module _ {Q : Plain} {F : Facts} {H : Hierarchy} {W : Plain} (K : Known (untagge
 
   static_shapes : (f : ℕ) → is_static_field P f ≡ true → option_map shape_of (field_type P f) ≡ option_map shape_of (field_type W (new_static f))
   static_shapes f h =
-      let x = static_field_is K f (new_static f) (new_static_is f h) in
+      let x = (static_fields K).is f (new_static f) (new_static_is f h) in
       field_shape f (new_static f) x.same.old x.same.new (R.row_type (row.Field f)) x.same.old_stands x.same.new_stands x.type
 
   statics_begin : (f : ℕ) → is_static_field P f ≡ true → slice_get (statics_of P) f ≡ slice_get (statics_of W) (new_static f)
   statics_begin f h =
-      let x = static_field_is K f (new_static f) (new_static_is f h) in
+      let x = (static_fields K).is f (new_static f) (new_static_is f h) in
       slice_get-map (λ (z : PlainField). default_of z.ty) P.fields f ∙ ap (option_map (λ (z : PlainField). default_of z.ty)) x.same.old_stands
       ∙ ap (λ z. Some z) (same_default x.same.old.ty (retyped (R.row_type (row.Field f)) x.same.old.ty) (shape_kept (R.row_type (row.Field f)) x.same.old.ty))
       ∙ ap (λ z. Some (default_of z)) (sym x.type)
@@ -355,7 +343,8 @@ module _ {Q : Plain} {F : Facts} {H : Hierarchy} {W : Plain} (K : Known (untagge
     new_places = places W;
     fields_apart = kept_apart;
     field_shapes = kept_shapes;
-    statics_apart = λ f g hf hg e. one_old_static_field K f g (new_static g) (subst (λ z. IsStaticField P W R f z) e (new_static_is f hf)) (new_static_is g hg);
+    statics_apart = λ f g hf hg e.
+        (static_fields K).one_old f g (new_static g) (subst (λ z. IsStaticField P W R f z) e (new_static_is f hf)) (new_static_is g hg);
     static_shapes = static_shapes;
     statics = statics_begin;
     plain_statics = first_plain P.fields;

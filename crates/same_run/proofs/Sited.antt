@@ -23,20 +23,20 @@ use Rattle.fact_model.specs.declared.facts.Facts.{Facts}
 use Rattle.fact_model.specs.declared.sets.PointsTo.{PointsTo}
 use Rattle.fact_model.specs.declared.sets.Table.{Table}
 use Rattle.fact_model.proofs.EntryLemmas.{site_entry}
-use Rattle.hier_model.specs.Hierarchies.{Hierarchy, IsHierarchyOf, place_of_column, place_of_row}
-use Rattle.hier_rules.specs.First.{first_broken}
+use Rattle.hier_model.specs.Hierarchies.{Hierarchy, place_of_column, place_of_row}
 use Rattle.flow_rules.specs.declared.items.ObjectType.{ObjectType}
 use Rattle.flow_rules.specs.declared.items.Operand.{Operand}
 use Rattle.flow_rules.specs.declared.items.ColumnItem.TheVariants as column
 use Rattle.flow_rules.specs.Operands.{object_of, object_in}
 use Rattle.flow_rules.specs.Lists.{point_at, site_in}
-use Rattle.flow_rules.specs.Facts.{numbers, IsFactsOf}
+use Rattle.flow_rules.specs.Facts.{numbers}
 use Rattle.facts_order.proofs.Pairs.{IsPlaced}
-use Rattle.java_core.specs.Typing.{IsTyped}
 use Rattle.run_cover.specs.Covers.{point_sites, at_point, solved, passes}
 use Rattle.java_core.specs.Untagged.{untagged}
 use Rattle.run_cover.proofs.Kinded.{site_type}
 use Rattle.rebuild_looks.specs.Known.{Known, Offers, sides}
+use Rattle.rebuild_types.specs.Laws.{IsReady}
+use Rattle.hier_rules.specs.First.{first_broken}
 use Rattle.rebuild_looks.proofs.Nodes.{offers_own}
 use Rattle.rebuild_looks.proofs.Fields as fields
 use Rattle.rebuild_looks.proofs.Fields.{finds_field, one_field}
@@ -61,19 +61,11 @@ class_free P (Class c) d t e = absurd (cc)
 pub free_apart : (P : Plain) (s : Ty) (t : ObjectType) → object_of s ≡ None → is_subtype P s (type_at t) ≡ false
 free_apart P s t e = and_false (s.dim == t.dim) (is_sub_base P s.base (Class t.class)) (class_free P s.base s.dim t e)
 
--- what a program is rebuilt from: it is placed and typed, the facts are its own, with their sets and their table, and the hierarchy is that of the table
--- and breaks no obligation
+-- what a program is rebuilt from: it is placed, it is ready with its facts, their sets and their table, and the hierarchy is that of the table
 pub record IsGiven (Q : Plain) (F : Facts) (H : Hierarchy) (pt : PointsTo) (t : Table) : Type 0 where
   pub placed : IsPlaced (untagged Q) Q
-  pub typed : IsTyped (untagged Q)
-  pub facts : IsFactsOf (untagged Q) Q F
-  pub in_range : InRange F
-  pub in_order : InOrder F
-  pub sets : AreSets F pt
-  pub is_table : IsTable F t
+  pub ready : IsReady (untagged Q) Q F pt t H
   pub table : H.table ≡ t.rows.items
-  pub none : first_broken F pt H ≡ None
-  pub hierarchy : IsHierarchyOf F H
 
 module _ {Q : Plain} {F : Facts} {H : Hierarchy} {W : Plain} (K : Known (untagged Q) Q F H W) (t : Table) where
   abbrev P : Plain

@@ -1,5 +1,5 @@
 -- What each part of a body gives the twin of the body: what is met there is met in the same way over the new classes.
-use Rattle.std.specs.Prelude.{◌≡◌, ℕ, ◌<◌, length, Bool, true, false, Option, Some, None, option_and_then, slice_get, List, Contains}
+use Rattle.std.specs.Prelude.{◌≡◌, ℕ, ◌<◌, length, Bool, true, false, Option, Some, option_and_then, slice_get, List, Contains}
 use Rattle.java_core.specs.declared.Ty.{Ty}
 use Rattle.java_core.specs.declared.TyBase.TheVariants.{Class}
 use Rattle.java_core.specs.Programs.{Plain, PlainField, PlainMethod}
@@ -20,7 +20,7 @@ use Rattle.flow_rules.specs.declared.items.RowItem.{RowItem}
 use Rattle.flow_rules.specs.declared.items.RowItem.TheVariants as row
 use Rattle.flow_rules.specs.Operands.{object_of, row_of, operand_of, this_operand, type_in}
 use Rattle.flow_rules.specs.Numbered.{row_number}
-use Rattle.flow_rules.specs.Parts.{Part, a_load, an_element, a_creation, a_call, a_static_call, a_super_call, a_test, a_pair, a_set, a_store, an_element_store, a_return, parts, parts_of}
+use Rattle.flow_rules.specs.Parts.{Part, a_load, a_creation, a_call, a_super_call, a_test, a_store, an_element_store, parts, parts_of}
 use Rattle.flow_rules.specs.Lists.{site_in, point_at, row_at}
 use Rattle.flow_rules.specs.Facts.{numbers}
 use Rattle.run_cover.specs.Covers.{Sets, passes, point_sites, held_sites, spot_set, labelled_body, watched}
@@ -119,24 +119,15 @@ module _ (Q W : Plain) (F : Facts) (S : Sets) (R : Renaming) (has : Option ℕ �
   -- what the part of the body m gives; c is the class of the new body
   abbrev pub Ties : ℕ → ℕ → Part → Type 0
   Ties m c (a_load p b (Some f) o) = FieldTiedIf b f
-  Ties m c (a_load p b None o) = Unit {0}
-  Ties m c (an_element p b o) = Unit {0}
   Ties m c (a_creation p u o) = CreationTied o
   Ties m c (a_call p b (Some s) (Some d) es o) = IsAt b → CallTied b s d
-  Ties m c (a_call p b (Some s) None es o) = Unit {0}
-  Ties m c (a_call p b None d es o) = Unit {0}
-  Ties m c (a_static_call p d es o) = Unit {0}
   Ties m c (a_super_call p (Some d) es o) = (x : Body) → R.row_type (row.This m) ≡ Some c
       → ((f : PlainMethod) → slice_get Q.methods d ≡ Some f → f.is_static ≡ false) → labelled_body P Q F S d ≡ Some x
       → Paired x (option_and_then (body_of W) (super_method W c (R.method_name d)))
-  Ties m c (a_super_call p None es o) = Unit {0}
   Ties m c (a_test p e o) = TestTied e o
-  Ties m c (a_pair o l r) = Unit {0}
-  Ties m c (a_set v o) = Unit {0}
   Ties m c (a_store p b (Some f) o) = FieldTiedIf b f
-  Ties m c (a_store p b None o) = Unit {0}
   Ties m c (an_element_store p b o) = IsPointed b → IsPointed o → StoreTied b o
-  Ties m c (a_return o) = Unit {0}
+  Ties m c p = Unit {0}
 
   -- static members are those of the old program
   pub record StaticsTied : Type 0 where

@@ -143,23 +143,7 @@ module _ (A : TwinBody) where
   at_spot (local t i) o q = q
   at_spot (this t) o q = q
   at_spot (static_field t f) o q = q
-  at_spot (number t n) o q = held_operand (number t n) o q
-  at_spot (character t c) o q = held_operand (character t c) o q
-  at_spot (text t x) o q = held_operand (text t x) o q
-  at_spot (truth t b) o q = held_operand (truth t b) o q
-  at_spot (null t) o q = held_operand (null t) o q
-  at_spot (own_field t f) o q = held_operand (own_field t f) o q
-  at_spot (field t e x) o q = held_operand (field t e x) o q
-  at_spot (index t e i) o q = held_operand (index t e i) o q
-  at_spot (call t e x es) o q = held_operand (call t e x es) o q
-  at_spot (static_call t n es) o q = held_operand (static_call t n es) o q
-  at_spot (super_call t x es) o q = held_operand (super_call t x es) o q
-  at_spot (create t n c es) o q = held_operand (create t n c es) o q
-  at_spot (create_array t n v e) o q = held_operand (create_array t n v e) o q
-  at_spot (cast t n v e) o q = held_operand (cast t n v e) o q
-  at_spot (instance_of t n e c) o q = held_operand (instance_of t n e c) o q
-  at_spot (unary t p e) o q = held_operand (unary t p e) o q
-  at_spot (binary t p e d) o q = held_operand (binary t p e d) o q
+  at_spot e o q = held_operand e o q
 
   -- the class where a field is found
   pub base_class : (e : Ex) (x : List ℕ) (f : ℕ) → field_in P (old e) x ≡ Some f → (c : ℕ) × (class_of (old e) ≡ Some c)

@@ -43,18 +43,7 @@ module _ (Q : Plain) (F : Facts) (s : PointsTo) (t : Table) (H : Hierarchy) (W :
   K = known P Q pairs ready.formed F ready.facts s H W new ready.hierarchy ready.unbroken b
 
   given : IsGiven Q F H s t
-  given = record {
-    placed = pairs;
-    typed = ready.typed;
-    facts = ready.facts;
-    in_range = ready.in_range;
-    in_order = ready.in_order;
-    sets = ready.sets;
-    is_table = ready.table;
-    table = same_table F H t ready.hierarchy.table ready.table;
-    none = ready.unbroken;
-    hierarchy = ready.hierarchy;
-  }
+  given = record { placed = pairs; ready = ready; table = same_table F H t ready.hierarchy.table ready.table }
 
   slots : HaveSlots P
   unfolding HaveSlots

@@ -87,18 +87,8 @@ module _ (P : Plain) (R : Renaming) (H : Hierarchy) (m : ℕ) (k : PlainMethod) 
 
     -- what is written of an expression is no class's name
     no_class : {e : Ex} → FormedEx P k formed e → is_class_name O here.owner names (written P R H m k scope e) ≡ false
-    no_class (f_number a) = refl
-    no_class (f_character a) = refl
-    no_class (f_text a) = refl
-    no_class f_truth = refl
-    no_class f_null = refl
-    no_class (f_this a) = refl
     no_class (f_local {i = i} a b) = bound_no_class O here names (variable_name k i) nowhere (is_there k s i a)
     no_class (f_static_field {f = f} is) = (static_field_name_ok f is).1
-    no_class (f_own_field a b) = refl
-    no_class (f_field a b) = refl
-    no_class (f_index a b) = refl
-    no_class (f_call a b c) = refl
     no_class (f_static_call {m = d} {es = es} is a) = call_no_class d (written_all P R H m k scope es)
       where
         call_no_class : (d : ℕ) (es : Expressions) → is_class_name O here.owner names (static_call_name P k scope d es) ≡ false
@@ -113,13 +103,7 @@ module _ (P : Plain) (R : Renaming) (H : Hierarchy) (m : ℕ) (k : PlainMethod) 
                 (option_map_or (λ g. static_call_tree (is_simple k scope g.owner g.name) (class_name P g.owner) g.name es) o (NullLit nowhere)) ≡ false
             go None = refl
             go (Some g) = tree_no_class (is_simple k scope g.owner g.name) (class_name P g.owner) g.name
-    no_class (f_super_call a b c) = refl
-    no_class (f_create a b) = refl
-    no_class (f_create_array a b c) = refl
-    no_class (f_cast a b) = refl
-    no_class (f_instance_of a b) = refl
-    no_class (f_unary a) = refl
-    no_class (f_binary a b) = refl
+    no_class fo = refl
 
     own_ok : (x : List ℕ) (r : Refusal) → k.is_static ≡ false → FaultIn O here names (FieldOf (ThisRef nowhere) x nowhere) r → ⊥
     own_ok x r a y = field_fault O here names (ThisRef nowhere) x nowhere r refl (this_ok r) y
@@ -206,11 +190,6 @@ module _ (P : Plain) (R : Renaming) (H : Hierarchy) (m : ℕ) (k : PlainMethod) 
       subst (λ z. IsScope k (i ∷ formed) (scope ++ i ∷ []) z)
       (sym (local_names names i (written_if P R H m k (scope ++ i ∷ []) e) new.variable new.declared))
       (more k s i new.variable new.declared)
-  after s (f_block a) = s
-  after s (f_assign a b) = s
-  after s (f_act a b) = s
-  after s (f_print a b) = s
-  after s (f_choose a) = s
   after {formed = formed} {scope = scope} {names = names} s (f_loop {is_while = is_while} {first = first} {step = step} {body = body} {test = test}
       of a b c d e f) =
       let inner = scope_after_part scope first in
@@ -218,9 +197,7 @@ module _ (P : Plain) (R : Renaming) (H : Hierarchy) (m : ℕ) (k : PlainMethod) 
       (sym (loop_names is_while names (written_part P R H m k scope first) (written_if P R H m k inner test) (written_part P R H m k inner step)
       (written_sts P R H m k inner body)))
       s
-  after s (f_return a) = s
-  after s (f_break a) = s
-  after s (f_continue a) = s
+  after s fo = s
 
   after_part : {l : Bool} {formed scope : List ℕ} {names : List (List ℕ)} {xs : Sts} (p : St → Bool) → is_at_most_one p xs ≡ true
       → IsScope k formed scope names → FormedSts P k l formed xs

@@ -6,7 +6,7 @@ use Rattle.kaba_base.specs.declared.Place.{Place}
 use Rattle.java_tree.specs.declared.TypeBase.TheVariants as base
 use Rattle.java_core.specs.declared.Ty.{Ty}
 use Rattle.java_core.specs.Programs.{Plain, PlainMethod}
-use Rattle.java_core.specs.Trees.{Ex, Exs, no_ex, ex_then, number, character, text, truth, null, this, local, static_field, own_field, field, index, call, static_call, super_call, create, create_array, cast, instance_of, unary, binary, Target, to_local, to_static, to_own, to_field, to_element, no_target, St, Sts, Arms, declare, block, assign, act, print, choose, loop, return, break, continue, no_st, st_then, no_other, otherwise, arm}
+use Rattle.java_core.specs.Trees.{Ex, Exs, no_ex, ex_then, local, field, index, call, static_call, super_call, create, create_array, cast, instance_of, unary, binary, Target, to_local, to_static, to_own, to_field, to_element, no_target, St, Sts, Arms, declare, block, assign, act, print, choose, loop, return, break, continue, no_st, st_then, no_other, otherwise, arm}
 use Rattle.java_core.specs.Formed.{IsCastType, to_int, to_char, to_class, FormedEx, f_field, f_index, f_call, f_static_call, f_super_call, f_create, f_create_array, f_cast, f_instance_of, f_unary, f_binary, FormedExs, f_ex_then, FormedTarget, f_to_field, f_to_element, FormedOption, f_some, FormedSt, f_declare, f_block, f_assign, f_act, f_print, f_choose, f_loop, f_return, FormedSts, f_st_then, FormedArms, f_otherwise, f_arm, numbers_below}
 use Rattle.java_core.specs.Untagged.{bare, bare_all, bare_if, bare_target, bare_st, bare_sts, bare_arms}
 use Rattle.fact_model.specs.declared.facts.Facts.{Facts}
@@ -104,15 +104,6 @@ module _ {P Q : Plain} {F : Facts} {pt : PointsTo} {H : Hierarchy} (G : Given P 
 
   mutual
     ex_known : {s : List ℕ} (u : Bool) (e : Ex) → FormedEx P k s (bare e) → Rows (ps u e) → E e
-    ex_known u (number t n) f r = tt
-    ex_known u (character t c) f r = tt
-    ex_known u (text t c) f r = tt
-    ex_known u (truth t b) f r = tt
-    ex_known u (null t) f r = tt
-    ex_known u (this t) f r = tt
-    ex_known u (local t i) f r = tt
-    ex_known u (static_field t i) f r = tt
-    ex_known u (own_field t i) f r = tt
     ex_known u (field t e x) (f_field a b) r = ex_known (is_accessed e) e a (left (ps (is_accessed e) e) _ r)
     ex_known u (index t e i) (f_index a b) r = (ex_known true e a (left (ps true e) _ r), ex_known false i b (tail _ (ps false i) (right (ps true e) _ r)))
     ex_known u (call t e x es) (f_call a b c) r =
@@ -132,6 +123,7 @@ module _ {P Q : Plain} {F : Facts} {pt : PointsTo} {H : Hierarchy} (G : Given P 
       ex_known false e a (left (ps false e) (ps false d) (left (ps false e ++ ps false d) _ r)),
       ex_known false d b (right (ps false e) (ps false d) (left (ps false e ++ ps false d) _ r)),
     )
+    ex_known u e f r = tt
 
     exs_known : {s : List ℕ} (u : Bool) (es : Exs) → FormedExs P k s (bare_all es) → Rows (all u es) → KnownExs P R₀ H m k O (bare_all es)
     exs_known u no_ex f r = tt

@@ -3,32 +3,16 @@ use Rattle.std.proofs.Common.{refl, subst}
 use Rattle.java_core.specs.Trees.{at_place}
 use Rattle.java_core.specs.Programs.{Plain, program_of}
 use Rattle.name_rules.specs.Causes.{HasNoCondition}
-use Rattle.java_core.specs.Untagged.{untagged}
 use Rattle.java_core.proofs.Untagged.{same_program}
 use Rattle.facts_order.proofs.Pairs.{IsPlaced, placed}
-use Rattle.fact_model.specs.declared.facts.Facts.{Facts}
-use Rattle.fact_model.specs.declared.sets.PointsTo.{PointsTo}
-use Rattle.hier_model.specs.Hierarchies.{Hierarchy}
 use Rattle.written_tree.specs.Written.{java_tree}
 use Rattle.tree_resolves.specs.Laws.{IsNamed, TreeResolves}
-use Rattle.tree_resolves.proofs.Modifiers.{Given}
 use Rattle.tree_resolves.proofs.Conditions.{no_condition}
-
-untagged_resolves : (Q : Plain) (F : Facts) (s : PointsTo) (H : Hierarchy) → IsPlaced (untagged Q) Q → IsNamed (untagged Q) Q F s H
-    → HasNoCondition (java_tree (untagged Q) Q F H)
-untagged_resolves Q F s H pairs named =
-    let G : Given (untagged Q) Q F s H = record {
-      formed = named.formed;
-      placed = pairs;
-      same = refl;
-      facts = named.facts;
-      words = named.words;
-      hierarchy = named.hierarchy;
-      unbroken = named.unbroken;
-    } in no_condition G
 
 pub tree_resolves : TreeResolves
 unfolding TreeResolves
 tree_resolves p F s H =
     let Q : Plain = program_of at_place p in
-    subst (λ Z. IsPlaced Z Q → IsNamed Z Q F s H → HasNoCondition (java_tree Z Q F H)) (same_program p) (untagged_resolves Q F s H) (placed p)
+    subst (λ Z. IsPlaced Z Q → IsNamed Z Q F s H → HasNoCondition (java_tree Z Q F H)) (same_program p) (λ pairs named. no_condition {pt = s} (record
+    { formed = named.formed; placed = pairs; same = refl; facts = named.facts; words = named.words; hierarchy = named.hierarchy; unbroken = named.unbroken }))
+    (placed p)

@@ -16,15 +16,17 @@ use Rattle.twin_runs.specs.Twins.{shape_in, shape_of}
 through_shape : {A : Type 0} (f : Ty → A) → ((t : Ty) → f (shape_of t) ≡ f t) → (t u : Ty) → shape_of t ≡ shape_of u → f t ≡ f u
 through_shape f h t u e = sym (h t) ∙ ap f e ∙ h u
 
-widened_shape : (b : TyBase) (d c : ℕ) → widened (shape_in b) d c ≡ widened b d c
-widened_shape Int d c = refl
-widened_shape Boolean d c = refl
-widened_shape Char d c = refl
-widened_shape Str d c = refl
-widened_shape (Class k) d c = refl
+-- where the class makes no difference, the shape has what the type has
+base_shape : {A : Type 0} (f : TyBase → A) → ((k : ℕ) → f (shape_in (Class (record { 0 = k }))) ≡ f (Class (record { 0 = k })))
+    → (b : TyBase) → f (shape_in b) ≡ f b
+base_shape f h Int = refl
+base_shape f h Boolean = refl
+base_shape f h Char = refl
+base_shape f h Str = refl
+base_shape f h (Class k) = h k.0
 
 convert_shape : (v : Value) (t : Ty) → convert (shape_of t) v ≡ convert t v
-convert_shape (CodeUnit c) t = widened_shape t.base t.dim c
+convert_shape (CodeUnit c) t = base_shape (λ b. widened b t.dim c) (λ k. refl) t.base
 convert_shape (Number n) t = refl
 convert_shape (Truth b) t = refl
 convert_shape Nothing t = refl
@@ -35,35 +37,17 @@ pub same_convert : (v : Value) (t u : Ty) → shape_of t ≡ shape_of u → conv
 same_convert v t u e = through_shape (λ z. convert z v) (convert_shape v) t u e
 
 default_shape : (b : TyBase) (d : ℕ) → default_in (shape_in b) d ≡ default_in b d
-default_shape Int d = refl
-default_shape Boolean d = refl
-default_shape Char d = refl
-default_shape Str d = refl
-default_shape (Class k) zero = refl
-default_shape (Class k) (suc d) = refl
+default_shape b zero = base_shape (λ z. default_in z zero) (λ k. refl) b
+default_shape b (suc d) = base_shape (λ z. default_in z (suc d)) (λ k. refl) b
 
 pub same_default : (t u : Ty) → shape_of t ≡ shape_of u → default_of t ≡ default_of u
 same_default t u e = through_shape default_of (λ z. default_shape z.base z.dim) t u e
 
-number_shape : (b : TyBase) (d : ℕ) → is_number_type (shape_in b) d ≡ is_number_type b d
-number_shape Int d = refl
-number_shape Boolean d = refl
-number_shape Char d = refl
-number_shape Str d = refl
-number_shape (Class k) d = refl
-
 pub same_number_type : (t u : Ty) → shape_of t ≡ shape_of u → is_number_type t.base t.dim ≡ is_number_type u.base u.dim
-same_number_type t u e = through_shape (λ z. is_number_type z.base z.dim) (λ z. number_shape z.base z.dim) t u e
-
-cast_shape : (n : ℤ) (b : TyBase) → cast_number (shape_in b) n ≡ cast_number b n
-cast_shape n Int = refl
-cast_shape n Boolean = refl
-cast_shape n Char = refl
-cast_shape n Str = refl
-cast_shape n (Class k) = refl
+same_number_type t u e = through_shape (λ z. is_number_type z.base z.dim) (λ z. base_shape (λ b. is_number_type b z.dim) (λ k. refl) z.base) t u e
 
 pub same_cast_number : (n : ℤ) (t u : Ty) → shape_of t ≡ shape_of u → cast_number t.base n ≡ cast_number u.base n
-same_cast_number n t u e = through_shape (λ z. cast_number z.base n) (λ z. cast_shape n z.base) t u e
+same_cast_number n t u e = through_shape (λ z. cast_number z.base n) (λ z. base_shape (λ b. cast_number b n) (λ k. refl) z.base) t u e
 
 element_shape : (b : TyBase) (d : ℕ) → option_map shape_of (element_in b d) ≡ element_in (shape_in b) d
 element_shape b zero = refl

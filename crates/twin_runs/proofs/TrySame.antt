@@ -12,12 +12,12 @@ use Rattle.java_core.specs.Trees.{no_ex, number, text, this, local, own_field, f
 use Rattle.java_core.specs.Programs.{Plain, PlainMethod, PlainLocal}
 use Rattle.java_core.specs.Classes.{below, field_of, member_field, search_order, declaration_of, lookup, super_method}
 use Rattle.java_core.specs.Types.{plain_type, class_type, field_in}
-use Rattle.java_meaning.specs.Moment.{Value, Number, Truth, CodeUnit, Nothing, Text, Object, Kind, an_object, an_array, Cell, own_type, own_class, Spot, touched, Ended, unnoted, Body, Lang}
+use Rattle.java_meaning.specs.Moment.{Value, Number, Nothing, Object, Kind, an_object, an_array, Cell, own_type, own_class, Spot, touched, Ended, unnoted, Body, Lang}
 use Rattle.java_meaning.specs.Meaning.{words_type, element_type, run_in}
 use Rattle.java_meaning.specs.Languages.{layout, body_with, language_of}
 use Rattle.java_meaning.proofs.Layouts.{places}
 use Rattle.run_cover.specs.Watched.{Of}
-use Rattle.twin_runs.specs.Twins.{shape_of, Link, value_at, same_number, same_text, same_local, same_own_field, same_field, same_index, same_call, same_super_call, same_create, same_create_array, same_cast, same_binary, same_no_ex, same_some, same_to_field, same_to_element, same_declare, same_assign, same_print, same_return, same_no_st, same_st_then, HasPair, SameBody, AreTwins}
+use Rattle.twin_runs.specs.Twins.{shape_of, Link, value_at, same_number, same_text, same_local, same_own_field, same_field, same_index, same_call, same_super_call, same_create, same_create_array, same_cast, same_binary, same_no_ex, same_some, same_to_field, same_to_element, same_declare, same_assign, same_print, same_return, same_no_st, same_st_then, HasPair, SameSts, SameBody, AreTwins}
 use Rattle.twin_runs.proofs.States.{Alike}
 use Rattle.twin_runs.proofs.SameRun.{same_run}
 use Rattle.java_meaning.proofs.Examples.{tag, variable, class, under, many, main_of, method as method_of}
@@ -125,11 +125,7 @@ record Made (o : Option ℕ) (k l : Kind) : Type 0 where
 
 abbrev passes_at : (Option ℕ → Bool) → Value → List Cell → Bool
 passes_at X (Object a) h = option_map_or (λ c. X c.site) (slice_get h a) false
-passes_at X (Number n) h = true
-passes_at X (Truth n) h = true
-passes_at X (CodeUnit n) h = true
-passes_at X Nothing h = true
-passes_at X (Text n) h = true
+passes_at X v h = true
 
 abbrev all_there : List Value → List Cell → Bool
 all_there [] h = true
@@ -153,11 +149,7 @@ passes_of X (Object a) h e = go (slice_get h a) refl e
     go : (o : Option Cell) → slice_get h a ≡ o → option_map_or (λ c. X c.site) o false ≡ true → Of h (Object a) X
     go None d e = absurd (false≢true e)
     go (Some c) d e = record { cell = c; there = d; member = e }
-passes_of X (Number n) h e = tt
-passes_of X (Truth n) h e = tt
-passes_of X (CodeUnit n) h e = tt
-passes_of X Nothing h e = tt
-passes_of X (Text n) h e = tt
+passes_of X v h e = tt
 
 all_of : (vs : List Value) (h : List Cell) → all_there vs h ≡ true → (i : ℕ) (v : Value) → slice_get vs i ≡ Some v → Of h v (λ o. true)
 all_of [] h e i v d = absurd (cc)
@@ -252,27 +244,25 @@ store_made o q a b k l t u made held e d =
     (subst (λ z. old_language.is_sub (own_type (kind_in 1 2 q)) t ≡ new_language.is_sub (own_type z) u) held.new
     (store_same o q t u (ap element_type made.old ∙ e) (ap element_type made.new ∙ d)))
 
+-- bodies without parameters and locals are twins if their code is
+same_body : (i j c d : ℕ) (x y : List ℕ) (xs ys : Sts)
+    → SameSts old_language new_language link Made Pair (body_with i (method c x xs) xs).env (body_with j (method d y ys) ys).env xs ys
+    → SameBody old_language new_language link Made Pair (body_with i (method c x xs) xs) (body_with j (method d y ys) ys)
+same_body i j c d x y xs ys code = record {
+  env = record { locals = refl; result = refl };
+  params = refl;
+  rest = refl;
+  plain = λ i a e. absurd (cc);
+  ends = refl;
+  code = code;
+}
+
 bodies_same : (b c : Body) → Pair b c → SameBody old_language new_language link Made Pair b c
 unfolding below field_in member_field field_of search_order declaration_of lookup super_method layout
-bodies_same b c pair_first = record {
-  env = record { locals = refl; result = refl };
-  params = refl;
-  rest = refl;
-  plain = λ i a e. absurd (cc);
-  ends = refl;
-  code = same_st_then (same_return (same_some (same_own_field
-      (record { new = λ f e. refl; had = λ f e o c k made m. subst (λ z. ((z == 0) && is_first o) ≡ true) (same_Some 0 f e) m }))))
-      same_no_st;
-}
-bodies_same b c pair_second = record {
-  env = record { locals = refl; result = refl };
-  params = refl;
-  rest = refl;
-  plain = λ i a e. absurd (cc);
-  ends = refl;
-  code = same_st_then (same_return (same_some (same_binary
-      (same_super_call same_no_ex (λ b e. has_pair old_first_body new_first_body b _ pair_first e refl)) same_number))) same_no_st;
-}
+bodies_same b c pair_first = same_body 0 2 1 2 (codes "m") (codes "n") _ _ (same_st_then (same_return (same_some (same_own_field
+    (record { new = λ f e. refl; had = λ f e o c k made m. subst (λ z. ((z == 0) && is_first o) ≡ true) (same_Some 0 f e) m })))) same_no_st)
+bodies_same b c pair_second = same_body 1 1 2 3 (codes "m") (codes "n") _ _ (same_st_then (same_return (same_some (same_binary
+    (same_super_call same_no_ex (λ b e. has_pair old_first_body new_first_body b _ pair_first e refl)) same_number))) same_no_st)
 bodies_same b c pair_main = record {
   env = record { locals = refl; result = refl };
   params = refl;
