@@ -10,7 +10,7 @@ use Rattle.flow_rules.specs.Labels.{size, sizes, label, label_all}
 use Rattle.flow_rules.specs.Operands.{operand_of, operands_of, call_slot, call_declaration}
 use Rattle.flow_rules.specs.Types.{object_type}
 use Rattle.flow_rules.specs.Parts as plain
-use Rattle.flow_facts.specs.declared.walk.Enclosing.{Enclosing}
+use Rattle.flow_facts.specs.declared.enclosing.Enclosing.{Enclosing}
 use Rattle.flow_facts.specs.Views.{parts_seen, call_operand}
 
 -- what is said of the body of a method, by its program, the types there, its number and itself

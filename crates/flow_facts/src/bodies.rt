@@ -12,8 +12,9 @@ ghost use Rattle.flow_rules.specs.Types.{object_type};
 ghost use Rattle.flow_facts.specs.Views.{parts_seen, static_place, variable_operand};
 ghost use Rattle.flow_facts.specs.Walked.{IsAdded, IsGained, in_body};
 
+use crate::enclosing::Enclosing;
 use crate::types::{field_object, object_field};
-use crate::walk::{Enclosing, NOTHING, add, is_accessed, this_operand, variable_operand, walk};
+use crate::walk::{NOTHING, add, is_accessed, this_operand, variable_operand, walk};
 use flow_rules::{Operand, Part, PointItem, RowItem};
 use java_core::{Method, Program, RArm, RExpr, RStmt};
 use kaba_base::Place;

@@ -35,6 +35,7 @@ mod assembled;
 mod bodies;
 mod by_number;
 mod cells;
+mod enclosing;
 mod expr_rows;
 mod gathering;
 mod infos;

@@ -13,6 +13,7 @@ ghost use Rattle.flow_facts.specs.Walked.{IsAdded, IsMade, IsWalked, AreWalked, 
 ghost use Rattle.flow_rules.specs.Parts as plain;
 
 use crate::by_number::method_by_number;
+use crate::enclosing::Enclosing;
 use crate::lists::put;
 use crate::types::{
     call_declaration, element_object, field_object, method_object, number_of, object_field,
@@ -21,16 +22,7 @@ use crate::types::{
 use flow_rules::{ObjectType, Operand, Part, PointItem, RowItem};
 use java_core::{BinOp, Method, Program, RExpr, super_method};
 use kaba_base::{ClassId, Name, Place};
-use std::alloc::{AllocError, Global};
-
-/// The method whose body is walked, by its number in its program.
-#[derive(Clone, Copy)]
-pub struct Enclosing<'a> {
-    pub alloc: Global,
-    pub program: &'a Program,
-    pub number: u64,
-    pub method: &'a Method,
-}
+use std::alloc::AllocError;
 
 /// No flow point, no row and no type that a row can have.
 pub const NOTHING: Operand = Operand {
