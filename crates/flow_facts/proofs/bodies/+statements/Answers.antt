@@ -26,7 +26,8 @@ walk_stmt-returns-in-Ok-walk t c =
     let form = while_form _ _ _ _ c.in-While.is in
     rw form (on_ok c.walk_stmts-in-While.result (λ h. record {
       grown = omega (arith, c.in-Ok-walk.ensures.grown, h.grown);
-      parts = while_parts (program_of no_place c.args.within.now.program.now) c.args.within.now.number (method_seen at_place c.args.within.now.method.now) (at_place c.in-While.place)
+      parts = while_parts (program_of no_place c.args.within.now.program.now) c.args.within.now.number
+          (method_seen at_place c.args.within.now.method.now) (at_place c.in-While.place)
           (expr_of at_place c.in-While.test) (stmts at_place c.in-While.body.items) (parts_seen c.args.parts.now.items) _ _
           (length c.args.parts.now.items) _
           c.in-Ok-walk.ensures.parts c.in-Ok-walk.ensures.grown h.parts;
@@ -40,7 +41,8 @@ walk_stmt-returns-in-Ok-walk_step-2 t c =
     let d = c.in-Ok-walk_step-2.ensures in
     rw form (on_ok c.walk_stmts-in-For.result (λ h. record {
       grown = omega (arith, a.grown, b.grown, d.grown, h.grown);
-      parts = loop_parts (program_of no_place c.args.within.now.program.now) c.args.within.now.number (method_seen at_place c.args.within.now.method.now) (at_place c.in-For.place) false
+      parts = loop_parts (program_of no_place c.args.within.now.program.now) c.args.within.now.number
+          (method_seen at_place c.args.within.now.method.now) (at_place c.in-For.place) false
           (step_seen at_place c.in-For.first) (value_of at_place c.in-For.test) (step_seen at_place c.in-For.step) (stmts at_place c.in-For.body.items)
           (parts_seen c.args.parts.now.items) _ _ _ _ (length c.args.parts.now.items) _ _ _
           a.parts a.grown b.parts b.grown d.parts d.grown h.parts;
@@ -52,7 +54,8 @@ walk_stmt-returns-in-Some t c =
     let K = method_seen at_place c.args.within.now.method.now in
     let form = ap (stmt_of at_place) c.in-If.is ∙ if_as at_place c.in-If.arms c.in-If.other c.in-If.place in
     let same = ap (λ o. size_arms (else_seen at_place o)) c.in-Some.is in
-    let all = ap (λ o. parts_seen c.walk_arms.new.parts.items ++ parts_arms P (object_type P K) c.args.within.now.number K (label_arms (length c.walk_arms.new.parts.items)
+    let all = ap (λ o. parts_seen c.walk_arms.new.parts.items ++ parts_arms P (object_type P K) c.args.within.now.number K
+    (label_arms (length c.walk_arms.new.parts.items)
     (else_seen at_place o))) (sym c.in-Some.is)
     ∙ c.in-Ok-walk_arms.ensures.parts in
     rw form (on_ok c.walk_stmts-in-Some.result (λ h. record {
@@ -67,7 +70,8 @@ walk_stmt-returns-in-None t c =
     let form = ap (stmt_of at_place) c.in-If.is ∙ if_as at_place c.in-If.arms c.in-If.other c.in-If.place in
     let same = ap (λ o. size_arms (else_seen at_place o)) c.in-None.is in
     let all = sym (append-nil (parts_seen c.walk_arms.new.parts.items))
-    ∙ ap (λ o. parts_seen c.walk_arms.new.parts.items ++ parts_arms P (object_type P K) c.args.within.now.number K (label_arms (length c.walk_arms.new.parts.items)
+    ∙ ap (λ o. parts_seen c.walk_arms.new.parts.items ++ parts_arms P (object_type P K) c.args.within.now.number K
+    (label_arms (length c.walk_arms.new.parts.items)
     (else_seen at_place o))) (sym c.in-None.is)
     ∙ c.in-Ok-walk_arms.ensures.parts in
     rw form (record { grown = omega (arith, same, c.in-Ok-walk_arms.ensures.grown); parts = all })

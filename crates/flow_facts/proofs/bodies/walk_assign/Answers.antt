@@ -12,7 +12,8 @@ returns-in-Ok c =
     let v = c.in-Ok.ensures in
     rw form (on_ok c.add.result (λ h. record {
       grown = omega (arith, v.grown, h.grown);
-      parts = own_store (program_of no_place c.args.within.now.program.now) c.args.within.now.number (method_seen at_place c.args.within.now.method.now) (at_place c.in-Own.place)
+      parts = own_store (program_of no_place c.args.within.now.program.now) c.args.within.now.number
+          (method_seen at_place c.args.within.now.method.now) (at_place c.in-Own.place)
           c.args.place c.in-Own.field.0 (expr_of at_place c.args.value.now)
           (parts_seen c.args.parts.now.items) _ _ (length c.args.parts.now.items) _ _ v.parts v.value c.this_operand.ensures.value h.parts;
     }) c.add.ensures)
@@ -27,7 +28,8 @@ returns-in-Ok-walk-5 c =
     let v = c.in-Ok-walk-5.ensures in
     rw form (on_ok c.add-in-Index.result (λ h. record {
       grown = omega (arith, b.grown, i.grown, v.grown, h.grown);
-      parts = element_store (program_of no_place c.args.within.now.program.now) c.args.within.now.number (method_seen at_place c.args.within.now.method.now) (at_place c.in-Index.place)
+      parts = element_store (program_of no_place c.args.within.now.program.now) c.args.within.now.number
+          (method_seen at_place c.args.within.now.method.now) (at_place c.in-Index.place)
           c.args.place (expr_of at_place c.deref-in-Index.result.now) (expr_of at_place c.deref-in-Index-2.result.now)
           (expr_of at_place c.args.value.now)
           (parts_seen c.args.parts.now.items) _ _ _ _ (length c.args.parts.now.items) _ _ _ _

@@ -18,7 +18,8 @@ pub walk-returns-in-Ok : goal.walk-returns-in-Ok
 walk-returns-in-Ok t c =
     let P = program_of no_place c.args.within.now.program.now in
     let f = c.in-Own.field.0 in
-    let value : c.labelled-own.result ≡ labelled_operand c.args.within.now.number (length c.args.parts.now.items) (Some (row.Field f)) (field_object P f) = search rules in
+    let value : c.labelled-own.result ≡ labelled_operand c.args.within.now.number (length c.args.parts.now.items) (Some (row.Field f))
+    (field_object P f) = search rules in
     own_walked P c.args.within.now.number (method_seen at_place c.args.within.now.method.now) (ap (expr_of at_place) c.in-Own.is)
     c.in-Ok.ensures c.this_operand-this.ensures.value value
 
@@ -29,7 +30,8 @@ walk-returns-in-Ok-walk t c =
     let n = length c.args.parts.now.items in
     let accessed = c.is_accessed-accessed.ensures.value n ∙ ap (λ y. is_accessed (label n (expr_of at_place y))) (c.deref.ensures
     ∙ sym c.deref-in-Field.ensures) in
-    if_ok c.add_load.result (λ o h. field_walked (program_of no_place c.args.within.now.program.now) c.args.within.now.number (method_seen at_place c.args.within.now.method.now) form accessed
+    if_ok c.add_load.result (λ o h. field_walked (program_of no_place c.args.within.now.program.now) c.args.within.now.number
+    (method_seen at_place c.args.within.now.method.now) form accessed
     c.in-Ok-walk.ensures h) c.add_load.ensures
 
 pub walk-returns-in-Ok-walk-3 : goal.walk-returns-in-Ok-walk-3
@@ -41,7 +43,8 @@ walk-returns-in-Ok-walk-3 t c =
     let value : c.labelled-own-in-Index.result ≡ labelled_operand c.args.within.now.number (length c.walk-in-Index.new.parts.items) b.row
     (element_object b.ty) = search rules in
     let h = c.in-Ok-add.ensures in
-    index_walked (program_of no_place c.args.within.now.program.now) c.args.within.now.number (method_seen at_place c.args.within.now.method.now) form c.in-Ok-walk-2.ensures
+    index_walked (program_of no_place c.args.within.now.program.now) c.args.within.now.number (method_seen at_place c.args.within.now.method.now) form
+    c.in-Ok-walk-2.ensures
     h value c.in-Ok-walk-3.ensures
 
 pub walk-returns-in-None : goal.walk-returns-in-None
@@ -55,17 +58,20 @@ pub walk-returns-in-Ok-walk-4 : goal.walk-returns-in-Ok-walk-4
 walk-returns-in-Ok-walk-4 t c =
     let form = call_on c.args.e.now c.in-Call.base c.in-Some.base c.in-Call.name c.in-Call.args c.in-Call.place c.in-Call.is c.in-Some.is
     ∙ ap (λ y. call (at_place c.in-Call.place) (expr_of at_place y) c.in-Call.name (exprs at_place c.in-Call.args.items)) (sym c.deref-in-Some.ensures) in
-    if_ok c.add_call-in-Some.result (λ o h. call_walked (program_of no_place c.args.within.now.program.now) c.args.within.now.number (method_seen at_place c.args.within.now.method.now) form
+    if_ok c.add_call-in-Some.result (λ o h. call_walked (program_of no_place c.args.within.now.program.now) c.args.within.now.number
+    (method_seen at_place c.args.within.now.method.now) form
     c.in-Ok-walk-4.ensures h) c.add_call-in-Some.ensures
 
 pub walk-returns-in-StaticCall : goal.walk-returns-in-StaticCall
 walk-returns-in-StaticCall t c =
-    if_ok c.add_static_call.result (λ o h. made_walked (program_of no_place c.args.within.now.program.now) c.args.within.now.number (method_seen at_place c.args.within.now.method.now)
+    if_ok c.add_static_call.result (λ o h. made_walked (program_of no_place c.args.within.now.program.now) c.args.within.now.number
+    (method_seen at_place c.args.within.now.method.now)
     (static_form _ _ _ _ c.in-StaticCall.is) h) c.add_static_call.ensures
 
 pub walk-returns-in-SuperCall : goal.walk-returns-in-SuperCall
 walk-returns-in-SuperCall t c =
-    if_ok c.add_super_call.result (λ o h. made_walked (program_of no_place c.args.within.now.program.now) c.args.within.now.number (method_seen at_place c.args.within.now.method.now)
+    if_ok c.add_super_call.result (λ o h. made_walked (program_of no_place c.args.within.now.program.now) c.args.within.now.number
+    (method_seen at_place c.args.within.now.method.now)
     (super_form _ _ _ _ c.in-SuperCall.is) h) c.add_super_call.ensures
 
 pub walk-returns-in-Ok-walk_all : goal.walk-returns-in-Ok-walk_all
@@ -79,7 +85,8 @@ walk-returns-in-Ok-walk_all t c =
     } = search rules in
     let h = c.in-Ok-add-2.ensures in
     let g = c.in-Ok-walk_all.ensures in
-    creation_walked (program_of no_place c.args.within.now.program.now) c.args.within.now.number (method_seen at_place c.args.within.now.method.now) (creation_form _ _ _ _ _ c.in-New.is)
+    creation_walked (program_of no_place c.args.within.now.program.now) c.args.within.now.number (method_seen at_place c.args.within.now.method.now)
+    (creation_form _ _ _ _ _ c.in-New.is)
     h value g
 
 pub walk-returns-in-Ok-walk-5 : goal.walk-returns-in-Ok-walk-5
@@ -102,7 +109,8 @@ walk-returns-in-Ok-walk-6 t c =
     let form = ap (expr_of at_place) c.in-Cast.is ∙ ap (λ y. cast (at_place c.in-Cast.place) c.in-Cast.number c.in-Cast.ty (expr_of at_place y))
     (sym c.deref-in-Cast.ensures) in
     let n = length c.args.parts.now.items in
-    let value : c.labelled-own-in-Cast.result ≡ labelled_operand c.args.within.now.number n (Some (row.Cast c.in-Cast.number)) (object_of c.in-Cast.ty) = search rules in
+    let value : c.labelled-own-in-Cast.result ≡ labelled_operand c.args.within.now.number n (Some (row.Cast c.in-Cast.number))
+    (object_of c.in-Cast.ty) = search rules in
     let at : c.len-at.result ≡ n = search rules in
     let h = c.in-Ok-add-4.ensures in
     cast_walked (program_of no_place c.args.within.now.program.now) c.args.within.now.number (method_seen at_place c.args.within.now.method.now) form
@@ -117,14 +125,16 @@ walk-returns-in-Ok-add-5 t c =
     let value : c.labelled-own-in-InstanceOf.result ≡ labelled_operand c.args.within.now.number (length c.walk-in-InstanceOf.new.parts.items)
     (Some (row.Test c.in-InstanceOf.number)) (class_object c.in-InstanceOf.class.0) = search rules in
     let h = c.in-Ok-add-5.ensures in
-    test_walked (program_of no_place c.args.within.now.program.now) c.args.within.now.number (method_seen at_place c.args.within.now.method.now) form c.in-Ok-walk-7.ensures
+    test_walked (program_of no_place c.args.within.now.program.now) c.args.within.now.number (method_seen at_place c.args.within.now.method.now) form
+    c.in-Ok-walk-7.ensures
     h value refl
 
 pub walk-returns-in-Ok-walk-8 : goal.walk-returns-in-Ok-walk-8
 walk-returns-in-Ok-walk-8 t c =
     let form = ap (expr_of at_place) c.in-Unary.is ∙ ap (λ y. unary (at_place c.in-Unary.place) c.in-Unary.op (expr_of at_place y))
     (sym c.deref-in-Unary.ensures) in
-    unary_walked (program_of no_place c.args.within.now.program.now) c.args.within.now.number (method_seen at_place c.args.within.now.method.now) form c.in-Ok-walk-8.ensures refl
+    unary_walked (program_of no_place c.args.within.now.program.now) c.args.within.now.number (method_seen at_place c.args.within.now.method.now) form
+    c.in-Ok-walk-8.ensures refl
 
 pub walk-returns-in-Ok-add-6 : goal.walk-returns-in-Ok-add-6
 walk-returns-in-Ok-add-6 t c =
@@ -134,5 +144,6 @@ walk-returns-in-Ok-add-6 t c =
     ∙ ap (λ y. binary (at_place c.in-Binary.place) c.in-Binary.op (expr_of at_place c.deref-in-Binary.result.now) (expr_of at_place y))
     (sym c.deref-in-Binary-2.ensures) in
     let h = c.in-Ok-add-6.ensures in
-    binary_walked (program_of no_place c.args.within.now.program.now) c.args.within.now.number (method_seen at_place c.args.within.now.method.now) form c.in-Ok-walk-9.ensures
+    binary_walked (program_of no_place c.args.within.now.program.now) c.args.within.now.number (method_seen at_place c.args.within.now.method.now)
+    form c.in-Ok-walk-9.ensures
     c.in-Ok-walk-10.ensures h refl

@@ -19,5 +19,6 @@ invariant-walk_all-loop-e l =
       value : l.list.items ++ operands_of P (object_type P K) l.within.number K (label_all (length l.parts.items) rest)
           ≡ operands_of P (object_type P K) l.within.number K (label_all (length l.fn.parts.items) (exprs at_place l.args.items));
       parts : parts_seen l.parts.items ++ parts_all P (object_type P K) l.within.number K l.used (label_all (length l.parts.items) rest)
-          ≡ parts_seen l.fn.parts.items ++ parts_all P (object_type P K) l.within.number K l.used (label_all (length l.fn.parts.items) (exprs at_place l.args.items));
+          ≡ parts_seen l.fn.parts.items ++ parts_all P (object_type P K) l.within.number K l.used
+          (label_all (length l.fn.parts.items) (exprs at_place l.args.items));
     }
