@@ -16,8 +16,8 @@ use crate::End;
 use crate::parts::name_of;
 use java_lex::{Mark, Token, TokenKind};
 use java_tree::build::binary;
-use java_tree::{Expr, Stmt, is_output, is_text, made};
-use kaba_base::{Name, Place};
+use java_tree::{Expr, Stmt, is_output, is_text};
+use kaba_base::{Name, Place, made};
 use std::alloc::{AllocError, Global};
 use std::mem::drop;
 

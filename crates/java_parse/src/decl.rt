@@ -22,8 +22,8 @@ use crate::expr::type_at;
 use crate::front::{final_at, key_at, mark_at, modifier_at, word_at};
 use crate::stmt::items;
 use java_lex::{Mark, Token};
-use java_tree::{Decl, Head, Id, Member, Modifier, Param, Stmt, TypeName, made};
-use kaba_base::{Keyword, Name, Place};
+use java_tree::{Decl, Head, Id, Member, Modifier, Param, Stmt, TypeName};
+use kaba_base::{Keyword, Name, Place, made};
 use std::alloc::Global;
 use std::mem::drop;
 

@@ -22,8 +22,8 @@ use crate::parts::{
 use crate::{End, Stop};
 use java_lex::{Mark, Token};
 use java_tree::build::{binary, index, unary};
-use java_tree::{Expr, TypeName, level_of, made};
-use kaba_base::{Keyword, Place};
+use java_tree::{Expr, TypeName, level_of};
+use kaba_base::{Keyword, Place, made};
 use std::alloc::Global;
 use std::mem::drop;
 

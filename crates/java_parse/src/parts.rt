@@ -11,8 +11,8 @@ use java_tree::build::{
     call, call_on, cast, field, for_loop, instance_of, new_array, new_object, super_call,
     while_loop,
 };
-use java_tree::{Arm, Expr, Id, Stmt, TypeBase, TypeName, made};
-use kaba_base::{Name, Place};
+use java_tree::{Arm, Expr, Id, Stmt, TypeBase, TypeName};
+use kaba_base::{Name, Place, made};
 use std::alloc::{AllocError, Global};
 use std::mem::drop;
 

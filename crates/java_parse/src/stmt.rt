@@ -21,8 +21,8 @@ use crate::parts::{ForHead, arm_of, body_of, for_of, while_of};
 use crate::{End, Stop};
 use java_lex::{Mark, Token};
 use java_tree::build::{block, choice};
-use java_tree::{Arm, Expr, Stmt, made};
-use kaba_base::Keyword;
+use java_tree::{Arm, Expr, Stmt};
+use kaba_base::{Keyword, made};
 use std::alloc::Global;
 use std::mem::drop;
 

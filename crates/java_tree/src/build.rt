@@ -7,7 +7,7 @@ ghost use Rattle.java_tree.specs.Syntax.{expr_of, exprs, stmt_of, stmts, value_o
 
 use crate::{Arm, Expr, Id, Stmt, TypeName};
 use java_lex::Mark;
-use kaba_base::{Name, Place};
+use kaba_base::{Name, Place, made};
 use std::alloc::{AllocError, Global};
 use std::mem::drop;
 

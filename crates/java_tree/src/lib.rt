@@ -1,30 +1,6 @@
 //! Syntax trees and the grammar that derives them.
 #![tactic(auto)]
 
-/// What a call made; where it made nothing, what is held is let go, and the function ends with the call's error,
-/// or with the error of the named type that comes from it.
-#[macro_export]
-macro_rules! made {
-    ($call:expr => $fault:ident; $($held:ident),*) => {
-        match $call {
-            Ok(made) => made,
-            Err(fault) => {
-                $(drop($held);)*
-                return Err($fault::from(fault));
-            }
-        }
-    };
-    ($call:expr; $($held:ident),*) => {
-        match $call {
-            Ok(made) => made,
-            Err(fault) => {
-                $(drop($held);)*
-                return Err(fault);
-            }
-        }
-    };
-}
-
 /// The sum of what is counted in each of a list.
 macro_rules! sum {
     ($list:expr, $count:ident) => {{

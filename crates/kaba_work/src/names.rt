@@ -6,8 +6,8 @@ ghost use Rattle.std.specs.Char.{is_ascii};
 ghost use Rattle.std.specs.Fmt.{decimal};
 ghost use Rattle.kaba_work.specs.Sample as sample;
 
-use java_tree::{Id, TypeBase, TypeName, made};
-use kaba_base::{Name, Place};
+use java_tree::{Id, TypeBase, TypeName};
+use kaba_base::{Name, Place, made};
 use std::alloc::{AllocError, Global};
 
 /// A sample comes from no text.

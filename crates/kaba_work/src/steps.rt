@@ -6,8 +6,8 @@ ghost use Rattle.kaba_work.specs.Sample as sample;
 
 use crate::names::{class_name, class_type, extra_name, id, method_name, nowhere, variable_name};
 use java_lex::Mark;
-use java_tree::{Expr, Stmt, build, made};
-use kaba_base::put;
+use java_tree::{Expr, Stmt, build};
+use kaba_base::{made, put};
 use std::alloc::{AllocError, Global};
 
 /// `a + b`
