@@ -11,20 +11,13 @@ use Rattle.fact_model.specs.declared.sets.Lattice.{Lattice}
 use Rattle.fact_model.specs.Entries.{IsTable}
 use Rattle.fact_model.specs.Concepts.{AreMoreThan, IsLatticeOf}
 use Rattle.flow_rules.specs.declared.faults.Counted.{Counted}
-use Rattle.flow_rules.specs.declared.faults.Counted.TheVariants as counted
 use Rattle.flow_rules.specs.Facts.{first_interface, too_many}
 use Rattle.program_facts.specs.Known.{AreProgramFacts}
 use Rattle.lattice_view.specs.Table.{table_text}
 use Rattle.lattice_view.specs.Text.{lattice_text}
 use Rattle.lattice_view.specs.Json.{lattice_json}
+use Rattle.kaba_top.specs.CauseWords.{limit_text}
 use Rattle.kaba_top.specs.Lines.{Says, Gives}
-
--- what there is too much of, and the limit
-abbrev pub limit_text : Counted → List ℕ
-limit_text counted.Rows = codes "rows 16384"
-limit_text counted.Columns = codes "columns 8192"
-limit_text counted.Sites = codes "sites 8192"
-limit_text counted.Points = codes "points 65536"
 
 -- the program declares an interface, the first of which is named
 pub record IsWithInterface (program : Program) (status : ℕ) (out err : List ℕ) : Type 0 where

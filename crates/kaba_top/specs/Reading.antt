@@ -15,16 +15,14 @@ use Rattle.java_core.specs.Trees.{at_place, no_place}
 use Rattle.java_core.specs.Programs.{program_of}
 use Rattle.java_core.specs.Formed.{IsFormed}
 use Rattle.java_core.specs.Typing.{IsTyped}
-use Rattle.name_rules.specs.declared.Form.{Form}
-use Rattle.name_rules.specs.declared.Form.TheVariants as forms
 use Rattle.name_rules.specs.declared.Refusal.{Refusal}
 use Rattle.name_rules.specs.declared.Refusal.TheVariants as naming
 use Rattle.name_rules.specs.Conditions.{ConditionAt}
 use Rattle.name_rules.specs.Causes.{HasNoCondition}
 use Rattle.name_rules.specs.Resolves.{Resolves}
 use Rattle.java_check.specs.declared.Kind.{Kind}
-use Rattle.java_check.specs.declared.Kind.TheVariants as kinds
 use Rattle.java_check.specs.Fails.{FailsIn}
+use Rattle.kaba_top.specs.CauseWords.{form_word, kind_word}
 use Rattle.kaba_top.specs.Lines.{Says}
 
 -- the text of a refusal
@@ -75,12 +73,6 @@ abbrev pub IsOfTree : Refusal → Type 0
 IsOfTree naming.Memory = ⊥
 IsOfTree r = Unit {0}
 
-abbrev pub form_word : Form → List ℕ
-form_word forms.Modifier = codes "Modifier"
-form_word forms.Body = codes "Body"
-form_word forms.ThisInStatic = codes "ThisInStatic"
-form_word forms.BreakOutside = codes "BreakOutside"
-
 abbrev pub naming_text : Refusal → List ℕ
 naming_text (naming.Unknown name p) = on_name (codes "Unknown") name p
 naming_text (naming.Twice name p) = on_name (codes "Twice") name p
@@ -91,18 +83,6 @@ naming_text (naming.PrivateReused name p) = on_name (codes "PrivateReused") name
 naming_text naming.NoMain = codes "NoMain"
 naming_text (naming.NotInProfile form p) = on_what (codes "NotInProfile") (form_word form) p
 naming_text naming.Memory = []
-
-abbrev pub kind_word : Kind → List ℕ
-kind_word kinds.Operand = codes "Operand"
-kind_word kinds.Condition = codes "Condition"
-kind_word kinds.Assign = codes "Assign"
-kind_word kinds.Arguments = codes "Arguments"
-kind_word kinds.Return = codes "Return"
-kind_word kinds.Cast = codes "Cast"
-kind_word kinds.NoMember = codes "NoMember"
-kind_word kinds.AbstractNew = codes "AbstractNew"
-kind_word kinds.MissingBody = codes "MissingBody"
-kind_word kinds.NotPublic = codes "NotPublic"
 
 abbrev pub typing_text : Kind → Place → List ℕ
 typing_text kind p = on_what (codes "IllTyped") (kind_word kind) p

@@ -1,23 +1,12 @@
 -- The answers of `run`, for the program of its file.
 use Rattle.std.specs.Prelude.{ℕ, List, [], ◌++◌, codes}
-use Rattle.java_core.specs.declared.Fault.{Fault}
-use Rattle.java_core.specs.declared.Fault.TheVariants as faults
 use Rattle.java_core.specs.declared.Program.{Program}
 use Rattle.java_core.specs.Trees.{no_place}
 use Rattle.java_core.specs.Programs.{program_of}
 use Rattle.java_meaning.specs.Moment as meaning
 use Rattle.java_run.specs.Outcomes.{meant}
+use Rattle.kaba_top.specs.CauseWords.{fault_word}
 use Rattle.kaba_top.specs.Lines.{Gives, line}
-
--- the word of what went wrong in a run
-abbrev pub fault_word : Fault → List ℕ
-fault_word faults.Null = codes "Null"
-fault_word faults.Bounds = codes "Bounds"
-fault_word faults.NegativeSize = codes "NegativeSize"
-fault_word faults.ArrayStore = codes "ArrayStore"
-fault_word faults.ClassCast = codes "ClassCast"
-fault_word faults.DivZero = codes "DivZero"
-fault_word faults.TooLong = codes "TooLong"
 
 -- what the end of a run gives, with what was printed until then; a typed program has no other end
 abbrev pub EndGives : meaning.End → List ℕ → ℕ → List ℕ → List ℕ → Type 0

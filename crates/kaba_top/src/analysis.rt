@@ -3,9 +3,10 @@
 
 ghost use Rattle.std.specs.Prelude.{◌≡◌, ◌≤◌, IfOk, length};
 ghost use Rattle.kaba_top.specs.Words.{InRange, IsTable, Says, most_bytes, TextAnswers, AnalysisAnswers};
-ghost use Rattle.kaba_top.specs.FactsAnswers.{TableOf, LatticeOf, limit_text, shown, too_many_concepts};
+ghost use Rattle.kaba_top.specs.FactsAnswers.{TableOf, LatticeOf, shown, too_many_concepts};
 ghost use Rattle.kaba_top.specs.Analyses.{IsAnalysis};
 
+use crate::cause_words::limit_text;
 use crate::reading::{Reading, read_program};
 use crate::reply::Reply;
 use concept_build::{LatticeFault, concepts};
@@ -13,7 +14,7 @@ use fact_model::{Facts, Lattice, Table};
 use java_core::Checked;
 use lattice_view::{show_json, show_table, show_text};
 use points_to::solve;
-use program_facts::{Counted, FactsFault, facts};
+use program_facts::{FactsFault, facts};
 use std::alloc::{AllocError, Global};
 use table_rules::{close, raw};
 
@@ -22,18 +23,6 @@ use table_rules::{close, raw};
 pub enum Analysed {
     Found(Facts),
     Refused(Reply),
-}
-
-/// What there is too much of, and the limit.
-fn limit_text(what: Counted) -> &'static str
-    ensures { result.now ≡ limit_text what }
-{
-    match what {
-        Counted::Rows => "rows 16384",
-        Counted::Columns => "columns 8192",
-        Counted::Sites => "sites 8192",
-        Counted::Points => "points 65536",
-    }
 }
 
 /// The facts of a program, or the reply that it has none.

@@ -6,15 +6,16 @@ ghost use Rattle.kaba_top.specs.Words.{no_place, program_of, Says, most_bytes};
 ghost use Rattle.java_tree.specs.Syntax.{tree_of};
 ghost use Rattle.java_tree.specs.Formed.{IsFormedTree};
 ghost use Rattle.java_core.specs.Formed.{IsFormed};
-ghost use Rattle.kaba_top.specs.Reading.{refused, at_byte, at_token, on_name, on_what, lex_text, naming_text, typing_text, form_word, kind_word, last_line, line_of, IsOfText, IsOfTree};
+ghost use Rattle.kaba_top.specs.Reading.{refused, at_byte, at_token, on_name, on_what, lex_text, naming_text, typing_text, last_line, line_of, IsOfText, IsOfTree};
 ghost use Rattle.kaba_top.specs.Readings.{IsReading, IsReadingOfProgram, IsReadingOfTree};
 
+use crate::cause_words::{form_word, kind_word};
 use crate::reply::Reply;
 use java_check::{CheckFault, Kind, check};
 use java_core::{Checked, Program};
 use java_lex::{LexFault, Token, lex};
 use java_parse::{ParseFault, parse};
-use java_resolve::{Form, Refusal, resolve};
+use java_resolve::{Refusal, resolve};
 use java_tree::Tree;
 use kaba_base::{Name, Place};
 use std::alloc::{AllocError, Global};
@@ -112,18 +113,6 @@ fn not_parsed(
     at_token(alloc, kind, token, line_of(bytes, token, tokens))
 }
 
-/// The word of a form that the language leaves out.
-fn form_word(form: Form) -> &'static str
-    ensures { result.now ≡ form_word form }
-{
-    match form {
-        Form::Modifier => "Modifier",
-        Form::Body => "Body",
-        Form::ThisInStatic => "ThisInStatic",
-        Form::BreakOutside => "BreakOutside",
-    }
-}
-
 /// The reply to a tree whose names are refused; `AllocError` where memory is short.
 fn not_resolved(alloc: Global, refusal: &Refusal) -> Result<Reply, AllocError>
     ensures { IfOk result (λ reply. IsOfTree refusal.now × Says 65 (refused (naming_text refusal.now)) reply.status reply.out.items reply.err.items) }
@@ -140,24 +129,6 @@ fn not_resolved(alloc: Global, refusal: &Refusal) -> Result<Reply, AllocError>
             on_what(alloc, "NotInProfile", form_word(*form), *place)
         }
         Refusal::Memory => Err(AllocError),
-    }
-}
-
-/// The word of a rule of types.
-fn kind_word(kind: Kind) -> &'static str
-    ensures { result.now ≡ kind_word kind }
-{
-    match kind {
-        Kind::Operand => "Operand",
-        Kind::Condition => "Condition",
-        Kind::Assign => "Assign",
-        Kind::Arguments => "Arguments",
-        Kind::Return => "Return",
-        Kind::Cast => "Cast",
-        Kind::NoMember => "NoMember",
-        Kind::AbstractNew => "AbstractNew",
-        Kind::MissingBody => "MissingBody",
-        Kind::NotPublic => "NotPublic",
     }
 }
 

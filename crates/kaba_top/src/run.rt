@@ -3,28 +3,14 @@
 
 ghost use Rattle.std.specs.Prelude.{◌≡◌, ◌≤◌, IfOk, length};
 ghost use Rattle.kaba_top.specs.Words.{no_place, program_of, end_of, texts, most_bytes, TextAnswers};
-ghost use Rattle.kaba_top.specs.RunAnswers.{EndGives, RunAnswers, fault_word};
+ghost use Rattle.kaba_top.specs.RunAnswers.{EndGives, RunAnswers};
 
+use crate::cause_words::fault_word;
 use crate::reading::{Reading, read_program};
 use crate::reply::Reply;
-use java_core::{Checked, Fault};
+use java_core::Checked;
 use java_run::{End, Outcome, run};
 use std::alloc::{AllocError, Global};
-
-/// The word of what went wrong in a run.
-fn fault_word(fault: Fault) -> &'static str
-    ensures { result.now ≡ fault_word fault }
-{
-    match fault {
-        Fault::Null => "Null",
-        Fault::Bounds => "Bounds",
-        Fault::NegativeSize => "NegativeSize",
-        Fault::ArrayStore => "ArrayStore",
-        Fault::ClassCast => "ClassCast",
-        Fault::DivZero => "DivZero",
-        Fault::TooLong => "TooLong",
-    }
-}
 
 /// The reply to a run.
 pub fn ran(alloc: Global, outcome: Outcome) -> Result<Reply, AllocError>
