@@ -98,10 +98,6 @@ module _ (P Q : Plain) (H : Hierarchy) (T : Places) where
   unfolding renaming_of
   method_name_is f = refl
 
-  pub holder_is : (c : ℕ) → R.holder_of c ≡ T.holder_of c
-  unfolding renaming_of
-  holder_is c = refl
-
 module _ (Q : Plain) (H : Hierarchy) (U O : Plain) (T : Places) (K : KnowsNames (untagged Q) Q H U O T) (formed : IsFormed (untagged Q)) where
   abbrev P : Plain
   P = untagged Q

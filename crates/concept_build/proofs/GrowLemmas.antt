@@ -1,7 +1,7 @@
 -- Lists of concepts that grow.
 use Rattle.std.proofs.Common.{◌≡◌, ℕ, ◌<◌, Bool, false, List, [], ◌∷◌, ◌++◌, length, get_or, refl, sym, ap, ◌∙◌, subst, arith}
 use Rattle.std.specs.Prelude.{Contains}
-use Rattle.std.proofs.lemmas.List.{map-append, length-map, length_push, get_or_append_left, get_or_push, get_or_default}
+use Rattle.std.proofs.lemmas.List.{map-append, length-map, length_push, get_or_push, get_or_default}
 use Rattle.std.proofs.lemmas.List.Elements.{All-push}
 use Rattle.std.proofs.lemmas.List.Quantifiers.{all_pairs_push}
 use Rattle.kaba_bits.specs.Sets.{bit, row, rising}
@@ -14,9 +14,6 @@ use Rattle.concept_build.proofs.ExtentLemmas.{nothing, column-columns_of}
 
 pub Grows-refl : (xs : List Pair) → Grows xs xs
 Grows-refl xs = record { len = omega arith; same = λ k lt. refl }
-
-pub Grows-push : (xs : List Pair) (y : Pair) → Grows xs (xs ++ y ∷ [])
-Grows-push xs y = record { len = omega (arith, length_push xs y); same = λ k lt. get_or_append_left xs (y ∷ []) nothing k lt }
 
 -- the last concept has the columns of an intersection
 pub HasMeet-push : (xs : List Pair) (y : Pair) (B R : List Bool) → IsMeet y.1 B R → HasMeet (xs ++ y ∷ []) B R

@@ -57,18 +57,3 @@ module _ {A : Type 0} (R : List A → A → Type 0) where
   -- the derivable facts are the least that are closed under the rules
   pub derivable_least : (X : A → Type 0) → ((ps : List A) (a : A) → R ps a → AllByRecursion X ps → X a) → (a : A) → IsDerivable R a → X a
   derivable_least X closed a d = (steps_hold X closed (a ∷ d.before) d.derivation).0
-
-  -- what is derivable follows by a rule from derivable premises
-  pub derivable_from : (a : A) → IsDerivable R a → (premises : List A) × R premises a × AllByRecursion (IsDerivable R) premises
-  derivable_from =
-      derivable_least (λ a. (premises : List A) × R premises a × AllByRecursion (IsDerivable R) premises)
-      (λ ps a r h. (
-        ps,
-        r,
-        each_weaker (λ p. (premises : List A) × R premises p × AllByRecursion (IsDerivable R) premises) (IsDerivable R)
-            (λ p d. derivable_by d.0 p d.1 d.2) ps h,
-      ))
-
--- more rules derive more
-pub derivable_more : {A : Type 0} (R S : List A → A → Type 0) → ((ps : List A) (a : A) → R ps a → S ps a) → (a : A) → IsDerivable R a → IsDerivable S a
-derivable_more R S f = derivable_least R (IsDerivable S) (λ ps a r h. derivable_by S ps a (f ps a r) h)

@@ -50,9 +50,6 @@ slot_says : (o : Option ℕ) (x : ℕ) → is_slot o x ≡ true → o ≡ Some x
 slot_says None x e = absurd (false≢true e)
 slot_says (Some y) x e = ap Some (eqb-true y x e)
 
-slot_test : (o : Option ℕ) (x : ℕ) → o ≡ Some x → is_slot o x ≡ true
-slot_test o x e = ap (λ y. is_slot y x) e ∙ eq-eqb x x refl
-
 -- the column of a look-up, where it is one
 column_says : (o : Option ColId) (d : ℕ) → is_slot (option_map (λ (c : ColId). c.0) o) d ≡ true → (c : ColId) × (o ≡ Some c) × (c.0 ≡ d)
 column_says None d e = absurd (false≢true e)

@@ -1,14 +1,12 @@
 -- The start as an order with places.
-use Rattle.std.proofs.Common.{◌≡◌, ℕ, ◌+◌, ◌<◌, ◌↔◌, Bool, true, false, List, [], length, map, get_or, Option, Some, None, refl, sym, ap, ◌∙◌, subst, arith, ⊎_elim}
+use Rattle.std.proofs.Common.{◌≡◌, ℕ, ◌<◌, Bool, true, List, [], length, map, Option, Some, None, sym, ap, ◌∙◌, subst, arith, ⊎_elim}
 use Rattle.std.specs.Prelude.{nat_lt}
 use Rattle.std.specs.Option.{option_map}
-use Rattle.std.specs.List.{range_with_len}
 use Rattle.std.proofs.lemmas.Bool.{cases_lt, ltb-true, lt-ltb}
 use Rattle.std.proofs.lemmas.List.{get_or-map, get_or_past}
 use Rattle.std.proofs.lemmas.List.FromFn.{get_or-map-range_with_len, length-map-range_with_len}
 use Rattle.kaba_base.specs.declared.NodeId.{NodeId}
-use Rattle.kaba_bits.specs.Sets.{bit, row, HasWidth, IsSubset}
-use Rattle.kaba_bits.proofs.RowLemmas.{bit-row-below}
+use Rattle.kaba_bits.specs.Sets.{bit, row, HasWidth}
 use Rattle.kaba_order.specs.Orders.{is_le}
 use Rattle.fact_model.specs.Concepts.{Pair, pair_of, AreAllConcepts, IsLatticeOf}
 use Rattle.fact_model.specs.Entries.{IsTable}
@@ -17,8 +15,8 @@ use Rattle.fact_model.specs.declared.sets.PointsTo.{PointsTo}
 use Rattle.fact_model.specs.declared.sets.Table.{Table}
 use Rattle.fact_model.specs.declared.sets.Lattice.{Lattice}
 use Rattle.hier_model.specs.Hierarchies.{Hierarchy, node, place_of_column, place_of_row}
-use Rattle.hier_model.specs.Start.{order_of, column_place, row_place, start_of, start_from}
-use Rattle.hier_laws.specs.Shapes.{Given, Shape}
+use Rattle.hier_model.specs.Start.{column_place, row_place, start_from}
+use Rattle.hier_laws.specs.Shapes.{Shape}
 use Rattle.hier_laws.specs.Starts.{IsStart}
 use Rattle.hier_begin.proofs.ConceptLemmas.{column_below, RowStands, column_stands}
 use Rattle.hier_begin.proofs.StartLemmas.{node_of, rows_le, row_column_le, columns_le, column_row_le, some_row, nodes_ordered}
@@ -57,9 +55,6 @@ module _ (F : Facts) (pt : PointsTo) (t : Table) (l : Lattice) (T : IsTable F t)
 
   in_rows : (r : ℕ) → nat_lt r (length F.rows.items) ≡ true → r < length rows
   in_rows r h = omega (arith, ltb-true r (length F.rows.items) h, T.sized.rows)
-
-  has_row : (r c : ℕ) → bit (row rows r) c ≡ true → r < length rows
-  has_row r c h = bit-row-below rows r c h
 
   abbrev stands : (r : ℕ) → r < length rows → RowStands rows t.width widths ps all r
   stands r lt = node_of rows t.width widths ps all r lt

@@ -1,5 +1,5 @@
 -- The least node of a list, and the first that lies between two of it.
-use Rattle.std.proofs.Common.{◌≡◌, ℕ, ◌<◌, ◌↔◌, ◌⊎◌, ◌||◌, ◌&&◌, ◌==◌, not, Bool, true, false, List, length, Option, Some, None, Result, Ok, Err, All, refl, sym, ap, ◌∙◌, subst, arith, ⊎_elim, inl, inr, eq-eqb, eqb-true}
+use Rattle.std.proofs.Common.{◌≡◌, ℕ, ◌<◌, ◌↔◌, ◌⊎◌, ◌||◌, ◌&&◌, ◌==◌, not, Bool, true, false, List, length, Option, Some, None, Result, Ok, Err, All, refl, sym, ap, ◌∙◌, subst, arith, ⊎_elim, inl, inr, eqb-true}
 use Rattle.std.proofs.lemmas.Bool.{cases_Bool, cases_lt, and_parts, and_from, false≢true}
 use Rattle.kaba_base.specs.declared.NodeId.{NodeId}
 use Rattle.kaba_bits.specs.Sets.{bit, row, first_below, when}
@@ -102,13 +102,6 @@ module _ (o : Ordered) (set : List NodeId) (p : IsPartialOrder o) where
 pub strictly_true : (o : Ordered) (p n : ℕ) → IsStrictlyBelow o p n → (is_le o p n && not (p == n)) ≡ true
 strictly_true o p n h = and_from (is_le o p n) (not (p == n)) h.0 (⊎_elim (λ t. absurd (h.1 (eqb-true p n t))) (λ f. ap not f) (cases_Bool (p == n)))
 
-pub strictly_false : (o : Ordered) (p n : ℕ) → (IsStrictlyBelow o p n → ⊥) → (is_le o p n && not (p == n)) ≡ false
-strictly_false o p n none =
-    ⊎_elim
-    (λ t. let x = and_parts (is_le o p n) (not (p == n)) t in absurd (none (x.0, λ e. false≢true (sym (not_true (p == n) x.1) ∙ eq-eqb p n e))))
-    (λ f. f)
-    (cases_Bool (is_le o p n && not (p == n)))
-
 -- what a merge of a copy has made
 pub merged_is : (o old new : Ordered) (set : List NodeId) → old ≡ o → (m : ℕ) → IsLeastMerged old set m new → IsMerged old set m new
     → new ≡ merged_order o set m
@@ -134,11 +127,6 @@ under_is o old new n p e least pairs =
     made_order o (is_live o) (λ a b. is_le o a b || (is_le o a n && is_le o p b)) new least.order
     (ap (λ l. length l) (least.live ∙ ap (λ (x : Ordered). x.live) e))
     (λ a. ap (λ l. bit l a) (least.live ∙ ap (λ (x : Ordered). x.live) e)) (subst (λ x. IsUnder x n p new) e pairs)
-
-pub under_none : (o old : Ordered) (n p : NodeId) → old ≡ o
-    → ((x : NodeId) → (◌≡◌ {A = Result (Unit {0}) OrderFault} (Ok tt) (Err (fault.Cycle x)) ↔ ((x ≡ n) × IsStrictlyBelow old p.0 n.0)))
-    → (is_le o p.0 n.0 && not (p.0 == n.0)) ≡ false
-under_none o old n p e cycle = strictly_false o p.0 n.0 (λ s. let h = (cycle n).1 (refl, subst (λ x. IsStrictlyBelow x p.0 n.0) (sym e) s) in absurd (cc h))
 
 pub under_fault : (o old : Ordered) (n p : NodeId) (f : OrderFault) → old ≡ o
     → ((x : NodeId) → (◌≡◌ {A = Result (Unit {0}) OrderFault} (Err f) (Err (fault.Cycle x)) ↔ ((x ≡ n) × IsStrictlyBelow old p.0 n.0)))

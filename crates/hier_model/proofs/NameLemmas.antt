@@ -8,7 +8,7 @@ use Rattle.std.proofs.lemmas.Bool.{cases_Bool, cases_lt, or_cases, false≢true}
 use Rattle.std.proofs.lemmas.Bool.Decides.{same_from_decides}
 use Rattle.std.proofs.lemmas.Slice.Eq.{bytes_eq-Decides}
 use Rattle.std.proofs.lemmas.Str.{chars_from_encodes, encodes-chars, encodes-append, IsUtf8-had}
-use Rattle.std.proofs.lemmas.List.{length-append, append-nil, map-append}
+use Rattle.std.proofs.lemmas.List.{length-append, map-append}
 use Rattle.std.proofs.lemmas.List.Folds.{list_any-append}
 use Rattle.indexmap.specs.IndexSet.{insert_key}
 use Rattle.kaba_base.proofs.Texts.{same_chars}
@@ -108,9 +108,6 @@ lengthened-more name k = append_assoc name (replicate k 95) (95 ∷ []) ∙ ap (
     more (suc n) = let e : suc (n + 1) ≡ suc n + 1 = omega arith in ap (λ (l : List ℕ). 95 ∷ l) (more n)
         ∙ ap (λ (i : ℕ). let l : List ℕ = replicate i 95 in l) e
 
-pub lengthened-none : (name : List ℕ) → lengthened name 0 ≡ name
-lengthened-none name = append-nil name
-
 -- names added to a list
 pub AreSame-more : (t u w g : List (List ℕ)) (name : List ℕ) → AreSame t (w ++ g) → ((x : List ℕ) → is_taken u x ≡ (is_taken t x || bytes_eq x name))
     → AreSame u (w ++ (g ++ name ∷ []))
@@ -185,9 +182,6 @@ pub record IsTried (t : List (List ℕ)) (name text : List ℕ) : Type 0 where
   pub count : ℕ
   pub text_is : text ≡ lengthened name count
   pub before : (j : ℕ) → j < count → is_taken t (lengthened name j) ≡ true
-
-pub tried_none : (t : List (List ℕ)) (name : List ℕ) → IsTried t name name
-tried_none t name = record { count = 0; text_is = sym (lengthened-none name); before = λ j lt. absurd (omega (arith, lt)) }
 
 pub tried_more : (t : List (List ℕ)) (name text more : List ℕ) → IsTried t name text → is_taken t text ≡ true → more ≡ text ++ 95 ∷ [] → IsTried t name more
 tried_more t name text more i h e = record {

@@ -1,5 +1,5 @@
 -- Names that types and fields cannot have.
-use Rattle.std.proofs.Common.{◌≡◌, ◌≢◌, ℕ, ◌+◌, ◌<◌, ◌&&◌, ◌||◌, eqb, not, Bool, true, false, List, length, add-one, refl, sym, ap, ◌∙◌, arith, ⊎_elim}
+use Rattle.std.proofs.Common.{◌≡◌, ◌≢◌, ℕ, ◌<◌, ◌&&◌, eqb, not, Bool, true, List, length, refl, sym, ap, ◌∙◌, arith, ⊎_elim}
 use Rattle.std.specs.Str.{bytes_eq}
 use Rattle.std.proofs.lemmas.Bool.{cases_eq, cases_lt, and_parts, and_from, ne_eqb, false≢true, eq-eqb}
 use Rattle.std.proofs.lemmas.Slice.Eq.{bytes_eq-Decides}
@@ -19,10 +19,6 @@ bytes_of a b e = (bytes_eq-Decides a b).1 e
 
 pub bytes_sym : (a b : List ℕ) → bytes_eq a b ≡ bytes_eq b a
 bytes_sym a b = same_test (bytes_eq a b) (bytes_eq b a) (λ h. bytes_of b a (sym (bytes_same a b h))) (λ h. bytes_of a b (sym (bytes_same b a h)))
-
--- one number on
-pub any_next : (p : ℕ → Bool) (n : ℕ) → any_below (n + 1) p ≡ (any_below n p || p n)
-any_next p n = rw add-one refl
 
 module _ (F : Facts) (H : Hierarchy) (n : ℕ) where
   abbrev name : List ℕ

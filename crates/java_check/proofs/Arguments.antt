@@ -1,6 +1,5 @@
 -- Steps through arguments, parameters and locals.
-use Rattle.std.proofs.Common.{◌≡◌, ℕ, suc, zero, ◌+◌, ◌-◌, ◌<◌, ◌≤◌, Bool, true, false, List, [], ◌∷◌, ◌++◌, length, drop, get_or, map, Option, Some, None, Result, Ok, Err, slice_get, refl, sym, ap, ◌∙◌, add-one, drop-cons, arith}
-use Rattle.std.proofs.lemmas.List.{length-map}
+use Rattle.std.proofs.Common.{◌≡◌, ℕ, suc, zero, ◌+◌, ◌-◌, ◌<◌, ◌≤◌, Bool, true, false, List, [], ◌∷◌, length, drop, get_or, Option, Some, None, Result, Ok, Err, slice_get, refl, sym, ap, ◌∙◌, add-one, drop-cons, arith}
 use Rattle.java_core.specs.declared.Ty.{Ty}
 use Rattle.std.specs.declared.vec.Vec.{Vec}
 use Rattle.std.specs.declared.boxed.Box.{Box}
@@ -12,7 +11,7 @@ use Rattle.java_core.specs.declared.RExpr.{RExpr, Call, StaticCall, SuperCall, N
 use Rattle.java_core.specs.Trees.{Tag, at_place, expr_of, exprs, base_seen}
 use Rattle.java_core.specs.Programs.{Plain, PlainLocal}
 use Rattle.java_core.specs.Classes.{super_method, is_concrete}
-use Rattle.java_core.specs.Types.{Env, fits, types_of, call_signature, signature_of_method}
+use Rattle.java_core.specs.Types.{Env, fits, call_signature, signature_of_method}
 use Rattle.java_core.proofs.Rows.{exprs_vec, call_as}
 use Rattle.java_core.specs.declared.statics.Static as declared
 use Rattle.java_check.specs.declared.Kind.{Kind}
@@ -38,23 +37,7 @@ drop-all [] (suc i) h = refl
 drop-all (y ∷ ys) zero h = absurd (omega (arith, h))
 drop-all (y ∷ ys) (suc i) h = drop-all ys i (omega (arith, h))
 
-slice_get-append : (xs ys : List PlainLocal) (i : ℕ) → length xs ≤ i → slice_get (types_of (xs ++ ys)) i ≡ slice_get (types_of ys) (i - length xs)
-slice_get-append [] ys i h = let e : i - 0 ≡ i = omega arith in rw e refl
-slice_get-append (x ∷ xs) ys zero h = absurd (omega (arith, h))
-slice_get-append (x ∷ xs) ys (suc i) h = let e : suc i - suc (length xs) ≡ i - length xs = omega arith in rw e (slice_get-append xs ys i (omega (arith, h)))
-
-slice_get-front : (xs ys : List PlainLocal) (i : ℕ) → i < length xs → slice_get (types_of (xs ++ ys)) i ≡ slice_get (types_of xs) i
-slice_get-front [] ys i h = absurd (omega (arith, h))
-slice_get-front (x ∷ xs) ys zero h = refl
-slice_get-front (x ∷ xs) ys (suc i) h = slice_get-front xs ys i (omega (arith, h))
-
 module _ {A : Type 0} (v : A → PlainLocal) where
-  pub type-front : (xs ys : List A) (i : ℕ) → i < length xs → slice_get (types_of (map v xs ++ map v ys)) i ≡ slice_get (types_of (map v xs)) i
-  type-front xs ys i h = slice_get-front (map v xs) (map v ys) i (rw (length-map xs v) h)
-
-  pub type-behind : (xs ys : List A) (i : ℕ) → length xs ≤ i → slice_get (types_of (map v xs ++ map v ys)) i ≡ slice_get (types_of (map v ys)) (i - length xs)
-  type-behind xs ys i h = slice_get-append (map v xs) (map v ys) i (rw (length-map xs v) h) ∙ rw (length-map xs v) refl
-
 pub asked-holds : {A : Type 0} (b : Bool) (k : Kind) (t : Tag) (x y : A) → asked b k t x ≡ Ok y → b ≡ true
 asked-holds true k t x y e = refl
 asked-holds false k t x y e = absurd (cc e)

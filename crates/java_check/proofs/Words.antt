@@ -57,9 +57,6 @@ slot-here s b i e lt =
     (λ (ne : s % 64 ≢ i). ne_eqb (s % 64) i ne ∙ sym (ne_eqb s (64 * b + i) (λ f. ne (omega (arith, e, f, lt)))))
     (cases_eq (s % 64) i)
 
-pub slot-other : (s b i : ℕ) → s / 64 ≢ b → i < 64 → (s == 64 * b + i) ≡ false
-slot-other s b i ne lt = ne_eqb s (64 * b + i) (λ f. ne (omega (arith, f, lt)))
-
 or_false : (b : Bool) → b ≡ (b || false)
 or_false true = refl
 or_false false = refl

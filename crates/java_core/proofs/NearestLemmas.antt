@@ -1,5 +1,5 @@
 -- What is found by a number of a name is what is found by going upwards.
-use Rattle.std.proofs.Common.{◌≡◌, ℕ, zero, suc, ◌<◌, ◌≤◌, ◌⊎◌, Bool, true, false, ◌&&◌, List, ◌∷◌, map, length, Option, Some, None, set, inl, inr, ⊎_elim, refl, sym, ap, ◌∙◌, subst, arith, []}
+use Rattle.std.proofs.Common.{◌≡◌, ℕ, zero, suc, ◌≤◌, ◌⊎◌, Bool, true, false, ◌&&◌, List, ◌∷◌, map, length, Option, Some, None, set, inl, inr, ⊎_elim, refl, sym, ap, ◌∙◌, subst, arith, []}
 use Rattle.std.specs.Prelude.{◌==◌, if◌then◌else◌}
 use Rattle.std.specs.List.{position, slice_get}
 use Rattle.std.specs.Option.{option_and_then, option_map, is_some, IfSome}
@@ -24,7 +24,7 @@ use Rattle.java_core.specs.Classes.{parent_of, first_or, nearest, nearest_of, is
 use Rattle.java_core.specs.Owned.{AreOwned, owned_from, listed, passes, first_among}
 use Rattle.java_core.specs.Nearest.{superclasses, parent_at, nearest_by, IsFirst, highest, lower, AreVersions, IsVersionAbove, IsAbove, IsNearestBy, numbered_among}
 use Rattle.java_core.proofs.Chains.{Chain, ends, goes_up, short}
-use Rattle.java_core.proofs.OwnedLemmas.{owned-position, position-within}
+use Rattle.java_core.proofs.OwnedLemmas.{owned-position}
 use Rattle.java_core.proofs.Positions.{position-passes, position-map, passes-position}
 use Rattle.java_core.proofs.Subclasses.{nearest-here}
 
@@ -243,8 +243,3 @@ module _ {A : Type 0} (owner : A → ℕ) (name : A → List ℕ) (counts : A �
       first-above parents own (λ k. numbered_among (map number_of xs) i (listed lists k))
       (λ k. ap (numbered_among (map number_of xs) i) (owned.exact k) ∙ own-numbered x i (sym e) k ∙ is k)
       c a.by (holds m i) here a.parent (v.each a.by.0 m a.stands i)
-
--- the number of what is found is small, where the list is
-pub number-within : {A : Type 0} (p : A → Bool) (xs : List A) (o : Option ℕ) → o ≡ position p xs → length xs < 4294967295 → IfSome o (λ i. i < 4294967296)
-number-within p xs None e lt = tt
-number-within p xs (Some i) e lt = let w = subst (λ o. IfSome o (λ i. i < length xs)) (sym e) (position-within p xs) in omega (arith, w, lt)

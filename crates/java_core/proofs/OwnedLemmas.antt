@@ -1,10 +1,8 @@
 -- What is found among the members of one class is what is found by going over all.
-use Rattle.std.proofs.Common.{◌≡◌, ℕ, ◌+◌, ◌<◌, Bool, true, false, ◌&&◌, cond, List, ◌∷◌, ◌++◌, map, length, Option, Some, None, refl, sym, ap, ◌∙◌, subst, []}
+use Rattle.std.proofs.Common.{◌≡◌, ℕ, ◌+◌, Bool, true, false, ◌&&◌, cond, List, ◌∷◌, ◌++◌, map, length, Option, Some, refl, sym, ap, ◌∙◌, subst, []}
 use Rattle.std.specs.Prelude.{slice_get, ◌==◌, if◌then◌else◌}
 use Rattle.std.specs.List.{position, position_from}
-use Rattle.std.specs.Option.{IfSome}
 use Rattle.std.proofs.lemmas.List.{append_assoc, length-append}
-use Rattle.std.proofs.lemmas.List.Quantifiers.{position-Some}
 use Rattle.std.proofs.lemmas.Iterator.Adapters.{position_from-zero}
 use Rattle.java_core.specs.Owned.{owned_from, passes, first_among}
 use Rattle.java_core.proofs.Positions.{position-same}
@@ -47,12 +45,3 @@ module _ {A : Type 0} (owner : A → ℕ) (p : A → Bool) (c : ℕ) where
       one true d f = refl
       one false false f = refl
       one false true f = cc (f refl)
-
--- what is found stands in the list
-pub position-within : {A : Type 0} (p : A → Bool) (xs : List A) → IfSome (position p xs) (λ i. i < length xs)
-position-within p [] = tt
-position-within p (y ∷ ys) = go (position p (y ∷ ys)) refl
-  where
-    go : (o : Option ℕ) → position p (y ∷ ys) ≡ o → IfSome o (λ i. i < length (y ∷ ys))
-    go None e = tt
-    go (Some i) e = (position-Some p (y ∷ ys) i y e).0

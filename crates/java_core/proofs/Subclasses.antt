@@ -31,9 +31,6 @@ module _ (P : Plain) where
   subclass_cases same_class = inl refl
   subclass_cases (through {c = c} direct rest) = inr (record { by = c; direct = direct; rest = rest })
 
-  pub subclass-both : IsAcyclic P → {a b : ℕ} → IsSubclass P a b → IsSubclass P b a → a ≡ b
-  subclass-both acyclic {a} {b} h k = ⊎_elim (λ e. e) (λ s. absurd (acyclic a (proper-then s k))) (subclass_cases h)
-
   pub reaches-subclass : (n a b : ℕ) → reaches P n a b ≡ true → IsSubclass P a b
   reaches-subclass zero a b h = subst (λ x. IsSubclass P a x) (eqb-true a b h) same_class
   reaches-subclass (suc n) a b h =

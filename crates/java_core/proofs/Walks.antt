@@ -2,7 +2,7 @@
 use Rattle.std.proofs.Common.{◌≡◌, ℕ, ◌+◌, ◌<◌, ◌≤◌, ◌⊎◌, inl, inr, ⊎_elim, Bool, true, false, ◌||◌, List, [], ◌∷◌, ◌++◌, length, take, get_or, set, Contains, refl, sym, ap, ◌∙◌, subst, arith}
 use Rattle.std.specs.declared.vec.Vec.{Vec}
 use Rattle.std.specs.declared.alloc.Global.{Global}
-use Rattle.std.proofs.lemmas.Bool.{false≢true, eqb-true, eq-eqb, or_cases, or_left, or_right, cases_eq, cases_lt}
+use Rattle.std.proofs.lemmas.Bool.{false≢true, eqb-true, eq-eqb, or_cases, or_left, or_right, cases_eq}
 use Rattle.std.proofs.lemmas.List.{get_or-set_same, get_or-set_other, length-append, length-set}
 use Rattle.std.proofs.Math.Seq.{take-suc}
 use Rattle.std.proofs.Math.Numerals.{add-one}
@@ -10,7 +10,7 @@ use Rattle.std.proofs.lemmas.List.Elements.{Contains-append_left, Contains-appen
 use Rattle.kaba_bits.specs.Sets.{bit, row, size}
 use Rattle.kaba_bits.proofs.SetLemmas.{bit-below}
 use Rattle.java_core.specs.Squares.{in_row, is_below, AreRows}
-use Rattle.java_core.specs.Subtypes.{IsUnder, itself, under, AreInside, IsOwnRow, IsExact, AreExact, AllExact, Filled, FilledTo, IsHeld, Gained, Walked}
+use Rattle.java_core.specs.Subtypes.{IsUnder, itself, under, AreInside, IsOwnRow, IsExact, AreExact, Filled, IsHeld, Gained, Walked}
 use Rattle.java_core.specs.Owned.{listed}
 
 pub no-member : {X : Type 0} {P : Type 0} (x : X) → Contains ([]) x → P
@@ -112,10 +112,6 @@ module _ (lists : List (Vec ℕ Global)) where
   pub under-then : {a b c : ℕ} → IsUnder lists a b → IsUnder lists b c → IsUnder lists a c
   under-then itself k = k
   under-then (under direct rest) k = under direct (under-then rest k)
-
-  pub under-inside : (n : ℕ) → AreInside n lists → {y b : ℕ} → b < n → IsUnder lists y b → y < n
-  under-inside n inside lt itself = lt
-  under-inside n inside lt (under {y = y} {x = x} direct rest) = inside.each x y direct
 
   in_row-bit : (r : List Bool) (y b : ℕ) → bit r b ≡ true → in_row r y b ≡ bit r y
   in_row-bit [] y b e = absurd (false≢true e)
@@ -222,14 +218,4 @@ module _ (lists : List (Vec ℕ Global)) where
     kept = λ k h. set-kept known b k (let l = before.wide in omega (arith, l, lt)) h;
     told = λ _. get_or-set_same known b true false (let l = before.wide in omega (arith, l, lt));
   }
-
-  pub filled-more : (n k : ℕ) (old new : List Bool) (before after : List (List Bool)) → k < n → FilledTo lists n k old before → Filled lists n k old new after
-      → FilledTo lists n (k + 1) new after
-  filled-more n k old new before after lt f g = record {
-    exact = g.exact;
-    first = λ b lb. ⊎_elim (λ less. g.kept b (f.first b less)) (λ e. subst (λ z. bit new z ≡ true) (sym (let q : b ≡ k = omega (arith, lb, e) in q))
-        (g.told lt)) (cases_lt b k);
   }
-
-  pub all-filled : (n : ℕ) (known : List Bool) (rows : List (List Bool)) → FilledTo lists n n known rows → AllExact lists n rows
-  all-filled n known rows f = record { len = f.exact.len; formed = f.exact.formed; each = λ b lt. f.exact.each b (f.first b lt) }

@@ -1,7 +1,7 @@
 -- The heap after a cell is added or a value is put, and what is read of it.
 use Rattle.std.proofs.Common.{◌≡◌, ℕ, ◌+◌, ◌<◌, ◌≤◌, List, [], ◌∷◌, ◌++◌, Option, Some, None, length, get_or, ap, refl, sym, subst, ◌∙◌, arith, length-append}
 use Rattle.std.proofs.Math.ListN.{set}
-use Rattle.std.proofs.lemmas.List.{length-map, map-append, length-set}
+use Rattle.std.proofs.lemmas.List.{length-map, map-append}
 use Rattle.std.proofs.lemmas.Option.{slice_get-map, slice_get-get_or}
 use Rattle.std.specs.Prelude.{map, replicate, slice_get}
 use Rattle.std.specs.Option.{option_map, option_and_then, IfSome}
@@ -15,7 +15,7 @@ use Rattle.java_heap.proofs.Copies.{map_replicate}
 use Rattle.java_heap.proofs.Paired.{length_paired, label_in, span_in, paired_push, with_span, without_span}
 use Rattle.java_heap.proofs.Lying.{cell_within, lie_wider, lie_push, values_last, cells_added, cells_put, length_within, written}
 use Rattle.java_meaning.specs.Moment as moment
-use Rattle.java_meaning.specs.Moment.{Kind, Cell}
+use Rattle.java_meaning.specs.Moment.{Cell}
 
 -- a heap of these cells; with a value put into a cell, and with one more cell
 abbrev pub heap_of : List (List ℕ) → List Label → List Span → List Value → Store
@@ -128,9 +128,6 @@ module _ (strings : List (List ℕ)) (h : Store) (ls : List Label) (ss : List Sp
       (ap (λ (r : Span). heap_of strings ls ss (set vs (r.start + place) v)) f.2
       ∙ ap (λ (l : List Cell). record { strings = strings; cells = l }) (cells_put vs place v (paired ls ss) 0 (length vs) at t is.lie f.1 near)
       ∙ ap (λ (k : Store). with_written k at (cell_in vs t) place v) e)
-
-  pub still_heap : (k : ℕ) (v : Value) → IsHeap ls ss (set vs k v)
-  still_heap k v = record { same = is.same; lie = subst (LieFrom 0 (paired ls ss)) (sym (length-set vs k v)) is.lie }
 
   -- a cell is added, with its values behind all
   pub added : (ms : List Label) (rs : List Span) (ws ys : List Value) (l : Label) (s : Span) → ms ≡ ls ++ l ∷ [] → rs ≡ ss ++ s ∷ [] → ws ≡ vs ++ ys

@@ -91,12 +91,6 @@ module _ (P : Plain) where
   FlowOk g h Continued = Unit {0}
   FlowOk g h (Gave v) = (t : Ty) → g.result ≡ Some t → Holds P h v (a_value t)
 
-  pub flow_grown : {h k : Heap} (g : Env) (w : Flow) → Grows P h k → FlowOk g h w → FlowOk g k w
-  flow_grown g Next r p = tt
-  flow_grown g Broke r p = tt
-  flow_grown g Continued r p = tt
-  flow_grown g (Gave v) r p = λ t e. grown P r (p t e)
-
   -- what is of the result where there is one
   result_held : (h : Heap) (v : Value) (o : Option Ty) → ((t : Ty) → o ≡ Some t → Holds P h v (a_value t)) → Holds P h v (or_nothing o)
   result_held h v None p = holds_any

@@ -68,9 +68,6 @@ numeric_apart : (t : Ty) (test : Ty → Bool) → test (plain_type Int) ≡ fals
 numeric_apart t test e d p q = ⊎_elim (λ h. apart Int t test refl e h q) (λ h. apart Char t test refl d h q)
     (or_cases (is_only Int (a_value t)) (is_only Char (a_value t)) p)
 
-pub object_reference : (t : Ty) → is_object t ≡ true → is_reference t ≡ true
-object_reference t e = rw e refl
-
 module _ (P : Plain) where
   -- a value is one of the type that an expression has
   pub data Holds (h : Heap) : Value → Static → Type 0 where

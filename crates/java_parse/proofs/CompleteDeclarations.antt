@@ -100,10 +100,6 @@ result_no_mod : {ts rest : List Token} {t : Option TypeName} → IsResult ts res
 result_no_mod no_result = (refl, refl)
 result_no_mod (a_result d) = let f = type_no_void d in (f.1, f.2)
 
--- a modifier closes nothing
-mod_no_brace : (k : Keyword) (p : Place) (ts : List Token) → after marks.CloseBrace (key k p ∷ ts) ≡ None
-mod_no_brace k p ts = refl
-
 mods_no_brace : {ts us : List Token} {ms : List Modifier} → IsMods ts us ms → after marks.CloseBrace us ≡ None → after marks.CloseBrace ts ≡ None
 mods_no_brace no_mods h = h
 mods_no_brace (next_mod m d) h = refl

@@ -60,26 +60,6 @@ module _ (words other : List ℕ) (k word : ℕ) (is : (j : ℕ) → j < 64
       subst (λ n. ((bit_at (slice_index words n) (j % 64) == 1) && not (bit_at (slice_index other n) (j % 64) == 1)) ≡ (bit_at word (j % 64) == 1)) (sym e)
       (sym (is (j % 64) (omega arith)))
 
-  pub none_more : (from at : ℕ) → at / 64 ≡ k → IsNoneFrom (is_news words other) from at → IsNoneFrom (λ j. bit_at word j == 1) (at % 64) 64
-      → IsNoneFrom (is_news words other) from ((k + 1) * 64)
-  none_more from at e before none j low lt =
-      ⊎_elim
-      (λ below. before j low below)
-      (λ past. let same : j / 64 ≡ k = omega (arith, e, lt, past) in here j same ∙ none (j % 64) (omega (arith, e, same, past)) (omega arith))
-      (cases_lt j at)
-
-  pub least_here : (from at i : ℕ) → at / 64 ≡ k → from ≤ at → IsNoneFrom (is_news words other) from at → i < 64
-      → IsLeastFrom (λ j. bit_at word j == 1) (at % 64) i → IsLeastFrom (is_news words other) from (k * 64 + i)
-  least_here from at i e le before lt x = record {
-    low = omega (arith, e, le, x.low);
-    holds = let same : (k * 64 + i) / 64 ≡ k = omega (arith, lt) in let rest : (k * 64 + i) % 64 ≡ i = omega (arith, lt) in here (k * 64 + i) same
-        ∙ (ap (λ n. bit_at word n == 1) rest ∙ x.holds);
-    least = λ j low below.
-        ⊎_elim
-        (λ b. before j low b)
-        (λ past. let same : j / 64 ≡ k = omega (arith, e, below, past, lt) in here j same ∙ x.least (j % 64) (omega (arith, e, same, past))
-        (omega (arith, same, below, lt)))
-        (cases_lt j at);
   }
 
 pub news_none : (words : List ℕ) (i : ℕ) → word_bit words i ≡ is_news words [] i

@@ -120,9 +120,6 @@ word-in w words i h lt = omega (arith, h.len, lt)
 pub word_bit-zero : (words : List ℕ) → ((k : ℕ) → slice_index words k ≡ 0) → (i : ℕ) → word_bit words i ≡ false
 word_bit-zero words zeros i = ap (λ n. bit_at n (i % 64) == 1) (zeros (i / 64)) ∙ ap (λ n. n == 1) (bit_at-zero (i % 64))
 
-pub HoldWidth-zero : (w : ℕ) (old new : List ℕ) → HoldWidth w old → length new ≡ length old → ((k : ℕ) → slice_index new k ≡ 0) → HoldWidth w new
-HoldWidth-zero w old new h len zeros = record { small = h.small; len = len ∙ h.len; clear = λ i ge. word_bit-zero new zeros i }
-
 pub empty-row_of : (w : ℕ) (words : List ℕ) → ((k : ℕ) → slice_index words k ≡ 0) → IsEmpty (row_of w words)
 empty-row_of w words zeros i = bit-row_clear w words (λ j ge. word_bit-zero words zeros j) i ∙ word_bit-zero words zeros i
 

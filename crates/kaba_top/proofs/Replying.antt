@@ -6,7 +6,7 @@ use Rattle.kaba_top.specs.declared.reply.Reply.{Reply}
 use Rattle.kaba_words.specs.declared.words.Command.{Command}
 use Rattle.kaba_words.specs.Commands.{Cmd, command_of, Fits, FitsNone}
 use Rattle.kaba_top.specs.Lines.{Says, usage, cannot_read, most_bytes, file_too_large}
-use Rattle.kaba_top.specs.Answers.{Agrees, IsMissing, IsTooLarge, FileAnswers, IsAnswered, IsFault, Names, CommandAnswers, CommandReplies, Replies}
+use Rattle.kaba_top.specs.Answers.{Agrees, IsMissing, IsTooLarge, FileAnswers, IsFault, Names, CommandAnswers, CommandReplies, Replies}
 use Rattle.kaba_top.specs.declared.answer.Shows.{Shows}
 use Rattle.kaba_top.specs.declared.answer.Shows.TheVariants as shows
 use Rattle.kaba_top.specs.Shown.{ShownAnswers, command_showing}
@@ -104,35 +104,10 @@ without_files told before now words read known (Ok reply) is fits a =
           (record { command = command_of known; fits = fits_as words read known is fits; answers = a files.0 files.0 });
     })
 
--- the one file of a command was read, and K are the answers for its bytes
-pub read_reply : (told : Option Files) (name bytes : List ℕ) (K : List ℕ → ℕ → List ℕ → List ℕ → Type 0) (status : ℕ) (out err : List ℕ)
-    → IsThere told name bytes → K bytes status out err → IsAnswered told (λ first second. FileAnswers K first name) status out err
-read_reply told name bytes K status out err t k =
-    record {
-      first = t.files;
-      second = t.files;
-      first_agrees = t.agrees;
-      second_agrees = t.agrees;
-      answers = inr
-          (inr (record { bytes = bytes; there = t.there; small = t.small; answers = k }));
-    }
-
 refused_answers : (K : List ℕ → ℕ → List ℕ → List ℕ → Type 0) (files : Files) (name : List ℕ) (status : ℕ) (out err : List ℕ)
     → IsMissing files name status out err ⊎ IsTooLarge files name status out err → FileAnswers K files name status out err
 refused_answers K files name status out err (inl m) = inl m
 refused_answers K files name status out err (inr l) = inr (inl l)
-
-pub refused_reply : (told : Option Files) (name : List ℕ) (K : List ℕ → ℕ → List ℕ → List ℕ → Type 0) (status : ℕ) (out err : List ℕ)
-    → IsRefused told name status out err → IsAnswered told (λ first second. FileAnswers K first name) status out err
-refused_reply told name K status out err r =
-    record {
-      first = r.files;
-      second = r.files;
-      first_agrees = r.agrees;
-      second_agrees = r.agrees;
-      answers = refused_answers K r.files name status
-          out err r.refused;
-    }
 
 -- the answers of a command that reads two files, where K are those for their bytes
 abbrev pub ReadsTwo : Cmd → List ℕ → List ℕ → (List ℕ → List ℕ → ℕ → List ℕ → List ℕ → Type 0) → Type 0

@@ -7,7 +7,7 @@ use Rattle.std.proofs.lemmas.Bool.{false≢true, eqb-true, eq-eqb}
 use Rattle.std.proofs.lemmas.List.{map-append, append_assoc, length-append}
 use Rattle.std.proofs.lemmas.Slice.Eq.{bytes_eq-Decides}
 use Rattle.java_tree.specs.declared.TypeName.{TypeName}
-use Rattle.java_tree.specs.Syntax.{MemberTree, DeclTree}
+use Rattle.java_tree.specs.Syntax.{DeclTree}
 use Rattle.java_core.specs.declared.Ty.{Ty}
 use Rattle.java_core.specs.declared.Field.{Field}
 use Rattle.java_core.specs.declared.Local.{Local}
@@ -25,7 +25,7 @@ use Rattle.name_outcome.specs.Answers.{with}
 use Rattle.name_outcome.specs.Names.{names_type, type_of}
 use Rattle.name_outcome.specs.Tables.{field_in, method_in}
 use Rattle.name_outcome.specs.Members.{Members, params_of, result_of, slot_in, with_slot, slotted, heading, add_heading, head_step, field_step}
-use Rattle.name_rules.specs.Outline.{FieldAt, MethodAt, field_member, method_member, fields_of, methods_of, fields_declared, methods_declared, fields_from, methods_from, fields_in, methods_in, is_static, is_private, has_word, is_abstract_word, types_in, is_type_name, type_meant, field_outline, param_outline, method_outline, outline}
+use Rattle.name_rules.specs.Outline.{FieldAt, MethodAt, fields_declared, methods_declared, fields_from, methods_from, fields_in, methods_in, is_static, is_private, has_word, is_abstract_word, types_in, is_type_name, type_meant, field_outline, param_outline, method_outline, outline}
 use Rattle.name_rules.specs.Meanings.{Means}
 use Rattle.name_rules.specs.Asked.{of_field}
 use Rattle.name_rules.specs.Resolves.{IsOfSlot}
@@ -61,12 +61,6 @@ each_append of from none some c (x ∷ xs) ys =
     some c x (xs ++ ys) ∙ ap (λ z. of c x ++ z) (each_append of from none some (suc c) xs ys ∙ ap (λ k. from (suc c) xs ++ from k ys)
     (let e : suc c + length xs ≡ c + suc (length xs) = omega arith in e))
     ∙ sym (append_assoc (of c x) (from (suc c) xs) (from (c + suc (length xs)) ys)) ∙ ap (λ z. z ++ from (c + suc (length xs)) ys) (sym (some c x xs))
-
-fields_of-append : (c : ℕ) (xs ys : List MemberTree) → fields_of c (xs ++ ys) ≡ fields_of c xs ++ fields_of c ys
-fields_of-append c = each_append (λ k. field_member c) (λ k. fields_of c) (λ k. refl) (λ k x xs. refl) 0
-
-methods_of-append : (c : ℕ) (a : Bool) (xs ys : List MemberTree) → methods_of c a (xs ++ ys) ≡ methods_of c a xs ++ methods_of c a ys
-methods_of-append c a = each_append (λ k. method_member c a) (λ k. methods_of c a) (λ k. refl) (λ k x xs. refl) 0
 
 pub fields_from-append : (c : ℕ) (xs ys : List DeclTree) → fields_from c (xs ++ ys) ≡ fields_from c xs ++ fields_from (c + length xs) ys
 fields_from-append = each_append fields_declared fields_from (λ c. refl) (λ c d ds. refl)

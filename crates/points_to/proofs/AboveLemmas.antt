@@ -1,12 +1,12 @@
 -- A walk upwards finds the classes at or above one.
-use Rattle.std.proofs.Common.{◌≡◌, ℕ, ◌+◌, ◌<◌, ◌⊎◌, inl, inr, ⊎_elim, Bool, true, false, List, [], ◌∷◌, ◌++◌, length, take, get_or, set, Contains, refl, sym, ap, ◌∙◌, subst, arith}
+use Rattle.std.proofs.Common.{◌≡◌, ℕ, ◌+◌, ◌<◌, ◌⊎◌, inl, inr, ⊎_elim, Bool, true, false, List, [], ◌∷◌, ◌++◌, length, take, get_or, set, Contains, sym, ap, ◌∙◌, subst, arith}
 use Rattle.std.proofs.lemmas.Bool.{cases_eq, cases_lt, false≢true}
-use Rattle.std.proofs.lemmas.List.{get_or-set_same, get_or-set_other, length-append, length-set}
+use Rattle.std.proofs.lemmas.List.{get_or-set_same, get_or-set_other}
 use Rattle.std.proofs.lemmas.List.Elements.{Contains-append_left, Contains-append_right, Contains-push, Contains-push_cases, Contains-append_cases}
 use Rattle.std.proofs.Math.Seq.{take-suc}
 use Rattle.std.proofs.Math.Numerals.{add-one}
 use Rattle.kaba_base.specs.declared.ClassId.{ClassId}
-use Rattle.kaba_bits.specs.Sets.{bit, row, size, IsNoneFrom, GainsBit}
+use Rattle.kaba_bits.specs.Sets.{bit, row, IsNoneFrom, GainsBit}
 use Rattle.kaba_bits.proofs.SetLemmas.{bit-below}
 use Rattle.fact_model.specs.declared.facts.Facts.{Facts}
 use Rattle.fact_model.specs.Classes.{supers_of, IsBelow, same, through}
@@ -24,31 +24,7 @@ pub one-is : {X : Type 0} (x : X) → Contains (x ∷ []) x
 one-is x = Contains-push [] x
 
 -- ---- what a row gains
-
-pub gained-none : (r : List Bool) (w : List ClassId) → Gained [] r r w w
-gained-none r w = record {
-  len = refl;
-  kept = λ y h. h;
-  news = λ y h. inl h;
-  settled = λ y h. inl h;
-  told = λ x c. no-member x c;
-  waits = λ y c. c;
-  comes = λ y c. inl c;
-  inside = λ x c. no-member x c;
-  work = omega arith;
 }
-
-pub gained-had : (x : ClassId) (r : List Bool) (w : List ClassId) → bit r x.0 ≡ true → Gained (x ∷ []) r r w w
-gained-had x r w had = record {
-  len = refl;
-  kept = λ y h. h;
-  news = λ y h. inl h;
-  settled = λ y h. inl h;
-  told = λ y c. subst (λ (z : ClassId). bit r z.0 ≡ true) (one-member x y c) had;
-  waits = λ y c. c;
-  comes = λ y c. inl c;
-  inside = λ y c. subst (λ (z : ClassId). z.0 < length r) (one-member x y c) (bit-below r x.0 had);
-  work = omega arith;
 }
 
 pub set-bits : (r : List Bool) (x y : ℕ) → bit (set r x true) y ≡ true → (bit r y ≡ true) ⊎ (y ≡ x)
@@ -57,19 +33,6 @@ set-bits r x y h = ⊎_elim (λ e. inr e) (λ ne. inl (sym (get_or-set_other r x
 pub set-kept : (r : List Bool) (x y : ℕ) → x < length r → bit r y ≡ true → bit (set r x true) y ≡ true
 set-kept r x y lt h = ⊎_elim (λ e. subst (λ z. bit (set r x true) z ≡ true) (sym e) (get_or-set_same r x true false lt))
     (λ ne. get_or-set_other r x y true false ne ∙ h) (cases_eq y x)
-
-pub gained-wait : (x : ClassId) (r : List Bool) (w : List ClassId) → x.0 < length r → size (set r x.0 true) ≡ size r + 1
-    → Gained (x ∷ []) r (set r x.0 true) w (w ++ x ∷ [])
-gained-wait x r w lt more = record {
-  len = length-set r x.0 true;
-  kept = λ y h. set-kept r x.0 y lt h;
-  news = λ y h. ⊎_elim (λ k. inl k) (λ e. inr (subst (λ z. Contains (x ∷ []) (class_id z)) (sym e) (one-is x))) (set-bits r x.0 y h);
-  settled = λ y h. ⊎_elim (λ k. inl k) (λ e. inr (subst (λ z. Contains (w ++ x ∷ []) (class_id z)) (sym e) (Contains-push w x))) (set-bits r x.0 y h);
-  told = λ y c. subst (λ (z : ClassId). bit (set r x.0 true) z.0 ≡ true) (one-member x y c) (get_or-set_same r x.0 true false lt);
-  waits = λ y c. Contains-append_left w (x ∷ []) y c;
-  comes = λ y c. Contains-append_cases w (x ∷ []) y c;
-  inside = λ y c. subst (λ (z : ClassId). z.0 < length r) (one-member x y c) lt;
-  work = let l = length-append w (x ∷ []) in omega (arith, l, more);
 }
 
 pub gained-then : (first second : List ClassId) (r0 r1 r2 : List Bool) (w0 w1 w2 : List ClassId)

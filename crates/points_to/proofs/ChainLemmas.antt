@@ -85,15 +85,6 @@ module _ (F : Facts) where
       firsts = λ a la. first_more a c _ (λ b. other b.kind) (old.firsts a la);
       nexts = next_more;
     }
-
-  -- before the walk begins, and past the last column
-  pub chained_none : (first next : List (Option ℕ)) → length first ≡ length F.columns.items + 1 → length next ≡ length F.columns.items
-      → ((a : ℕ) → get_or first a None ≡ None) → AreChained F first next (length F.columns.items)
-  chained_none first next lf ln all = record {
-    first_len = lf;
-    next_len = ln;
-    firsts = λ a la. record { some = λ d e. absurd (cc (all a, e)); none = λ e k le lt b. omega (arith, le, lt) };
-    nexts = λ k le lt. absurd (omega (arith, le, lt));
   }
 
   def_is : (k : ColKind) → is_def k ≡ true → k ≡ Def

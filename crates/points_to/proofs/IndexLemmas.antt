@@ -1,5 +1,5 @@
 -- Lists of lists: one element more, and what a loop over the facts lists.
-use Rattle.std.proofs.Common.{◌≡◌, ℕ, ◌+◌, ◌<◌, List, length, get_or, Contains, sym, ◌∙◌, subst, arith, ⊎_elim}
+use Rattle.std.proofs.Common.{◌≡◌, ℕ, ◌+◌, ◌<◌, List, Contains, sym, ◌∙◌, subst, arith, ⊎_elim}
 use Rattle.std.specs.List.{All}
 use Rattle.std.specs.declared.vec.Vec.{Vec}
 use Rattle.std.specs.declared.alloc.Global.{Global}
@@ -19,9 +19,6 @@ at_contains xs i x a = (i, a.0, a.1)
 -- what holds of each element holds of the one at a place
 pub at_all : {X : Type 0} (P : X → Type 0) (xs : List X) (i : ℕ) (x : X) → All P xs → IsAt xs i x → P x
 at_all P xs i x all a = subst P a.1 (all i x a.0)
-
-pub at_get_or : {X : Type 0} (xs : List X) (i : ℕ) (d : X) → i < length xs → IsAt xs i (get_or xs i d)
-at_get_or xs i d lt = (lt, get_or_default xs i (get_or xs i d) d lt)
 
 -- one number on
 pub next_number : (P : ℕ → Type 0) (i : ℕ) → ((k : ℕ) → k < i → P k) → P i → (k : ℕ) → k < i + 1 → P k

@@ -7,7 +7,6 @@ use Rattle.std.proofs.lemmas.Bool.{cases_lt}
 use Rattle.std.proofs.lemmas.List.{get_or_default, get_or_past}
 use Rattle.std.proofs.lemmas.List.Elements.{AllWithin-more}
 use Rattle.kaba_bits.specs.Sets.{bit, IsNoneFrom, IsLeastFrom}
-use Rattle.kaba_bits.proofs.SetLemmas.{bit-below}
 
 -- a loop over a list, one element on, where what held still holds
 pub within_more : {X : Type 0} (P Q : X → Type 0) (xs : List X) (k : ℕ) (d : X) → k < length xs → ((x : X) → P x → Q x) → AllWithin P xs 0 k
@@ -41,20 +40,6 @@ module _ (p : ℕ → Bool) (n w at : ℕ) (len : n ≡ w) where
 
 -- the same of a set
 module _ (set : List Bool) (w at : ℕ) (len : length set ≡ w) where
-  pub next_low : (found : Option ℕ) → MatchOption found (IsNoneFrom (bit set) at (length set)) (IsLeastFrom (bit set) at) → IfSome found (λ s. at ≤ s)
-  next_low = least_low (bit set) (length set) w at len
-
-  pub next_below : (found : Option ℕ) → MatchOption found (IsNoneFrom (bit set) at (length set)) (IsLeastFrom (bit set) at) → IfSome found (λ s. s < w)
-  next_below = least_holds (bit set) (length set) w at len (λ s. s < w) (λ s h. omega (arith, bit-below set s h, len))
-
-  pub next_holds : (P : ℕ → Type 0) → ((s : ℕ) → bit set s ≡ true → P s) → (found : Option ℕ)
-      → MatchOption found (IsNoneFrom (bit set) at (length set)) (IsLeastFrom (bit set) at) → IfSome found P
-  next_holds = least_holds (bit set) (length set) w at len
-
-  pub next_least : (found : Option ℕ) → MatchOption found (IsNoneFrom (bit set) at (length set)) (IsLeastFrom (bit set) at)
-      → MatchOption found (IsNoneFrom (bit set) at w) (λ s. IsNoneFrom (bit set) at s)
-  next_least = least_none (bit set) (length set) w at len
-
 -- a pass over the numbers below w by the least that passes a test
 module _ (P : ℕ → Type 0) (p : ℕ → Bool) (at : ℕ) (out : (k : ℕ) → p k ≡ false → P k) where
   pub pass_to : (s : ℕ) (g : Bool) → IsNoneFrom p at s → OnFalse g ((k : ℕ) → k < at → P k) → OnFalse g ((k : ℕ) → k < s → P k)

@@ -175,7 +175,3 @@ module _ {P Q : Plain} {F : Facts} {H : Hierarchy} {W : Plain} (K : Known P Q F 
     -- each object below has a place for it
     pub has_place : (m : ℕ) → is_le H.order m n ≡ true → is_some (index_of W (T.type_of m) there) ≡ true
     has_place m h = members W K.new (T.type_of m) (T.type_of n) name there (below_is K m n (K.order.lower_lives m n h) live ∙ h) finds_field
-
-  -- different fields of one object have different places
-  pub places_apart : (m c d e f i : ℕ) → IsNewField e c → IsNewField f d → index_of W (T.type_of m) c ≡ Some i → index_of W (T.type_of m) d ≡ Some i → e ≡ f
-  places_apart m c d e f i a b x y = one_old_field e f d (subst (λ z. IsNewField e z) (places W (T.type_of m) c d i x y) a) b

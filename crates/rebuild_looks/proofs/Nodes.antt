@@ -1,17 +1,15 @@
 -- The types of nodes in a program that rebuilds another: their order, which of them are classes, and that no holder stands between them.
-use Rattle.std.proofs.Common.{◌≡◌, ℕ, ◌&&◌, ◌↔◌, eqb, [], ◌∷◌, Option, Some, None, Contains, refl, sym, ap, ◌∙◌, subst, ⊎_elim, arith}
+use Rattle.std.proofs.Common.{◌≡◌, ℕ, ◌&&◌, eqb, [], ◌∷◌, Option, Some, None, Contains, refl, sym, ap, ◌∙◌, subst, ⊎_elim, arith}
 use Rattle.std.specs.Prelude.{true, not, length}
 use Rattle.std.proofs.lemmas.Bool.{false≢true, and_from, and_parts, or_left, or_right, eqb-true}
 use Rattle.std.proofs.lemmas.Option.{same_Some}
 use Rattle.std.specs.Cmp.{both_ways}
 use Rattle.kaba_base.specs.declared.NodeId.{NodeId}
 use Rattle.kaba_base.specs.declared.ClassId.{ClassId}
-use Rattle.java_core.specs.declared.TyBase.TheVariants.{Class}
 use Rattle.java_core.specs.Programs.{Plain}
 use Rattle.java_core.specs.Classes.{supers_of, IsSubclass, same_class, through, below, is_concrete}
-use Rattle.java_core.specs.Types.{is_subtype}
 use Rattle.java_core.proofs.Subclasses.{below-subclass, subclass-below}
-use Rattle.java_core.proofs.Upwards.{contains_cases, IsOnChain, IsMemberClass, above_object, along, on_chain}
+use Rattle.java_core.proofs.Upwards.{contains_cases, IsMemberClass, above_object}
 use Rattle.kaba_order.specs.Orders.{is_le, is_live}
 use Rattle.fact_model.specs.Items.{site_at, site_row, column_kind}
 use Rattle.fact_model.specs.declared.facts.Facts.{Facts}
@@ -40,12 +38,6 @@ module _ {P Q : Plain} {F : Facts} {H : Hierarchy} {W : Plain} (K : Known P Q F 
       both_ways (below W (T.type_of a) (T.type_of b)) (is_le H.order a b)
       (λ h. le_of a b la lb (below-subclass W (T.type_of a) (T.type_of b) h))
       (λ h. subclass-below W K.new.acyclic (subclass_of a b h))
-
-  -- also for arrays
-  pub subtype_is : (a b d e : ℕ) → is_node a → is_node b
-      → is_subtype W (record { base = Class (record { 0 = T.type_of a }); dim = d })
-      (record { base = Class (record { 0 = T.type_of b }); dim = e }) ≡ (eqb d e && is_le H.order a b)
-  subtype_is a b d e la lb = ap (λ z. eqb d e && z) (below_is a b la lb)
 
   -- a node at or below a class node with a member is a class
   pub is_offered_at : (n : ℕ) (i : ColumnItem) (c : ℕ) → (numbers P Q).column i ≡ Some c → Offers K n i → is_offered H n c ≡ true
@@ -109,10 +101,6 @@ module _ {P Q : Plain} {F : Facts} {H : Hierarchy} {W : Plain} (K : Known P Q F 
   member_class n live c =
       let t = K.rebuilt.types.nodes n live in
       record { class = t.class; stands = t.stands; no_interface = t.kind ∙ ap not c; no_object = t.no_object }
-
-  -- the superclasses of a node's type among the class nodes are those at or above it
-  pub chain_is : (n m : ℕ) → is_node n → is_node m → is_class_node F H m ≡ true → IsOnChain W (T.type_of n) (T.type_of m) ↔ (is_le H.order n m ≡ true)
-  chain_is n m live lm c = (λ h. le_of n m live lm (on_chain W h), λ h. along W K.new (member_class m lm c) (subclass_of n m h))
 
   -- a holder stands below no node
   pub no_holder : (c m : ℕ) → is_holder P c ≡ true → is_node m → IsSubclass W (T.holder_of c) (T.type_of m) → ⊥

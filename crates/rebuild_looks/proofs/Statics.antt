@@ -1,19 +1,17 @@
 -- Each old static field and method has one new number, with its type or code, and each new one comes from one old one.
 use Rattle.std.proofs.Common.{◌≡◌, Some, refl, sym, ap, ◌∙◌, subst}
-use Rattle.std.specs.Prelude.{ℕ, Bool, true, false, List, slice_get}
-use Rattle.std.specs.Option.{option_map, option_map_or, is_some}
+use Rattle.std.specs.Prelude.{ℕ, Bool, true, List, slice_get}
+use Rattle.std.specs.Option.{option_map}
 use Rattle.std.proofs.lemmas.Option.{same_Some}
-use Rattle.java_core.specs.Programs.{Plain, PlainField, PlainMethod}
-use Rattle.java_core.specs.Classes.{has_body}
-use Rattle.java_core.specs.Types.{field_type, types_of, signature_of_method}
+use Rattle.java_core.specs.Programs.{Plain, PlainField}
+use Rattle.java_core.specs.Types.{field_type}
 use Rattle.fact_model.specs.declared.facts.Facts.{Facts}
 use Rattle.hier_model.specs.Hierarchies.{Hierarchy}
 use Rattle.flow_rules.specs.declared.items.RowItem.TheVariants as row
-use Rattle.flow_rules.specs.Operands.{result_in}
 use Rattle.flow_rules.specs.Facts.{is_holder}
-use Rattle.rebuild_model.specs.Renaming.{renaming_of, retyped, retyped_if}
+use Rattle.rebuild_model.specs.Renaming.{renaming_of, retyped}
 use Rattle.rebuild_model.specs.Matches.{IsCopied, IsStaticField, IsStaticMethod}
-use Rattle.rebuild_model.specs.Members.{new_types, IsStaticFieldOf, IsStaticMethodOf}
+use Rattle.rebuild_model.specs.Members.{IsStaticFieldOf, IsStaticMethodOf}
 use Rattle.rebuild_looks.specs.Known.{Known, sides}
 use Rattle.rebuild_looks.proofs.Fields.{field_holder, method_holder}
 
@@ -72,21 +70,3 @@ module _ {P Q : Plain} {F : Facts} {H : Hierarchy} {W : Plain} (K : Known P Q F 
   -- methods
   pub static_methods : AreCopies (IsStaticMethod P W R) (IsStaticMethodOf P Q F H W T)
   static_methods = copies K.old.method_names K.new.method_names (method_holder P) K.rebuilt.statics.each_method (λ m g x. x.same)
-
-  -- the new method has the signature of the old one's rows, and a body
-  pub static_signature : (m g : ℕ) (x : IsStaticMethodOf P Q F H W T m g)
-      → signature_of_method W g ≡ Some (record {
-        params = new_types R m x.same.old 0 x.same.old.params;
-        result = retyped_if (R.row_type (result_in x.same.old.slot m)) x.same.old.result;
-      })
-  static_signature m g x =
-      ap (option_map (λ (k : PlainMethod). record { params = types_of k.params; result = k.result })) x.same.new_stands
-      ∙ ap (λ z. Some (record { params = z; result = x.same.new.result })) x.types.params
-      ∙ ap (λ z. Some (record { params = new_types R m x.same.old 0 x.same.old.params; result = z })) x.types.result
-
-  pub static_has_body : (m g : ℕ) → IsStaticMethodOf P Q F H W T m g → has_body W g ≡ true
-  static_has_body m g x = ap (λ z. option_map_or (λ (k : PlainMethod). is_some k.body) z false) x.same.new_stands ∙ ap is_some x.code.new_code
-
-  -- the run begins with the old main
-  pub main_is : IsStaticMethodOf P Q F H W T P.main W.main
-  main_is = static_methods.is P.main W.main K.rebuilt.main

@@ -1,6 +1,6 @@
 -- What is passed over meets nothing, and the blocks are those of their lists.
-use Rattle.std.proofs.Common.{◌≡◌, ℕ, zero, suc, ◌+◌, ◌*◌, ◌<◌, ◌≤◌, ◌⊎◌, inl, inr, ⊎_elim, Bool, true, false, List, [], ◌∷◌, ◌++◌, map, length, drop, Option, Some, None, Result, Ok, Err, refl, sym, ap, ◌∙◌, subst, arith}
-use Rattle.std.specs.Prelude.{slice_get, IfOk, ◌==◌, if◌then◌else◌}
+use Rattle.std.proofs.Common.{◌≡◌, ℕ, zero, suc, ◌+◌, ◌*◌, ◌<◌, ◌≤◌, ◌⊎◌, inl, inr, ⊎_elim, Bool, true, false, List, [], ◌∷◌, ◌++◌, map, length, drop, Option, Some, Result, Ok, Err, refl, sym, ap, ◌∙◌, subst, arith}
+use Rattle.std.specs.Prelude.{slice_get, IfOk, if◌then◌else◌}
 use Rattle.std.specs.Option.{option_map}
 use Rattle.std.proofs.lemmas.Bool.{cases_lt, eq-eqb, false≢true, false_from_ne_true}
 use Rattle.std.proofs.lemmas.List.{drop_all}
@@ -68,9 +68,6 @@ module _ (rows : List (List Bool)) (all : List Heading) where
         (λ h. subst (λ z. IsBlock rows all list (z * 64) 64 s) (sym h.0) (subst (λ z. IsBlock rows all list (length old * 64) 64 z) (sym h.1) one))
         (pushed_cases old r s k (subst (λ l. slice_get l k ≡ Some s) push e));
   }
-
-  pub blocks-none : (list : List ℕ) → AreBlocks rows all list []
-  blocks-none list = record { each = λ k s e. absurd (cc e) }
 
   begun-first : (l : List ℕ) (at : ℕ) → slice_get l 0 ≡ Some at → begun_at l at ≡ l
   begun-first [] at e = absurd (cc e)

@@ -1,10 +1,9 @@
 -- The walk to the nearest field.
-use Rattle.std.proofs.Common.{◌≡◌, ℕ, true, false, ◌+◌, ◌<◌, ◌≤◌, drop-cons, List, [], ◌∷◌, length, drop, get_or, Option, Some, None, ◌≢◌, refl, sym, ap, ◌∙◌, add-one, arith}
+use Rattle.std.proofs.Common.{◌≡◌, ℕ, true, false, ◌+◌, ◌<◌, drop-cons, List, [], ◌∷◌, length, drop, get_or, Option, Some, None, ◌≢◌, refl, sym, ap, ◌∙◌, add-one, arith}
 use Rattle.std.specs.Prelude.{nat_eq, slice_get}
 use Rattle.std.specs.HashMap.{HashMap, get}
 use Rattle.std.specs.Map.{lookup}
 use Rattle.std.proofs.lemmas.Bool.{ne_eqb}
-use Rattle.std.proofs.lemmas.List.{drop_all}
 use Rattle.kaba_base.specs.declared.ClassId.{ClassId}
 use Rattle.std.specs.Option.{is_some, option_and_then}
 use Rattle.java_core.specs.Classes.{first_or}
@@ -35,10 +34,6 @@ nearest_none t n steps i c o below none up before =
     ap (λ q. or_above None q (λ p. nearest_in t n (drop (i + 1) steps) p)) (sym up)
     ∙ ap (λ f. or_above f (parent_of t.parents c) (λ p. nearest_in t n (drop (i + 1) steps) p)) (sym none)
     ∙ sym (split t n steps i c below) ∙ before
-
-pub nearest_last : (t : Table) (n : List ℕ) (steps : List (Option ClassId)) (i c : ℕ) (o : Option ℕ) → length steps ≤ i
-    → nearest_in t n (drop i steps) c ≡ o → own_field t c n ≡ o
-nearest_last t n steps i c o above before = ap (λ xs. nearest_in t n xs c) (sym (drop_all i steps above)) ∙ before
 
 -- where no class has a field of the name, none is found
 pub nearest_nowhere : (t : Table) (n : List ℕ) (steps : List (Option ClassId)) (c : ℕ) → ((k : ℕ) → own_field t k n ≡ None) → None ≡ nearest_in t n steps c

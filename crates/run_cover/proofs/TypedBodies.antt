@@ -100,11 +100,6 @@ module _ (B : TypedBody) where
       let q = result_point_of Q formed m k stands body r.0 et in
       record { type = r.0; typed = et; number = q.0; point = q.1 }
 
-  if_kinds : (sc : List ℕ) (e : Option Ex) → ((d : Ex) → e ≡ Some d → IsTyped d) → FormedOption P (untag_method k) sc (bare_if e)
-      → Stands (parts_if P (type_in P m k) m k e) → K (parts_if P (type_in P m k) m k e)
-  if_kinds sc None ty fo st = of_nil _
-  if_kinds sc (Some e) ty (f_some fe) st = expressions.kinds B false sc e (ty e refl) fe st
-
   test_kinds : (sc : List ℕ) (e : Option Ex) → TypedTest P g (bare_if e) → FormedOption P (untag_method k) sc (bare_if e)
       → Stands (parts_if P (type_in P m k) m k e) → K (parts_if P (type_in P m k) m k e)
   test_kinds sc None ty fo st = of_nil _

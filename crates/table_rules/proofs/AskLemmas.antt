@@ -8,7 +8,6 @@ use Rattle.std.proofs.lemmas.Bool.{cases_eq, or_cases, false≢true}
 use Rattle.kaba_bits.specs.Sets.{bit, row, GainsRow, HasWidth, IsEmpty, IsNoneFrom}
 use Rattle.kaba_bits.proofs.RowLemmas.{HasWidth-kept, GainsRow-keeps}
 use Rattle.fact_model.specs.declared.facts.Facts.{Facts}
-use Rattle.fact_model.specs.Entries.{IsEntry}
 use Rattle.fact_model.specs.Items.{column_slot}
 use Rattle.points_to.specs.Listed.{numbers_at}
 use Rattle.table_rules.specs.Marks.{Marked, Grow, AreEntries}
@@ -53,13 +52,6 @@ module _ (F : Facts) (old new : List (List Bool)) (d : ℕ) (extra : List Bool) 
     };
     declared = λ b c lb lc by. GainsRow-keeps old new d extra gains b c (are.declared b c lb lc by);
   }
-
-  pub entries_more : AreEntries F old → ((c : ℕ) → bit extra c ≡ true → IsEntry F d c) → AreEntries F new
-  entries_more are holds = record {
-    len = len ∙ are.len;
-    widths = HasWidth-kept (length F.columns.items) old new len widths are.widths;
-    sound = gained (IsEntry F) old new d extra gains are.sound holds;
-    raw = λ r c h. GainsRow-keeps old new d extra gains r c (are.raw r c h);
   }
 
 -- empty sets

@@ -6,7 +6,7 @@ use Rattle.std.proofs.lemmas.Bool.{cases_lt, false≢true}
 use Rattle.std.proofs.lemmas.List.{get_or_past}
 use Rattle.std.proofs.lemmas.List.Elements.{All-contains}
 use Rattle.derivations.proofs.Derivations.{derivable_by, derivable_least}
-use Rattle.kaba_bits.specs.Sets.{bit, row, IsSubset, HasWidth, IsStep}
+use Rattle.kaba_bits.specs.Sets.{row, HasWidth, IsStep}
 use Rattle.kaba_bits.proofs.SetLemmas.{bit-below}
 use Rattle.kaba_base.specs.declared.ColId.{ColId}
 use Rattle.fact_model.specs.Items.{site_row, row_this}
@@ -56,10 +56,6 @@ module _ (F : Facts) where
 pub under : (M X : Type 0) (g : Bool) → OnFalse g X → OnFalse g (M → X)
 under M X true h = tt
 under M X false h = λ m. h
-
--- a row with the columns of a closed one is closed
-pub closed_alike : (asked rows : List (List Bool)) (p r : ℕ) → row rows p ≡ row rows r → IsRowClosed asked rows p → IsRowClosed asked rows r
-closed_alike asked rows p r e closed d m = subst (λ s. IsSubset (row asked d) s) e (closed d (subst (λ s. bit s d ≡ true) (sym e) m))
 
 module _ (F : Facts) (sets asked rows : List (List Bool)) (are : AreEntries F rows) (flows : AreAsked F asked) where
   -- a table whose rows have what their columns ask for is closed, where all was asked for

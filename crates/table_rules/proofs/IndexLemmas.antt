@@ -1,6 +1,5 @@
 -- Lists by slot and by body, one number on.
-use Rattle.std.proofs.Common.{◌≡◌, ℕ, ◌+◌, ◌<◌, Bool, true, false, List, [], length, Option, Some, None, Contains, refl, sym, subst, ◌∙◌, ⊎_elim, set}
-use Rattle.std.specs.Option.{IfSome}
+use Rattle.std.proofs.Common.{ℕ, ◌+◌, ◌<◌, Bool, true, false, List, length, Option, Some, None, Contains, refl, sym, subst, ◌∙◌, ⊎_elim, set}
 use Rattle.std.specs.declared.vec.Vec.{Vec}
 use Rattle.std.specs.declared.alloc.Global.{Global}
 use Rattle.std.proofs.lemmas.Nat.{mod_below}
@@ -8,12 +7,9 @@ use Rattle.std.proofs.lemmas.Bool.{cases_eq, false≢true}
 use Rattle.std.proofs.lemmas.List.{get_or-set_other, length-set}
 use Rattle.kaba_bits.specs.Sets.{row, IsEmpty}
 use borrow.Author.Count.{below_more}
-use Rattle.kaba_base.specs.declared.ColId.{ColId}
-use Rattle.fact_model.specs.Items.{column_slot, row_this}
-use Rattle.fact_model.specs.InRange.{InRange, IsCol}
+use Rattle.fact_model.specs.Items.{column_slot}
 use Rattle.fact_model.specs.Entries.{Hides}
 use Rattle.fact_model.specs.declared.facts.Facts.{Facts}
-use Rattle.fact_model.proofs.RangeLemmas.{this-below}
 use Rattle.points_to.specs.Listed.{numbers_at, KeepNumbers}
 use Rattle.table_rules.specs.Asked.{place_of, IsMethod, HaveMethods, AreHidden, IsPlain}
 
@@ -23,12 +19,6 @@ place-below n (Some x) lt = mod_below x n lt
 
 pub keep_same : (lists : List (Vec ℕ Global)) → KeepNumbers lists lists
 keep_same lists = record { len = refl; each = λ k x h. h }
-
--- the body of a `this` is a column
-pub this-column : (F : Facts) → InRange F → (v : ℕ) (d : ColId) → row_this F v ≡ Some d → d.0 < length F.columns.items
-this-column F R v d t =
-    let range = R.rows v (record { label = []; class = record { 0 = 0 }; dim = 0; site = None; this_of = None }) (this-below F v d t) in
-    subst (λ (o : Option ColId). IfSome o (IsCol F)) t range.2
 
 module _ (F : Facts) (old new : List (Vec ℕ Global)) (kept : KeepNumbers old new) (i : ℕ) where
   pub methods_more : HaveMethods F old i → (IsMethod F i → Contains (numbers_at new (place_of (length old) (column_slot F i))) i) → HaveMethods F new (i + 1)
@@ -51,6 +41,3 @@ module _ (F : Facts) (hidden : List (List Bool)) (are : AreHidden F hidden) (pla
         (λ ne. is.none e c (sym (get_or-set_other plain d e true false ne) ∙ h) below hides)
         (cases_eq e d);
   }
-
-pub plain-none : (F : Facts) (r : List Bool) → length r ≡ length F.columns.items → IsEmpty r → IsPlain F r
-plain-none F r len empty = record { width = len; none = λ d c h. absurd (false≢true (sym (empty d) ∙ h)) }

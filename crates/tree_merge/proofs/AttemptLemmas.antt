@@ -1,6 +1,6 @@
 -- What an attempt and a step come to.
 use Rattle.std.proofs.Common.{◌≡◌, ◌≢◌, ℕ, ◌+◌, ◌<◌, ◌==◌, ◌&&◌, not, Bool, true, false, cond, List, [], ◌∷◌, length, map, drop, get_or, Option, Some, None, Ok, Err, All, refl, sym, ap, ◌∙◌, subst, arith}
-use Rattle.std.proofs.lemmas.List.{drop_more, drop_all}
+use Rattle.std.proofs.lemmas.List.{drop_more}
 use Rattle.kaba_base.specs.declared.NodeId.{NodeId}
 use Rattle.kaba_order.specs.Orders.{is_le, is_live, IsPartialOrder}
 use Rattle.kaba_order.proofs.MergeLemmas.{among-All}
@@ -97,14 +97,6 @@ module _ (F : Facts) (pt : PointsTo) where
       let a = accepted F pt (changed_by F H (try_of e)) New h in
       record { made = h; meets = a.1; fewer = falls H p (try_of e) is.live is.joins New a.0 }
 
-  -- the tries from one on, where it is accepted, and where it is not
-  pub taken_at : (H New : Hierarchy) (tries : List Edit) (k : ℕ) (d : Edit) → k < length tries → tried F pt H (try_of (get_or tries k d)) ≡ Ok New
-      → first_accepted F pt H (map try_of (drop k tries)) ≡ Some (try_of (get_or tries k d), New)
-  taken_at H New tries k d lt h =
-      let e = get_or tries k d in
-      ap (λ l. first_accepted F pt H (map try_of l)) (drop_more tries k d lt)
-      ∙ ap (λ r. accepted_or (try_of e) r (first_accepted F pt H (map try_of (drop (k + 1) tries)))) h
-
   pub refused_at : (H : Hierarchy) (tries : List Edit) (k : ℕ) (d : Edit) (f : ApplyFault) → k < length tries
       → tried F pt H (try_of (get_or tries k d)) ≡ Err f
       → first_accepted F pt H (map try_of (drop k tries)) ≡ first_accepted F pt H (map try_of (drop (k + 1) tries))
@@ -121,13 +113,6 @@ last_more tries k d lt =
     let here : k < length tries = omega (arith, lt) in
     ap (λ l. last_try (map try_of l)) (drop_more tries k d here) ∙ ap (λ l. last_try (try_of (get_or tries k d) ∷ map try_of l)) next
     ∙ sym (ap (λ l. last_try (map try_of l)) next)
-
--- and where there is no next it is that one
-pub last_is : (tries : List Edit) (k : ℕ) (d : Edit) → k + 1 ≡ length tries → last_try (map try_of (drop k tries)) ≡ Some (try_of (get_or tries k d))
-last_is tries k d end =
-    let here : k < length tries = omega (arith, end) in
-    ap (λ l. last_try (map try_of l)) (drop_more tries k d here) ∙ ap (λ l. last_try (try_of (get_or tries k d) ∷ map try_of l))
-    (drop_all (k + 1) tries (omega (arith, end)))
 
 -- the two nodes of a conflict are live and not ordered
 pub apart_of : (F : Facts) (H : Hierarchy) → IsPartialOrder H.order → (b : Broken) → first_unchained F H ≡ Some b

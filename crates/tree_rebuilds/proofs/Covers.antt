@@ -124,7 +124,3 @@ module _ (n : ℕ) (le : ℕ → ℕ → Bool) (O : IsOrder n le) where
     pub names_le : (a b : ℕ) → Names le is_class a b → le a b ≡ true
     names_le a b (extends h k) = k.above
     names_le a b (implements h k) = k.above
-
-    pub le_of_subtype : (a b : ℕ) → le b b ≡ true → Subtype le is_class a b → le a b ≡ true
-    le_of_subtype a b l itself = l
-    le_of_subtype a b l (by_name {b = c} k s) = O.through a c b (names_le a c k) (le_of_subtype c b l s)
