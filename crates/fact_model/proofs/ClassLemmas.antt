@@ -20,6 +20,10 @@ use Rattle.fact_model.specs.Classes.{is_def, is_slot, is_body, parent_of, supers
 use Rattle.fact_model.specs.declared.facts.Facts.{Facts}
 use Rattle.fact_model.specs.declared.facts.ClassInfo.{ClassInfo}
 
+pub slot_says : (o : Option ℕ) (x : ℕ) → is_slot o x ≡ true → o ≡ Some x
+slot_says None x h = absurd (false≢true h)
+slot_says (Some y) x h = ap Some (eqb-true y x h)
+
 module _ (F : Facts) where
   pub below-then : {a b c : ℕ} → IsBelow F a b → IsBelow F b c → IsBelow F a c
   below-then same k = k

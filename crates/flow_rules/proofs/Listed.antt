@@ -6,53 +6,19 @@ use Rattle.std.proofs.lemmas.List.Folds.{list_any-append}
 use Rattle.std.proofs.lemmas.List.Elements.{Contains-append_left, Contains-append_right, Contains-append_cases}
 use Rattle.std.proofs.lemmas.Bool.{false≢true, or_left, or_right, or_cases}
 use Rattle.std.proofs.lemmas.Option.{same_Some}
+use Rattle.kaba_base.proofs.Listed.{contains_cases, later}
+pub use Rattle.kaba_base.proofs.Listed.{first, one, contains_at, at_contains, below_at, at_map, map_at, at_left, map_has, map_from, flat_has, flat_from, one_from, all_of}
 use Rattle.java_core.proofs.Positions.{position-passes, passes-position}
 use Rattle.indexmap.specs.IndexSet.{insert_key}
 use Rattle.flow_rules.specs.Ordered.{put_in, by_place, once_after, once, each, when}
 
-pub first : {A : Type 0} (x : A) (xs : List A) → Contains (x ∷ xs) x
-first x xs = (0, omega arith, refl)
-
-pub one : {A : Type 0} (x : A) → Contains (x ∷ []) x
-one x = (0, omega arith, refl)
-
 pub more : {A : Type 0} (x y : A) (xs : List A) → Contains xs x → Contains (y ∷ xs) x
-more x y xs c = (suc c.0, omega (arith, c.1), c.2)
-
-pub contains_at : {A : Type 0} (xs : List A) (i : ℕ) (x : A) → slice_get xs i ≡ Some x → Contains xs x
-contains_at [] i x e = absurd (cc)
-contains_at (y ∷ ys) zero x e = (0, omega arith, same_Some y x e)
-contains_at (y ∷ ys) (suc i) x e = more x y ys (contains_at ys i x e)
-
-pub at_contains : {A : Type 0} (xs : List A) (x : A) → Contains xs x → (i : ℕ) × (slice_get xs i ≡ Some x)
-at_contains [] x c = absurd (omega (arith, c.1))
-at_contains (y ∷ ys) x (zero, lt, e) = (0, ap Some e)
-at_contains (y ∷ ys) x (suc k, lt, e) = let z = at_contains ys x (k, omega (arith, lt), e) in (suc z.0, z.1)
+more x y xs c = later y xs x c
 
 pub at_below : {A : Type 0} (xs : List A) (i : ℕ) (x : A) → slice_get xs i ≡ Some x → i < length xs
 at_below [] i x e = absurd (cc)
 at_below (y ∷ ys) zero x e = omega arith
 at_below (y ∷ ys) (suc i) x e = omega (arith, at_below ys i x e)
-
-pub below_at : {A : Type 0} (xs : List A) (i : ℕ) → i < length xs → (x : A) × (slice_get xs i ≡ Some x)
-below_at [] i h = absurd (omega (arith, h))
-below_at (y ∷ ys) zero h = (y, refl)
-below_at (y ∷ ys) (suc i) h = below_at ys i (omega (arith, h))
-
-pub at_map : {A B : Type 0} (f : A → B) (xs : List A) (i : ℕ) (x : A) → slice_get xs i ≡ Some x → slice_get (map f xs) i ≡ Some (f x)
-at_map f [] i x e = absurd (cc)
-at_map f (y ∷ ys) zero x e = ap (λ z. Some (f z)) (same_Some y x e)
-at_map f (y ∷ ys) (suc i) x e = at_map f ys i x e
-
-pub map_at : {A B : Type 0} (f : A → B) (xs : List A) (i : ℕ) (y : B) → slice_get (map f xs) i ≡ Some y → (x : A) × (slice_get xs i ≡ Some x) × (f x ≡ y)
-map_at f [] i y e = absurd (cc)
-map_at f (x ∷ xs) zero y e = (x, refl, same_Some (f x) y e)
-map_at f (x ∷ xs) (suc i) y e = map_at f xs i y e
-
-pub at_left : {A : Type 0} (xs ys : List A) (i : ℕ) (x : A) → slice_get xs i ≡ Some x → slice_get (xs ++ ys) i ≡ Some x
-at_left [] ys i x e = absurd (cc)
-at_left (y ∷ xs) ys zero x e = e
-at_left (y ∷ xs) ys (suc i) x e = at_left xs ys i x e
 
 pub index_at : {A : Type 0} (xs : List A) (i : ℕ) (d x : A) → slice_get xs i ≡ Some x → slice_index_or xs i d ≡ x
 index_at [] i d x e = absurd (cc)
@@ -63,22 +29,6 @@ pub index_past : {A : Type 0} (xs : List A) (i : ℕ) (d : A) → slice_get xs i
 index_past [] i d e = refl
 index_past (y ∷ ys) zero d e = absurd (cc)
 index_past (y ∷ ys) (suc i) d e = index_past ys i d e
-
-pub map_has : {A B : Type 0} (f : A → B) (xs : List A) (x : A) → Contains xs x → Contains (map f xs) (f x)
-map_has f xs x c = let z = at_contains xs x c in contains_at (map f xs) z.0 (f x) (at_map f xs z.0 x z.1)
-
-pub map_from : {A B : Type 0} (f : A → B) (xs : List A) (y : B) → Contains (map f xs) y → (x : A) × Contains xs x × (f x ≡ y)
-map_from f xs y c = let z = at_contains (map f xs) y c in let w = map_at f xs z.0 y z.1 in (w.0, contains_at xs z.0 w.0 w.1, w.2)
-
-pub flat_has : {A B : Type 0} (f : A → List B) (xs : List A) (x : A) (y : B) → Contains xs x → Contains (f x) y → Contains (flat_map f xs) y
-flat_has f [] x y c d = absurd (omega (arith, c.1))
-flat_has f (z ∷ zs) x y (zero, lt, e) d = Contains-append_left (f z) (flat_map f zs) y (subst (λ w. Contains (f w) y) (sym e) d)
-flat_has f (z ∷ zs) x y (suc k, lt, e) d = Contains-append_right (f z) (flat_map f zs) y (flat_has f zs x y (k, omega (arith, lt), e) d)
-
-pub flat_from : {A B : Type 0} (f : A → List B) (xs : List A) (y : B) → Contains (flat_map f xs) y → (x : A) × Contains xs x × Contains (f x) y
-flat_from f [] y c = absurd (omega (arith, c.1))
-flat_from f (x ∷ xs) y c = ⊎_elim (λ d. (x, first x xs, d)) (λ d. let z = flat_from f xs y d in (z.0, more z.0 x xs z.1, z.2))
-    (Contains-append_cases (f x) (flat_map f xs) y c)
 
 pub each_has : {A B : Type 0} (f : ℕ → A → List B) (n : ℕ) (xs : List A) (i : ℕ) (x : A) (y : B) → slice_get xs i ≡ Some x → (j : ℕ) → j ≡ n + i
     → Contains (f j x) y → Contains (each f n xs) y
@@ -114,10 +64,6 @@ pub when_from : {A : Type 0} (b : Bool) (xs : List A) (x : A) → Contains (when
 when_from true xs x c = (refl, c)
 when_from false xs x c = absurd (omega (arith, c.1))
 
-pub one_from : {A : Type 0} (y x : A) → Contains (y ∷ []) x → y ≡ x
-one_from y x (zero, lt, e) = e
-one_from y x (suc k, lt, e) = absurd (omega (arith, lt))
-
 choose_has : {A : Type 0} (xs ys : List A) (x : A) (b : Bool) → Contains xs x → Contains ys x → Contains (if b then xs else ys) x
 choose_has xs ys x true c d = c
 choose_has xs ys x false c d = d
@@ -125,10 +71,6 @@ choose_has xs ys x false c d = d
 choose_from : {A : Type 0} (xs ys : List A) (x : A) (b : Bool) → Contains (if b then xs else ys) x → Contains xs x ⊎ Contains ys x
 choose_from xs ys x true c = inl c
 choose_from xs ys x false c = inr c
-
-tail_from : {A : Type 0} (y x : A) (xs : List A) → Contains (y ∷ xs) x → (y ≡ x) ⊎ Contains xs x
-tail_from y x xs (zero, lt, e) = inl e
-tail_from y x xs (suc k, lt, e) = inr (k, omega (arith, lt), e)
 
 put_here : {A : Type 0} (at : A → ℕ) (x : A) (xs : List A) → Contains (put_in at x xs) x
 put_here at x [] = first x []
@@ -142,10 +84,10 @@ put_rest at x (z ∷ zs) y (suc k, lt, e) =
     (more y x (z ∷ zs) (more y z zs c))
 
 put_from : {A : Type 0} (at : A → ℕ) (x : A) (xs : List A) (y : A) → Contains (put_in at x xs) y → (x ≡ y) ⊎ Contains xs y
-put_from at x [] y c = tail_from x y [] c
+put_from at x [] y c = contains_cases x [] y c
 put_from at x (z ∷ zs) y c =
     ⊎_elim (λ d. ⊎_elim (λ e. inr (0, omega arith, e)) (λ d. ⊎_elim (λ e. inl e) (λ d. inr (more y z zs d)) (put_from at x zs y d))
-    (tail_from z y (put_in at x zs) d)) (λ d. tail_from x y (z ∷ zs) d)
+    (contains_cases z (put_in at x zs) y d)) (λ d. contains_cases x (z ∷ zs) y d)
     (choose_from (z ∷ put_in at x zs) (x ∷ (z ∷ zs)) y (nat_lt (at z) (at x)) c)
 
 pub place_has : {A : Type 0} (at : A → ℕ) (xs : List A) (y : A) → Contains xs y → Contains (by_place at xs) y
@@ -181,7 +123,7 @@ module _ {A K : Type 0} (eq : K → K → Bool) (exact : (x y : K) → eq x y �
 
   head_cases : (b : Bool) (xs : List A) (y x : A) → Contains (if b then xs else y ∷ xs) x → Contains xs x ⊎ ((b ≡ false) × (y ≡ x))
   head_cases true xs y x c = inl c
-  head_cases false xs y x c = ⊎_elim (λ e. inr (refl, e)) (λ d. inl d) (tail_from y x xs c)
+  head_cases false xs y x c = ⊎_elim (λ e. inr (refl, e)) (λ d. inl d) (contains_cases y xs x c)
 
   once_after_from : (seen : List K) (xs : List A) (x : A) → Contains (once_after eq key seen xs) x → Contains xs x
   once_after_from seen [] x c = c
@@ -293,7 +235,3 @@ module _ {A K : Type 0} (eq : K → K → Bool) (exact : (x y : K) → eq x y �
 
   pub number_raw : (n : ℕ) (x : A) → slice_get (once eq key xs) n ≡ Some x → Contains xs x
   number_raw n x e = once_from eq exact alike key xs x (contains_at (once eq key xs) n x e)
-
--- what each item has, all have
-pub all_of : {A : Type 0} (P : A → Type 0) (xs : List A) → ((x : A) → Contains xs x → P x) → All P xs
-all_of P xs f i d h = let z = below_at xs i h in subst P (sym (index_at xs i d z.0 z.1)) (f z.0 (contains_at xs i z.0 z.1))

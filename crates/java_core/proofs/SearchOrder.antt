@@ -7,7 +7,7 @@ use Rattle.kaba_base.specs.declared.MemberId.{MemberId}
 use Rattle.java_core.specs.Programs.{Plain}
 use Rattle.java_core.specs.Classes.{parent_of, first_or, first_found, nearest, faces_above, chain, search_order, nearest_of, own_method, declaration_of}
 
-first_or-assoc : (a b c : Option ℕ) → first_or (first_or a b) c ≡ first_or a (first_or b c)
+pub first_or-assoc : (a b c : Option ℕ) → first_or (first_or a b) c ≡ first_or a (first_or b c)
 first_or-assoc None b c = refl
 first_or-assoc (Some x) b c = refl
 

@@ -17,7 +17,7 @@ use Rattle.java_core.specs.Programs.{local_seen, class_seen, field_seen, method_
 use Rattle.java_core.specs.Untagged.{bare_tag, bare, bare_all, bare_if, bare_target, bare_st, bare_sts, bare_arms, untag_body, untag_local, untag_class, untag_field, untag_method, untagged}
 
 -- pairs and longer, part by part
-ap2 : {A B C : Type 0} (f : A → B → C) {a b : A} {c d : B} → a ≡ b → c ≡ d → f a c ≡ f b d
+pub ap2 : {A B C : Type 0} (f : A → B → C) {a b : A} {c d : B} → a ≡ b → c ≡ d → f a c ≡ f b d
 ap2 f {b = b} {c = c} p q = ap (λ z. f z c) p ∙ ap (λ z. f b z) q
 
 module _ (tag : Place → Tag) where

@@ -139,7 +139,7 @@ pub while_seen : {e : Stmt} {t : Expr} (v : Vec Stmt Global) {p : Place} {xs : L
     → stmt_of e ≡ WhileOf (expr_of t) (stmts xs) p
 while_seen {t = t} v {p = p} h x = ap stmt_of h ∙ ap (λ ss. WhileOf (expr_of t) ss p) (stmts_vec v ∙ sym (ap stmts x))
 
-for_as : (f : Option (Box Stmt Global)) (t : Option Expr) (g : Option (Box Stmt Global)) (v : Vec Stmt Global) (p : Place) → stmt_of (For f t g v p)
+pub for_as : (f : Option (Box Stmt Global)) (t : Option Expr) (g : Option (Box Stmt Global)) (v : Vec Stmt Global) (p : Place) → stmt_of (For f t g v p)
     ≡ ForOf (boxed_step f) (value_of t) (boxed_step g) (stmts v.items) p
 for_as None t None v p = rw (sym (stmts_vec v)) refl
 for_as None t (Some b) v p = rw (sym (stmts_vec v)) refl

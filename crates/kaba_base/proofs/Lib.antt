@@ -1,2 +1,4 @@
+pub mod Listed
+pub mod Tests
 pub mod Texts
 pub mod Written

@@ -3,7 +3,7 @@ use Rattle.std.proofs.Common.{◌≡◌, ℕ, ◌-◌, ◌≤◌, ◌&&◌, ◌|
 use Rattle.std.specs.List.{list_all, list_any}
 use Rattle.std.specs.Str.{chars, encode_utf8_all, IsUtf8, bytes_eq}
 use Rattle.std.proofs.Math.Utf8.{scalars}
-use Rattle.std.proofs.lemmas.Str.{encodes-chars, chars-encodes}
+use Rattle.std.proofs.lemmas.Str.{encodes-chars, chars-encodes, cons_from_encodes}
 use Rattle.std.proofs.lemmas.Slice.Eq.{bytes_eq-Decides}
 use Rattle.std.proofs.lemmas.Bool.Decides.{same_from_decides, Decides-eqb}
 use Rattle.std.proofs.lemmas.List.{take_all}
@@ -14,10 +14,32 @@ use Rattle.unicode_ident.proofs.Computing.{unicode_ident}
 use Rattle.kaba_base.specs.Words.{first_that, key_text, key_of, is_none, is_start, is_part, is_word, next_is}
 use Rattle.kaba_base.specs.declared.words.Keyword.{Keyword}
 use Rattle.kaba_base.specs.declared.words.TheConstants.{KEYWORDS}
+use Rattle.kaba_base.proofs.Tests.{same_truth}
 
 -- bytes that are UTF-8 are told by their characters
 pub same_chars : (xs ys : List ℕ) → IsUtf8 xs → IsUtf8 ys → chars xs ≡ chars ys → xs ≡ ys
 same_chars xs ys u v h = sym (encodes-chars xs u) ∙ ap encode_utf8_all h ∙ encodes-chars ys v
+
+-- two texts are the same where their bytes are
+pub bytes_exact : (x y : List ℕ) → bytes_eq x y ≡ true → x ≡ y
+bytes_exact x y h = (bytes_eq-Decides x y).0 h
+
+pub bytes_of : (x y : List ℕ) → x ≡ y → bytes_eq x y ≡ true
+bytes_of x y e = (bytes_eq-Decides x y).1 e
+
+pub encodes-same : (xs ws : List ℕ) → encode_utf8_all xs ≡ encode_utf8_all ws → xs ≡ ws
+encodes-same [] [] e = refl
+encodes-same (x ∷ xs) [] e = let h = cons_from_encodes [] (encode_utf8_all xs) x (sym e) in cc h.1
+encodes-same xs (w ∷ ws) e =
+    let h = cons_from_encodes xs (encode_utf8_all ws) w e in
+    h.1 ∙ ap (λ rest. w ∷ rest) (encodes-same h.0 ws h.2)
+
+-- and exactly there their characters are
+pub text_test : (a b : List ℕ) → bytes_eq (encode_utf8_all a) (encode_utf8_all b) ≡ bytes_eq a b
+text_test a b =
+    same_truth (bytes_eq (encode_utf8_all a) (encode_utf8_all b)) (bytes_eq a b)
+    (λ h. bytes_of a b (encodes-same a b (bytes_exact (encode_utf8_all a) (encode_utf8_all b) h)))
+    (λ h. bytes_of (encode_utf8_all a) (encode_utf8_all b) (ap encode_utf8_all (bytes_exact a b h)))
 
 -- the first that passes, past one that does not
 pub first_that_skips : {X : Type 0} (p : X → Bool) (xs : List X) (d : X) (r : Option X) → 1 ≤ length xs → p (get_or xs 0 d) ≡ false
