@@ -1,8 +1,9 @@
 -- What the written body of a method resolves to matches the old body, and its locals have the types of their rows.
-use Rattle.std.proofs.Common.{◌≡◌, ℕ, suc, ◌+◌, List, [], ◌∷◌, ◌++◌, Option, Some, None, length, refl, sym, ap, ◌∙◌, subst, arith}
+use Rattle.std.proofs.Common.{◌≡◌, ℕ, suc, ◌+◌, List, [], ◌∷◌, Option, Some, None, length, refl, sym, ap, ◌∙◌, subst, arith}
 use Rattle.std.specs.Prelude.{true, false, map, slice_get, Contains}
 use Rattle.std.proofs.lemmas.Option.{same_Some, slice_get_within}
 use Rattle.std.proofs.lemmas.List.{length-map, length-append}
+use Rattle.kaba_base.proofs.Listed.{behind}
 use Rattle.java_core.specs.Trees.{Sts}
 use Rattle.java_core.specs.Programs.{Plain, PlainLocal, PlainMethod}
 use Rattle.java_core.specs.Types.{types_of, env_of}
@@ -31,10 +32,6 @@ use Rattle.body_rebuilds.proofs.Statements as walk
 pub body_some : (b : Option Sts) (xs : Sts) → untag_body b ≡ Some xs → (zs : Sts) × (b ≡ Some zs) × (bare_sts zs ≡ xs)
 body_some None xs e = absurd (cc)
 body_some (Some zs) xs e = (zs, refl, same_Some (bare_sts zs) xs e)
-
-behind : {A : Type 0} (xs ys : List A) (j : ℕ) → slice_get (xs ++ ys) (length xs + j) ≡ slice_get ys j
-behind [] ys j = ap (slice_get ys) (let e : 0 + j ≡ j = omega arith in e)
-behind (x ∷ xs) ys j = ap (slice_get (x ∷ (xs ++ ys))) (let e : suc (length xs) + j ≡ suc (length xs + j) = omega arith in e) ∙ behind xs ys j
 
 -- types of locals, one by one
 all_types : (f : ℕ → Option ℕ) (n : ℕ) (vs ws : List PlainLocal) → length vs ≡ length ws

@@ -4,6 +4,7 @@ use Rattle.std.specs.Prelude.{◌==◌, ◌&&◌, not, slice_get, if◌then◌el
 use Rattle.std.specs.Option.{option_map_or}
 use Rattle.std.proofs.lemmas.List.{append_assoc, length-append}
 use Rattle.kaba_base.specs.declared.ClassId.{ClassId}
+use Rattle.kaba_base.proofs.Listed.{middle}
 use Rattle.java_core.specs.declared.Field.{Field}
 use Rattle.java_core.specs.Trees.{no_place}
 use Rattle.java_core.specs.Programs.{Plain, field_seen}
@@ -41,10 +42,6 @@ module _ (P : Plain) (done whole : List ClassId) (at : ClassId) where
       → (done ++ at ∷ []) ++ line_in P (n - (k + 1)) p ≡ whole
   line_goes n k p lt up e =
       subst (λ i. (done ++ at ∷ []) ++ line_in P i p ≡ whole) (let z : n - k - 1 ≡ n - (k + 1) = omega arith in z) (line_up (n - k) p (omega (arith, lt)) up e)
-
-middle : {A : Type 0} (done : List A) (x : A) (rest : List A) → slice_get (done ++ x ∷ rest) (length done) ≡ Some x
-middle [] x rest = refl
-middle (y ∷ done) x rest = middle done x rest
 
 -- of the fields that a class declares, the instance fields are its own fields
 among : (c : ℕ) (done rest : List Field) (k : ℕ) → length done ≡ k

@@ -4,6 +4,7 @@ use Rattle.std.specs.declared.cmp.Ordering.TheVariants.{Less, Equal}
 use Rattle.std.proofs.lemmas.Bool.{cases_order, and_from, eqb-true, eq-eqb}
 use Rattle.std.proofs.lemmas.Cmp.{tied_itself}
 use Rattle.std.proofs.lemmas.List.{get_or-map, length-map}
+use Rattle.kaba_base.proofs.Tests.{same_truth}
 use Rattle.kaba_bits.specs.Sets.{bit, row, size, rising}
 use Rattle.kaba_bits.proofs.SetLemmas.{same_bits, subset-same}
 use Rattle.kaba_bits.proofs.RisingLemmas.{rising_from-same}
@@ -11,7 +12,7 @@ use Rattle.fact_model.specs.Concepts.{Pair, IsExtent, IsIntent, IsConcept, conce
 use Rattle.concept_build.specs.Tables.{IsMeet}
 use Rattle.concept_build.specs.Lists.{extents_of, columns_of, AreDifferent, IsClosure}
 use Rattle.concept_build.proofs.OrderLemmas.{concept_cmp-total}
-use Rattle.concept_build.proofs.MadeLemmas.{same_Bool, meet, IsMeet-meet, meet-left, meet-right, closed-meet, closed-concept, concept-closed}
+use Rattle.concept_build.proofs.MadeLemmas.{meet, IsMeet-meet, meet-left, meet-right, closed-meet, closed-concept, concept-closed}
 use Rattle.concept_build.proofs.MeetLemmas.{same_extent, same_intents, meet-holds, meet-has, meet-least}
 
 abbrev pub nothing : Pair
@@ -78,7 +79,7 @@ module _ (T : List (List Bool)) (w : ℕ) where
               let f : meet B R ≡ B = subset-same (meet B R) B m.len (meet-left (meet B R) B R m) (omega (arith, e)) in
               λ i b. meet-right (meet B R) B R m i (subst (λ s. bit s i ≡ true) (sym f) b),
           λ s.
-              let f : meet B R ≡ B = same_bits (meet B R) B m.len (λ i ilt. same_Bool (bit (meet B R) i) (bit B i) (meet-left (meet B R) B R m i)
+              let f : meet B R ≡ B = same_bits (meet B R) B m.len (λ i ilt. same_truth (bit (meet B R) i) (bit B i) (meet-left (meet B R) B R m i)
               (λ b. m.bits i ∙ and_from (bit B i) (bit R i) b (s i b))) in
               at ∙ eq-eqb (size (meet B R)) (size B) (ap size f),
         );

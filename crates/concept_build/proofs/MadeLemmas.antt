@@ -35,11 +35,6 @@ concept-closed T w A B e closed = record {
   };
 }
 
-pub same_Bool : (a b : Bool) → (a ≡ true → b ≡ true) → (b ≡ true → a ≡ true) → a ≡ b
-same_Bool true b f g = sym (f refl)
-same_Bool false true f g = g refl
-same_Bool false false f g = refl
-
 pub IsMeet-same : (M N B R : List Bool) → IsMeet M B R → IsMeet N B R → M ≡ N
 IsMeet-same M N B R m n = same_bits M N (m.len ∙ sym n.len) (λ i lt. m.bits i ∙ sym (n.bits i))
 

@@ -1,24 +1,25 @@
 -- A concept whose intent is that of another without what a row lacks.
 use Rattle.std.proofs.Common.{◌≡◌, ℕ, ◌<◌, Bool, true, List, length, sym, ◌∙◌, arith}
 use Rattle.std.proofs.lemmas.Bool.{and_from}
+use Rattle.kaba_base.proofs.Tests.{same_truth}
 use Rattle.kaba_bits.specs.Sets.{bit, row, IsSubset}
 use Rattle.kaba_bits.proofs.SetLemmas.{same_bits, bit-below}
 use Rattle.fact_model.specs.Concepts.{Pair, IsExtent, IsIntent, IsConcept}
 use Rattle.concept_build.specs.Tables.{IsMeet, IsNoMore}
-use Rattle.concept_build.proofs.MadeLemmas.{same_Bool, meet-left, meet-right}
+use Rattle.concept_build.proofs.MadeLemmas.{meet-left, meet-right}
 
 module _ (T : List (List Bool)) (w : ℕ) where
   pub same_extent : (A C B : List Bool) → IsExtent T A B → IsExtent T C B → A ≡ C
   same_extent A C B e f =
       same_bits A C (e.len ∙ sym f.len) (λ r lt.
       let below : r < length T = omega (arith, lt, e.len) in
-      same_Bool (bit A r) (bit C r) (λ a. (f.rows r below).1 ((e.rows r below).0 a)) (λ c. (e.rows r below).1 ((f.rows r below).0 c)))
+      same_truth (bit A r) (bit C r) (λ a. (f.rows r below).1 ((e.rows r below).0 a)) (λ c. (e.rows r below).1 ((f.rows r below).0 c)))
 
   pub same_intents : (A B D : List Bool) → IsIntent T w A B → IsIntent T w A D → B ≡ D
   same_intents A B D e f =
       same_bits B D (e.len ∙ sym f.len) (λ c lt.
       let below : c < w = omega (arith, lt, e.len) in
-      same_Bool (bit B c) (bit D c) (λ b. (f.columns c below).1 ((e.columns c below).0 b)) (λ d. (e.columns c below).1 ((f.columns c below).0 d)))
+      same_truth (bit B c) (bit D c) (λ b. (f.columns c below).1 ((e.columns c below).0 b)) (λ d. (e.columns c below).1 ((f.columns c below).0 d)))
 
   module _ (x y : Pair) (q : ℕ) (c : IsConcept T w x.0 x.1) (p : IsConcept T w y.0 y.1) (qlt : q < length T) (m : IsMeet y.1 x.1 (row T q)) where
     pub meet-holds : IsSubset x.0 y.0

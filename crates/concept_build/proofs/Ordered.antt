@@ -2,10 +2,8 @@
 use Rattle.std.proofs.Common.{◌≡◌, ⊎_elim, inl, inr, ℕ, zero, suc, ◌<◌, ◌≤◌, List, [], ◌∷◌, length, map, get_or, refl, sym, ap, ◌∙◌, subst, arith, AllPairs}
 use Rattle.std.specs.Prelude.{◌⊎◌, Contains}
 use Rattle.std.proofs.lemmas.List.Kept.{AllPairs-from_increasing}
+use Rattle.kaba_base.proofs.Listed.{first}
 use Rattle.kaba_bits.specs.Sets.{ListsBelow}
-
-first : {A : Type 0} (x : A) (xs : List A) → Contains (x ∷ xs) x
-first x xs = (0, omega arith, refl)
 
 after : {A : Type 0} (x z : A) (xs : List A) → Contains xs z → Contains (x ∷ xs) z
 after x z xs c = (suc c.0, omega (arith, c.1), c.2)

@@ -15,18 +15,18 @@ use Rattle.std.proofs.lemmas.List.MinMax.{ranks_by}
 use Rattle.std.proofs.lemmas.List.Sorted.{sorted_far, IsPermutation-map, All-permutation, Contains-permutation}
 use Rattle.std.proofs.lemmas.Map.Keys.{IsDistinct-IsPermutation}
 use Rattle.std.proofs.lemmas.Map.Made.{AllPairs-from_IsDistinct, IsDistinct-from_AllPairs}
+use Rattle.kaba_base.proofs.Tests.{same_truth}
 use Rattle.kaba_bits.specs.Sets.{size, rising}
 use Rattle.fact_model.specs.Concepts.{Pair, concept_cmp, IsConcept, AreConcepts, HasIntent}
 use Rattle.concept_build.specs.Lists.{columns_of, AreDifferent, IsBefore}
 use Rattle.concept_build.proofs.OrderLemmas.{concept_cmp-total}
-use Rattle.concept_build.proofs.MadeLemmas.{same_Bool}
 use Rattle.concept_build.proofs.ExtentLemmas.{nothing, column-columns_of}
 
 same : (a b : List ℕ) → Decides (pointwise (λ x y. x == y) a b) (a ≡ b)
 same a b = slice_eq-Decides Decides-eqb a b _ refl
 
 flips : (a b : List ℕ) → pointwise (λ x y. x == y) a b ≡ pointwise (λ x y. x == y) b a
-flips a b = same_Bool _ _ (λ h. (same b a).1 (sym ((same a b).0 h))) (λ h. (same a b).1 (sym ((same b a).0 h)))
+flips a b = same_truth _ _ (λ h. (same b a).1 (sym ((same a b).0 h))) (λ h. (same a b).1 (sym ((same b a).0 h)))
 
 AreDifferent-permutation : (xs ys : List (List ℕ)) → IsPermutation xs ys → AreDifferent xs → AreDifferent ys
 AreDifferent-permutation xs ys p h = AllPairs-from_IsDistinct same ys (IsDistinct-IsPermutation (pointwise (λ x y. x == y)) flips xs ys p

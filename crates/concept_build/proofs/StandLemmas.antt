@@ -2,11 +2,11 @@
 use Rattle.std.proofs.Common.{◌≡◌, ◌↔◌, ℕ, suc, zero, ◌+◌, ◌<◌, ◌≤◌, Bool, true, false, List, [], ◌∷◌, length, refl, sym, ap, ◌∙◌, subst, arith}
 use Rattle.std.proofs.lemmas.Bool.{false≢true}
 use Rattle.std.proofs.lemmas.List.{get_or-map, length-map}
+use Rattle.kaba_base.proofs.Tests.{same_truth}
 use Rattle.kaba_bits.specs.Sets.{bit, row, size, rising_from, rising, IsSubset, IsNoneFrom}
 use Rattle.kaba_bits.proofs.SetLemmas.{bit-below, same_bits, size-true, size-false, subset-same, subset-both}
 use Rattle.fact_model.specs.Concepts.{IsConcept, RowStands, ColumnStands}
 use Rattle.concept_build.specs.Tables.{column}
-use Rattle.concept_build.proofs.MadeLemmas.{same_Bool}
 
 length-rising_from : (k : ℕ) (xs : List Bool) → length (rising_from k xs) ≡ size xs
 length-rising_from k [] = refl
@@ -62,7 +62,7 @@ module _ (T : List (List Bool)) (w : ℕ) (A B : List Bool) (o : IsConcept T w A
       λ s.
           let e : A ≡ column T c = same_bits A (column T c) len-column (λ r lt.
           let rlt : r < length T = subst (λ n. r < n) o.extent.len lt in
-          same_Bool (bit A r) (bit (column T c) r) (λ a. bit-column r rlt ∙ (s.rows r rlt).0 a) (λ b. (s.rows r rlt).1 (sym (bit-column r rlt) ∙ b))) in (
+          same_truth (bit A r) (bit (column T c) r) (λ a. bit-column r rlt ∙ (s.rows r rlt).0 a) (λ b. (s.rows r rlt).1 (sym (bit-column r rlt) ∙ b))) in (
             (o.intent.columns c clt).1 (λ r rlt a. (s.rows r rlt).0 a),
             positive (column T c) s.live.0 (bit-column s.live.0 s.live.1 ∙ s.live.2),
             ap size (sym e),

@@ -4,13 +4,13 @@ use Rattle.std.specs.Prelude.{slice_get, nat_lt, ◌==◌, if◌then◌else◌}
 use Rattle.std.specs.Str.{bytes_eq}
 use Rattle.std.proofs.lemmas.Bool.{eqb-true, eqb-false, eq-eqb, lt-ltb, ltb-true}
 use Rattle.std.proofs.lemmas.List.{append_assoc, length-append}
+use Rattle.kaba_base.proofs.Listed.{middle}
 use Rattle.name_rules.specs.declared.Refusal.{Refusal}
 use Rattle.name_outcome.specs.declared.parts.Heading.{Heading}
 use Rattle.name_outcome.specs.Answers.{run, with, unless}
 use Rattle.name_outcome.specs.Members.{clash_of, clash_with, earlier_step}
 use Rattle.declared_types.specs.Clashes.{clash_at, or_clash, clash_among, clash_after}
 use Rattle.name_tables.specs.Spots.{spots_from}
-use Rattle.name_outcome.proofs.Runs.{middle-stands}
 
 -- a number is not below one that is no greater
 pub not-below : (i k : ℕ) → k ≤ i → nat_lt i k ≡ false
@@ -67,7 +67,7 @@ module _ (rows : List (List Bool)) (k : ℕ) (b : Heading) where
   earlier done (a ∷ rest) j e le = go (j == k) refl (λ next. earlier (done ++ a ∷ []) rest (j + 1) (length-append done (a ∷ []) ∙ ap (λ i. i + 1) e) next)
     where
       at : slice_get (done ++ a ∷ rest) j ≡ Some a
-      at = subst (λ i. slice_get (done ++ a ∷ rest) i ≡ Some a) e (middle-stands done a rest)
+      at = subst (λ i. slice_get (done ++ a ∷ rest) i ≡ Some a) e (middle done a rest)
 
       go : (c : Bool) → (j == k) ≡ c
           → (j + 1 ≤ k → so_far (j + 1) rest ≡ clash_after rows ((done ++ a ∷ []) ++ rest) k b (spots_from (j + 1) b.name (map name_of rest)))

@@ -7,6 +7,7 @@ use Rattle.std.proofs.lemmas.Bool.{le-leb, and_parts, or_cases, or_right, eqb-tr
 use Rattle.std.proofs.lemmas.List.{length-set, length-map}
 use Rattle.std.proofs.lemmas.Option.{slice_get-map, slice_get_within}
 use Rattle.std.proofs.lemmas.Slice.Eq.{bytes_eq-Decides}
+use Rattle.kaba_base.proofs.Listed.{middle}
 use Rattle.kaba_bits.specs.Sets.{IsLeastFrom}
 use Rattle.java_core.proofs.Meets.{meet-stands}
 use Rattle.name_rules.specs.declared.Refusal.{Refusal}
@@ -14,7 +15,6 @@ use Rattle.name_outcome.specs.declared.parts.Heading.{Heading}
 use Rattle.name_outcome.specs.Tables.{is_above}
 use Rattle.name_outcome.specs.Members.{meet, same_slot, clash_of}
 use Rattle.name_outcome.specs.Answers.{unless}
-use Rattle.name_outcome.proofs.Runs.{middle-stands}
 use Rattle.declared_types.specs.Clashes.{clash_at, or_clash, clash_among, clash_after}
 use Rattle.declared_types.proofs.ClashSpots.{not-below}
 use Rattle.name_tables.specs.declared.spots.Spots.{Spots}
@@ -415,7 +415,7 @@ not-suspected rows all k b suspects tested at quiet =
     ∙ among-none rows k b all r.0 r.1
     (λ q j e. let g = front-get r.0 (k ∷ r.1) q j e in
     same (slice_get all j) ∙ ap (clash_between rows (slice_get all j)) (sym at)
-    ∙ tested (length r.0) q k j g.1 (ap (λ l. slice_get l (length r.0)) split ∙ middle-stands r.0 k r.1) (ap (λ l. slice_get l q) split ∙ g.0) quiet))
+    ∙ tested (length r.0) q k j g.1 (ap (λ l. slice_get l (length r.0)) split ∙ middle r.0 k r.1) (ap (λ l. slice_get l q) split ∙ g.0) quiet))
   where
     same : (o : Option Heading) → clash_at rows b o ≡ clash_between rows o (Some b)
     same None = refl

@@ -2,6 +2,7 @@
 use Rattle.std.proofs.Common.{◌≡◌, ℕ, zero, suc, List, [], ◌∷◌, Option, Some, None, length, refl, sym, ap, ◌∙◌, subst, arith}
 use Rattle.std.specs.Prelude.{◌<◌, Contains, slice_get, slice_index_or, option_and_then, map}
 use Rattle.std.specs.Option.{option_map_or}
+use Rattle.std.proofs.lemmas.Option.{slice_get_within}
 use Rattle.java_core.specs.Programs.{Plain, PlainMethod}
 use Rattle.java_core.specs.Classes.{IsSubclass}
 use Rattle.java_core.specs.Typing.{IsTyped}
@@ -23,7 +24,7 @@ use Rattle.flow_rules.specs.Parts.{Part, a_call}
 use Rattle.flow_rules.specs.Lists.{Placed, PlainCall, point_at, calls_of}
 use Rattle.flow_rules.specs.Numbered.{column_number, columns_of, point_number}
 use Rattle.flow_rules.specs.Facts.{numbers, gathered, body_seen, call_seen, body_if, column_body, param_points, IsFactsOf}
-use Rattle.flow_rules.proofs.Listed.{map_has, map_from, map_at, one_from, each_from_zero, place_from, at_below}
+use Rattle.flow_rules.proofs.Listed.{map_has, map_from, map_at, one_from, each_from_zero, place_from}
 use Rattle.flow_rules.proofs.NumberedItems.{numbered_columns}
 use Rattle.facts_order.proofs.Pairs.{IsPlaced}
 use Rattle.facts_order.proofs.Columns.{numbered_column}
@@ -175,4 +176,4 @@ module _ (P Q : Plain) (placed : IsPlaced P Q) (formed : IsFormed P) (typed : Is
   unfolding numbers
   param_at m k xs i n e d =
       let z = at_each (λ i v. point_number P Q (point.Local m i)) 0 k.params i (Some n) (subst (λ y. slice_get y i ≡ Some (Some n)) e (index_some xs i n d)) in
-      (at_below k.params i z.0 z.1, ap (λ j. point_number P Q (point.Local m j)) (omega arith) ∙ z.2)
+      (slice_get_within k.params i z.0 z.1, ap (λ j. point_number P Q (point.Local m j)) (omega arith) ∙ z.2)

@@ -5,6 +5,7 @@ use Rattle.std.specs.Option.{is_some}
 use Rattle.std.specs.List.{flat_map}
 use Rattle.std.proofs.lemmas.Bool.{not-true}
 use Rattle.std.proofs.lemmas.List.Elements.{Contains-append_left, Contains-append_right, Contains-append_cases}
+use Rattle.std.proofs.lemmas.Option.{slice_get_within}
 use Rattle.kaba_base.specs.declared.Place.{Place}
 use Rattle.kaba_base.specs.declared.ClassId.{ClassId}
 use Rattle.java_core.specs.Programs.{Plain, PlainField, PlainMethod}
@@ -19,7 +20,7 @@ use Rattle.flow_rules.specs.Ordered.{each, when}
 use Rattle.flow_rules.specs.Parts.{Part, a_creation, a_test, parts_of}
 use Rattle.flow_rules.specs.Numbered.{mark, array_mark, form_columns, field_columns, method_columns, columns_of, column_number}
 use Rattle.flow_rules.specs.Facts.{column_info, IsFactsOf}
-use Rattle.flow_rules.proofs.Listed.{first, more, at_below, below_at, at_map, map_at, index_at, index_past, each_has, each_from_zero, flat_from, flat_has, when_has, when_from, one_from}
+use Rattle.flow_rules.proofs.Listed.{first, more, below_at, at_map, map_at, index_at, index_past, each_has, each_from_zero, flat_from, flat_has, when_has, when_from, one_from}
 use Rattle.flow_rules.proofs.NumberedItems.{raw_columns, numbered_columns}
 
 -- what a column stands for
@@ -135,7 +136,7 @@ module _ (P Q : Plain) where
         let x = (numbered_columns P Q).at i c e in
         let a = subst (λ z. slice_get z c ≡ Some (column_info Q x.0.item)) (sym facts.columns)
         (at_map (λ c. column_info Q c.item) (columns_of P Q) c x.0 x.1) in
-        (at_below F.columns.items c _ a, index_at F.columns.items c _ _ a ∙ ap (column_info Q) x.2)
+        (slice_get_within F.columns.items c _ a, index_at F.columns.items c _ _ a ∙ ap (column_info Q) x.2)
 
     -- a column of a slot stands in the list
     pub slot_below : (c x : ℕ) → column_slot F c ≡ Some x → c < length F.columns.items
@@ -143,4 +144,4 @@ module _ (P Q : Plain) where
       where
         go : (o : Option ColumnInfo) → slice_get F.columns.items c ≡ o → c < length F.columns.items
         go None h = absurd (let z = sym (ap (λ z. z.slot) (index_past F.columns.items c _ h)) ∙ e in cc)
-        go (Some k) h = at_below F.columns.items c k h
+        go (Some k) h = slice_get_within F.columns.items c k h

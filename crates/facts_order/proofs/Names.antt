@@ -10,6 +10,7 @@ use Rattle.std.proofs.lemmas.Str.{chars-encodes}
 use Rattle.std.proofs.lemmas.Slice.Eq.{bytes_eq-Decides}
 use Rattle.std.proofs.lemmas.List.Elements.{Contains-append_left, Contains-append_right, Contains-append_cases}
 use Rattle.kaba_base.specs.Words.{is_name, key_text}
+use Rattle.kaba_base.proofs.Texts.{bytes_exact}
 use Rattle.ucd_derived.specs.Binary.{is_xid_start, is_xid_continue}
 use Rattle.ucd_derived.specs.XidStartRanges.{xid_start_ranges}
 use Rattle.ucd_derived.specs.XidContinueRanges.{xid_continue_ranges}
@@ -28,9 +29,6 @@ use Rattle.flow_rules.proofs.Listed.{more, first, contains_at, at_contains, map_
 use Rattle.facts_order.proofs.Pairs.{IsPlaced}
 use Rattle.facts_order.proofs.Columns.{Stands, for_field, for_declaration, for_body, for_mark, item_of}
 use Rattle.facts_order.proofs.Classes.{class_at}
-
-bytes_exact : (x y : List ℕ) → bytes_eq x y ≡ true → x ≡ y
-bytes_exact x y e = (bytes_eq-Decides x y).0 e
 
 bytes_alike : (x : List ℕ) → bytes_eq x x ≡ true
 bytes_alike x = (bytes_eq-Decides x x).1 refl

@@ -3,6 +3,7 @@ use Rattle.std.proofs.Common.{◌≡◌, ℕ, ◌+◌, Option, Some, None, lengt
 use Rattle.std.specs.Prelude.{◌<◌, ◌≤◌, nat_lt, if◌then◌else◌, Bool, true, false}
 use Rattle.std.proofs.lemmas.Bool.{ltb-false, cases_lt}
 use Rattle.std.proofs.lemmas.List.{length-map}
+use Rattle.std.proofs.lemmas.Option.{slice_get_within}
 use Rattle.kaba_base.specs.declared.RowId.{RowId}
 use Rattle.java_core.specs.declared.Program.{Program}
 use Rattle.java_core.specs.Trees.{at_place, no_place}
@@ -18,7 +19,7 @@ use Rattle.flow_rules.specs.declared.items.Point.{Point}
 use Rattle.flow_rules.specs.Numbered.{rows_of, columns_of, sites_of, points_of}
 use Rattle.flow_rules.specs.Facts.{TooMany, row_info, column_info, site_info, numbers, cells_of, over, too_many, IsFactsOf, AreNamesOf}
 use Rattle.java_core.proofs.Untagged.{same_program}
-use Rattle.flow_rules.proofs.Listed.{below_at, at_below}
+use Rattle.flow_rules.proofs.Listed.{below_at}
 use Rattle.facts_order.proofs.Pairs.{IsPlaced, placed}
 use Rattle.facts_order.proofs.Classes.{class_at, classes_in_order}
 use Rattle.facts_order.proofs.Members.{members_in_order}
@@ -75,7 +76,7 @@ module _ (P Q : Plain) (pairs : IsPlaced P Q) (formed : IsFormed P) (F : Facts) 
   classes_counted = ⊎_elim
       (λ h. let z = below_at F.classes.items 4294967294 h in
       let k = class_at P Q pairs F facts 4294967294 z.0 z.1 in
-      absurd (omega (arith, at_below P.classes 4294967294 k.plain k.stands, formed.counted.classes))) (λ h. omega (arith, h))
+      absurd (omega (arith, slice_get_within P.classes 4294967294 k.plain k.stands, formed.counted.classes))) (λ h. omega (arith, h))
       (cases_lt 4294967294 (length F.classes.items))
 
   are_counted : too_many P Q ≡ None → length F.calls.items < 4294967295 → length F.tests.items < 4294967295 → AreCounted F

@@ -4,6 +4,7 @@ use Rattle.std.specs.Prelude.{◌<◌, true, not, Contains, slice_get}
 use Rattle.std.specs.Option.{is_some}
 use Rattle.std.specs.List.{flat_map}
 use Rattle.std.proofs.lemmas.List.Elements.{Contains-append_right, Contains-append_cases}
+use Rattle.std.proofs.lemmas.Option.{slice_get_within}
 use Rattle.kaba_base.specs.declared.Place.{Place}
 use Rattle.java_core.specs.Programs.{Plain, PlainField, PlainMethod, PlainLocal}
 use Rattle.fact_model.specs.Items.{point_row}
@@ -21,7 +22,7 @@ use Rattle.flow_rules.specs.Operands.{variable_row, result_in}
 use Rattle.flow_rules.specs.Parts.{Part, a_load, an_element, a_creation, a_call, a_static_call, a_super_call, a_test, parts_of}
 use Rattle.flow_rules.specs.Numbered.{Outline, own_point, point_of_form, form_points, static_points, variable_points, method_points, outline_if, point_with, listed, row_number, points_of, point_number}
 use Rattle.flow_rules.specs.Facts.{IsFactsOf}
-use Rattle.flow_rules.proofs.Listed.{at_below, at_map, index_at, each_from, each_from_zero, flat_has, flat_from, place_has, place_from, when_from, one_from}
+use Rattle.flow_rules.proofs.Listed.{at_map, index_at, each_from, each_from_zero, flat_has, flat_from, place_has, place_from, when_from, one_from}
 use Rattle.flow_rules.proofs.NumberedItems.{numbered_points, this_points, param_points, local_points, result_points, part_points}
 use Rattle.run_cover.proofs.HasNumbers.{in_body}
 
@@ -149,4 +150,4 @@ module _ (P Q : Plain) where
     item_point i q e =
         let z = (numbered_points P Q).at i q e in
         let a = subst (λ y. slice_get y q ≡ Some (record { 0 = z.0.row })) (sym facts.points) (at_map (λ p. record { 0 = p.row }) (points_of P Q) q z.0 z.1) in
-        (z.0, z.1, z.2, ap (λ y. y.0) (index_at F.points.items q _ _ a), at_below F.points.items q _ a)
+        (z.0, z.1, z.2, ap (λ y. y.0) (index_at F.points.items q _ _ a), slice_get_within F.points.items q _ a)

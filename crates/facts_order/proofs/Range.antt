@@ -3,7 +3,7 @@ use Rattle.std.proofs.Common.{◌≡◌, ℕ, zero, suc, List, [], ◌∷◌, �
 use Rattle.std.specs.Prelude.{◌<◌, ◌==◌, not, All, IfSome, Contains, slice_get}
 use Rattle.std.specs.Option.{option_map, option_map_or, is_some}
 use Rattle.std.specs.List.{flat_map}
-use Rattle.std.proofs.lemmas.Option.{same_Some}
+use Rattle.std.proofs.lemmas.Option.{same_Some, slice_get_within}
 use Rattle.std.proofs.lemmas.List.{map-append}
 use Rattle.std.proofs.lemmas.List.Elements.{Contains-append_cases}
 use Rattle.kaba_base.specs.declared.Place.{Place}
@@ -39,7 +39,7 @@ use Rattle.flow_rules.specs.Parts.{Part, a_load, an_element, a_creation, a_stati
 use Rattle.flow_rules.specs.Lists.{point_at, row_at, created, moved, news_of, flows_of, loads_of, stores_of, casts_of}
 use Rattle.flow_rules.specs.Numbered.{rows_of, columns_of, sites_of, points_of, row_number, column_number, site_number, point_number, field_columns, method_columns, mark, array_mark, form_columns}
 use Rattle.flow_rules.specs.Facts.{numbers, row_info, column_info, site_info, site_of_row, this_of_row, owner_of, IsFactsOf}
-use Rattle.flow_rules.proofs.Listed.{at_contains, contains_at, at_below, below_at, at_map, map_at, map_from, index_at, one_from, flat_from, when_from, each_from_zero, all_of}
+use Rattle.flow_rules.proofs.Listed.{at_contains, contains_at, below_at, at_map, map_at, map_from, index_at, one_from, flat_from, when_from, each_from_zero, all_of}
 use Rattle.flow_rules.proofs.NumberedItems.{numbered_sites, numbered_columns}
 use Rattle.facts_order.proofs.Pairs.{IsPlaced}
 use Rattle.facts_order.proofs.Columns.{Stands, for_field, for_declaration, for_body, for_mark, members, column_stands, numbered_column}
@@ -69,13 +69,13 @@ module _ (P Q : Plain) (placed : IsPlaced P Q) (formed : IsFormed P) (typed : Is
   point_bound i q e = (item_point P Q F facts i q e).4
 
   site_index : (s : ℕ) (x : Site) → slice_get (sites_of P Q) s ≡ Some x → s < length F.sites.items
-  site_index s x e = at_below F.sites.items s _ (subst (λ y. slice_get y s ≡ Some (site_info x)) (sym facts.sites) (at_map site_info (sites_of P Q) s x e))
+  site_index s x e = slice_get_within F.sites.items s _ (subst (λ y. slice_get y s ≡ Some (site_info x)) (sym facts.sites) (at_map site_info (sites_of P Q) s x e))
 
   site_bound : (n s : ℕ) → site_number P Q n ≡ Some s → s < length F.sites.items
   site_bound n s e = let z = (numbered_sites P Q).at n s e in site_index s z.0 z.1
 
   class_bound : (c : ℕ) → c < length P.classes → c < length F.classes.items
-  class_bound c h = let z = below_at P.classes c h in let w = class_there P Q placed F facts c z.0 z.1 in at_below F.classes.items c w.0 w.1
+  class_bound c h = let z = below_at P.classes c h in let w = class_there P Q placed F facts c z.0 z.1 in slice_get_within F.classes.items c w.0 w.1
 
   operand_bound : (o : Operand) (q : ℕ) → point_at (numbers P Q) o ≡ Some q → q < length F.points.items
   operand_bound o q e = let j = point_item_of P Q placed formed typed F facts o.point q e in point_bound j.0 q j.2
@@ -90,7 +90,7 @@ module _ (P Q : Plain) (placed : IsPlaced P Q) (formed : IsFormed P) (typed : Is
 
   -- the class of an owner
   owner_bound : (c : ℕ) (k : _) → slice_get P.classes c ≡ Some k → c < length F.classes.items
-  owner_bound c k e = class_bound c (at_below P.classes c k e)
+  owner_bound c k e = class_bound c (slice_get_within P.classes c k e)
 
   field_owner : (f : ℕ) (k : PlainField) → slice_get Q.fields f ≡ Some k → k.owner < length F.classes.items
   field_owner f k e = let z = placed.fields f k e in let y = formed.fields f z.plain z.stands in subst (λ c. c < length F.classes.items) z.owner
@@ -292,7 +292,7 @@ module _ (P Q : Plain) (placed : IsPlaced P Q) (formed : IsFormed P) (typed : Is
   cells = all_of (λ c. IsSite F c.site × IfSome c.column (IsCol F) × IsRow F c.row) F.cells.items
       (λ x c. let z = at_contains F.cells.items x c in
       cell_bound x (subst (IsCellOf P Q placed formed typed F facts) (index_at F.cells.items z.0 _ x z.1) (cell_is P Q placed formed typed F facts z.0
-      (at_below F.cells.items z.0 x z.1))))
+      (slice_get_within F.cells.items z.0 x z.1))))
 
   new_bound : (o : Operand) (q : Option ℕ) (x : NewInfo) → ((p : ℕ) → q ≡ Some p → p < length F.points.items) → Contains (created (numbers P Q) o q) x
       → IsPoint F x.point × IsSite F x.site

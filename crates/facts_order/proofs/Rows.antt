@@ -5,6 +5,7 @@ use Rattle.std.specs.Option.{option_map, is_some}
 use Rattle.std.specs.List.{flat_map}
 use Rattle.std.proofs.lemmas.Bool.{not-true, and_parts}
 use Rattle.std.proofs.lemmas.List.Elements.{Contains-append_cases}
+use Rattle.std.proofs.lemmas.Option.{slice_get_within}
 use Rattle.kaba_base.specs.declared.Place.{Place}
 use Rattle.java_core.specs.Trees.{Sts}
 use Rattle.java_core.specs.Programs.{Plain, PlainField, PlainMethod, PlainLocal}
@@ -24,7 +25,7 @@ use Rattle.flow_rules.specs.Operands.{object_of, object_if, class_object, variab
 use Rattle.flow_rules.specs.Parts.{Part, a_creation, a_test, parts_body, parts_of}
 use Rattle.flow_rules.specs.Numbered.{row_if, own_row, form_rows, field_rows, this_rows, result_rows, variable_rows, method_rows, is_first, rows_of, row_number}
 use Rattle.flow_rules.specs.Facts.{row_info, numbers, IsFactsOf}
-use Rattle.flow_rules.proofs.Listed.{at_below, below_at, at_map, map_at, index_at, index_past, each_from, each_from_zero, flat_from, when_from, one_from, at_left}
+use Rattle.flow_rules.proofs.Listed.{below_at, at_map, map_at, index_at, index_past, each_from, each_from_zero, flat_from, when_from, one_from, at_left}
 use Rattle.flow_rules.proofs.NumberedItems.{numbered_rows}
 use Rattle.facts_order.proofs.Pairs.{IsPlaced}
 use Rattle.run_cover.proofs.Numbers.{back}
@@ -150,7 +151,7 @@ module _ (P Q : Plain) where
         × (info_at F r ≡ row_info (numbers P Q) Q x) × (r < length F.rows.items)
     item_row i r e =
         let z = (numbered_rows P Q).at i r e in
-        (z.0, z.1, z.2, index_at F.rows.items r _ _ (info_is r z.0 z.1), at_below F.rows.items r _ (info_is r z.0 z.1))
+        (z.0, z.1, z.2, index_at F.rows.items r _ _ (info_is r z.0 z.1), slice_get_within F.rows.items r _ (info_is r z.0 z.1))
 
     -- a row with a site or a `this` stands in the list
     pub row_cases : (r : ℕ) → HasRow r ⊎ (info_at F r ≡ record { label = []; class = record { 0 = 0 }; dim = 0; site = None; this_of = None })
@@ -159,7 +160,7 @@ module _ (P Q : Plain) where
         go : (o : Option RowInfo) → slice_get F.rows.items r ≡ o
             → HasRow r ⊎ (info_at F r ≡ record { label = []; class = record { 0 = 0 }; dim = 0; site = None; this_of = None })
         go None h = inr (index_past F.rows.items r _ h)
-        go (Some k) h = inl (row_of r (at_below F.rows.items r k h))
+        go (Some k) h = inl (row_of r (slice_get_within F.rows.items r k h))
 
 -- where each part of a method's body comes from
 module _ (P Q : Plain) (placed : IsPlaced P Q) (formed : IsFormed P) (typed : IsTyped P) (m : ℕ) (k : PlainMethod) (e : slice_get Q.methods m ≡ Some k) where

@@ -1,13 +1,14 @@
 -- Tests and array creations: the rows, casts, marks and cells that they have.
-use Rattle.std.proofs.Common.{◌≡◌, ℕ, zero, suc, ◌+◌, List, [], ◌∷◌, ◌++◌, Option, Some, None, length, refl, sym, ap, ◌∙◌, subst, arith, inl, inr, ⊎_elim}
+use Rattle.std.proofs.Common.{◌≡◌, ℕ, suc, ◌+◌, List, [], ◌∷◌, Option, Some, None, length, refl, sym, ap, ◌∙◌, subst, arith, ⊎_elim}
 use Rattle.std.specs.Prelude.{◌⊎◌, ◌<◌, ◌==◌, if◌then◌else◌, not, Bool, true, false, Contains, All, slice_get}
 use Rattle.std.specs.Option.{is_some}
 use Rattle.std.specs.List.{flat_map}
-use Rattle.std.proofs.lemmas.Option.{same_Some}
+use Rattle.std.proofs.lemmas.Option.{same_Some, slice_get_within}
 use Rattle.std.proofs.lemmas.Bool.{ne_eqb}
 use Rattle.run_cover.proofs.Flows.{these_has}
 use Rattle.kaba_base.specs.declared.Place.{Place}
 use Rattle.kaba_base.specs.declared.ClassId.{ClassId}
+use Rattle.kaba_base.proofs.Listed.{append_cases}
 use Rattle.java_core.specs.Trees.{Sts, Ex}
 use Rattle.java_core.specs.Programs.{Plain, PlainMethod}
 use Rattle.java_core.specs.Typing.{IsTyped}
@@ -34,7 +35,7 @@ use Rattle.flow_rules.specs.Numbered.{Body, body_at, bodies_of, own_point, array
 use Rattle.flow_rules.specs.Lists.{both, these, point_in, row_in, point_at, row_at, tests_of, casts_of}
 use Rattle.java_core.specs.Classes.{below}
 use Rattle.flow_rules.specs.Facts.{numbers, gathered, cells_of, FieldCell, fields_of, field_cell, array_cell, site_cells, IsFactsOf}
-use Rattle.flow_rules.proofs.Listed.{first, at_below, index_at, below_at, contains_at, at_contains, each_has, each_from, each_from_zero, flat_has, flat_from, place_from, one_from, when_has, when_from, all_of}
+use Rattle.flow_rules.proofs.Listed.{first, index_at, below_at, contains_at, at_contains, each_has, each_from, each_from_zero, flat_has, flat_from, place_from, one_from, when_has, when_from, all_of}
 use Rattle.facts_order.proofs.Pairs.{IsPlaced}
 use Rattle.facts_order.proofs.Columns.{numbered_column, part_column}
 use Rattle.facts_order.proofs.Labels.{label_in, part_label, label_apart}
@@ -112,17 +113,10 @@ own_point_has : (w : Place) (i : Option PointItem) (r : Option RowItem) (t : Opt
     → i ≡ Some j → r ≡ Some s → t ≡ Some u → Contains (own_point w i r t) (record { item = j; place = w; row = s })
 own_point_has w i r t j s u a b c = rw (a, b, c) (first (record { item = j; place = w; row = s }) [])
 
--- what stands where in two lists, one after the other
-append_cases : {A : Type 0} (xs ys : List A) (i : ℕ) (a : A) → slice_get (xs ++ ys) i ≡ Some a → (slice_get xs i ≡ Some a)
-    ⊎ ((j : ℕ) × (i ≡ length xs + j) × (slice_get ys j ≡ Some a))
-append_cases [] ys i a e = inr (i, omega arith, e)
-append_cases (x ∷ xs) ys zero a e = inl e
-append_cases (x ∷ xs) ys (suc i) a e = ⊎_elim (λ c. inl c) (λ z. inr (z.0, omega (arith, z.1), z.2)) (append_cases xs ys i a e)
-
 -- a number whose list has one item alone has one place
 module _ {A B : Type 0} (f : ℕ → A → List B) (key : B → ℕ) (keyed : (n : ℕ) (x : A) (b : B) → Contains (f n x) b → key b ≡ n) where
   at_one : (ys : List B) (c : B) (i : ℕ) (a : B) → ys ≡ c ∷ [] → slice_get ys i ≡ Some a → i ≡ 0
-  at_one ys c i a e d = let h = at_below ys i a d in omega (arith, h, ap length e)
+  at_one ys c i a e d = let h = slice_get_within ys i a d in omega (arith, h, ap length e)
 
   after : (n : ℕ) (xs : List A) (i : ℕ) (a : B) → slice_get (each f (n + 1) xs) i ≡ Some a → key a ≡ n → ⊥
   after n xs i a e d = let z = each_from f (n + 1) xs a (contains_at (each f (n + 1) xs) i a e) in absurd (omega (arith, z.4, d, keyed z.1 z.2 a z.5))
@@ -311,7 +305,7 @@ module _ (P Q : Plain) (placed : IsPlaced P Q) (formed : IsFormed P) (typed : Is
       let i = index_at F.cells.items at.0 _ c e in
       record {
         cell = at.0;
-        below = at_below F.cells.items at.0 c e;
+        below = slice_get_within F.cells.items at.0 c e;
         site = ap (λ k. k.site.0) i;
         column = ap (λ k. k.column) i;
         row = ap (λ k. k.row.0) i ∙ sym (ap (λ k. k.row.0) z.info);

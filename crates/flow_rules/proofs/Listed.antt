@@ -1,7 +1,7 @@
 -- What lists in the order of places, and of each item once, hold.
 use Rattle.std.proofs.Common.{◌≡◌, ℕ, zero, suc, ◌+◌, List, [], ◌∷◌, ◌++◌, Some, None, refl, sym, ap, ◌∙◌, subst, arith, inl, inr, ⊎_elim}
-use Rattle.std.specs.Prelude.{◌⊎◌, ◌<◌, if◌then◌else◌, nat_lt, length, Bool, true, false, Contains, map, slice_get, slice_index_or, position}
-use Rattle.std.specs.List.{All, list_any, flat_map}
+use Rattle.std.specs.Prelude.{◌⊎◌, if◌then◌else◌, nat_lt, length, Bool, true, false, Contains, map, slice_get, slice_index_or, position}
+use Rattle.std.specs.List.{list_any}
 use Rattle.std.proofs.lemmas.List.Folds.{list_any-append}
 use Rattle.std.proofs.lemmas.List.Elements.{Contains-append_left, Contains-append_right, Contains-append_cases}
 use Rattle.std.proofs.lemmas.Bool.{false≢true, or_left, or_right, or_cases}
@@ -14,11 +14,6 @@ use Rattle.flow_rules.specs.Ordered.{put_in, by_place, once_after, once, each, w
 
 pub more : {A : Type 0} (x y : A) (xs : List A) → Contains xs x → Contains (y ∷ xs) x
 more x y xs c = later y xs x c
-
-pub at_below : {A : Type 0} (xs : List A) (i : ℕ) (x : A) → slice_get xs i ≡ Some x → i < length xs
-at_below [] i x e = absurd (cc)
-at_below (y ∷ ys) zero x e = omega arith
-at_below (y ∷ ys) (suc i) x e = omega (arith, at_below ys i x e)
 
 pub index_at : {A : Type 0} (xs : List A) (i : ℕ) (d x : A) → slice_get xs i ≡ Some x → slice_index_or xs i d ≡ x
 index_at [] i d x e = absurd (cc)

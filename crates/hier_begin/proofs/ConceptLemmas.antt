@@ -1,22 +1,21 @@
 -- A row and a column that some row has each make a concept of the table, and so each has its place at the start.
-use Rattle.std.proofs.Common.{◌≡◌, ℕ, suc, zero, ◌+◌, ◌<◌, ◌&&◌, Bool, true, false, List, [], ◌∷◌, length, map, get_or, Option, Some, None, refl, sym, ap, ◌∙◌, subst, arith, ⊎_elim}
-use Rattle.std.specs.Prelude.{unwrap_or}
+use Rattle.std.proofs.Common.{◌≡◌, ℕ, ◌<◌, ◌&&◌, Bool, true, false, List, [], length, map, Option, Some, None, refl, sym, ap, ◌∙◌, subst, arith}
 use Rattle.std.specs.List.{range_with_len}
-use Rattle.std.proofs.lemmas.Bool.{cases_Bool, false≢true, and_parts, and_from}
-use Rattle.std.proofs.lemmas.List.{get_or-map, length-map, get_or_default}
+use Rattle.std.proofs.lemmas.Bool.{and_from}
+use Rattle.std.proofs.lemmas.List.{length-map}
 use Rattle.std.proofs.lemmas.List.FromFn.{get_or-map-range_with_len, length-map-range_with_len}
 use Rattle.kaba_base.specs.declared.NodeId.{NodeId}
-use Rattle.kaba_bits.specs.Sets.{bit, row, HasWidth, IsSubset, first_below, when}
+use Rattle.kaba_base.proofs.Tests.{same_truth}
+use Rattle.kaba_bits.specs.Sets.{bit, row, HasWidth, when}
 use Rattle.kaba_bits.proofs.SetLemmas.{bit-below, same_bits, subset-both}
-use Rattle.kaba_bits.proofs.FirstLemmas.{first_below_Some, first_below_None, when-Some}
+use Rattle.kaba_bits.proofs.FirstLemmas.{first_below_None}
 use Rattle.kaba_bits.proofs.RowLemmas.{bit-row-below}
-use Rattle.fact_model.specs.Concepts.{Pair, IsExtent, IsIntent, IsConcept, AreAllConcepts, HasIntent}
+use Rattle.fact_model.specs.Concepts.{Pair, IsExtent, IsConcept, AreAllConcepts}
 use Rattle.hier_model.specs.Hierarchies.{node}
 use Rattle.hier_model.specs.Start.{is_filled, is_subset, is_same_set, rows_with, concept_at, column_place, row_place}
-use Rattle.hier_model.proofs.SetTests.{filled-some, filled-has, subset-sound, subset-complete}
+use Rattle.hier_model.proofs.SetTests.{filled-has, subset-sound, subset-complete}
 use Rattle.hier_model.proofs.StartLemmas as model
 use Rattle.hier_model.proofs.StartLemmas.{rows_with-bit}
-use Rattle.kaba_order.proofs.UniqueLemmas.{same_truth}
 
 same_test : (a b : List Bool) → a ≡ b → is_same_set a b ≡ true
 same_test a b e = subst (λ x. is_same_set a x ≡ true) e (and_from (is_subset a a) (is_subset a a) (subset-complete a a (λ i h. h))

@@ -25,7 +25,7 @@ use Rattle.fact_model.specs.declared.facts.ColKind.{ColKind}
 use Rattle.fact_model.specs.declared.facts.ColKind.TheVariants.{Fld, Dcl, Def, Is}
 use Rattle.fact_model.specs.declared.sets.PointsTo.{PointsTo}
 use Rattle.fact_model.specs.declared.sets.Table.{Table}
-use Rattle.fact_model.proofs.ClassLemmas.{below-exact, below-both, finds-found, IsBodyOf}
+use Rattle.fact_model.proofs.ClassLemmas.{below-exact, below-both, finds-found, IsBodyOf, slot_says}
 use Rattle.fact_model.proofs.NearestLemmas.{finds_nearest, found_above, found_other}
 use Rattle.fact_model.proofs.RangeLemmas.{member-below, site-below, column-below}
 use Rattle.fact_model.proofs.OrderLemmas.{column-above, body-own}
@@ -45,10 +45,6 @@ def_is Is e = absurd (false≢true e)
 
 def_test : (k : ColKind) → k ≡ Def → is_def k ≡ true
 def_test k e = ap is_def e
-
-slot_says : (o : Option ℕ) (x : ℕ) → is_slot o x ≡ true → o ≡ Some x
-slot_says None x e = absurd (false≢true e)
-slot_says (Some y) x e = ap Some (eqb-true y x e)
 
 -- the column of a look-up, where it is one
 column_says : (o : Option ColId) (d : ℕ) → is_slot (option_map (λ (c : ColId). c.0) o) d ≡ true → (c : ColId) × (o ≡ Some c) × (c.0 ≡ d)

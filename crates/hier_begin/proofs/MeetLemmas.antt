@@ -4,6 +4,7 @@ use Rattle.std.specs.Prelude.{nat_lt, not}
 use Rattle.std.specs.Option.{option_map, option_and_then}
 use Rattle.std.proofs.lemmas.Bool.{false≢true, and_parts, and_from, or_cases, eqb-true, eq-eqb, ltb-true}
 use Rattle.kaba_base.specs.declared.NodeId.{NodeId}
+use Rattle.kaba_base.proofs.Tests.{refuted}
 use Rattle.kaba_bits.specs.Sets.{bit, row, or_else, first_below, when}
 use Rattle.kaba_bits.proofs.FirstLemmas.{first_below_clear}
 use Rattle.kaba_order.specs.Orders.{is_le}
@@ -30,10 +31,6 @@ none_by false v n = refl
 
 pub none_both : {B : Type 0} (x y : Option B) → x ≡ None → y ≡ None → or_else x y ≡ None
 none_both x y e f = rw (e, f) refl
-
-pub refuted : {A : Type 0} (b : Bool) → not b ≡ true → b ≡ true → A
-refuted true h k = absurd (false≢true h)
-refuted false h k = absurd (false≢true k)
 
 one_slot_says : (a b : Option ℕ) → is_one_slot a b ≡ true → b ≡ a
 one_slot_says None b h = absurd (false≢true h)

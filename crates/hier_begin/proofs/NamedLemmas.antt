@@ -1,11 +1,11 @@
 -- The names of the start: what each is, and that no two types, and no member and a type, have one.
-use Rattle.std.proofs.Common.{◌≡◌, ◌≢◌, ℕ, suc, zero, ◌+◌, ◌^◌, ◌<◌, ◌≤◌, ◌⊎◌, ◌&&◌, ◌||◌, eqb, Bool, true, false, List, [], ◌∷◌, ◌++◌, length, get_or, Option, Some, None, Contains, refl, sym, ap, ◌∙◌, subst, arith, ⊎_elim, inl, inr}
+use Rattle.std.proofs.Common.{◌≡◌, ◌≢◌, ℕ, suc, zero, ◌+◌, ◌^◌, ◌<◌, ◌≤◌, ◌⊎◌, ◌&&◌, eqb, Bool, true, false, List, [], ◌∷◌, ◌++◌, length, get_or, Option, Some, None, Contains, refl, sym, ap, ◌∙◌, subst, arith, ⊎_elim, inl, inr}
 use Rattle.std.specs.Prelude.{slice_get, not, codes}
 use Rattle.std.specs.Option.{option_map_or}
 use Rattle.std.specs.Fmt.{decimal}
 use Rattle.std.specs.Str.{bytes_eq}
 use Rattle.std.specs.List.{list_any, list_all}
-use Rattle.std.proofs.lemmas.Bool.{cases_Bool, cases_lt, cases_order, false≢true, and_parts, and_from, ne_eqb}
+use Rattle.std.proofs.lemmas.Bool.{cases_Bool, cases_lt, cases_order, false≢true, and_parts, and_from, ne_eqb, or_from}
 use Rattle.std.proofs.lemmas.List.{get_or_append_left, get_or_push, length_push, get_or_past}
 use Rattle.std.proofs.lemmas.List.Elements.{Contains-get_or, All-contains}
 use Rattle.std.proofs.lemmas.Fmt.{decimal_nonempty}
@@ -49,9 +49,6 @@ no_any p (x ∷ xs) none =
     (λ t. absurd (none x (0, omega arith, refl) t))
     (λ f. rw f (no_any p xs (λ y c h. none y (suc c.0, omega (arith, c.1), c.2) h)))
     (cases_Bool (p x))
-
-or_none : (a b : Bool) → a ≡ false → b ≡ false → (a || b) ≡ false
-or_none a b e f = rw e f
 
 module _ (F : Facts) where
   abbrev C : ℕ
@@ -269,7 +266,7 @@ module _ (F : Facts) where
     -- a name that is none of the words and has an underscore is not reserved
     marked_free : (name : List ℕ) → ((x : List ℕ) → Contains F.words.items x → name ≢ x) → has_mark name ≡ true → is_reserved F name ≡ false
     marked_free name none mark =
-        or_none (list_any (λ (k : ClassInfo). k.holder && bytes_eq k.name name) F.classes.items) (list_any (λ k. bytes_eq k name) known_names)
+        or_from (list_any (λ (k : ClassInfo). k.holder && bytes_eq k.name name) F.classes.items) (list_any (λ k. bytes_eq k name) known_names)
         (no_any (λ (k : ClassInfo). k.holder && bytes_eq k.name name) F.classes.items (λ k c h.
         let p = and_parts k.holder (bytes_eq k.name name) h in
         none k.name (holder_word k c p.0) (sym ((bytes_eq-Decides k.name name).0 p.1))))
@@ -304,7 +301,7 @@ module _ (F : Facts) where
         old c f =
             let kind = field_is (column_kind F c) f in
             let others = O.names.others c (field_below c f) kind in
-            or_none (list_any (λ (k : ClassInfo). k.holder && bytes_eq k.name (name_of F c)) F.classes.items)
+            or_from (list_any (λ (k : ClassInfo). k.holder && bytes_eq k.name (name_of F c)) F.classes.items)
             (list_any (λ k. bytes_eq k (name_of F c)) known_names)
             (no_any (λ (k : ClassInfo). k.holder && bytes_eq k.name (name_of F c)) F.classes.items (λ k has h.
             let p = and_parts k.holder (bytes_eq k.name (name_of F c)) h in

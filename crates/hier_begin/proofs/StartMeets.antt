@@ -6,6 +6,7 @@ use Rattle.std.proofs.lemmas.Bool.{false≢true, and_parts, or_cases, eq-eqb}
 use Rattle.std.proofs.lemmas.List.{length-map}
 use Rattle.std.proofs.lemmas.Slice.Eq.{bytes_eq-Decides}
 use Rattle.kaba_base.specs.Words.{is_name}
+use Rattle.kaba_base.proofs.Tests.{refuted}
 use Rattle.kaba_bits.specs.Sets.{bit, row, or_else, first_below}
 use Rattle.kaba_bits.proofs.SetLemmas.{bit-below}
 use Rattle.kaba_bits.proofs.FirstLemmas.{first_below_clear}
@@ -36,7 +37,7 @@ use Rattle.hier_rules.specs.Obligations.{first_unoffered, first_untied, first_wr
 use Rattle.hier_begin.specs.Laws.{AreAnalysed, StartMeets}
 use Rattle.hier_begin.proofs.GivenLemmas.{given, roles, is_closed, in_order}
 use Rattle.hier_begin.proofs.ShapeLemmas.{shape, start_shape}
-use Rattle.hier_begin.proofs.MeetLemmas.{none_by, none_both, refuted, offered_says, run_none}
+use Rattle.hier_begin.proofs.MeetLemmas.{none_by, none_both, offered_says, run_none}
 use Rattle.hier_begin.proofs.NamedLemmas.{types_apart, type_no_member, type_name_is, type_unreserved, type_no_variable, field_unreserved, member_name_is, new_name, fields_named, method_name}
 
 member_kind : (k : ColKind) → is_member k ≡ true → k ≢ Is

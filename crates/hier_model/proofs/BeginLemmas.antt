@@ -17,11 +17,11 @@ use Rattle.kaba_base.specs.declared.NodeId.{NodeId}
 use Rattle.kaba_base.specs.declared.ColId.{ColId}
 use Rattle.kaba_base.specs.declared.RowId.{RowId}
 use Rattle.kaba_base.specs.declared.ClassId.{ClassId}
+use Rattle.kaba_base.proofs.Tests.{same_truth}
 use Rattle.kaba_bits.specs.Sets.{bit, row, HasWidth, rising, first_below, when}
 use Rattle.kaba_bits.proofs.SetLemmas.{same_bits, bit-below}
-use Rattle.kaba_bits.proofs.FirstLemmas.{first_below_same}
+use Rattle.kaba_bits.proofs.FirstLemmas.{first_below_same, cases_Option}
 use Rattle.kaba_order.specs.Orders.{Ordered, is_live, IsPartialOrder}
-use Rattle.kaba_order.proofs.UniqueLemmas.{same_truth}
 use Rattle.fact_model.specs.Concepts.{Pair, pair_of, AreAllConcepts, IsPlaced, RowStands, ColumnStands, IsLattice}
 use Rattle.fact_model.specs.Entries.{IsTable}
 use Rattle.fact_model.specs.Items.{column_at, column_kind, column_slot}
@@ -38,7 +38,6 @@ use Rattle.hier_model.specs.Hierarchies.{Hierarchy, node, is_method, KeepsTable,
 use Rattle.hier_model.specs.Names.{is_field, named_member, member_names, named_type, type_names}
 use Rattle.hier_model.specs.Start.{is_filled, is_subset, is_same_set, order_of, concept_at, rows_with, column_place, row_place, is_below_all, lowest, owners, start_origin, origins_of, start_of}
 use Rattle.hier_model.specs.Listed.{extent_of, intent_of, is_above_concept, lists_column, lists_row, listed_column, row_node}
-use Rattle.hier_model.proofs.MergedLemmas.{cases_Option}
 use Rattle.hier_model.proofs.FitLemmas.{lowest_member}
 use Rattle.hier_model.proofs.SetTests.{filled-some, filled-has, same_set-sound, same_set-complete}
 use Rattle.hier_model.proofs.StartLemmas.{rows_with-bit, int-length, ext-length, order_partial, nodes-count, column_lives, row_lives, this_stands}

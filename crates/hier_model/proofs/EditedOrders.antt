@@ -6,12 +6,12 @@ use Rattle.std.proofs.lemmas.Option.{same_Some}
 use Rattle.kaba_base.specs.declared.NodeId.{NodeId}
 use Rattle.kaba_bits.specs.Sets.{row, first_below, when}
 use Rattle.kaba_bits.proofs.SetLemmas.{bit-below, same_bits}
-use Rattle.kaba_bits.proofs.FirstLemmas.{first_below_None, first_below_Some}
+use Rattle.kaba_bits.proofs.FirstLemmas.{first_below_None, first_below_Some, cases_Option}
 use Rattle.kaba_order.specs.Orders.{Ordered, is_le, is_live, IsPartialOrder, is_among, is_below_some, is_above_some, stays, IsBetween, IsLeastMerged, IsUnder, IsLeastWith, IsDropped}
 use Rattle.kaba_order.proofs.MergeLemmas.{has_any_some, any_has_some, least_merged}
 use Rattle.kaba_order.proofs.StepLemmas as step
 use Rattle.hier_model.specs.Edits.{merged_order, under_order, dropped_order, least_of}
-use Rattle.hier_model.proofs.MergedLemmas.{cases_Option, when_some, when_true}
+use Rattle.hier_model.proofs.MergedLemmas.{when_some, when_true}
 use Rattle.hier_model.proofs.OrderedLemmas.{made_live, made_le, made_widths, made_rows, made_count}
 
 module _ (o : Ordered) (p : IsPartialOrder o) where

@@ -13,9 +13,9 @@ use Rattle.kaba_base.specs.declared.ColId.{ColId}
 use Rattle.kaba_base.specs.declared.ClassId.{ClassId}
 use Rattle.kaba_base.specs.Words.{first_that}
 use Rattle.kaba_bits.specs.Sets.{bit}
+use Rattle.kaba_bits.proofs.FirstLemmas.{cases_Option}
 use Rattle.kaba_order.specs.Orders.{Ordered, is_le, is_live, IsPartialOrder, stays, merged_to, IsLeastMerged}
 use Rattle.kaba_order.proofs.MergeLemmas.{among-All}
-use Rattle.kaba_order.proofs.UniqueLemmas.{same_truth}
 use Rattle.fact_model.specs.Items.{row_this, column_kind, column_slot, column_at}
 use Rattle.fact_model.specs.InRange.{InRange, IsClass}
 use Rattle.fact_model.specs.declared.facts.Facts.{Facts}
@@ -31,7 +31,8 @@ use Rattle.hier_model.specs.declared.edits.ChangeFault.{ChangeFault}
 use Rattle.hier_model.specs.declared.edits.ChangeFault.TheVariants.{UnknownNode, UnknownMember, NotEmpty, Cycle, Memory}
 use Rattle.hier_model.proofs.LowestLemmas.{all_there_all}
 use Rattle.std.specs.Prelude.{IfOk}
-use Rattle.hier_model.proofs.MergedLemmas.{cases_Option, none_between}
+use Rattle.kaba_base.proofs.Tests.{same_truth}
+use Rattle.hier_model.proofs.MergedLemmas.{none_between}
 use Rattle.hier_model.proofs.EditedOrders.{under_live, under_made, dropped_made, dropped_partial, merged_made, least_among}
 
 -- nodes of which none is the first that is not live

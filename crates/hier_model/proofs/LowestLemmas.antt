@@ -10,11 +10,11 @@ use Rattle.fact_model.specs.declared.facts.Facts.{Facts}
 use Rattle.fact_model.proofs.ClassLemmas.{below-exact, below-both}
 use Rattle.hier_model.specs.Start.{is_below_all, lowest}
 use Rattle.hier_model.specs.Edits.{all_there}
-use Rattle.hier_model.proofs.MergedLemmas.{cases_Option}
 use Rattle.std.specs.Option.{option_map}
 use Rattle.std.specs.Prelude.{All, IfSome}
 use Rattle.std.proofs.lemmas.Option.{same_Some}
 use Rattle.std.proofs.lemmas.List.Elements.{All-cons}
+use Rattle.kaba_bits.proofs.FirstLemmas.{cases_Option}
 
 module _ {X : Type 0} (p : X → Bool) where
   head : (x y : X) (ys : List X) → Contains (y ∷ ys) x → (x ≢ y) → Contains ys x

@@ -1,10 +1,11 @@
 -- The least node of a list, and the first that lies between two of it.
 use Rattle.std.proofs.Common.{◌≡◌, ℕ, ◌<◌, ◌↔◌, ◌⊎◌, ◌||◌, ◌&&◌, ◌==◌, not, Bool, true, false, List, length, Option, Some, None, Result, Ok, Err, All, refl, sym, ap, ◌∙◌, subst, arith, ⊎_elim, inl, inr, eqb-true}
-use Rattle.std.proofs.lemmas.Bool.{cases_Bool, cases_lt, and_parts, and_from, false≢true}
+use Rattle.std.proofs.lemmas.Bool.{cases_Bool, cases_lt, and_parts, and_from}
 use Rattle.kaba_base.specs.declared.NodeId.{NodeId}
+use Rattle.kaba_base.proofs.Tests.{from_not}
 use Rattle.kaba_bits.specs.Sets.{bit, row, first_below, when}
 use Rattle.kaba_bits.proofs.SetLemmas.{bit-below}
-use Rattle.kaba_bits.proofs.FirstLemmas.{first_below_found, first_below_clear, first_below_None, first_below_Some}
+use Rattle.kaba_bits.proofs.FirstLemmas.{first_below_found, first_below_clear, first_below_None, first_below_Some, cases_Option}
 use Rattle.kaba_order.specs.Orders.{Ordered, is_le, is_live, IsPartialOrder, IsStrictlyBelow, is_among, is_below_some, is_above_some, IsLeastOf, IsBetween, IsFirstBetween}
 use Rattle.kaba_order.proofs.MergeLemmas.{has_any_some, among-All}
 use Rattle.hier_model.specs.Hierarchies.{node}
@@ -14,10 +15,6 @@ use Rattle.kaba_order.specs.declared.OrderFault.TheVariants as fault
 use Rattle.hier_model.specs.Edits.{least_of, first_between, merged_order, under_order, dropped_order, fault_of}
 use Rattle.hier_model.specs.declared.edits.ChangeFault.TheVariants.{Memory, Cycle}
 use Rattle.hier_model.proofs.OrderedLemmas.{made_order}
-
-pub cases_Option : {B : Type 0} (x : Option B) → (x ≡ None) ⊎ ((y : B) × (x ≡ Some y))
-cases_Option None = inl refl
-cases_Option (Some y) = inr (y, refl)
 
 pub when_some : {B : Type 0} (b : Bool) (x y : B) → when b x ≡ Some y → b ≡ true
 when_some true x y h = refl
@@ -34,10 +31,6 @@ pub found_node : {k : ℕ} (n : ℕ) (q : ℕ → Bool) → first_below k (λ j.
     → Some (node k) ≡ first_below n (λ j. when (q j) (node j))
 found_node {k = k} n q none here lt =
     sym (first_below_found (λ j. when (q j) (node j)) k n (node k) lt none (when_true (q k) (node k) here))
-
-not_true : (b : Bool) → not b ≡ true → b ≡ false
-not_true true h = absurd (false≢true h)
-not_true false h = refl
 
 module _ (o : Ordered) (set : List NodeId) (p : IsPartialOrder o) where
   pub among_below : All (λ s. is_live o s.0 ≡ true) set → (m : ℕ) → is_among set m ≡ true → m < length o.live
@@ -63,7 +56,7 @@ module _ (o : Ordered) (set : List NodeId) (p : IsPartialOrder o) where
       let t = when_some (not (is_among set x) && is_above_some o set x && is_below_some o set x) (node x) y h in
       let a = and_parts (not (is_among set x) && is_above_some o set x) (is_below_some o set x) t in
       let b = and_parts (not (is_among set x)) (is_above_some o set x) a.0 in
-      record { outside = not_true (is_among set x) b.0; above = b.1; below = a.1 }
+      record { outside = from_not (is_among set x) b.0; above = b.1; below = a.1 }
 
   between_below : (x : ℕ) → IsBetween o set x → x < length o.live
   between_below x b = let s = has_any_some (row o.le x) set b.below in bit-below o.live x (p.lower_lives x s.0 s.2)

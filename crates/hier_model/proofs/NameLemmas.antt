@@ -11,9 +11,9 @@ use Rattle.std.proofs.lemmas.Str.{chars_from_encodes, encodes-chars, encodes-app
 use Rattle.std.proofs.lemmas.List.{length-append, map-append}
 use Rattle.std.proofs.lemmas.List.Folds.{list_any-append}
 use Rattle.indexmap.specs.IndexSet.{insert_key}
-use Rattle.kaba_base.proofs.Texts.{same_chars}
+use Rattle.kaba_base.proofs.Texts.{same_chars, bytes_exact}
 use Rattle.kaba_bits.specs.Sets.{first_below, when}
-use Rattle.kaba_bits.proofs.FirstLemmas.{first_below_None, first_below_Some, when-Some}
+use Rattle.kaba_bits.proofs.FirstLemmas.{first_below_None, first_below_Some, when-Some, cases_Option}
 use Rattle.hier_model.specs.Names.{is_taken, longest, lengthened, underscores, free_name, joined, class_name, is_shared, named_member}
 use Rattle.hier_model.specs.Taken.{texts, AreSame}
 use Rattle.std.proofs.Common.{add-one, ◌^◌}
@@ -24,17 +24,14 @@ use Rattle.fact_model.specs.Items.{column_at, column_class}
 use Rattle.fact_model.specs.InOrder.{name_of}
 use Rattle.fact_model.specs.declared.facts.Facts.{Facts}
 use Rattle.fact_model.specs.declared.facts.ColumnInfo.{ColumnInfo}
-use Rattle.hier_model.proofs.MergedLemmas.{cases_Option, when_true}
-
-same_name : (x y : List ℕ) → bytes_eq x y ≡ true → x ≡ y
-same_name x y e = (bytes_eq-Decides x y).0 e
+use Rattle.hier_model.proofs.MergedLemmas.{when_true}
 
 -- a name that is taken is no longer than the longest
 pub taken_short : (t : List (List ℕ)) (x : List ℕ) → is_taken t x ≡ true → length x ≤ longest t
 taken_short [] x h = absurd (false≢true h)
 taken_short (y ∷ ys) x h =
     ⊎_elim
-    (λ e. let l = ap length (same_name x y e) in omega (arith, l))
+    (λ e. let l = ap length (bytes_exact x y e) in omega (arith, l))
     (λ more. omega (arith, taken_short ys x more))
     (or_cases (bytes_eq x y) (is_taken ys x) h)
 
@@ -168,7 +165,7 @@ key_added ks s n x e =
     there : is_taken (texts ks) n ≡ true → is_taken (texts ks) x ≡ (is_taken (texts ks) x || bytes_eq x n)
     there h =
         ⊎_elim
-        (λ same. let z = same_name x n same in let t : is_taken (texts ks) x ≡ true = ap (is_taken (texts ks)) z ∙ h in rw (t) refl)
+        (λ same. let z = bytes_exact x n same in let t : is_taken (texts ks) x ≡ true = ap (is_taken (texts ks)) z ∙ h in rw (t) refl)
         (λ other. rw other (sym (right (is_taken (texts ks) x))))
         (cases_Bool (bytes_eq x n))
 

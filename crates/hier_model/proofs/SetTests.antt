@@ -2,9 +2,9 @@
 use Rattle.std.proofs.Common.{◌≡◌, ℕ, zero, suc, ◌<◌, ◌||◌, not, Bool, true, false, List, [], ◌∷◌, length, get_or, All, refl, sym, ap, ◌∙◌, ⊎_elim, arith, eqb, eqb-true, eq-eqb}
 use Rattle.std.proofs.lemmas.Bool.{false≢true, and_parts, and_from, or_cases, or_left, or_right, cases_Bool, cases_lt}
 use Rattle.std.proofs.lemmas.List.Elements.{All-contains, All-from_get_or, Contains-get_or}
+use Rattle.kaba_base.proofs.Tests.{same_truth, refuted}
 use Rattle.kaba_bits.specs.Sets.{bit, IsSubset, IsEmpty, ListsBelow}
 use Rattle.kaba_bits.proofs.SetLemmas.{bit-below}
-use Rattle.kaba_order.proofs.UniqueLemmas.{same_truth}
 use Rattle.hier_model.specs.Start.{is_filled, is_subset, is_same_set}
 
 -- a set that is filled has some number
@@ -32,13 +32,9 @@ implies : (x y : Bool) → (x ≡ true → y ≡ true) → (not x || y) ≡ true
 implies true y f = f refl
 implies false y f = refl
 
-not_both : {A : Type 0} (x : Bool) → not x ≡ true → x ≡ true → A
-not_both true h e = absurd (false≢true h)
-not_both false h e = absurd (false≢true e)
-
 pub subset-sound : (a b : List Bool) → is_subset a b ≡ true → IsSubset a b
 subset-sound [] b h i e = absurd (false≢true e)
-subset-sound (x ∷ a) [] h zero e = not_both x (and_parts (not x) (is_subset a []) h).0 e
+subset-sound (x ∷ a) [] h zero e = refuted x (and_parts (not x) (is_subset a []) h).0 e
 subset-sound (x ∷ a) [] h (suc i) e = subset-sound a [] (and_parts (not x) (is_subset a []) h).1 i e
 subset-sound (x ∷ a) (y ∷ b) h zero e = implied x y (and_parts (not x || y) (is_subset a b) h).0 e
 subset-sound (x ∷ a) (y ∷ b) h (suc i) e = subset-sound a b (and_parts (not x || y) (is_subset a b) h).1 i e

@@ -11,11 +11,11 @@ use Rattle.std.proofs.Math.ListN.{get_or-map as get_or_map_default, get_or-eq_de
 use Rattle.derivations.proofs.Derivations.{derivable_by}
 use Rattle.kaba_base.specs.declared.NodeId.{NodeId}
 use Rattle.kaba_base.specs.declared.ColId.{ColId}
+use Rattle.kaba_base.proofs.Tests.{same_truth}
 use Rattle.kaba_bits.specs.Sets.{bit, row, HasWidth, IsSubset, first_below, when}
 use Rattle.kaba_bits.proofs.SetLemmas.{bit-below, same_bits, subset-both}
-use Rattle.kaba_bits.proofs.FirstLemmas.{first_below_None, first_below_Some, when-Some}
+use Rattle.kaba_bits.proofs.FirstLemmas.{first_below_None, first_below_Some, when-Some, cases_Option}
 use Rattle.kaba_order.specs.Orders.{is_le, is_live, IsPartialOrder}
-use Rattle.kaba_order.proofs.UniqueLemmas.{same_truth}
 use Rattle.fact_model.specs.Concepts.{Pair, concept_cmp, IsConcept, AreAllConcepts, HasIntent}
 use Rattle.fact_model.specs.Entries.{Entails, by_this, by_body}
 use Rattle.fact_model.specs.Items.{row_this}
@@ -24,7 +24,7 @@ use Rattle.fact_model.specs.declared.facts.Facts.{Facts}
 use Rattle.fact_model.proofs.RangeLemmas.{this-below}
 use Rattle.hier_model.specs.Hierarchies.{node, KeepsTable}
 use Rattle.hier_model.specs.Start.{is_filled, is_subset, is_same_set, order_of, concept_at, rows_with, column_place, row_place}
-use Rattle.hier_model.proofs.MergedLemmas.{cases_Option, when_true}
+use Rattle.hier_model.proofs.MergedLemmas.{when_true}
 use Rattle.hier_model.proofs.SetTests.{filled-some, filled-has, subset-sound, subset-complete, same_set-sound, same_set-complete}
 
 concept_cmp-total : IsTotalOrder concept_cmp

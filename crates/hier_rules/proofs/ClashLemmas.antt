@@ -1,6 +1,6 @@
 -- Columns of one name, and those that a node offers.
 use Rattle.std.proofs.Common.{◌≡◌, ℕ, suc, zero, ◌+◌, ◌<◌, ◌-◌, ◌≤◌, ◌⊎◌, ◌&&◌, cond, Bool, true, false, List, [], ◌∷◌, ◌++◌, length, get_or, Contains, Option, Some, None, add-one, refl, sym, ap, ◌∙◌, subst, arith, ⊎_elim, inl, inr}
-use Rattle.std.specs.Str.{bytes_eq, encode_utf8_all}
+use Rattle.std.specs.Str.{bytes_eq}
 use Rattle.std.specs.List.Sorted.{IsNonDecreasingBy}
 use Rattle.std.proofs.lemmas.List.Sorted.{IsNonDecreasingBy-push}
 use Rattle.std.proofs.lemmas.Bool.{cases_Bool, cases_lt, cases_eq, and_parts, and_from, false≢true}
@@ -16,15 +16,6 @@ use Rattle.hier_rules.specs.declared.clashes.ClashPair.{ClashPair}
 use Rattle.hier_rules.specs.Instances.{of_column}
 use Rattle.hier_rules.specs.Names.{clash, is_confused, confused}
 use Rattle.hier_rules.specs.Namesakes.{last_of, AreLinks, AreClashes, offers_both}
-use Rattle.hier_rules.proofs.NameLemmas.{same_test, encodes-same}
-use Rattle.hier_rules.proofs.TakenLemmas.{bytes_same, bytes_of}
-
--- texts are the same exactly where their names are
-pub text_test : (a b : List ℕ) → bytes_eq (encode_utf8_all a) (encode_utf8_all b) ≡ bytes_eq a b
-text_test a b =
-    same_test (bytes_eq (encode_utf8_all a) (encode_utf8_all b)) (bytes_eq a b)
-    (λ h. bytes_of a b (encodes-same a b (bytes_same (encode_utf8_all a) (encode_utf8_all b) h)))
-    (λ h. bytes_of (encode_utf8_all a) (encode_utf8_all b) (ap encode_utf8_all (bytes_same a b h)))
 
 pub last_next : (H : Hierarchy) (name : List ℕ) (c : ℕ) → last_of H name (c + 1) ≡ cond (bytes_eq (member_name H c) name) (Some c) (last_of H name c)
 last_next H name c = rw add-one refl

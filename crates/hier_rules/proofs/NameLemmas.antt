@@ -2,10 +2,11 @@
 use Rattle.std.proofs.Common.{◌≡◌, ℕ, suc, zero, ◌+◌, ◌<◌, ◌&&◌, ◌||◌, eqb, Bool, true, false, List, [], ◌∷◌, length, get_or, Option, Some, None, refl, sym, ap, ◌∙◌, subst, arith, ⊎_elim}
 use Rattle.std.specs.Prelude.{nat_lt}
 use Rattle.std.specs.List.{list_all}
-use Rattle.std.specs.Str.{chars, encode_utf8_all}
-use Rattle.std.proofs.lemmas.Bool.{cases_Bool, cases_order, and_parts, and_from, or_cases, or_right, eq-eqb, ne_eqb, lt-ltb, ltb-true, false≢true}
-use Rattle.std.proofs.lemmas.Str.{cons_from_encodes, chars-IsAscii}
+use Rattle.std.specs.Str.{chars}
+use Rattle.std.proofs.lemmas.Bool.{cases_order, and_parts, and_from, or_cases, or_right, eq-eqb, ne_eqb, lt-ltb, ltb-true, false≢true, false_from_ne_true}
+use Rattle.std.proofs.lemmas.Str.{chars-IsAscii}
 use Rattle.kaba_base.specs.declared.NodeId.{NodeId}
+use Rattle.kaba_base.proofs.Tests.{same_truth}
 use Rattle.kaba_bits.specs.Sets.{bit, first_below}
 use Rattle.kaba_bits.proofs.FirstLemmas.{first_below_clear}
 use Rattle.kaba_bits.proofs.SetLemmas.{bit-below}
@@ -14,19 +15,7 @@ use Rattle.fact_model.specs.Items.{site_at, site_row, column_kind}
 use Rattle.fact_model.specs.declared.facts.Facts.{Facts}
 use Rattle.hier_model.specs.Hierarchies.{Hierarchy, place_of_column, place_of_row, is_above, is_offered, has_class_member, has_object, is_class_node, is_of_class}
 use Rattle.hier_model.proofs.AnyLemmas.{any_below_some}
-use Rattle.hier_rules.specs.Names.{clash, confused}
-
-pub same_test : (a b : Bool) → (a ≡ true → b ≡ true) → (b ≡ true → a ≡ true) → a ≡ b
-same_test true b h k = sym (h refl)
-same_test false true h k = k refl
-same_test false false h k = refl
-
-pub encodes-same : (xs ws : List ℕ) → encode_utf8_all xs ≡ encode_utf8_all ws → xs ≡ ws
-encodes-same [] [] e = refl
-encodes-same (x ∷ xs) [] e = let h = cons_from_encodes [] (encode_utf8_all xs) x (sym e) in cc h.1
-encodes-same xs (w ∷ ws) e =
-    let h = cons_from_encodes xs (encode_utf8_all ws) w e in
-    h.1 ∙ ap (λ rest. w ∷ rest) (encodes-same h.0 ws h.2)
+use Rattle.hier_rules.specs.Names.{confused}
 
 ascii : (bs : List ℕ) → list_all (λ b. nat_lt b 128) bs ≡ true → (i : ℕ) → get_or bs i 0 < 128
 ascii [] h i = omega arith
@@ -37,14 +26,11 @@ ascii (b ∷ bs) h (suc i) = ascii bs (and_parts (nat_lt b 128) (list_all (λ b.
 pub seven_bits : (bs : List ℕ) → list_all (λ b. nat_lt b 128) bs ≡ true → chars bs ≡ bs
 seven_bits bs h = chars-IsAscii bs (ascii bs h)
 
-not_true : (b : Bool) → (b ≡ true → ⊥) → b ≡ false
-not_true b n = ⊎_elim (λ t. absurd (n t)) (λ f. f) (cases_Bool b)
-
 -- a test of the numbers below a bound, one number on
 one_more : (k : ℕ → Bool) (c x : ℕ) → ((nat_lt x c && k x) || (eqb c x && k c)) ≡ (nat_lt x (c + 1) && k x)
 one_more k c x =
     ⊎_elim
-    (λ e. same_test ((nat_lt x c && k x) || (eqb c x && k c)) (nat_lt x (c + 1) && k x)
+    (λ e. same_truth ((nat_lt x c && k x) || (eqb c x && k c)) (nat_lt x (c + 1) && k x)
     (λ h. ⊎_elim
     (λ a. absurd (let lt = ltb-true x c (and_parts (nat_lt x c) (k x) a).0 in omega (arith, lt, e)))
     (λ b. and_from (nat_lt x (c + 1)) (k x) (lt-ltb x (c + 1) (omega (arith, e))) (subst (λ y. k y ≡ true) (sym e) (and_parts (eqb c x) (k c) b).1))
@@ -54,8 +40,8 @@ one_more k c x =
     (⊎_elim
     (λ lt. rw (lt-ltb x c lt, lt-ltb x (c + 1) (omega (arith, lt)), ne_eqb c x (λ e. omega (arith, lt, e))) (or_false (k x)))
     (λ gt. rw (
-      not_true (nat_lt x c) (λ h. omega (arith, gt, ltb-true x c h)),
-      not_true (nat_lt x (c + 1))
+      false_from_ne_true (nat_lt x c) (λ h. omega (arith, gt, ltb-true x c h)),
+      false_from_ne_true (nat_lt x (c + 1))
           (λ h. omega (arith, gt, ltb-true x (c + 1) h)),
       ne_eqb c x (λ e. omega (arith, gt, e)),
     ) refl))
@@ -92,21 +78,21 @@ module _ (F : Facts) (H : Hierarchy) (P : IsPartialOrder H.order) where
       (or_cases (has_class_member F H n) (has_object F H n) h)
 
   pub class_dead : (n : ℕ) → is_live H.order n ≡ false → is_class_node F H n ≡ false
-  class_dead n dead = not_true (is_class_node F H n) (λ h. false≢true (sym dead ∙ class_live n h))
+  class_dead n dead = false_from_ne_true (is_class_node F H n) (λ h. false≢true (sym dead ∙ class_live n h))
 
   pub class_within : (n : ℕ) → is_class_node F H n ≡ true → n < length H.order.live
   class_within n h = bit-below H.order.live n (class_live n h)
 
   pub below_all : (n : ℕ) → (nat_lt n (length H.order.live) && is_class_node F H n) ≡ is_class_node F H n
   below_all n =
-      same_test (nat_lt n (length H.order.live) && is_class_node F H n) (is_class_node F H n)
+      same_truth (nat_lt n (length H.order.live) && is_class_node F H n) (is_class_node F H n)
       (λ h. (and_parts (nat_lt n (length H.order.live)) (is_class_node F H n) h).1)
       (λ h. and_from (nat_lt n (length H.order.live)) (is_class_node F H n) (lt-ltb n (length H.order.live) (class_within n h)) h)
 
   pub dead_confused : (n : ℕ) → is_live H.order n ≡ false → first_below (length F.columns.items) (confused F H n) ≡ None
   dead_confused n dead =
       first_below_clear (confused F H n) (length F.columns.items) (λ d lt.
-      none d (not_true (is_offered H n d) (λ h. false≢true (sym dead ∙ offered_live n d h))))
+      none d (false_from_ne_true (is_offered H n d) (λ h. false≢true (sym dead ∙ offered_live n d h))))
     where
       none : (d : ℕ) → is_offered H n d ≡ false → confused F H n d ≡ None
       none d e = rw e refl

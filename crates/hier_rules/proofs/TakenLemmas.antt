@@ -2,23 +2,17 @@
 use Rattle.std.proofs.Common.{◌≡◌, ◌≢◌, ℕ, ◌<◌, ◌&&◌, eqb, not, Bool, true, List, length, refl, sym, ap, ◌∙◌, arith, ⊎_elim}
 use Rattle.std.specs.Str.{bytes_eq}
 use Rattle.std.proofs.lemmas.Bool.{cases_eq, cases_lt, and_parts, and_from, ne_eqb, false≢true, eq-eqb}
-use Rattle.std.proofs.lemmas.Slice.Eq.{bytes_eq-Decides}
+use Rattle.kaba_base.proofs.Tests.{same_truth}
+use Rattle.kaba_base.proofs.Texts.{bytes_exact, bytes_of}
 use Rattle.kaba_order.specs.Orders.{is_live}
 use Rattle.fact_model.specs.declared.facts.Facts.{Facts}
 use Rattle.hier_model.specs.Hierarchies.{Hierarchy, type_name, any_below}
 use Rattle.hier_model.proofs.AnyLemmas.{any_below_some, any_below_has}
 use Rattle.hier_rules.specs.Names.{is_named, is_other_type}
 use Rattle.hier_rules.specs.Namesakes.{is_twice}
-use Rattle.hier_rules.proofs.NameLemmas.{same_test}
-
-pub bytes_same : (a b : List ℕ) → bytes_eq a b ≡ true → a ≡ b
-bytes_same a b h = (bytes_eq-Decides a b).0 h
-
-pub bytes_of : (a b : List ℕ) → a ≡ b → bytes_eq a b ≡ true
-bytes_of a b e = (bytes_eq-Decides a b).1 e
 
 pub bytes_sym : (a b : List ℕ) → bytes_eq a b ≡ bytes_eq b a
-bytes_sym a b = same_test (bytes_eq a b) (bytes_eq b a) (λ h. bytes_of b a (sym (bytes_same a b h))) (λ h. bytes_of a b (sym (bytes_same b a h)))
+bytes_sym a b = same_truth (bytes_eq a b) (bytes_eq b a) (λ h. bytes_of b a (sym (bytes_exact a b h))) (λ h. bytes_of a b (sym (bytes_exact b a h)))
 
 module _ (F : Facts) (H : Hierarchy) (n : ℕ) where
   abbrev name : List ℕ
@@ -43,7 +37,7 @@ module _ (F : Facts) (H : Hierarchy) (n : ℕ) where
   pub other_twice : n < length H.order.live → is_live H.order n ≡ true → is_twice H (type_name H n) (length H.order.live) ≡ is_other_type F H n (type_name H n)
   other_twice lt live =
       let itself : named n ≡ true = and_from (is_live H.order n) (bytes_eq name name) live (bytes_of name name refl) in
-      same_test (is_twice H name N) (is_other_type F H n name)
+      same_truth (is_twice H name N) (is_other_type F H n name)
       (λ h.
       let b = any_below_some (λ b. named b && any_below b named) N h in
       let p = and_parts (named b.0) (any_below b.0 named) b.2 in

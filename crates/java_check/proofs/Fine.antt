@@ -6,6 +6,7 @@ use Rattle.std.specs.declared.alloc.Global.{Global}
 use Rattle.std.proofs.lemmas.Bool.{and_parts, eq-eqb, false≢true}
 use Rattle.std.proofs.lemmas.List.{length-map}
 use Rattle.std.proofs.lemmas.Option.{same_Some, slice_get-map, slice_get_within}
+use Rattle.kaba_base.proofs.Listed.{first, contains_cases, later}
 use Rattle.java_core.specs.declared.Method.{Method}
 use Rattle.java_core.specs.declared.Program.{Program}
 use Rattle.java_core.specs.Trees.{no_place}
@@ -13,7 +14,6 @@ use Rattle.java_core.specs.Programs.{Plain, PlainClass, PlainMethod, program_of,
 use Rattle.java_core.specs.Owned.{AreOwned, listed, owned_from}
 use Rattle.java_core.specs.Classes.{below, nearest_declaration, has_body, is_interface, is_concrete}
 use Rattle.java_core.specs.Formed.{IsFormed}
-use Rattle.java_core.proofs.Upwards.{contains_cases}
 use Rattle.java_core.specs.Typing.{is_public_method}
 use Rattle.java_check.specs.ClassOutcome.{first_rule, below_rule, slot_rule, method_rule, class_rule, is_quiet}
 use Rattle.java_check.specs.SlotOutcome.{bit, word_at, batch_place, method_batch, AreListed, is_told, HasNearest, AreFound, are_apart, is_clear, IsFineFor, is_bare, has_bare}
@@ -23,16 +23,10 @@ use Rattle.java_check.specs.declared.slots.Found.{Found}
 use Rattle.java_check.proofs.Bodied.{class_fine}
 use Rattle.java_check.proofs.Words.{apart-bit}
 
-later : {A : Type 0} (x : A) (xs : List A) (y : A) → Contains xs y → Contains (x ∷ xs) y
-later x xs y (k, lt, e) = (suc k, omega (arith, lt), e)
-
-here : {A : Type 0} (x : A) (xs : List A) → Contains (x ∷ xs) x
-here x xs = (0, omega arith, refl)
-
 -- the numbers of one owner are those of the places that have it
 pub owned-every : (owners : List ℕ) (n s i : ℕ) → slice_get owners i ≡ Some s → Contains (owned_from n s owners) (n + i)
 owned-every [] n s i e = absurd (cc e)
-owned-every (x ∷ owners) n s zero e = rw (eq-eqb x s (same_Some _ _ e), (let z : n + 0 ≡ n = omega arith in z)) (here n (owned_from (n + 1) s owners))
+owned-every (x ∷ owners) n s zero e = rw (eq-eqb x s (same_Some _ _ e), (let z : n + 0 ≡ n = omega arith in z)) (first n (owned_from (n + 1) s owners))
 owned-every (x ∷ owners) n s (suc i) e =
     go (x == s) (subst (λ j. Contains (owned_from (n + 1) s owners) j) (let z : n + 1 + i ≡ n + suc i = omega arith in z) (owned-every owners (n + 1) s i e))
   where

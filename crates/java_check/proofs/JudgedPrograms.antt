@@ -1,11 +1,10 @@
 -- What is answered of a program is right: it is typed, or a rule fails in it; and where one fails, it is not typed.
-use Rattle.std.proofs.Common.{◌≡◌, ℕ, zero, suc, ◌+◌, List, [], ◌∷◌, map, Option, Some, None, Result, refl, sym, ap, ◌∙◌, subst, arith, slice_get}
-use Rattle.std.specs.Option.{option_map}
+use Rattle.std.proofs.Common.{◌≡◌, ℕ, zero, suc, ◌+◌, List, [], ◌∷◌, Option, Some, None, Result, refl, sym, ap, ◌∙◌, subst, arith, slice_get}
 use Rattle.std.specs.Result.{IfOk, IfErr}
-use Rattle.std.proofs.lemmas.Option.{slice_get-map}
 use Rattle.std.specs.declared.vec.Vec.{Vec}
 use Rattle.std.specs.declared.alloc.Global.{Global}
 use Rattle.kaba_base.specs.declared.Place.{Place}
+use Rattle.kaba_base.proofs.Listed.{map_at, at_map}
 use Rattle.java_core.specs.declared.RStmt.{RStmt}
 use Rattle.java_core.specs.declared.Method.{Method}
 use Rattle.java_core.specs.declared.Program.{Program}
@@ -23,14 +22,6 @@ use Rattle.java_check.proofs.JudgedStatements.{Right, holds, fails, then_right, 
 use Rattle.java_check.proofs.RefutedStatements.{fails_sts_untyped}
 use Rattle.java_check.proofs.JudgedClasses.{class_broken, class_typed, breaks_untyped_class}
 use Rattle.java_check.proofs.Places.{list_at}
-
-mapped_at : {A B : Type 0} (f : A → B) (xs : List A) (m : ℕ) (y : B) → slice_get (map f xs) m ≡ Some y → (x : A) × (slice_get xs m ≡ Some x) × (f x ≡ y)
-mapped_at f [] m y e = absurd (cc e)
-mapped_at f (x ∷ xs) zero y e = (x, refl, cc e)
-mapped_at f (x ∷ xs) (suc m) y e = mapped_at f xs m y e
-
-at_mapped : {A B : Type 0} (f : A → B) (xs : List A) (m : ℕ) (x : A) → slice_get xs m ≡ Some x → slice_get (map f xs) m ≡ Some (f x)
-at_mapped f xs m x e = slice_get-map f xs m ∙ ap (option_map f) e
 
 module _ (P : Plain) where
   record BrokenAt (i : ℕ) (ks : List PlainClass) (r : Kind) (p : Place) : Type 0 where
@@ -136,14 +127,14 @@ module _ (p : Program) where
   unfolding AreTypedClasses AreTypedBodies IsTypedMethod
   typed_from classes bodies = record {
     classes = λ c k at.
-        let x = mapped_at (class_seen no_place) p.classes.items c k at in
+        let x = map_at (class_seen no_place) p.classes.items c k at in
         let z : 0 + c ≡ c = omega arith in
-        subst (IsTypedClass (program_of no_place p)) z (classes c (class_seen at_place x.0) (at_mapped (class_seen at_place) p.classes.items c x.0 x.1));
+        subst (IsTypedClass (program_of no_place p)) z (classes c (class_seen at_place x.0) (at_map (class_seen at_place) p.classes.items c x.0 x.1));
     methods = λ m k at xs body.
-        let x = mapped_at (method_seen no_place) p.methods.items m k at in
+        let x = map_at (method_seen no_place) p.methods.items m k at in
         let z : 0 + m ≡ m = omega arith in
         subst (λ g. TypedSts (program_of no_place p) g xs) (ap (env_in (program_of no_place p)) z ∙ env_same m k at)
-        (without m x.0 (at_mapped (method_seen at_place) p.methods.items m x.0 x.1) x.0.body refl xs (ap (λ (q : PlainMethod). q.body) x.2 ∙ body));
+        (without m x.0 (at_map (method_seen at_place) p.methods.items m x.0 x.1) x.0.body refl xs (ap (λ (q : PlainMethod). q.body) x.2 ∙ body));
   }
     where
       without : (m : ℕ) (k : Method) → slice_get (program_of at_place p).methods m ≡ Some (method_seen at_place k) → (o : Option (Vec RStmt Global))
@@ -173,11 +164,11 @@ module _ (p : Program) where
   pub fails_in_untyped : {r : Kind} {pl : Place} → FailsIn (program_of no_place p) (program_of at_place p) r pl → IsTyped (program_of no_place p) → ⊥
   unfolding IsTypedMethod
   fails_in_untyped (at_class {c = c} at b) typed =
-      let x = mapped_at (class_seen at_place) p.classes.items c _ at in
-      breaks_untyped_class (program_of no_place p) c b (typed.classes c (class_seen no_place x.0) (at_mapped (class_seen no_place) p.classes.items c x.0 x.1))
+      let x = map_at (class_seen at_place) p.classes.items c _ at in
+      breaks_untyped_class (program_of no_place p) c b (typed.classes c (class_seen no_place x.0) (at_map (class_seen no_place) p.classes.items c x.0 x.1))
   fails_in_untyped (in_method m {xs = xs} at body f) typed =
-      let x = mapped_at (method_seen at_place) p.methods.items m _ at in
-      placed m x.0 (at_mapped (method_seen no_place) p.methods.items m x.0 x.1) x.0.body refl xs (ap (λ (q : PlainMethod). q.body) x.2 ∙ body) f
+      let x = map_at (method_seen at_place) p.methods.items m _ at in
+      placed m x.0 (at_map (method_seen no_place) p.methods.items m x.0 x.1) x.0.body refl xs (ap (λ (q : PlainMethod). q.body) x.2 ∙ body) f
     where
       placed : {r : Kind} {pl : Place} (m : ℕ) (k : Method) → slice_get (program_of no_place p).methods m ≡ Some (method_seen no_place k)
           → (o : Option (Vec RStmt Global)) → k.body ≡ o → (xs : Sts) → body_seen at_place k.body ≡ Some xs

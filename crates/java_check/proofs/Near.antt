@@ -14,15 +14,12 @@ use Rattle.java_core.specs.Programs.{Plain, PlainMethod, program_of, method_seen
 use Rattle.java_core.specs.Owned.{AreOwned, listed, owned_from, passes}
 use Rattle.java_core.specs.Classes.{parent_of, first_or, nearest, is_slot, has_slot, own_declaration, nearest_declaration}
 use Rattle.java_core.proofs.OwnedLemmas.{own-position}
+use Rattle.java_core.proofs.SearchOrder.{first_or-assoc}
 use Rattle.java_check.specs.NearOutcome.{method_owner, declared_among, own_of, found_in}
 
 pub first_or-none : (a : Option ℕ) → first_or a None ≡ a
 first_or-none None = refl
 first_or-none (Some x) = refl
-
-pub first_or-or : (a b c : Option ℕ) → first_or (first_or a b) c ≡ first_or a (first_or b c)
-first_or-or None b c = refl
-first_or-or (Some x) b c = refl
 
 module _ (P : Plain) where
   pub declared-cons : (c s m : ℕ) (ms : List ℕ) → declared_among P c s (m ∷ ms) ≡ first_or (declared_among P c s (m ∷ [])) (declared_among P c s ms)
@@ -46,7 +43,7 @@ module _ (P : Plain) where
       → first_or next (declared_among P c s (drop (k + 1) ms)) ≡ first_or near (declared_among P c s (drop k ms))
   kept-step c s near next ms k lt e =
       ap (λ o. first_or o (declared_among P c s (drop (k + 1) ms))) e
-      ∙ (first_or-or near (declared_among P c s (slice_index_or ms k 0 ∷ [])) (declared_among P c s (drop (k + 1) ms))
+      ∙ (first_or-assoc near (declared_among P c s (slice_index_or ms k 0 ∷ [])) (declared_among P c s (drop (k + 1) ms))
       ∙ ap (first_or near) (sym (declared-cons c s (slice_index_or ms k 0) (drop (k + 1) ms)) ∙ ap (declared_among P c s) (sym dropped)))
     where
       dropped : drop k ms ≡ slice_index_or ms k 0 ∷ drop (k + 1) ms
@@ -57,7 +54,7 @@ module _ (P : Plain) where
       → next ≡ first_or near (own_of P at s) → first_or next (found_in P s n up) ≡ first_or near (found_in P s (suc n) at)
   walk-step s n at up near next e f =
       ap (λ o. first_or o (found_in P s n up)) f
-      ∙ (first_or-or near (own_of P at s) (found_in P s n up)
+      ∙ (first_or-assoc near (own_of P at s) (found_in P s n up)
       ∙ ap (first_or near) (ap (λ o. first_or (own_of P at s) (found_in P s n o)) e ∙ sym (found-step s n at)))
 
 -- what is found in all classes on the way

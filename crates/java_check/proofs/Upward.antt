@@ -8,13 +8,14 @@ use Rattle.std.proofs.lemmas.List.{get_or_past, length-map}
 use Rattle.std.proofs.lemmas.List.Folds.{Any-from_list_any, list_any-from_Any}
 use Rattle.std.proofs.lemmas.Option.{slice_get_within}
 use Rattle.kaba_base.specs.declared.ClassId.{ClassId}
+use Rattle.kaba_base.proofs.Listed.{contains_cases}
 use Rattle.java_core.specs.declared.Program.{Program}
 use Rattle.java_core.specs.Trees.{no_place}
 use Rattle.java_core.specs.Programs.{Plain, PlainMethod, program_of, class_seen}
 use Rattle.java_core.specs.Classes.{parent_of, faces_of, IsSubclass, same_class, through, first_or, nearest, is_slot, has_slot, own_declaration, nearest_declaration, below}
 use Rattle.java_core.specs.Formed.{IsFormed}
 use Rattle.java_core.proofs.Subclasses.{ArePassed, one_left, passed_more, none_passed, parent-super, below-subclass}
-use Rattle.java_core.proofs.Upwards.{contains_cases, super_cases}
+use Rattle.java_core.proofs.Upwards.{super_cases}
 use Rattle.java_core.proofs.Positions.{position-passes, passes-position}
 use Rattle.java_check.specs.SlotOutcome.{bit, IsWithin, is_within, has_faces, full, word_at, own_at, answers, says, AreListed, parent_word, IsNearestAt, IsAboveAt, is_nearest_at, is_above_at, is_told, HasNearest, HasAbove}
 use Rattle.java_check.specs.declared.tables.Asked.{Asked}

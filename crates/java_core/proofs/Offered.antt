@@ -8,13 +8,15 @@ use Rattle.std.proofs.lemmas.Bool.{and_parts, eqb-true, eq-eqb, false≢true}
 use Rattle.std.proofs.lemmas.Slice.Eq.{bytes_eq-Decides}
 use Rattle.kaba_base.specs.declared.ClassId.{ClassId}
 use Rattle.kaba_base.specs.declared.MemberId.{MemberId}
+use Rattle.kaba_base.proofs.Listed.{contains_cases}
+use Rattle.kaba_base.proofs.Tests.{from_not}
 use Rattle.java_core.specs.Programs.{Plain, PlainMethod}
 use Rattle.java_core.specs.Classes.{parent_of, faces_of, supers_of, IsSubclass, same_class, through, below, first_or, nearest_of, is_method_of, own_method, faces_above, first_found, declaration_of, slot_of_method, slot_of}
 use Rattle.java_core.specs.Found.{IsNearest, at_class, above_class, IsOffered}
 use Rattle.java_core.specs.Own.{offers, offered, towards}
 use Rattle.java_core.specs.Formed.{IsFormed}
 use Rattle.java_core.proofs.Subclasses.{parent-super, subclass-then, subclass-below, below-subclass, nearest_of-nearest, ArePassed, passed_more, none_passed, one_left}
-use Rattle.java_core.proofs.Upwards.{contains_cases, IsThere, super_cases, IsAbove, further, chain-above, face_interface, interface_parent, above_object, nearest-there, there-up}
+use Rattle.java_core.proofs.Upwards.{IsThere, super_cases, IsAbove, further, chain-above, face_interface, interface_parent, above_object, nearest-there, there-up}
 use Rattle.java_core.proofs.SearchOrder.{first_found-append, declaration_of-found}
 use Rattle.java_core.proofs.Positions.{position-passes, passes-position}
 
@@ -116,10 +118,6 @@ pub record IsOwn (P : Plain) (c : ℕ) (x : List ℕ) (m : ℕ) : Type 0 where
   pub instance : method.is_static ≡ false
   pub name : method.name ≡ x
 
-not-true : (b : Bool) → not b ≡ true → b ≡ false
-not-true false e = refl
-not-true true e = cc e
-
 pub own_method-own : (P : Plain) (c : ℕ) (x : List ℕ) (m : ℕ) → own_method P c x ≡ Some m → IsOwn P c x m
 own_method-own P c x m e =
     let found = position-passes (λ k. is_method_of c x k) P.methods m e in
@@ -130,7 +128,7 @@ own_method-own P c x m e =
       method = k;
       stands = found.1;
       owner = eqb-true k.owner c outer.0;
-      instance = not-true k.is_static inner.0;
+      instance = from_not k.is_static inner.0;
       name =
           (bytes_eq-Decides k.name x).0 inner.1;
     }
@@ -233,7 +231,7 @@ module _ (P : Plain) (formed : IsFormed P) (x : List ℕ) where
         method = k;
         stands = found.1;
         owner = refl;
-        instance = not-true k.is_static inner.0;
+        instance = from_not k.is_static inner.0;
         name = (bytes_eq-Decides k.name x).0 inner.1;
       } in
       (k.owner, it, below-subclass P c k.owner outer.0)

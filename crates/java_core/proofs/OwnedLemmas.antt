@@ -4,12 +4,9 @@ use Rattle.std.specs.Prelude.{slice_get, ◌==◌, if◌then◌else◌}
 use Rattle.std.specs.List.{position, position_from}
 use Rattle.std.proofs.lemmas.List.{append_assoc, length-append}
 use Rattle.std.proofs.lemmas.Iterator.Adapters.{position_from-zero}
+use Rattle.kaba_base.proofs.Listed.{middle}
 use Rattle.java_core.specs.Owned.{owned_from, passes, first_among}
 use Rattle.java_core.proofs.Positions.{position-same}
-
-middle : {A : Type 0} (done : List A) (x : A) (rest : List A) → slice_get (done ++ x ∷ rest) (length done) ≡ Some x
-middle [] x rest = refl
-middle (y ∷ done) x rest = middle done x rest
 
 module _ {A : Type 0} (owner : A → ℕ) (p : A → Bool) (c : ℕ) where
   among : (done rest : List A) (k : ℕ) → length done ≡ k

@@ -2,12 +2,14 @@
 use Rattle.std.proofs.Common.{◌≡◌, ℕ, zero, suc, ◌<◌, ◌⊎◌, inl, inr, ⊎_elim, Bool, true, ◌||◌, List, [], ◌∷◌, ◌++◌, map, length, Option, Some, None, Contains, refl, sym, ap, ◌∙◌, subst, arith}
 use Rattle.std.specs.Prelude.{slice_get, ◌==◌, ◌↔◌}
 use Rattle.std.specs.Option.{option_to_list, option_and_then, option_map_or}
-use Rattle.std.proofs.lemmas.Bool.{or_cases, or_left, or_right, eqb-true, eq-eqb, cases_lt}
+use Rattle.std.proofs.lemmas.Bool.{or_cases, or_left, or_right, eqb-true, eq-eqb}
 use Rattle.std.proofs.lemmas.List.{length-map}
 use Rattle.std.proofs.lemmas.List.Elements.{Contains-append_cases}
-use Rattle.std.proofs.lemmas.Option.{slice_get_past}
+use Rattle.std.proofs.lemmas.Option.{slice_get_within}
 use Rattle.kaba_base.specs.declared.Place.{Place}
 use Rattle.kaba_base.specs.declared.ClassId.{ClassId}
+use Rattle.kaba_base.proofs.Listed.{one_from, no-member}
+use Rattle.kaba_base.proofs.Tests.{same_truth}
 use Rattle.java_core.specs.declared.Class.{Class}
 use Rattle.java_core.specs.Trees.{Tag}
 use Rattle.java_core.specs.Plain.{Plain, PlainClass, class_seen}
@@ -17,8 +19,6 @@ use Rattle.java_core.specs.Squares.{is_above}
 use Rattle.java_core.specs.Subtypes.{of_classes, subtype_rows}
 use Rattle.java_core.proofs.Subclasses.{below-subclass, subclass-below}
 use Rattle.java_core.proofs.Reached.{reached-sound, reached-whole}
-use Rattle.java_core.proofs.SquareLemmas.{same_truth}
-use Rattle.java_core.proofs.Walks.{no-member, one-member}
 
 supers-seen : (t u : Place → Tag) (cs : List Class) (a : ℕ) → supers_of (of_classes (map (class_seen t) cs)) a
     ≡ supers_of (of_classes (map (class_seen u) cs)) a
@@ -29,9 +29,6 @@ supers-seen t u (c ∷ cs) (suc a) = supers-seen t u cs a
 subclass-same : (P Q : Plain) → ((a : ℕ) → supers_of P a ≡ supers_of Q a) → {a b : ℕ} → IsSubclass P a b → IsSubclass Q a b
 subclass-same P Q same same_class = same_class
 subclass-same P Q same (through {a = a} {c = c} direct rest) = through {c = c} (subst (λ l. Contains l c) (same a) direct) (subclass-same P Q same rest)
-
-stands-within : {A : Type 0} (xs : List A) (i : ℕ) (x : A) → slice_get xs i ≡ Some x → i < length xs
-stands-within xs i x e = ⊎_elim (λ lt. lt) (λ past. absurd (cc (sym (slice_get_past xs i past) ∙ e))) (cases_lt i (length xs))
 
 -- what stands directly above a class of a formed program is one of its classes
 super-stands : (P : Plain) → IsFormed P → (a : ℕ) (c : ClassId) → Contains (supers_of P a) c → c.0 < length P.classes
@@ -49,9 +46,9 @@ super-stands P formed (suc a) c h = at (slice_get P.classes (suc a)) refl
         let own : Contains (option_to_list k.parent ++ k.faces) c =
         subst (λ l. Contains l c) (ap (λ o. option_to_list (option_and_then (λ k. k.parent) o) ++ option_map_or (λ k. k.faces) o []) e) h in
         ⊎_elim
-        (λ d. let p : f.parent ≡ c = one-member f.parent c (subst (λ o. Contains (option_to_list o) c) f.has_parent d) in
-        subst (λ x. x.0 < length P.classes) p (stands-within P.classes f.parent.0 f.above f.parent_stands))
-        (λ d. let g = f.faces c d in stands-within P.classes c.0 g.0 g.1)
+        (λ d. let p : f.parent ≡ c = one_from f.parent c (subst (λ o. Contains (option_to_list o) c) f.has_parent d) in
+        subst (λ x. x.0 < length P.classes) p (slice_get_within P.classes f.parent.0 f.above f.parent_stands))
+        (λ d. let g = f.faces c d in slice_get_within P.classes c.0 g.0 g.1)
         (Contains-append_cases (option_to_list k.parent) k.faces c own)
 
 subclass-stands : (P : Plain) → IsFormed P → {a b : ℕ} → IsSubclass P a b → (a ≡ b) ⊎ (b < length P.classes)

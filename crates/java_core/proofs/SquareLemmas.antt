@@ -1,10 +1,11 @@
 -- Rows as the values of a test of two numbers, and what the rows of a hierarchy say.
-use Rattle.std.proofs.Common.{◌≡◌, ℕ, ◌<◌, ◌≤◌, ◌⊎◌, inl, inr, ⊎_elim, Bool, true, false, List, [], ◌∷◌, map, length, Option, Some, None, refl, sym, ap, ◌∙◌, arith}
+use Rattle.std.proofs.Common.{◌≡◌, ℕ, ◌<◌, ◌≤◌, ◌⊎◌, inl, inr, ⊎_elim, Bool, true, false, List, [], ◌∷◌, map, length, Option, Some, None, sym, ap, ◌∙◌, arith}
 use Rattle.std.specs.Prelude.{slice_get, ◌↔◌, MatchOption}
 use Rattle.std.specs.List.{range_with_len}
 use Rattle.std.proofs.lemmas.Bool.{false≢true, eqb-true, cases_lt, false_from_ne_true}
 use Rattle.std.proofs.lemmas.List.FromFn.{length-map-range_with_len, get_or-map-range_with_len, fill_by_all}
 use Rattle.std.proofs.lemmas.Option.{slice_get-get_or, slice_get_past}
+use Rattle.kaba_base.proofs.Tests.{same_truth}
 use Rattle.kaba_bits.specs.Sets.{bit, row, IsNoneFrom, IsLeastFrom}
 use Rattle.kaba_bits.proofs.SetLemmas.{bit-below}
 use Rattle.java_core.specs.Squares.{bit_in, row_in, is_above}
@@ -12,10 +13,6 @@ use Rattle.java_core.specs.Squares.{square, in_row, is_below, AreRows}
 use Rattle.java_core.specs.Squares.{meet}
 use Rattle.java_core.specs.Subtypes.{Share}
 use Rattle.java_core.proofs.Meets.{meets, meet-stands}
-
-pub same_truth : (s t : Bool) → (s ≡ true → t ≡ true) → (t ≡ true → s ≡ true) → s ≡ t
-same_truth true t f g = sym (f refl)
-same_truth false t f g = sym (false_from_ne_true t (λ e. false≢true (g e)))
 
 value-at : {X : Type 0} (f : ℕ → X) (d : X) (n i : ℕ) → i < n → slice_get (map f (range_with_len 0 n)) i ≡ Some (f i)
 value-at f d n i lt =

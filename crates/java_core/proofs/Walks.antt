@@ -7,20 +7,12 @@ use Rattle.std.proofs.lemmas.List.{get_or-set_same, get_or-set_other, length-app
 use Rattle.std.proofs.Math.Seq.{take-suc}
 use Rattle.std.proofs.Math.Numerals.{add-one}
 use Rattle.std.proofs.lemmas.List.Elements.{Contains-append_left, Contains-append_right, Contains-push, Contains-push_cases, Contains-append_cases}
+use Rattle.kaba_base.proofs.Listed.{one_from, one as one-is, no-member}
 use Rattle.kaba_bits.specs.Sets.{bit, row, size}
 use Rattle.kaba_bits.proofs.SetLemmas.{bit-below}
 use Rattle.java_core.specs.Squares.{in_row, is_below, AreRows}
 use Rattle.java_core.specs.Subtypes.{IsUnder, itself, under, AreInside, IsOwnRow, IsExact, AreExact, Filled, IsHeld, Gained, Walked}
 use Rattle.java_core.specs.Owned.{listed}
-
-pub no-member : {X : Type 0} {P : Type 0} (x : X) → Contains ([]) x → P
-no-member x c = let lt = c.1 in absurd (omega (arith, lt))
-
-pub one-member : {X : Type 0} (y x : X) → Contains (y ∷ []) x → y ≡ x
-one-member y x c = ⊎_elim (λ h. no-member x h) (λ e. e) (Contains-push_cases [] y x c)
-
-pub one-is : {X : Type 0} (x : X) → Contains (x ∷ []) x
-one-is x = Contains-push [] x
 
 -- ---- what a row gains
 
@@ -39,7 +31,7 @@ gained-wait rows known x r w lt more = record {
   kept = λ y h. set-kept r x y lt h;
   news = λ y h. ⊎_elim (λ k. inl k) (λ e. inr (x, one-is x, inl e)) (set-bits r x y lt h);
   settled = λ y h. ⊎_elim (λ k. inl k) (λ e. inr (inl (subst (λ z. Contains (w ++ x ∷ []) z) (sym e) (Contains-push w x)))) (set-bits r x y lt h);
-  told = λ y c. subst (λ z. bit (set r x true) z ≡ true) (one-member x y c) (get_or-set_same r x true false lt);
+  told = λ y c. subst (λ z. bit (set r x true) z ≡ true) (one_from x y c) (get_or-set_same r x true false lt);
   waits = λ y c. Contains-append_left w (x ∷ []) y c;
   comes = λ y c. Contains-append_cases w (x ∷ []) y c;
   work = let l = length-append w (x ∷ []) in omega (arith, l, more);
@@ -60,7 +52,7 @@ gained-held rows known x old new w is_known inside formed len join work = record
     below = k;
     all = λ z lt q. join z (subst (λ n. z < n) len lt) ∙ or_right (bit old z) (in_row (row rows x) z x) q;
   }))) (parts y h);
-  told = λ y c. subst (λ z. bit new z ≡ true) (one-member x y c) (join x inside ∙ or_right (bit old x) (in_row (row rows x) x x) (formed.own x inside));
+  told = λ y c. subst (λ z. bit new z ≡ true) (one_from x y c) (join x inside ∙ or_right (bit old x) (in_row (row rows x) x x) (formed.own x inside));
   waits = λ y c. c;
   comes = λ y c. inl c;
   work = omega (arith, work);
@@ -123,7 +115,7 @@ module _ (lists : List (Vec ℕ Global)) where
     start = own.own;
     sound = λ y h. subst (λ z. IsUnder lists z b) (sym (own.bits y h)) itself;
     settled = λ y h. inl (subst (λ z. Contains (b ∷ []) z) (sym (own.bits y h)) (one-is b));
-    from = λ y c. subst (λ z. IsUnder lists z b) (one-member b y c) itself;
+    from = λ y c. subst (λ z. IsUnder lists z b) (one_from b y c) itself;
   }
 
   module _ (n b : ℕ) (inside : AreInside n lists) (known : List Bool) (rows : List (List Bool)) (exact : AreExact lists n known rows) where

@@ -2,7 +2,7 @@
 use Rattle.std.proofs.Common.{◌≡◌, ℕ, zero, suc, List, Option, Some, None, refl, sym, ap, ◌∙◌, subst, ⊎_elim, arith}
 use Rattle.std.specs.Prelude.{ℤ, pos, Bool, true, false, not, ◌==◌, ◌&&◌, ◌||◌, slice_get}
 use Rattle.std.specs.Option.{is_some}
-use Rattle.std.proofs.lemmas.Bool.{or_cases, false≢true, eqb-true, eq-eqb, and_parts}
+use Rattle.std.proofs.lemmas.Bool.{or_cases, false≢true, eqb-true, eq-eqb, and_parts, and_from}
 use Rattle.java_core.specs.declared.Ty.{Ty}
 use Rattle.java_core.specs.declared.TyBase.{TyBase}
 use Rattle.java_core.specs.declared.TyBase.TheVariants.{Int, Boolean, Char, Str, Class}
@@ -20,9 +20,6 @@ pub record Heap : Type 0 where
 
 abbrev pub heap_of : State → Heap
 heap_of s = record { cells = s.cells; strings = s.strings }
-
-pub both : (x y : Bool) → x ≡ true → y ≡ true → (x && y) ≡ true
-both x y e d = rw e d
 
 pub some_there : {A : Type 0} (o : Option A) → is_some o ≡ true → (a : A) × (o ≡ Some a)
 some_there None e = absurd (false≢true e)
@@ -241,7 +238,7 @@ module _ (P : Plain) where
   sub_parts s t p = let q = and_parts (s.dim == t.dim) (is_sub_base P s.base t.base) p in (eqb-true s.dim t.dim q.0, q.1)
 
   pub of_parts : (s t : Ty) → s.dim ≡ t.dim → is_sub_base P s.base t.base ≡ true → is_subtype P s t ≡ true
-  of_parts s t e d = both (s.dim == t.dim) (is_sub_base P s.base t.base) (eq-eqb s.dim t.dim e) d
+  of_parts s t e d = and_from (s.dim == t.dim) (is_sub_base P s.base t.base) (eq-eqb s.dim t.dim e) d
 
   pub sub_object : (s t : Ty) → is_subtype P s t ≡ true → is_object s ≡ true → is_object t ≡ true
   sub_object s t p e = let q = sub_parts s t p in subst (λ z. not (z == 0) || is_class t.base ≡ true) q.0 (subst (λ z. not (s.dim == 0) || z ≡ true)

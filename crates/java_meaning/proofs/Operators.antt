@@ -1,7 +1,7 @@
 -- Binary operators, casts and tests on typed states.
 use Rattle.std.proofs.Common.{◌≡◌, ℕ, zero, suc, Option, Some, None, refl, sym, ap, ◌∙◌, subst, ⊎_elim, inl, inr, arith}
 use Rattle.std.specs.Prelude.{◌⊎◌, ℤ, Bool, true, false, ◌==◌, ◌&&◌, ◌||◌, slice_get}
-use Rattle.std.proofs.lemmas.Bool.{or_cases, or_left, or_right, false≢true, and_parts}
+use Rattle.std.proofs.lemmas.Bool.{or_cases, or_left, or_right, false≢true, and_parts, and_right}
 use Rattle.java_core.specs.declared.Ty.{Ty}
 use Rattle.java_core.specs.declared.TyBase.{TyBase}
 use Rattle.java_core.specs.declared.TyBase.TheVariants.{Int, Boolean, Char, Str, Class}
@@ -30,10 +30,6 @@ numeric_no_string no_value p = refl
 
 string_printable : (s : Static) → is_string s ≡ true → is_printable s ≡ true
 string_printable s e = or_right (is_numeric s) (is_boolean s || is_string s) (or_right (is_boolean s) (is_string s) e)
-
-pub and_false : (b c : Bool) → c ≡ false → (b && c) ≡ false
-and_false true c e = e
-and_false false c e = refl
 
 number_type : (b : TyBase) (d : ℕ) → is_number_type b d ≡ is_numeric (a_value (record { base = b; dim = d }))
 number_type Int zero = refl
@@ -113,7 +109,7 @@ module _ (P : Plain) (L : Lang) (tl : TypedLang P L) where
       numbers : (is_numeric t && is_numeric u) ≡ true → Sound (operate (bin.Int o) v w s k)
       numbers e =
           let q = and_parts (is_numeric t) (is_numeric u) e in let a = number_held P hv q.0 in let b = number_held P hw q.1 in
-          let none : (is_plus o && (is_string t || is_string u)) ≡ false = and_false (is_plus o) (is_string t || is_string u)
+          let none : (is_plus o && (is_string t || is_string u)) ≡ false = and_right (is_plus o) (is_string t || is_string u)
           (rw (numeric_no_string t q.0, numeric_no_string u q.1) refl) in
           compute_numbers flag (number_of v) (number_of w) a.0 b.0 v w o s k ok a.1 b.1 (subst (λ z. V (heap_of s) (a_value (sum_type z)) k) none h)
 

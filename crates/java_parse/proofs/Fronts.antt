@@ -1,6 +1,6 @@
 -- What the tests of the front say of the tokens.
 use Rattle.std.proofs.Common.{◌≡◌, ℕ, ◌<◌, ◌≤◌, List, [], ◌∷◌, Bool, true, false, Option, Some, None, refl, sym, ap, ◌∙◌, subst}
-use Rattle.std.proofs.lemmas.Bool.{leb-true}
+use Rattle.std.proofs.lemmas.Bool.{leb-true, and_parts}
 use Rattle.std.specs.Prelude.{nat_lt, nat_le, ◌&&◌, if◌then◌else◌}
 use Rattle.kaba_base.specs.declared.Place.{Place}
 use Rattle.kaba_base.specs.declared.words.Keyword.{Keyword}
@@ -14,7 +14,7 @@ use Rattle.java_tree.specs.declared.Modifier.{Modifier}
 use Rattle.java_tree.specs.declared.TypeBase.{TypeBase}
 use Rattle.java_tree.specs.declared.TypeName.{TypeName}
 use Rattle.java_tree.specs.Syntax.{Expression, CastOf}
-use Rattle.java_tree.specs.Tokens.{token, mark, key, word, level, is_sign, compound, stepping, is_modifier}
+use Rattle.java_tree.specs.Tokens.{token, mark, key, word, level, is_sign, is_modifier}
 use Rattle.java_tree.specs.Expressions.{IsBase, int_base, boolean_base, char_base, named_base, IsPrefixed, cast_named, cast_int, cast_char, IsPost, int_literal, char_literal, string_literal, true_literal, false_literal, null_literal, this_word}
 use Rattle.java_tree.specs.Statements.{IsFinal, not_final, is_final}
 use Rattle.java_parse.specs.declared.End.{End}
@@ -34,10 +34,6 @@ bool_cases false f g = g refl
 chosen : {A : Type 0} (b : Bool) (v o : A) → (if b then Some v else None) ≡ Some o → (b ≡ true) × (v ≡ o)
 chosen true v o h = (refl, cc)
 chosen false v o h = cc
-
-both_true : (a b : Bool) → (a && b) ≡ true → (a ≡ true) × (b ≡ true)
-both_true true b h = (refl, h)
-both_true false b h = cc
 
 -- the token that passes a test is the one that is looked for
 same_kind : {B : Type 0} (f : B → Place → Token) (k m : B) (b : Bool) (p : Place) (ts : List Token) (w : Place × List Token) → (b ≡ true → k ≡ m)
@@ -74,8 +70,8 @@ operator_kind : (l c : ℕ) (k : TokenKind) (p : Place) (ts : List Token) (w : M
     (token k p ∷ ts ≡ mark w.0 w.1 ∷ w.2) × (0 < level w.0) × (l ≤ level w.0) × (level w.0 ≤ c)
 operator_kind l c (kinds.Mark m) p ts w h =
     let d = chosen (nat_lt 0 (level m) && (nat_le l (level m) && nat_le (level m) c)) (m, p, ts) w h in
-    let a = both_true (nat_lt 0 (level m)) (nat_le l (level m) && nat_le (level m) c) d.0 in
-    let b = both_true (nat_le l (level m)) (nat_le (level m) c) a.1 in
+    let a = and_parts (nat_lt 0 (level m)) (nat_le l (level m) && nat_le (level m) c) d.0 in
+    let b = and_parts (nat_le l (level m)) (nat_le (level m) c) a.1 in
     subst (λ (w : Mark × Place × List Token). (mark m p ∷ ts ≡ mark w.0 w.1 ∷ w.2) × (0 < level w.0) × (l ≤ level w.0) × (level w.0 ≤ c)) d.1
     (refl, leb-true 1 (level m) a.0, leb-true l (level m) b.0, leb-true (level m) c b.1)
 operator_kind l c _ p ts w h = cc
@@ -93,7 +89,7 @@ pub instance_is : (l c : ℕ) (ts : List Token) (w : Place × List Token) → in
     × (l ≤ 7) × (7 ≤ c)
 instance_is l c ts w h =
     let g = guarded (nat_le l 7 && nat_le 7 c) (after_key keys.InstanceOf ts) w h in
-    let b = both_true (nat_le l 7) (nat_le 7 c) g.0 in
+    let b = and_parts (nat_le l 7) (nat_le 7 c) g.0 in
     (after_key_is keys.InstanceOf ts w g.1, leb-true l 7 b.0, leb-true 7 c b.1)
 
 least_of : (k : TokenKind) (p q : Place) (ts : List Token) (w : Place × List Token) → least_kind k p ts ≡ Some w → mark marks.Minus p ∷ token k q ∷ ts

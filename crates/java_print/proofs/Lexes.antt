@@ -1,6 +1,6 @@
 -- Items whose text is read as their kinds.
 use Rattle.std.proofs.Common.{◌≡◌, ℕ, zero, suc, ◌<◌, ◌≤◌, ◌==◌, ◌||◌, pos, Bool, true, false, List, [], ◌∷◌, ◌++◌, Option, length, replicate, refl, ap, sym, subst, ◌∙◌, codes, arith, nat_lt}
-use Rattle.std.proofs.lemmas.Bool.{and_parts, and_from, true≢false, ne_eqb, cond_both, cond-true, cond-false, lt-ltb}
+use Rattle.std.proofs.lemmas.Bool.{and_parts, and_from, true≢false, ne_eqb, cond_both, cond-true, cond-false, lt-ltb, or_parts}
 use Rattle.std.proofs.lemmas.List.{append-nil}
 use Rattle.std.proofs.lemmas.Fmt.{decimal_nonempty}
 use Rattle.std.specs.Fmt.{decimal}
@@ -170,11 +170,6 @@ extends _ c = false
 abbrev pub signy : ℕ → Bool
 signy c = (c == 43) || (c == 45) || (c == 61)
 
-or2 : (x y : Bool) → (x || y) ≡ false → (x ≡ false) × (y ≡ false)
-or2 true y h = cc
-or2 false true h = cc
-or2 false false h = (refl, refl)
-
 or3 : (x y z : Bool) → (x || y || z) ≡ false → (x ≡ false) × (y ≡ false) × (z ≡ false)
 or3 true y z h = cc
 or3 false true z h = cc
@@ -186,8 +181,8 @@ sign_spells : {m : Mark} → IsSign m → (xs : List ℕ) (ks : List TokenKind) 
 sign_spells plus [] ks h s = tokens.mark marks.Plus [] ks refl refl refl s
 sign_spells minus [] ks h s = tokens.mark marks.Minus [] ks refl refl refl s
 sign_spells bang [] ks h s = tokens.mark marks.Bang [] ks refl refl refl s
-sign_spells plus (c ∷ xs) ks h s = let t = or2 (c == 43) (c == 61) h in tokens.mark marks.Plus (c ∷ xs) ks (rw (t.0, t.1) refl) refl refl s
-sign_spells minus (c ∷ xs) ks h s = let t = or2 (c == 45) (c == 61) h in tokens.mark marks.Minus (c ∷ xs) ks (rw (t.0, t.1) refl) refl refl s
+sign_spells plus (c ∷ xs) ks h s = let t = or_parts (c == 43) (c == 61) h in tokens.mark marks.Plus (c ∷ xs) ks (rw (t.0, t.1) refl) refl refl s
+sign_spells minus (c ∷ xs) ks h s = let t = or_parts (c == 45) (c == 61) h in tokens.mark marks.Minus (c ∷ xs) ks (rw (t.0, t.1) refl) refl refl s
 sign_spells bang (c ∷ xs) ks h s = tokens.mark marks.Bang (c ∷ xs) ks (rw h refl) refl refl s
 sign_spells flip xs ks h s = tokens.mark marks.Flip xs ks refl refl refl s
 

@@ -8,6 +8,7 @@ use Rattle.std.proofs.lemmas.Str.{encodes_same}
 use Rattle.java_lex.specs.declared.Token.{Token}
 use Rattle.java_lex.specs.declared.TokenKind.{TokenKind}
 use Rattle.kaba_base.specs.declared.Place.{Place}
+use Rattle.kaba_base.proofs.Tests.{none_of}
 use Rattle.java_lex.specs.declared.Mark.TheVariants as marks
 use Rattle.java_tree.specs.declared.TypeName.{TypeName}
 use Rattle.java_tree.specs.Syntax.{Expression, NameRef, FieldOf, IndexOf, CallOf, CallOn, SuperCallOf, NewOf, Expressions, no_more, and_more, Statement, LocalOf, BlockOf, AssignOf, DoOf, PrintOf, IfOf, WhileOf, ForOf, ReturnOf, BreakOf, ContinueOf, Statements, no_statements, and_then, Arms, no_arms, and_arm, Else, no_else, otherwise, OptionalStatement, absent, present}
@@ -103,10 +104,6 @@ prints_plain : (e : Expression) → prints e ≡ prints (expr_unplaced e)
 prints_plain (CallOn b n es r) = ap (λ t. is_some (if t then printed_args n es else None)) (out_plain b)
     ∙ guarded (is_out (expr_unplaced b)) (printed_args n es) (printed_args n (exprs_unplaced es)) (args_plain n es)
 prints_plain _ = refl
-
-none_of : {A : Type 0} (o : Option A) → is_some o ≡ false → o ≡ None
-none_of None h = refl
-none_of (Some x) h = absurd (true≢false h)
 
 if_none : {A : Type 0} (b : Bool) (o : Option A) → o ≡ None → (if b then o else None) ≡ None
 if_none true o h = h

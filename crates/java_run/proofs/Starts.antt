@@ -1,15 +1,15 @@
 -- The start of a run, and its end.
-use Rattle.std.proofs.Common.{◌≡◌, ℕ, ◌+◌, ◌-◌, ◌≤◌, add-zero, List, [], ◌∷◌, map, Option, Some, None, refl, sym, ap, ◌∙◌, subst, arith}
-use Rattle.std.specs.Prelude.{◌≢◌, slice_get, string_bytes}
+use Rattle.std.proofs.Common.{◌≡◌, ℕ, ◌+◌, ◌-◌, ◌≤◌, add-zero, List, map, Option, Some, None, refl, sym, ap, ◌∙◌, subst, arith}
+use Rattle.std.specs.Prelude.{◌≢◌, string_bytes}
 use Rattle.std.specs.declared.string.String.{String}
 use Rattle.std.specs.declared.alloc.Global.{Global}
 use Rattle.std.specs.Option.{option_map, option_and_then}
-use Rattle.std.proofs.lemmas.Option.{same_Some}
+use Rattle.kaba_base.proofs.Listed.{map_map}
 use Rattle.java_core.specs.Trees.{Sts}
 use Rattle.java_core.specs.Programs.{Plain}
 use Rattle.java_core.specs.Formed.{IsFormed}
 use Rattle.java_core.specs.Typing.{IsTyped}
-use Rattle.java_meaning.specs.Moment.{Body, State, Wrong, stop}
+use Rattle.java_meaning.specs.Moment.{Body, Wrong, stop}
 use Rattle.java_meaning.specs.Moment as meaning
 use Rattle.java_meaning.specs.Languages.{body_of, body_with, run}
 use Rattle.java_meaning.proofs.TypedPrograms.{never_wrong}
@@ -27,14 +27,6 @@ use Rattle.java_run.specs.declared.runs.End.{End}
 use Rattle.java_run.specs.declared.runs.End.TheVariants as ends
 use Rattle.java_run.specs.Outcomes as outcomes
 use Rattle.java_run.specs.Outcomes.{meant, IsOutcomeOf}
-
-map_map : {A B C : Type 0} (f : B → C) (g : A → B) (xs : List A) → map f (map g xs) ≡ map (λ x. f (g x)) xs
-map_map f g [] = refl
-map_map f g (x ∷ xs) = ap (λ l. f (g x) ∷ l) (map_map f g xs)
-
-pub none_or_some : {A : Type 0} (x : Option A) (a : A) → x ≡ None → x ≡ Some a → ⊥
-none_or_some None a n s = absurd (cc)
-none_or_some (Some b) a n s = absurd (cc)
 
 module _ (P : Plain) (formed : IsFormed P) where
   -- the method that a run begins with has a body

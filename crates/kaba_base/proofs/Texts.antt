@@ -7,7 +7,7 @@ use Rattle.std.proofs.lemmas.Str.{encodes-chars, chars-encodes, cons_from_encode
 use Rattle.std.proofs.lemmas.Slice.Eq.{bytes_eq-Decides}
 use Rattle.std.proofs.lemmas.Bool.Decides.{same_from_decides, Decides-eqb}
 use Rattle.std.proofs.lemmas.List.{take_all}
-use Rattle.std.proofs.lemmas.Bool.{cond-false, false≢true}
+use Rattle.std.proofs.lemmas.Bool.{cond-false, and_parts}
 use Rattle.unicode_ident.specs.Ident.{is_xid_start, is_xid_continue}
 use Rattle.unicode_ident.proofs.IdentLemmas.{is_xid_start-is_xid_continue}
 use Rattle.unicode_ident.proofs.Computing.{unicode_ident}
@@ -47,10 +47,6 @@ pub first_that_skips : {X : Type 0} (p : X → Bool) (xs : List X) (d : X) (r : 
 first_that_skips p [] d r h f e = absurd (omega arith)
 first_that_skips p (x ∷ xs) d r h f e = e ∙ ap (first_that p) (take_all (length (x ∷ xs) - 1) xs (omega arith)) ∙ sym (cond-false (p x) _ _ f)
 
-both : (a b : Bool) → (a && b) ≡ true → (a ≡ true) × (b ≡ true)
-both true b h = (refl, h)
-both false b h = absurd (false≢true h)
-
 -- whether a text is its own bytes and its own characters
 is_plain : List ℕ → Bool
 is_plain xs = bytes_eq (encode_utf8_all xs) xs && scalars xs
@@ -58,7 +54,7 @@ is_plain xs = bytes_eq (encode_utf8_all xs) xs && scalars xs
 same_test : (bs xs : List ℕ) → IsUtf8 bs → is_plain xs ≡ true → bytes_eq xs (chars bs) ≡ bytes_eq xs bs
 unfolding is_plain
 same_test bs xs u h =
-    let told = both (bytes_eq (encode_utf8_all xs) xs) (scalars xs) h in
+    let told = and_parts (bytes_eq (encode_utf8_all xs) xs) (scalars xs) h in
     let encoded : encode_utf8_all xs ≡ xs = (bytes_eq-Decides (encode_utf8_all xs) xs).0 told.0 in
     let by_chars = bytes_eq-Decides xs (chars bs) in
     let by_bytes = bytes_eq-Decides xs bs in
@@ -76,7 +72,7 @@ keyword_tests : (bs : List ℕ) → IsUtf8 bs → (ks : List Keyword) → list_a
     → is_none (first_that (λ k. bytes_eq (key_text k) (chars bs)) ks) ≡ not (list_any (λ k. bytes_eq (key_text k) bs) ks)
 keyword_tests bs u [] h = refl
 keyword_tests bs u (k ∷ ks) h =
-    let told = both (is_plain (key_text k)) (list_all (λ x. is_plain (key_text x)) ks) h in
+    let told = and_parts (is_plain (key_text k)) (list_all (λ x. is_plain (key_text x)) ks) h in
     rw (same_test bs (key_text k) u told.0) (none_after (bytes_eq (key_text k) bs) k _ _ (keyword_tests bs u ks told.1))
 
 keywords_plain : list_all (λ k. is_plain (key_text k)) KEYWORDS ≡ true

@@ -251,7 +251,3 @@ pub joined_same : (a b : Bool) → (b ≡ true → a ≡ true) → a ≡ (a || b
 joined_same true b h = refl
 joined_same false true h = h refl
 joined_same false false h = refl
-
-pub empty_if : (b : Bool) → (b ≡ true → ⊥) → b ≡ false
-empty_if true h = absurd (h refl)
-empty_if false h = refl

@@ -4,8 +4,9 @@ use Rattle.std.specs.declared.alloc.Global.{Global}
 use Rattle.std.proofs.lemmas.List.{with_items_is}
 use Rattle.std.proofs.lemmas.Bool.{eqb-true, eq-eqb, or_cases, or_left, or_right, and_parts, and_from}
 use Rattle.std.proofs.lemmas.Grind.{common_steps}
-use Rattle.kaba_bits.specs.Sets.{bit, row, HasWidth}
+use Rattle.kaba_bits.specs.Sets.{bit, HasWidth}
 use Rattle.kaba_bits.proofs.SetLemmas.{bit-below}
+use Rattle.kaba_bits.proofs.RowLemmas.{bit-row-below}
 use Rattle.kaba_order.specs.Orders.{Ordered, is_le, is_live, IsPartialOrder, IsUnder, IsLeastWith, IsDropped}
 
 -- a set that lost a number
@@ -95,15 +96,11 @@ module _ (old new : Ordered) (n p : ℕ) (o : IsPartialOrder old) (count : lengt
         ⊎_elim (λ x. within a b x) (λ x. q.transitive a n b (within a n x.0) (q.transitive n p b pair (within p b x.1))) (came a b h);
   }
 
--- a family has a row that has a number
-row_below : (rows : List (List Bool)) (a b : ℕ) → bit (row rows a) b ≡ true → a < length rows
-row_below rows a b h = grind (arith, common_steps, h)
-
 -- each node is related to itself alone
 module _ (o : Ordered) (count : length o.le ≡ length o.live) (widths : HasWidth (length o.live) o.le) (pairs : (a b : ℕ) → a < length o.live
     → is_le o a b ≡ (a == b)) (full : (a : ℕ) → a < length o.live → is_live o a ≡ true) where
   within : (a b : ℕ) → is_le o a b ≡ true → a < length o.live
-  within a b h = subst (λ n. a < n) count (row_below o.le a b h)
+  within a b h = subst (λ n. a < n) count (bit-row-below o.le a b h)
 
   one : (a b : ℕ) → is_le o a b ≡ true → a ≡ b
   one a b h = eqb-true a b (sym (pairs a b (within a b h)) ∙ h)

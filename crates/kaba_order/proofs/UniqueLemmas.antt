@@ -1,16 +1,11 @@
 -- What the clauses on least orders say fixes the order.
-use Rattle.std.proofs.Common.{◌≡◌, ℕ, Bool, true, false, List, length, refl, sym, ap, ◌∙◌, subst}
+use Rattle.std.proofs.Common.{◌≡◌, ℕ, Bool, List, length, sym, ap, ◌∙◌, subst}
 use Rattle.kaba_base.specs.declared.NodeId.{NodeId}
+use Rattle.kaba_base.proofs.Tests.{same_truth}
 use Rattle.kaba_bits.specs.Sets.{HasWidth}
 use Rattle.kaba_bits.proofs.SetLemmas.{same_bits}
 use Rattle.kaba_bits.proofs.RowLemmas.{same_rows}
 use Rattle.kaba_order.specs.Orders.{Ordered, is_le, is_live, IsPartialOrder, IsWithin, IsLeastWith, IsLeastMerged}
-
--- two truth values of which each implies the other
-pub same_truth : (x y : Bool) → (x ≡ true → y ≡ true) → (y ≡ true → x ≡ true) → x ≡ y
-same_truth true y h k = sym (h refl)
-same_truth false true h k = k refl
-same_truth false false h k = refl
 
 -- two orders on as many nodes, each within the other, are one
 pub same_order : (a b : Ordered) → IsPartialOrder a → IsPartialOrder b → length a.live ≡ length b.live → IsWithin a b → IsWithin b a → a ≡ b

@@ -8,7 +8,7 @@ use Rattle.std.specs.Fmt.{decimal}
 use Rattle.std.proofs.lemmas.Bool.{false≢true, eq-eqb}
 use Rattle.std.proofs.lemmas.Fmt.{decimal_injective}
 use Rattle.std.proofs.lemmas.Option.{same_Some}
-use Rattle.std.proofs.lemmas.Slice.Eq.{bytes_eq-Decides}
+use Rattle.kaba_base.proofs.Texts.{bytes_exact, bytes_of}
 use Rattle.java_core.proofs.Positions.{position-passes, passes-position}
 use Rattle.name_rules.specs.Outline.{type_named, is_known, is_type_name}
 use Rattle.kaba_work.specs.Sample.{class_name, variable_name}
@@ -38,12 +38,6 @@ class_same i j h k e = numbers_same i j h k (let d : decimal i ≡ decimal j = c
 pub variable_same : (i j : ℕ) → i < 100 → j < 100 → variable_name i ≡ variable_name j → i ≡ j
 variable_same i j h k e = numbers_same i j h k (let d : decimal i ≡ decimal j = cc in d)
 
-pub to_same : (x y : List ℕ) → bytes_eq x y ≡ true → x ≡ y
-to_same x y e = (bytes_eq-Decides x y).0 e
-
-pub of_same : (x y : List ℕ) → x ≡ y → bytes_eq x y ≡ true
-of_same x y e = (bytes_eq-Decides x y).1 e
-
 -- the names of the types of a sample
 abbrev pub names : ℕ → List (List ℕ)
 names n = codes "Object" ∷ map class_name (range_with_len 0 n) ++ codes "Main" ∷ []
@@ -51,14 +45,14 @@ names n = codes "Object" ∷ map class_name (range_with_len 0 n) ++ codes "Main"
 pub class_found : (n i : ℕ) → n ≤ 100 → i < n → type_named (names n) (class_name i) ≡ Some (suc i)
 class_found n i most h =
     position_is (λ m. bytes_eq m (class_name i)) (names n) (suc i) (class_name i) (row_at class_name (codes "Main") n i h)
-    (of_same (class_name i) (class_name i) refl) only
+    (bytes_of (class_name i) (class_name i) refl) only
   where
     only : (j : ℕ) (y : List ℕ) → slice_get (names n) j ≡ Some y → bytes_eq y (class_name i) ≡ true → j ≡ suc i
     only zero y e k = absurd (false≢true (let s : codes "Object" ≡ y = same_Some (codes "Object") y e in ap (λ z. bytes_eq z (class_name i)) s ∙ k))
     only (suc j) y e k = at (stands class_name (codes "Main") n j y e)
       where
         at : StandsAt class_name (codes "Main") n j y → suc j ≡ suc i
-        at (is_row lt s) = ap suc (class_same j i (omega (arith, lt, most)) (omega (arith, h, most)) (sym s ∙ to_same y (class_name i) k))
+        at (is_row lt s) = ap suc (class_same j i (omega (arith, lt, most)) (omega (arith, h, most)) (sym s ∙ bytes_exact y (class_name i) k))
         at (is_last l s) = absurd (false≢true (ap (λ z. bytes_eq z (class_name i)) (sym s) ∙ k))
 
 -- the character that a name begins with
@@ -71,7 +65,7 @@ pub small_unnamed : (n : ℕ) (x : List ℕ) → nat_lt 96 (first x) ≡ true �
 small_unnamed n x small = position_none (λ m. bytes_eq m x) (names n) none
   where
     differs : (y : List ℕ) → nat_lt 96 (first y) ≡ false → bytes_eq y x ≡ true → ⊥
-    differs y large e = false≢true (sym large ∙ ap (λ z. nat_lt 96 (first z)) (to_same y x e) ∙ small)
+    differs y large e = false≢true (sym large ∙ ap (λ z. nat_lt 96 (first z)) (bytes_exact y x e) ∙ small)
 
     none : (j : ℕ) (y : List ℕ) → slice_get (names n) j ≡ Some y → bytes_eq y x ≡ true → ⊥
     none zero y e k = let s : codes "Object" ≡ y = same_Some (codes "Object") y e in differs y (ap (λ z. nat_lt 96 (first z)) (sym s)) k

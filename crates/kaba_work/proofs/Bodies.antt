@@ -5,6 +5,7 @@ use Rattle.std.specs.List.{range_with_len, flat_map}
 use Rattle.std.specs.Str.{bytes_eq}
 use Rattle.std.proofs.lemmas.Bool.{or_parts, or_from, false_from_ne_true}
 use Rattle.std.proofs.lemmas.List.FromFn.{length-map-range_with_len}
+use Rattle.kaba_base.proofs.Texts.{bytes_exact, bytes_of}
 use Rattle.java_core.specs.Programs.{Plain}
 use Rattle.java_core.specs.Types.{class_type}
 use Rattle.java_core.specs.Formed.{variables_of, numbers_body, numbers_sts, numbers_methods}
@@ -16,13 +17,13 @@ use Rattle.name_rules.specs.Resolves.{Counts, no_number, next_number, ResolvesTo
 use Rattle.kaba_work.specs.Sample.{nowhere, variable_name, class_type as type_of, total, steps, statements, main_body, sample_tree}
 use Rattle.kaba_work.specs.Program.{total_made, method_made, main_body_made, local_made, main_made}
 use Rattle.kaba_work.proofs.Places.{mapped_at}
-use Rattle.kaba_work.proofs.Apart.{of_same, to_same, variable_same}
+use Rattle.kaba_work.proofs.Apart.{variable_same}
 use Rattle.kaba_work.proofs.Outlined.{method_at, main_at, named, free}
 
 -- ---- scopes
 
 last_in_scope : (x : List ℕ) (k : ℕ) (bs : List Bound) → is_bound (bound_names bs) x ≡ false → in_scope (bound bs x k) x ≡ Some k
-last_in_scope x k [] h = rw (of_same x x refl) refl
+last_in_scope x k [] h = rw (bytes_of x x refl) refl
 last_in_scope x k (b ∷ bs) h = let p = or_parts (bytes_eq b.name x) (is_bound (bound_names bs) x) h in rw (p.0) (last_in_scope x k bs p.1)
 
 unbound_more : (x y : List ℕ) (k : ℕ) (bs : List Bound) → is_bound (bound_names bs) x ≡ false → bytes_eq y x ≡ false
@@ -62,7 +63,7 @@ module _ (n : ℕ) (most : n ≤ 100) where
   fresh_more bs i h f j le lt =
       unbound_more (variable_name j) (variable_name i) (suc i) bs (f j (omega (arith, le)) lt)
       (false_from_ne_true (bytes_eq (variable_name i) (variable_name j)) (λ e.
-      let s = variable_same i j (omega (arith, h, most)) (omega (arith, lt, most)) (to_same (variable_name i) (variable_name j) e) in omega (arith, s, le)))
+      let s = variable_same i j (omega (arith, h, most)) (omega (arith, lt, most)) (bytes_exact (variable_name i) (variable_name j) e) in omega (arith, s, le)))
 
   variable_stands : (i : ℕ) → i < n → slice_get (variables_of (main_made n)) (suc i) ≡ Some (local_made i)
   variable_stands i h = mapped_at local_made n i h

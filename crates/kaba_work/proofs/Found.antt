@@ -7,6 +7,8 @@ use Rattle.std.specs.Str.{bytes_eq}
 use Rattle.std.proofs.lemmas.Bool.{false≢true, and_from, or_left, eq-eqb}
 use Rattle.std.proofs.lemmas.Option.{same_Some}
 use Rattle.kaba_base.specs.declared.ClassId.{ClassId}
+use Rattle.kaba_base.proofs.Listed.{at_contains as at_contains}
+use Rattle.kaba_base.proofs.Texts.{bytes_of}
 use Rattle.java_core.specs.Programs.{Plain, PlainClass, PlainField, PlainMethod}
 use Rattle.java_core.specs.Classes.{parent_of, supers_of, IsSubclass, IsProperSubclass, reaches, below, first_or, nearest_of, is_field_of, own_field_of, field_of, is_static_field, when_instance, if_instance, member_field, is_method_of, own_method, chain, search_order, first_found, declaration_of, slot_of_method, has_slot, own_declaration, nearest_declaration, super_method, has_body, is_interface}
 use Rattle.java_core.specs.Types.{a_value, class_type, types_of, Signature, signature_of_slot, signature_of_method, call_signature, super_signature, field_type, field_in, value_type, access_type}
@@ -16,8 +18,6 @@ use Rattle.name_rules.specs.Outline.{class_id}
 use Rattle.kaba_work.specs.Sample.{field_name, extra_name, method_name}
 use Rattle.kaba_work.specs.Program.{int, class_made, main_class_made, field_made, method_made, main_made, sample_program}
 use Rattle.kaba_work.proofs.Places.{StandsAt, is_row, is_last, stands, row_at, last_at, PairAt, is_first, is_second, pair_stands, first_at, second_at}
-use Rattle.name_outcome.proofs.Runs.{member-stands as at_contains}
-use Rattle.kaba_work.proofs.Apart.{of_same}
 
 first_of_chain : (P : Plain) (f : ℕ → Option ℕ) (k c d : ℕ) (more : List ℕ) → f c ≡ Some d → first_found f (chain P k c ++ more) ≡ Some d
 first_of_chain P f zero c d more e = ap (λ z. first_or z (first_found f more)) e
@@ -92,7 +92,7 @@ module _ (n : ℕ) where
       let own = λ (k : ℕ). own_field_of P k x in
       let z =
       passes-position (λ f. is_field_of (suc i) x f) P.fields j (field_made i x) e
-      (and_from (suc i == suc i) (bytes_eq x x) (eq-eqb (suc i) (suc i) refl) (of_same x x refl)) in
+      (and_from (suc i == suc i) (bytes_eq x x) (eq-eqb (suc i) (suc i) refl) (bytes_of x x refl)) in
       let k = position-passes (λ f. is_field_of (suc i) x f) P.fields z.0 z.1 in
       let m = made z.0 k.0 k.1 in
       let static : is_static_field P z.0 ≡ false = ap (λ o. option_map_or (λ (f : PlainField). f.is_static) o false) k.1 ∙ m.0 in

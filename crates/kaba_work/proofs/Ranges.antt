@@ -1,20 +1,15 @@
 -- One number more in a row of numbers.
-use Rattle.std.proofs.Common.{◌≡◌, ℕ, zero, suc, ◌+◌, List, [], ◌∷◌, ◌++◌, map, refl, sym, ap, ◌∙◌, arith}
+use Rattle.std.proofs.Common.{◌≡◌, ℕ, suc, ◌+◌, List, [], ◌∷◌, ◌++◌, map, refl, sym, ap, ◌∙◌, arith}
 use Rattle.std.specs.List.{range_with_len, flat_map}
 use Rattle.std.proofs.lemmas.List.{map-append}
 use Rattle.std.proofs.lemmas.List.Concat.{flat_map-append}
-
-more_from : (a n : ℕ) → range_with_len a (suc n) ≡ range_with_len a n ++ (a + n) ∷ []
-more_from a zero = let e : a ≡ a + 0 = omega arith in ap (λ k. k ∷ []) e
-more_from a (suc n) =
-    let e : a + 1 + n ≡ a + suc n = omega arith in
-    ap (λ xs. a ∷ xs) (more_from (a + 1) n) ∙ ap (λ k. a ∷ (range_with_len (a + 1) n ++ k ∷ [])) e
+use Rattle.kaba_base.proofs.Listed.{range_more}
 
 pub one_more : (n : ℕ) → range_with_len 0 (n + 1) ≡ range_with_len 0 n ++ n ∷ []
 one_more n =
     let e : n + 1 ≡ suc n = omega arith in
     let z : 0 + n ≡ n = omega arith in
-    ap (range_with_len 0) e ∙ more_from 0 n ∙ ap (λ k. range_with_len 0 n ++ k ∷ []) z
+    ap (range_with_len 0) e ∙ range_more 0 n ∙ ap (λ k. range_with_len 0 n ++ k ∷ []) z
 
 pub one_mapped : {A : Type 0} (f : ℕ → A) (n : ℕ) → map f (range_with_len 0 (n + 1)) ≡ map f (range_with_len 0 n) ++ f n ∷ []
 one_mapped f n = ap (map f) (one_more n) ∙ map-append f (range_with_len 0 n) (n ∷ [])

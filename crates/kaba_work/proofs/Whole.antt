@@ -6,6 +6,7 @@ use Rattle.std.specs.List.{range_with_len}
 use Rattle.std.proofs.lemmas.Bool.{false≢true}
 use Rattle.std.proofs.lemmas.Option.{same_Some}
 use Rattle.kaba_base.specs.declared.Place.{Place}
+use Rattle.kaba_base.proofs.Listed.{at_contains as at_contains}
 use Rattle.java_tree.specs.declared.Id.{Id}
 use Rattle.java_tree.specs.declared.TypeName.{TypeName}
 use Rattle.java_tree.specs.declared.TypeBase.TheVariants as bases
@@ -20,7 +21,6 @@ use Rattle.name_rules.specs.Resolves.{BodiesResolve, HasSlot, no_slot, a_slot, A
 use Rattle.kaba_work.specs.Sample.{id, class_name, int_type, main_param, class_tree, main_tree, sample_tree}
 use Rattle.kaba_work.specs.Program.{method_made, main_made, slot_made, sample_program}
 use Rattle.kaba_work.proofs.Places.{StandsAt, is_row, is_last, stands, row_at, last_at, PairAt, is_first, is_second, pair_stands}
-use Rattle.name_outcome.proofs.Runs.{member-stands as at_contains}
 use Rattle.kaba_work.proofs.Outlined.{sum_field, extra_field, method_at, main_at, fields_are, methods_are, same_classes, same_fields, same_methods, named}
 use Rattle.kaba_work.proofs.Bodies.{bodies_resolve, numbers_counted}
 

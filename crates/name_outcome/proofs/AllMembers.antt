@@ -5,6 +5,7 @@ use Rattle.std.specs.Option.{is_some}
 use Rattle.std.proofs.lemmas.Bool.{false≢true, not-true}
 use Rattle.std.proofs.lemmas.List.{map-append, append-nil, append_assoc, length-append}
 use Rattle.std.proofs.Math.Bool.{or-true}
+use Rattle.kaba_base.proofs.Listed.{contains_at}
 use Rattle.java_tree.specs.Syntax.{Statements, HeadTree, MemberTree, FieldTree, MethodTree, DeclTree, ClassTree, InterfaceTree}
 use Rattle.name_rules.specs.declared.Form.TheVariants as forms
 use Rattle.name_rules.specs.declared.Refusal.TheVariants.{NotInProfile}
@@ -18,7 +19,7 @@ use Rattle.name_rules.specs.Outline.{FieldAt, MethodAt, field_member, method_mem
 use Rattle.name_rules.specs.Conditions.{ConditionAt, HasWrongBody, missing, superfluous, in_concrete, wrong_body, of_type, of_method}
 use Rattle.name_rules.specs.Conditions as conditions
 use Rattle.name_outcome.proofs.Sees.{Tells, tell, turn}
-use Rattle.name_outcome.proofs.Runs.{run-tells, stands-at, member-at}
+use Rattle.name_outcome.proofs.Runs.{run-tells, stands-at}
 use Rattle.name_outcome.proofs.KnownTypes.{AreKnown}
 use Rattle.name_outcome.proofs.Modifiers.{FlagsAre, NoStatic, AreFit, flags-fit, flags-tells}
 use Rattle.name_outcome.proofs.KnownMembers.{AreMembers, field-tells, head-tells, fields_from-append, methods_from-append}
@@ -73,14 +74,14 @@ module _ (tree : List DeclTree) (known : List Known) (are : AreKnown tree known)
   member-tells c a fs frest ms mrest (FieldTree mods u n p) m e f h =
       let x : FieldAt = record { owner = c; mods = mods; type = u; name = n; place = p } in
       tell (AreAll (fs ++ x ∷ []) (ms ++ [])) (ConditionAt tree) (flags_of kinds.Field mods) _
-      (flags-fit tree kinds.Field mods (conditions.of_field {f = x} (member-at (fields_in tree) (length fs) x (stands-at fs x frest e))))
+      (flags-fit tree kinds.Field mods (conditions.of_field {f = x} (contains_at (fields_in tree) (length fs) x (stands-at fs x frest e))))
       (λ g hg. turn (field_step known c m g u n p) (field-tells tree known are fs frest x ms m g e hg.0 hg.2 h)
       (λ m k. subst (λ z. AreAll (fs ++ x ∷ []) z m) (sym (append-nil ms)) k) (λ r q. q))
       (λ r q. q)
   member-tells c a fs frest ms mrest (MethodTree hd body p) m e f h =
       let x : MethodAt = record { owner = c; kind = kinds.Method; in_abstract = a; head = hd; body = body } in
       tell (AreAll (fs ++ []) (ms ++ x ∷ [])) (ConditionAt tree) (flags_of kinds.Method hd.mods) _
-      (flags-fit tree kinds.Method hd.mods (of_method {m = x} (member-at (methods_in tree) (length ms) x (stands-at ms x mrest f))))
+      (flags-fit tree kinds.Method hd.mods (of_method {m = x} (contains_at (methods_in tree) (length ms) x (stands-at ms x mrest f))))
       (λ g hg. go x refl g hg.0 hg.1 hg.2 (is_wrong_body a g.is_abstract (is_some body)) refl f)
       (λ r q. q)
     where
@@ -88,7 +89,7 @@ module _ (tree : List DeclTree) (known : List Known) (are : AreKnown tree known)
           → (b : Bool) → is_wrong_body x.in_abstract g.is_abstract (is_some x.body) ≡ b → methods_in tree ≡ ms ++ x ∷ mrest
           → Tells (AreAll (fs ++ []) (ms ++ x ∷ [])) (ConditionAt tree) (if b then Err (NotInProfile forms.Body x.head.place) else head_step known
           x.owner m x.head g)
-      go x k g hg static fit true w f = wrong_body (member-at (methods_in tree) (length ms) x (stands-at ms x mrest f))
+      go x k g hg static fit true w f = wrong_body (contains_at (methods_in tree) (length ms) x (stands-at ms x mrest f))
           (wrong x g.is_abstract (sym hg.abstract) k w)
       go x k g hg static fit false w f =
           turn (head_step known x.owner m x.head g) (head-tells tree known are fs ms mrest x m g f hg (subst (λ z. NoStatic z g) (sym k) static)
@@ -140,7 +141,7 @@ module _ (tree : List DeclTree) (known : List Known) (are : AreKnown tree known)
           inside ms (heads_of c hs) mrest (heads_of c done) (n ∷ []) (heads_of c rest) f (ap (heads_of c) at
           ∙ map-append (λ h. record { owner = c; kind = kinds.Head; in_abstract = true; head = h; body = None }) done (x ∷ rest)) in
           tell (AreAll fs (ms ++ heads_of c (done ++ x ∷ []))) (ConditionAt tree) (flags_of kinds.Head x.mods) _
-          (flags-fit tree kinds.Head x.mods (of_method {m = n} (member-at (methods_in tree) (length (ms ++ heads_of c done)) n
+          (flags-fit tree kinds.Head x.mods (of_method {m = n} (contains_at (methods_in tree) (length (ms ++ heads_of c done)) n
           (stands-at (ms ++ heads_of c done) n (heads_of c rest ++ mrest) stands))))
           (λ g hg. turn (head_step known c m x g) (head-tells tree known are fs (ms ++ heads_of c done) (heads_of c rest ++ mrest) n m g stands hg.0
           hg.1 hg.2 (no_wrong x) k)
@@ -203,7 +204,7 @@ module _ (tree : List DeclTree) (known : List Known) (are : AreKnown tree known)
       step done rest d s e h =
           turn (decl_step known s d)
           (decl-tells s.0 (fields_from 1 done) (fields_from (suc (1 + length done)) rest) (methods_from 1 done)
-          (methods_from (suc (1 + length done)) rest) d s.1 (member-at tree (length done) d (stands-at done d rest e))
+          (methods_from (suc (1 + length done)) rest) d s.1 (contains_at tree (length done) d (stands-at done d rest e))
           (ap fields_in e ∙ fields_from-append 1 done (d ∷ rest)
           ∙ ap (λ z. fields_from 1 done ++ (fields_declared z d ++ fields_from (suc (1 + length done)) rest)) (sym h.number))
           (ap methods_in e ∙ methods_from-append 1 done (d ∷ rest)

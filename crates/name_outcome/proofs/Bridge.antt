@@ -5,8 +5,9 @@ use Rattle.std.specs.Option.{is_some}
 use Rattle.std.proofs.lemmas.Bool.{false≢true, cases_lt}
 use Rattle.std.proofs.lemmas.List.{length-map}
 use Rattle.std.proofs.lemmas.List.Quantifiers.{position-Some}
-use Rattle.std.proofs.lemmas.Option.{slice_get-get_or}
+use Rattle.std.proofs.lemmas.Option.{slice_get-get_or, slice_get_within}
 use Rattle.kaba_base.specs.declared.Place.{Place}
+use Rattle.kaba_base.proofs.Listed.{map_at, at_map, at_contains}
 use Rattle.java_tree.specs.declared.TypeBase.{TypeBase}
 use Rattle.java_tree.specs.declared.TypeBase.TheVariants as bases
 use Rattle.java_tree.specs.Syntax.{DeclTree}
@@ -25,7 +26,7 @@ use Rattle.name_rules.specs.Meanings.{class_named, MeansBase, an_int, a_boolean,
 use Rattle.name_rules.specs.Asked.{a_parent, a_face, of_field, of_param, of_result, Asks, by_super, by_type}
 use Rattle.name_rules.specs.Resolves.{heading_of, IsOfSlot, HasSlot, no_slot, a_slot, AreSlots, Resolves}
 use Rattle.name_outcome.proofs.Sees.{same_some}
-use Rattle.name_outcome.proofs.Runs.{stands-within, member-stands, map-stands, stands-map, stands-beside}
+use Rattle.name_outcome.proofs.Runs.{stands-beside}
 use Rattle.name_outcome.proofs.KnownTypes.{AreKnown}
 use Rattle.name_outcome.proofs.KnownClasses.{HasSupers}
 use Rattle.name_outcome.proofs.Reached.{AreAbove}
@@ -54,7 +55,7 @@ of-main {k} {l} e h = let m : IsMain (heading_of k) = record { static = h.static
 first-least : {A : Type 0} (p : A → Bool) (xs : List A) (i j : ℕ) (x : A) → position p xs ≡ Some i → slice_get xs j ≡ Some x → p x ≡ true → i ≤ j
 first-least p xs i j x e at f =
     ⊎_elim (λ lt. absurd (false≢true (sym ((position-Some p xs i x e).2 j lt)
-    ∙ ap p (same_some (sym (slice_get-get_or xs j x (stands-within xs j x at)) ∙ at)) ∙ f))) (λ le. le) (cases_lt j i)
+    ∙ ap p (same_some (sym (slice_get-get_or xs j x (slice_get_within xs j x at)) ∙ at)) ∙ f))) (λ le. le) (cases_lt j i)
 
 -- all that the steps tell of a tree that they go through
 pub record Steps (tree : List DeclTree) : Type 0 where
@@ -82,25 +83,25 @@ module _ (tree : List DeclTree) (s : Steps tree) where
   P = program (outline tree).classes s.draft s.main s.methods
 
   all-known : (n : List ℕ) (p : Place) → Asks tree n p → is_some (class_named (outline tree) n) ≡ true
-  all-known n p (by_super (a_parent {d = d} {i = i} at e)) = let a = member-stands tree d at in let h = (s.supers a.0 d a.1).parent i e in
+  all-known n p (by_super (a_parent {d = d} {i = i} at e)) = let a = at_contains tree d at in let h = (s.supers a.0 d a.1).parent i e in
       ap is_some h.named
   all-known n p (by_super (a_face {d = d} {i = i} at e)) =
-      let a = member-stands tree d at in let j = member-stands _ i e in let h = (s.supers a.0 d a.1).faces j.0 i j.1 in ap is_some h.named
-  all-known n p (by_type {u = u} (of_field {f = f} at) e g) = let a = member-stands (fields_in tree) f at in let h = s.members.good_field a.0 f a.1 in
+      let a = at_contains tree d at in let j = at_contains _ i e in let h = (s.supers a.0 d a.1).faces j.0 i j.1 in ap is_some h.named
+  all-known n p (by_type {u = u} (of_field {f = f} at) e g) = let a = at_contains (fields_in tree) f at in let h = s.members.good_field a.0 f a.1 in
       means-known (outline tree) u.base _ n h.means.base e g
   all-known n p (by_type {u = u} (of_param {m = x} {q = q} at has) e g) =
-      let a = member-stands (methods_in tree) x at in let h = s.members.good a.0 x a.1 in let j = member-stands x.head.params q has in
+      let a = at_contains (methods_in tree) x at in let h = s.members.good a.0 x a.1 in let j = at_contains x.head.params q has in
       let k = h.params.means j.0 q j.1 in means-known (outline tree) u.base _ n k.1.base e g
   all-known n p (by_type {u = u} (of_result {m = x} at is) e g) =
-      let a = member-stands (methods_in tree) x at in let h = s.members.good a.0 x a.1 in let k = h.result u is in means-known (outline tree) u.base
+      let a = at_contains (methods_in tree) x at in let h = s.members.good a.0 x a.1 in let k = h.result u is in means-known (outline tree) u.base
       _ n k.1.base e g
 
   -- each method with its heading
   pub whole : (i : ℕ) (k : PlainMethod) → slice_get s.methods i ≡ Some k → (h : Heading) × (x : MethodAt) × (slice_get s.draft.headings i ≡ Some h)
       × (slice_get (methods_in tree) i ≡ Some x) × (heading_of k ≡ method_outline (types_in tree) x) × (k.slot ≡ h.slot)
   whole i k e =
-      let a = map-stands (method_outline (types_in tree)) (methods_in tree) i (heading_of k) (ap (λ z. slice_get z i) (sym s.written.heads)
-      ∙ stands-map heading_of s.methods i k e) in
+      let a = map_at (method_outline (types_in tree)) (methods_in tree) i (heading_of k) (ap (λ z. slice_get z i) (sym s.written.heads)
+      ∙ at_map heading_of s.methods i k e) in
       let b = stands-beside (methods_in tree) s.draft.headings (sym s.members.count) i a.0 a.1 in
       (b.0, a.0, b.1, a.1, sym a.2, s.written.slots i k e ∙ ap slot_at b.1)
 

@@ -5,6 +5,8 @@ use Rattle.std.specs.Option.{is_some}
 use Rattle.std.proofs.lemmas.Bool.{false≢true, or_left, or_right}
 use Rattle.std.specs.Str.{bytes_eq}
 use Rattle.std.proofs.lemmas.Slice.Eq.{bytes_eq-Decides}
+use Rattle.std.proofs.lemmas.Option.{slice_get_within}
+use Rattle.kaba_base.proofs.Listed.{map_at, at_map, at_contains}
 use Rattle.java_tree.specs.declared.Modifier.{Modifier}
 use Rattle.java_tree.specs.declared.Param.{Param}
 use Rattle.java_tree.specs.Syntax.{Statements, DeclTree}
@@ -22,7 +24,7 @@ use Rattle.name_rules.specs.Meanings.{class_named, bound_names}
 use Rattle.name_rules.specs.Resolves.{HasSlot, no_slot, a_slot, StsResolve, params_from, here_of, heading_of, BodyResolves, r_no_body, r_body, Resolves}
 use Rattle.name_rules.specs.Conditions.{ConditionAt, unknown, type_twice, known_twice, super_twice, field_twice, method_twice, param_twice, loop, overload, type_as_field, type_as_param, face_as_parent, class_as_face, private_reused, no_main, modifiers_disagree, modifier_unfit, wrong_body, in_body, AreOneSlot, StsFault, HasModifiers, of_type, of_field, of_method}
 use Rattle.name_outcome.proofs.Sees.{same_some}
-use Rattle.name_outcome.proofs.Runs.{stands-within, member-stands, map-stands, stands-map, stands-beside}
+use Rattle.name_outcome.proofs.Runs.{stands-beside}
 use Rattle.name_outcome.proofs.Modifiers.{AreFit}
 use Rattle.name_outcome.proofs.KnownClasses.{StandsNamed}
 use Rattle.name_outcome.proofs.KnownMembers.{HeadIs}
@@ -66,7 +68,7 @@ module _ (tree : List DeclTree) (s : Steps tree) where
   -- a method of the outline is one of the program's
   method-of : (i : ℕ) (h : PlainMethod) → slice_get (outline tree).methods i ≡ Some h → (k : PlainMethod) × (slice_get s.methods i ≡ Some k)
       × (heading_of k ≡ h)
-  method-of i h e = map-stands heading_of s.methods i h (ap (λ z. slice_get z i) res.headings ∙ e)
+  method-of i h e = map_at heading_of s.methods i h (ap (λ z. slice_get z i) res.headings ∙ e)
 
   -- two methods of one name that meet are of one slot
   are-one : (c i j : ℕ) (h k : PlainMethod) → slice_get (outline tree).methods i ≡ Some h → slice_get (outline tree).methods j ≡ Some k → i < j
@@ -85,9 +87,9 @@ module _ (tree : List DeclTree) (s : Steps tree) where
       }
 
   fits : (kind : Kind) (mods : List Modifier) → HasModifiers tree kind mods → AreFit kind mods
-  fits kind mods (of_type {d = d} at) = let a = member-stands tree d at in (s.supers a.0 d a.1).fit
-  fits kind mods (of_field {f = f} at) = let a = member-stands (fields_in tree) f at in (s.members.good_field a.0 f a.1).fit
-  fits kind mods (of_method {m = x} at) = let a = member-stands (methods_in tree) x at in (s.members.good a.0 x a.1).fit
+  fits kind mods (of_type {d = d} at) = let a = at_contains tree d at in (s.supers a.0 d a.1).fit
+  fits kind mods (of_field {f = f} at) = let a = at_contains (fields_in tree) f at in (s.members.good_field a.0 f a.1).fit
+  fits kind mods (of_method {m = x} at) = let a = at_contains (methods_in tree) x at in (s.members.good a.0 x a.1).fit
 
   -- the name of a private method again
   reused : (i j : ℕ) (x y : MethodAt) → slice_get (methods_in tree) i ≡ Some x → slice_get (methods_in tree) j ≡ Some y → i < j
@@ -147,41 +149,41 @@ module _ (tree : List DeclTree) (s : Steps tree) where
   unfolding HasNoTwice
   none-holds r (unknown {n = x} {p = p} asks none) = false≢true (sym (ap is_some none) ∙ res.known x p asks)
   none-holds r (type_twice {i = i} {j = j} {c = c} {d = d} p q lt same) =
-      let e : suc i ≡ suc j = s.are.once (suc i) (suc j) (name_of d) (stands-map name_of tree i c p ∙ ap Some same) (stands-map name_of tree j d q) in
+      let e : suc i ≡ suc j = s.are.once (suc i) (suc j) (name_of d) (at_map name_of tree i c p ∙ ap Some same) (at_map name_of tree j d q) in
       omega (arith, e, lt)
   none-holds r (known_twice {d = d} at (inl e)) =
-      let a = member-stands tree d at in let t : zero ≡ suc a.0 = s.are.once 0 (suc a.0) (name_of d) (ap Some (sym e))
-      (stands-map name_of tree a.0 d a.1) in omega (arith, t)
-  none-holds r (known_twice {d = d} at (inr e)) = let a = member-stands tree d at in false≢true (sym (s.are.apart a.0 d a.1) ∙ e)
+      let a = at_contains tree d at in let t : zero ≡ suc a.0 = s.are.once 0 (suc a.0) (name_of d) (ap Some (sym e))
+      (at_map name_of tree a.0 d a.1) in omega (arith, t)
+  none-holds r (known_twice {d = d} at (inr e)) = let a = at_contains tree d at in false≢true (sym (s.are.apart a.0 d a.1) ∙ e)
   none-holds r (super_twice {d = d} {i = i} {j = j} {a = f} {b = g} at p q lt same) =
-      let a = member-stands tree d at in
-      let e = (s.supers a.0 d a.1).once i j (id_meant (types_in tree) f) (stands-map (id_meant (types_in tree)) (faces_named d) i f p)
-      (stands-map (id_meant (types_in tree)) (faces_named d) j g q ∙ ap (λ z. Some (class_at (type_named (types_in tree) z))) (sym same)) in
+      let a = at_contains tree d at in
+      let e = (s.supers a.0 d a.1).once i j (id_meant (types_in tree) f) (at_map (id_meant (types_in tree)) (faces_named d) i f p)
+      (at_map (id_meant (types_in tree)) (faces_named d) j g q ∙ ap (λ z. Some (class_at (type_named (types_in tree) z))) (sym same)) in
       omega (arith, e, lt)
   none-holds r (field_twice {i = i} {j = j} {f = f} {g = g} p q lt own same) = let e = s.members.field_once i j f g p q own same in omega (arith, e, lt)
   none-holds r (method_twice {i = i} {j = j} {h = h} {k = k} p q lt own same) = let e = s.members.method_once i j h k p q own same in omega (arith, e, lt)
   none-holds r (param_twice {m = x} {i = i} {j = j} {a = f} {b = g} at p q lt same) =
-      let a = member-stands (methods_in tree) x at in
-      let e = (s.members.good a.0 x a.1).params.once i j f.name (stands-map (λ q. q.name) x.head.params i f p)
-      (stands-map (λ q. q.name) x.head.params j g q ∙ ap Some (sym same)) in
+      let a = at_contains (methods_in tree) x at in
+      let e = (s.members.good a.0 x a.1).params.once i j f.name (at_map (λ q. q.name) x.head.params i f p)
+      (at_map (λ q. q.name) x.head.params j g q ∙ ap Some (sym same)) in
       omega (arith, e, lt)
-  none-holds r (loop {c = c} {d = d} at h) = s.acyclic (suc c) (let l = stands-within tree c d at in let n = classes-count tree in omega (arith, l, n)) h
+  none-holds r (loop {c = c} {d = d} at h) = s.acyclic (suc c) (let l = slice_get_within tree c d at in let n = classes-count tree in omega (arith, l, n)) h
   none-holds r (overload {i = i} {j = j} {c = c} {h = h} {k = k} p q lt same u v other) = other (are-one c i j h k p q lt same u v)
-  none-holds r (type_as_field {f = f} at e) = let a = member-stands (fields_in tree) f at in false≢true (sym (s.members.good_field a.0 f a.1).free ∙ e)
+  none-holds r (type_as_field {f = f} at e) = let a = at_contains (fields_in tree) f at in false≢true (sym (s.members.good_field a.0 f a.1).free ∙ e)
   none-holds r (type_as_param {m = x} {q = q} at has e) =
-      let a = member-stands (methods_in tree) x at in let t = member-stands x.head.params q has in false≢true
+      let a = at_contains (methods_in tree) x at in let t = at_contains x.head.params q has in false≢true
       (sym ((s.members.good a.0 x a.1).params.free t.0 q t.1) ∙ e)
   none-holds r (face_as_parent {d = d} {i = i} {c = c} {k = k} at e named stands face) =
-      let a = member-stands tree d at in false≢true (sym (one-kind ((s.supers a.0 d a.1).parent i e) c k named stands) ∙ face)
+      let a = at_contains tree d at in false≢true (sym (one-kind ((s.supers a.0 d a.1).parent i e) c k named stands) ∙ face)
   none-holds r (class_as_face {d = d} {i = i} {c = c} {k = k} at has named stands class) =
-      let a = member-stands tree d at in let t = member-stands (faces_named d) i has in false≢true (sym class
+      let a = at_contains tree d at in let t = at_contains (faces_named d) i has in false≢true (sym class
       ∙ one-kind ((s.supers a.0 d a.1).faces t.0 i t.1) c k named stands)
   none-holds r (private_reused {i = i} {j = j} {h = x} {k = y} p q lt same apart private related) = reused i j x y p q lt same private related
   none-holds r (no_main none) = none s.main (heading_of res.main) (ap (λ z. slice_get z s.main) (sym res.headings)
-      ∙ stands-map heading_of s.methods s.main res.main res.main_stands) (of-main refl res.main_is)
+      ∙ at_map heading_of s.methods s.main res.main res.main_stands) (of-main refl res.main_is)
   none-holds r (modifiers_disagree {kind = kind} {mods = mods} {i = i} {j = j} {a = a} {b = b} has p q lt d) =
       false≢true (sym ((fits kind mods has).agree i j a b p q lt) ∙ d)
   none-holds r (modifier_unfit {kind = kind} {mods = mods} {a = m} has at u) =
-      let a = member-stands mods m at in false≢true (sym ((fits kind mods has).fit a.0 m a.1) ∙ u)
-  none-holds r (wrong_body {m = x} at w) = let a = member-stands (methods_in tree) x at in (s.members.good a.0 x a.1).body w
-  none-holds r (in_body {m = x} {ss = ss} at e f) = let a = member-stands (methods_in tree) x at in body-holds a.0 x ss r a.1 e f
+      let a = at_contains mods m at in false≢true (sym ((fits kind mods has).fit a.0 m a.1) ∙ u)
+  none-holds r (wrong_body {m = x} at w) = let a = at_contains (methods_in tree) x at in (s.members.good a.0 x a.1).body w
+  none-holds r (in_body {m = x} {ss = ss} at e f) = let a = at_contains (methods_in tree) x at in body-holds a.0 x ss r a.1 e f

@@ -9,6 +9,7 @@ use Rattle.std.proofs.lemmas.Bool.{false≢true, or_left, or_right, eqb-true, eq
 use Rattle.std.proofs.lemmas.List.{map-append}
 use Rattle.std.proofs.lemmas.List.Folds.{list_any-append}
 use Rattle.std.proofs.lemmas.Slice.Eq.{bytes_eq-Decides}
+use Rattle.std.proofs.lemmas.Option.{slice_get_within}
 use Rattle.kaba_base.specs.declared.Place.{Place}
 use Rattle.java_tree.specs.declared.TypeName.{TypeName}
 use Rattle.java_tree.specs.declared.TypeBase.{TypeBase}
@@ -29,7 +30,6 @@ use Rattle.name_rules.specs.Outline.{is_type_name}
 use Rattle.name_rules.specs.Meanings.{type_names, class_named, Means, MeansBase, an_int, a_boolean, a_char, a_text, a_class, MeansCast, MeansCastBase, to_int, to_boolean, to_char, to_class, is_bound, bound_names, IsNearestField}
 use Rattle.java_tree.specs.Formed.{IsNumber, a_small, the_least, IsCastBase, is_target, is_call, is_act, is_simple, IsFormed, AreFormed, IsFormedValue, IsFormedStmt, AreFormedStmts, AreFormedArms, IsFormedElse, IsFormedFirst, IsFormedStep, has_arm}
 use Rattle.name_rules.specs.Resolves.{Counts, no_number, next_number, ResolvesTo, r_number, r_character, r_text, r_truth, r_null, r_this, r_local, r_static_field, r_own_field, r_class_field, r_field, r_index, r_own_static_call, r_own_call, r_static_call, r_call, r_super_call, r_create, r_create_array, r_cast, r_instance_of, r_unary, r_binary, AllResolve, r_no_more, r_and_more, ResolvesIf, r_none, r_some, scope_after, scope_after_part, IsLocal, StResolves, r_declare, r_block, r_assign, r_act, r_print, r_choose, r_while, r_for, r_return, r_break, r_continue, StsResolve, r_no_statements, r_and_then, ArmsResolve, r_no_else, r_else, r_arm, PartResolves, r_absent, r_present, declares, declares_all, declares_arms}
-use Rattle.name_outcome.proofs.Runs.{stands-within}
 use Rattle.name_outcome.proofs.Sees.{same_some}
 use Rattle.name_outcome.proofs.Statements.{IsFormedPart, of-first, of-step}
 use Rattle.java_core.specs.Untagged.{bare_tag, bare, bare_all, bare_if, bare_target, bare_st, bare_sts, bare_arms}
@@ -81,7 +81,7 @@ pub scope-more : {k : PlainMethod} {scope : List Bound} {nums : List ℕ} (n : L
 scope-more {k} {scope} {nums} n i w s at same = record {
   found = λ m j e. ⊎_elim
       (λ h. let f = s.found m j h in (contains-more nums i j f.0, f.1))
-      (λ h. (subst (λ z. Contains (i ∷ nums) z) h (0, omega arith, refl), subst (λ z. z < length (variables_of k)) h (stands-within (variables_of k) i w at)))
+      (λ h. (subst (λ z. Contains (i ∷ nums) z) h (0, omega arith, refl), subst (λ z. z < length (variables_of k)) h (slice_get_within (variables_of k) i w at)))
       (local_of-last scope (record { name = n; number = i }) m j e);
   named = λ j v c e. ap (λ z. is_bound z v.name) (map-append (λ b. b.name) scope (record { name = n; number = i } ∷ []))
       ∙ list_any-append (λ m. bytes_eq m v.name) (bound_names scope) (n ∷ [])

@@ -16,7 +16,7 @@ use Rattle.name_rules.specs.Meanings.{local_of, is_bound, bound_names, IsNearest
 use Rattle.name_rules.specs.Outline.{FieldAt, MethodAt, fields_in, methods_in, types_in, class_outline, field_outline, method_outline, outline, is_static, has_word, is_abstract_word, is_type_name, type_meant, is_interface_of, mods_of, param_outline}
 use Rattle.name_rules.specs.Resolves.{here_of, params_from, heading_of, BodyResolves, BodiesResolve, r_no_methods, r_method, r_no_body, r_body, HasSlot, no_slot, a_slot, AreSlots}
 use Rattle.name_outcome.proofs.Sees.{same_some}
-use Rattle.name_outcome.proofs.Runs.{map-stands, stands-map, stands-within, stands-beside, member-stands}
+use Rattle.name_outcome.proofs.Runs.{stands-beside}
 use Rattle.name_outcome.proofs.KnownClasses.{class_at-outline, type_names-outline}
 use Rattle.name_outcome.proofs.KnownMembers.{both-true, GoodMethod}
 use Rattle.name_outcome.proofs.SeesOutline.{nearest-own, fields-are}
@@ -28,6 +28,8 @@ use Rattle.name_outcome.proofs.FormedProgram.{R, class-in, within-classes, free-
 use Rattle.name_outcome.proofs.MembersOf.{field-in, MethodIn, method-in}
 use Rattle.std.specs.Option.{option_map}
 use Rattle.std.proofs.lemmas.List.Elements.{Contains-append_cases}
+use Rattle.std.proofs.lemmas.Option.{slice_get_within}
+use Rattle.kaba_base.proofs.Listed.{map_at, at_map, behind, at_contains}
 use Rattle.java_lex.specs.Writable.{IsName}
 use Rattle.java_tree.specs.declared.TypeName.{TypeName}
 use Rattle.java_tree.specs.declared.Param.{Param}
@@ -77,10 +79,6 @@ front-stands [] ys j v lt e = absurd (omega (arith, lt))
 front-stands (x ∷ xs) ys zero v lt e = e
 front-stands (x ∷ xs) ys (suc j) v lt e = front-stands xs ys j v (omega (arith, lt)) e
 
-pub back-stands : {A : Type 0} (xs ys : List A) (j : ℕ) → slice_get (xs ++ ys) (length xs + j) ≡ slice_get ys j
-back-stands [] ys j = ap (slice_get ys) (let e : 0 + j ≡ j = omega arith in e)
-back-stands (x ∷ xs) ys j = ap (slice_get (x ∷ (xs ++ ys))) (let e : suc (length xs) + j ≡ suc (length xs + j) = omega arith in e) ∙ back-stands xs ys j
-
 pub bare-variables : (K : PlainMethod) → variables_of (untag_method K) ≡ map untag_local (variables_of K)
 bare-variables K = sym (map-append untag_local K.params K.locals)
 
@@ -96,7 +94,7 @@ scope-params K = record {
       (below-has (length (map untag_local K.params)) i (omega (arith, l, s)), omega (arith, l, t));
   named = λ j v c e.
       let l = has-below (length (map untag_local K.params)) j c in
-      let a = map-stands untag_local K.params j v (front-stands (map untag_local K.params) (map untag_local K.locals) j v l e) in
+      let a = map_at untag_local K.params j v (front-stands (map untag_local K.params) (map untag_local K.locals) j v l e) in
       subst (λ z. is_bound (bound_names (params_from 0 K.params)) z ≡ true) (ap (λ z. z.name) a.2) (params-bound 0 K.params j a.0 a.1);
 }
 
@@ -112,8 +110,8 @@ module _ (tree : List DeclTree) (s : Steps tree) where
   field-at : (f : ℕ) (k : PlainField) → slice_get (R tree s).fields f ≡ Some k → (x : FieldAt) × (slice_get (fields_in tree) f ≡ Some x)
       × (untag_field (field_outline (types_in tree) x) ≡ k)
   field-at f k e =
-      let a = map-stands untag_field (P tree s).fields f k e in
-      let b = map-stands (field_outline (types_in tree)) (fields_in tree) f a.0 (ap (λ z. slice_get z f) (sym s.members.fields) ∙ a.1) in
+      let a = map_at untag_field (P tree s).fields f k e in
+      let b = map_at (field_outline (types_in tree)) (fields_in tree) f a.0 (ap (λ z. slice_get z f) (sym s.members.fields) ∙ a.1) in
       (b.0, b.1, ap untag_field b.2 ∙ a.2)
 
   pub formed-field : (f : ℕ) (k : PlainField) → slice_get (R tree s).fields f ≡ Some k → IsFormedField (R tree s) k
@@ -153,7 +151,7 @@ module _ (tree : List DeclTree) (s : Steps tree) where
       ap (λ z. z.name) (same_some (sym h.stands ∙ b.1)) ∙ (both-true b.0.owner a.0 b.0.name x b.2).1
 
   field-there : (f : ℕ) (x : PlainField) → slice_get (outline tree).fields f ≡ Some x → slice_get (R tree s).fields f ≡ Some (untag_field x)
-  field-there f x e = stands-map untag_field (P tree s).fields f x (ap (λ z. slice_get z f) fields-same ∙ e)
+  field-there f x e = at_map untag_field (P tree s).fields f x (ap (λ z. slice_get z f) fields-same ∙ e)
 
   pub suits : (i : ℕ) (K : PlainMethod) (x : MethodAt) → slice_get s.methods i ≡ Some K → heading_of K ≡ method_outline (types_in tree) x
       → Suits (outline tree) (here_of x) K (R tree s) (untag_method K)
@@ -174,13 +172,13 @@ module _ (tree : List DeclTree) (s : Steps tree) where
         let c = method-seen l b.0 b.1 in
         record {
           member = untag_method b.0;
-          stands = stands-map untag_method s.methods l b.0 b.1;
+          stands = at_map untag_method s.methods l b.0 b.1;
           kind = ap (λ z. z.is_static) (c.2 ∙ ap (method_outline (types_in tree)) (same_some (sym c.1 ∙ a.1)) ∙ a.2) ∙ st;
         };
     static = ap (λ z. z.is_static) h;
     params = length-map K.params untag_local;
-    variable = λ j v at. (untag_local v, ap (λ z. slice_get z j) (bare-variables K) ∙ stands-map untag_local (variables_of K) j v at, refl);
-    back = λ j w at. let a = map-stands untag_local (variables_of K) j w (ap (λ z. slice_get z j) (sym (bare-variables K)) ∙ at) in
+    variable = λ j v at. (untag_local v, ap (λ z. slice_get z j) (bare-variables K) ∙ at_map untag_local (variables_of K) j v at, refl);
+    back = λ j w at. let a = map_at untag_local (variables_of K) j w (ap (λ z. slice_get z j) (sym (bare-variables K)) ∙ at) in
         (a.0, a.1, ap (λ z. z.name) a.2);
   }
 
@@ -208,9 +206,9 @@ module _ (tree : List DeclTree) (s : Steps tree) (i : ℕ) (K : PlainMethod) (e 
   -- parameters
   param-good : (v : PlainLocal) → Contains (map untag_local K.params) v → IsFormedLocal (R tree s) v
   param-good v c =
-      let a = member-stands (map untag_local K.params) v c in
-      let b = map-stands untag_local K.params a.0 v a.1 in
-      let d = map-stands (param_outline (types_in tree)) x.head.params a.0 b.0 (ap (λ z. slice_get z a.0) (sym (ap (λ z. z.params) h)) ∙ b.1) in
+      let a = at_contains (map untag_local K.params) v c in
+      let b = map_at untag_local K.params a.0 v a.1 in
+      let d = map_at (param_outline (types_in tree)) x.head.params a.0 b.0 (ap (λ z. slice_get z a.0) (sym (ap (λ z. z.params) h)) ∙ b.1) in
       let g = good.params.means a.0 d.0 d.1 in
       subst (IsFormedLocal (R tree s)) (ap untag_local d.2 ∙ b.2) (record {
         name = free-name tree s d.0.name
@@ -223,20 +221,20 @@ module _ (tree : List DeclTree) (s : Steps tree) (i : ℕ) (K : PlainMethod) (e 
   local-good v c = go body
     where
       a : (j : ℕ) × (slice_get (map untag_local K.locals) j ≡ Some v)
-      a = member-stands (map untag_local K.locals) v c
+      a = at_contains (map untag_local K.locals) v c
 
       b : (u : PlainLocal) × (slice_get K.locals a.0 ≡ Some u) × (untag_local u ≡ v)
-      b = map-stands untag_local K.locals a.0 v a.1
+      b = map_at untag_local K.locals a.0 v a.1
 
       go : BodyResolves (outline tree) x K → IsFormedLocal (R tree s) v
       go (r_no_body p q r) = absurd (no-some {o = slice_get K.locals a.0} (ap (λ z. slice_get z a.0) r) b.1)
       go (r_body {ss = ss} p q r counts) =
-          let lt = stands-within K.locals a.0 b.0 b.1 in
+          let lt = slice_get_within K.locals a.0 b.0 b.1 in
           let size = length-append K.params K.locals in
           let l = counts-each (outline tree) (here_of x) K (R tree s) (untag_method K) (suits tree s i K x e h) counts
           (good-sts (outline tree) (here_of x) K (R tree s) (untag_method K) (suits tree s i K x e h) r (subst IsFormedBody p stands.is.body))
           (length K.params + a.0) (omega arith) (omega (arith, lt, size)) in
-          let same : l.local ≡ b.0 = same_some (sym l.stands ∙ back-stands K.params K.locals a.0 ∙ b.1) in
+          let same : l.local ≡ b.0 = same_some (sym l.stands ∙ behind K.params K.locals a.0 ∙ b.1) in
           subst (IsFormedLocal (R tree s)) (ap untag_local same ∙ b.2) (record {
             name = free-name tree s l.local.name l.name
                 (ap (λ z. is_type_name z l.local.name) (sym (type_names-outline tree)) ∙ l.no_type);

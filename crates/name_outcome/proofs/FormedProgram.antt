@@ -5,9 +5,11 @@ use Rattle.std.specs.Option.{is_some, option_map, option_and_then, option_map_or
 use Rattle.std.specs.Str.{bytes_eq}
 use Rattle.std.proofs.lemmas.Bool.{false≢true, or_parts}
 use Rattle.std.proofs.lemmas.List.{length-map}
-use Rattle.std.proofs.lemmas.Option.{slice_get-map}
+use Rattle.std.proofs.lemmas.Option.{slice_get-map, slice_get_within}
 use Rattle.std.proofs.lemmas.Slice.Eq.{bytes_eq-Decides}
 use Rattle.kaba_base.specs.declared.ClassId.{ClassId}
+use Rattle.kaba_base.proofs.Listed.{map_at, at_map, at_contains}
+use Rattle.kaba_base.proofs.Tests.{none_of}
 use Rattle.java_lex.specs.Writable.{IsName}
 use Rattle.java_tree.specs.declared.Id.{Id}
 use Rattle.java_tree.specs.declared.TypeName.{TypeName}
@@ -26,7 +28,6 @@ use Rattle.name_rules.specs.Meanings.{type_names, class_named, Means, MeansBase,
 use Rattle.name_outcome.proofs.TypeNames.{type-meant}
 use Rattle.java_tree.specs.Formed.{Each, IsFormedDecl}
 use Rattle.name_outcome.proofs.Sees.{same_some}
-use Rattle.name_outcome.proofs.Runs.{stands-within, member-stands, map-stands, stands-map}
 use Rattle.name_outcome.proofs.KnownTypes.{named-stands, unnamed-stands}
 use Rattle.name_outcome.proofs.KnownClasses.{StandsNamed, type_names-outline, id-meant}
 use Rattle.name_outcome.proofs.Reached.{class_stands}
@@ -102,10 +103,6 @@ classes-proper P O e {a} h =
       rest = classes-subclass P O e h.rest;
     }
 
-none-of : {A : Type 0} (o : Option A) → is_some o ≡ false → o ≡ None
-none-of None e = refl
-none-of (Some a) e = absurd (false≢true (sym e))
-
 pub each-of : {A : Type 0} (F : A → Type 0) (xs : List A) (i : ℕ) (x : A) → Each F xs → slice_get xs i ≡ Some x → F x
 each-of F [] i x g e = absurd (cc e)
 each-of F (y ∷ ys) zero x g e = subst F (same_some e) g.0
@@ -120,7 +117,7 @@ module _ (tree : List DeclTree) (s : Steps tree) where
   R = untagged (P tree s)
 
   pub class-in : (c : ℕ) (k : PlainClass) → slice_get (outline tree).classes c ≡ Some k → slice_get R.classes c ≡ Some (untag_class k)
-  class-in c k e = stands-map untag_class (outline tree).classes c k e
+  class-in c k e = at_map untag_class (outline tree).classes c k e
 
   names-are : map (λ k. k.name) R.classes ≡ types_in tree
   names-are = twice (outline tree).classes ∙ type_names-outline tree
@@ -131,7 +128,7 @@ module _ (tree : List DeclTree) (s : Steps tree) where
 
   pub within-classes : (n : List ℕ) (c : ℕ) → class_named (outline tree) n ≡ Some c → IsClass R c
   within-classes n c e =
-      let a = stands-within (type_names (outline tree)) c n (named-stands (type_names (outline tree)) n c e) in
+      let a = slice_get_within (type_names (outline tree)) c n (named-stands (type_names (outline tree)) n c e) in
       let b = length-map (outline tree).classes (λ k. k.name) in let d = length-map (outline tree).classes untag_class in omega
       (arith, a, b, d)
 
@@ -142,8 +139,8 @@ module _ (tree : List DeclTree) (s : Steps tree) where
       let b = or_parts (bytes_eq (codes "String") x) (bytes_eq (codes "System") x) a.1 in
       record {
         name = name;
-        no_class = λ c k at same. unnamed-stands (types_in tree) x (none-of (type_named (types_in tree) x) a.0) c
-            (ap (λ z. slice_get z c) (sym names-are) ∙ stands-map (λ k. k.name) R.classes c k at ∙ ap Some same);
+        no_class = λ c k at same. unnamed-stands (types_in tree) x (none_of (type_named (types_in tree) x) a.0) c
+            (ap (λ z. slice_get z c) (sym names-are) ∙ at_map (λ k. k.name) R.classes c k at ∙ ap Some same);
         no_string = λ same. false≢true (sym b.0 ∙ (bytes_eq-Decides (codes "String") x).1 (sym same));
         no_system = λ same. false≢true (sym b.1 ∙ (bytes_eq-Decides (codes "System") x).1 (sym same));
       }
@@ -157,7 +154,7 @@ module _ (tree : List DeclTree) (s : Steps tree) where
 
   pub formed-class : (c : ℕ) (k : PlainClass) → slice_get R.classes (suc c) ≡ Some k → IsFormedClass R k
   formed-class c k e =
-      let a = map-stands untag_class (outline tree).classes (suc c) k e in
+      let a = map_at untag_class (outline tree).classes (suc c) k e in
       let b = class_stands tree c a.0 a.1 in
       subst (IsFormedClass R) (ap untag_class b.2 ∙ a.2) (of-decl b.0 c b.1)
     where
@@ -176,8 +173,8 @@ module _ (tree : List DeclTree) (s : Steps tree) where
             parent_class = p.2;
             interface_parent = of-interface d;
             faces = λ f has.
-                let x = member-stands (map (id_meant (types_in tree)) (faces_named d)) f has in
-                let y = map-stands (id_meant (types_in tree)) (faces_named d) x.0 f x.1 in
+                let x = at_contains (map (id_meant (types_in tree)) (faces_named d)) f has in
+                let y = map_at (id_meant (types_in tree)) (faces_named d) x.0 f x.1 in
                 let a = (s.supers j d at).faces x.0 y.0 y.1 in
                 (untag_class a.class, ap (λ z. slice_get R.classes z.0) (sym y.2 ∙ id-meant tree s.known s.are y.0 a.number a.named) ∙ named-in a, a.kind);
             faces_once = (s.supers j d at).once;

@@ -4,6 +4,7 @@ use Rattle.std.specs.Prelude.{slice_get, if◌then◌else◌}
 use Rattle.std.specs.Str.{bytes_eq}
 use Rattle.std.proofs.lemmas.Bool.{false≢true, eqb-true, cases_lt}
 use Rattle.std.proofs.lemmas.Slice.Eq.{bytes_eq-Decides}
+use Rattle.kaba_base.proofs.Listed.{map_at, at_map}
 use Rattle.java_tree.specs.Syntax.{DeclTree}
 use Rattle.java_core.specs.Programs.{PlainMethod, PlainSlot}
 use Rattle.java_core.specs.Classes.{IsSubclass}
@@ -15,7 +16,6 @@ use Rattle.name_outcome.specs.Tables.{is_above}
 use Rattle.name_outcome.specs.Members.{meet, same_slot}
 use Rattle.name_rules.specs.Outline.{MethodAt, methods_in, types_in, method_outline, outline}
 use Rattle.name_rules.specs.Resolves.{heading_of, Resolves}
-use Rattle.name_outcome.proofs.Runs.{map-stands, stands-map}
 use Rattle.java_core.proofs.Meets.{meets}
 use Rattle.name_outcome.proofs.SlotsOf.{SlotOf, none_of, one_of}
 use Rattle.name_outcome.proofs.MethodClashes.{owner-within}
@@ -46,7 +46,7 @@ module _ (tree : List DeclTree) (s : Steps tree) where
 
   -- the methods of the program and of the text
   method-of : (i : ℕ) (k : PlainMethod) → slice_get (R tree s).methods i ≡ Some k → (K : PlainMethod) × (slice_get s.methods i ≡ Some K) × (untag_method K ≡ k)
-  method-of i k e = map-stands untag_method s.methods i k e
+  method-of i k e = map_at untag_method s.methods i k e
 
   down : {c a : ℕ} → IsSubclass (R tree s) c a → IsSubclass (outline tree) c a
   down h = classes-subclass (P tree s) (outline tree) refl (bare-subclass (P tree s) h)
@@ -135,7 +135,7 @@ module _ (tree : List DeclTree) (s : Steps tree) where
       let a = res.slots.first n slot e in
       record {
         method = untag_method a.0;
-        stands = stands-map untag_method s.methods slot.first a.0 a.1;
+        stands = at_map untag_method s.methods slot.first a.0 a.1;
         of = a.2;
         least = λ i k f g. let b = method-of i k f in res.slots.least n i slot b.0 e b.1 (ap (λ z. z.slot) b.2 ∙ g);
       }
@@ -170,7 +170,7 @@ module _ (tree : List DeclTree) (s : Steps tree) where
     slots = formed-slot;
     numbered = subst HasNoTwice (sym (methods-same s.methods)) (counts-once res.numbers);
     main = untag_method res.main;
-    main_stands = stands-map untag_method s.methods s.main res.main res.main_stands;
+    main_stands = at_map untag_method s.methods s.main res.main res.main_stands;
     main_is = bare-main res.main res.main_is;
     main_first = main-first;
     counted = counted;

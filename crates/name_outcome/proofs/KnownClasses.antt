@@ -4,7 +4,9 @@ use Rattle.std.specs.Prelude.{slice_get, codes, if◌then◌else◌, ◌==◌}
 use Rattle.std.specs.Str.{chars}
 use Rattle.std.proofs.lemmas.Bool.{eqb-true, false≢true}
 use Rattle.std.proofs.lemmas.List.{map-append}
+use Rattle.std.proofs.lemmas.Option.{slice_get_within}
 use Rattle.kaba_base.specs.declared.ClassId.{ClassId}
+use Rattle.kaba_base.proofs.Listed.{map_at, at_map, contains_at}
 use Rattle.java_tree.specs.declared.Id.{Id}
 use Rattle.java_tree.specs.Syntax.{DeclTree, ClassTree, InterfaceTree}
 use Rattle.java_core.specs.Programs.{PlainClass}
@@ -20,7 +22,7 @@ use Rattle.name_rules.specs.Meanings.{type_names, class_named}
 use Rattle.name_rules.specs.Asked.{by_super, a_parent, a_face}
 use Rattle.name_rules.specs.Conditions.{ConditionAt, kind_of, unknown, face_as_parent, class_as_face, super_twice, of_type}
 use Rattle.name_outcome.proofs.Sees.{Tells, tell, same_some}
-use Rattle.name_outcome.proofs.Runs.{run-tells, stands-at, stands-within, earlier-stands, push-cases, member-at, map-stands, stands-map, once-push}
+use Rattle.name_outcome.proofs.Runs.{run-tells, stands-at, earlier-stands, push-cases, once-push}
 use Rattle.name_outcome.proofs.KnownTypes.{AreKnown, number_of-named, named-stands}
 use Rattle.name_outcome.proofs.Modifiers.{AreFit, flags-fit}
 
@@ -48,7 +50,7 @@ face_names-outline tree = ap (λ z. false ∷ z) (faces-outline (types_in tree) 
 pub class_at-outline : (tree : List DeclTree) (i : ℕ) (d : DeclTree) → slice_get tree i ≡ Some d → slice_get (outline tree).classes (suc i)
     ≡ Some (class_outline (types_in tree) d)
 unfolding outline
-class_at-outline tree i d e = stands-map (class_outline (types_in tree)) tree i d e
+class_at-outline tree i d e = at_map (class_outline (types_in tree)) tree i d e
 
 -- a class or interface of this name stands there, of this kind
 pub record StandsNamed (tree : List DeclTree) (n : List ℕ) (interface : Bool) : Type 0 where
@@ -72,10 +74,10 @@ module _ (tree : List DeclTree) (known : List Known) (are : AreKnown tree known)
   named-class : (n : List ℕ) (k : ℕ) → class_named (outline tree) n ≡ Some k → (c : PlainClass) × (slice_get (outline tree).classes k ≡ Some c)
       × (c.is_interface ≡ is_face known k)
   named-class n k e =
-      let at = map-stands (λ c. c.name) (outline tree).classes k n (named-stands (type_names (outline tree)) n k e) in
+      let at = map_at (λ c. c.name) (outline tree).classes k n (named-stands (type_names (outline tree)) n k e) in
       let same : slice_get (map (λ c. c.is_interface) known) k ≡ Some at.0.is_interface = ap (λ z. slice_get z k) (are.faces
-      ∙ sym (face_names-outline tree)) ∙ stands-map (λ c. c.is_interface) (outline tree).classes k at.0 at.1 in
-      let one = map-stands (λ c. c.is_interface) known k at.0.is_interface same in
+      ∙ sym (face_names-outline tree)) ∙ at_map (λ c. c.is_interface) (outline tree).classes k at.0 at.1 in
+      let one = map_at (λ c. c.is_interface) known k at.0.is_interface same in
       (at.0, at.1, sym one.2 ∙ sym (ap is_face_in one.1))
 
   -- a name that is asked for
@@ -142,7 +144,7 @@ module _ (tree : List DeclTree) (known : List Known) (are : AreKnown tree known)
         → Tells (AreFaces (done ++ i ∷ [])) (ConditionAt tree) (face known fs i)
     face-tells done rest i fs e h =
         tell (AreFaces (done ++ i ∷ [])) (ConditionAt tree) (asked known i.name i.place) _
-        (asked-named i (ConditionAt tree) (λ f. unknown (by_super (a_face at (member-at (faces_named d) (length done) i here))) f))
+        (asked-named i (ConditionAt tree) (λ f. unknown (by_super (a_face at (contains_at (faces_named d) (length done) i here))) f))
         (λ k f. go k f (is_face known k) refl (has_id fs k) refl) (λ r f. f)
       where
         here : slice_get (faces_named d) (length done) ≡ Some i
@@ -151,15 +153,15 @@ module _ (tree : List DeclTree) (known : List Known) (are : AreKnown tree known)
         go : (k : ℕ) → class_named (outline tree) i.name ≡ Some k → (b : Bool) → is_face known k ≡ b → (c : Bool) → has_id fs k ≡ c
             → Tells (AreFaces (done ++ i ∷ [])) (ConditionAt tree) (if not b then Err (TwoKinds i.name i.place) else if c then Err
             (Twice i.name i.place) else Ok (fs ++ class_id k ∷ []))
-        go k f false g c q = let s = named-class i.name k f in class_as_face at (member-at (faces_named d) (length done) i here) f s.1 (s.2 ∙ g)
+        go k f false g c q = let s = named-class i.name k f in class_as_face at (contains_at (faces_named d) (length done) i here) f s.1 (s.2 ∙ g)
         go k f true g true q =
             let s = has_id-stands fs k q in
-            let m = map-stands (id_meant (types_in tree)) done s.0 (class_id k) (ap (λ z. slice_get z s.0) (sym h.same) ∙ s.1) in
+            let m = map_at (id_meant (types_in tree)) done s.0 (class_id k) (ap (λ z. slice_get z s.0) (sym h.same) ∙ s.1) in
             let o = h.faces s.0 m.0 m.1 in
             let n : o.number ≡ k = ap (λ z. z.0) (sym (id-meant m.0 o.number o.named) ∙ m.2) in
             let a : slice_get (type_names (outline tree)) k ≡ Some (m.0.name) = subst (λ z. slice_get (type_names (outline tree)) z ≡ Some (m.0.name))
             n (named-stands (type_names (outline tree)) m.0.name o.number o.named) in
-            super_twice at (earlier-stands done (i ∷ rest) e s.0 m.0 m.1) here (stands-within done s.0 m.0 m.1)
+            super_twice at (earlier-stands done (i ∷ rest) e s.0 m.0 m.1) here (slice_get_within done s.0 m.0 m.1)
             (same_some (sym a ∙ named-stands (type_names (outline tree)) i.name k f))
         go k f true g false q =
             let s = named-class i.name k f in
@@ -214,7 +216,7 @@ module _ (tree : List DeclTree) (known : List Known) (are : AreKnown tree known)
           → Tells (AreClasses (done ++ d ∷ [])) (ConditionAt tree) (class_step known cs d)
       step done rest d cs e h =
           tell (AreClasses (done ++ d ∷ [])) (ConditionAt tree) (class_tree known d) _
-          (class-tells d (member-at tree (length done) d (stands-at done d rest e)))
+          (class-tells d (contains_at tree (length done) d (stands-at done d rest e)))
           (λ c g. record {
             same = ap (λ z. cs ++ z ∷ []) g.0 ∙ ap (λ z. z ++ class_outline (types_in tree) d ∷ []) h.same
                 ∙ ap (λ z. object ∷ z) (sym (map-append (class_outline (types_in tree)) done (d ∷ [])));

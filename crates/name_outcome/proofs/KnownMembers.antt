@@ -6,6 +6,8 @@ use Rattle.std.specs.Str.{bytes_eq}
 use Rattle.std.proofs.lemmas.Bool.{false≢true, eqb-true, eq-eqb}
 use Rattle.std.proofs.lemmas.List.{map-append, append_assoc, length-append}
 use Rattle.std.proofs.lemmas.Slice.Eq.{bytes_eq-Decides}
+use Rattle.std.proofs.lemmas.Option.{slice_get_within}
+use Rattle.kaba_base.proofs.Listed.{map_at, at_map, contains_at}
 use Rattle.java_tree.specs.declared.TypeName.{TypeName}
 use Rattle.java_tree.specs.Syntax.{DeclTree}
 use Rattle.java_core.specs.declared.Ty.{Ty}
@@ -31,7 +33,7 @@ use Rattle.name_rules.specs.Asked.{of_field}
 use Rattle.name_rules.specs.Resolves.{IsOfSlot}
 use Rattle.name_rules.specs.Conditions.{ConditionAt, type_as_field, field_twice, method_twice, HasWrongBody}
 use Rattle.name_outcome.proofs.Sees.{Tells, tell}
-use Rattle.name_outcome.proofs.Runs.{stands-at, stands-within, earlier-stands, push-cases, member-at, map-stands, stands-map, none-passes, stands-beside, once-more}
+use Rattle.name_outcome.proofs.Runs.{stands-at, earlier-stands, push-cases, none-passes, stands-beside, once-more}
 use Rattle.name_outcome.proofs.KnownTypes.{AreKnown}
 use Rattle.name_outcome.proofs.Modifiers.{FlagsAre, NoStatic, AreFit}
 use Rattle.name_outcome.proofs.Params.{AreParams, declared-tells, type_name-known, params-tells, result-tells}
@@ -119,17 +121,17 @@ module _ (tree : List DeclTree) (known : List Known) (are : AreKnown tree known)
       here = stands-at fs f rest e
 
       has : Contains (fields_in tree) f
-      has = member-at (fields_in tree) (length fs) f here
+      has = contains_at (fields_in tree) (length fs) f here
 
       -- a field that stands among those seen stands in the tree
       in_tree : (i : ℕ) (x : Field) → slice_get m.fields i ≡ Some x → (y : FieldAt) × (slice_get fs i ≡ Some y) × (y.owner ≡ x.owner.0) × (y.name ≡ x.name)
-      in_tree i x at = let a = map-stands (field_outline (types_in tree)) fs i (field_seen at_place x) (ap (λ z. slice_get z i) (sym h.fields)
-          ∙ stands-map (field_seen at_place) m.fields i x at) in
+      in_tree i x at = let a = map_at (field_outline (types_in tree)) fs i (field_seen at_place x) (ap (λ z. slice_get z i) (sym h.fields)
+          ∙ at_map (field_seen at_place) m.fields i x at) in
           (a.0, a.1, ap (λ z. z.owner) a.2, ap (λ z. z.name) a.2)
 
       in_seen : (i : ℕ) (y : FieldAt) → slice_get fs i ≡ Some y → (x : Field) × (slice_get m.fields i ≡ Some x) × (x.owner.0 ≡ y.owner) × (x.name ≡ y.name)
-      in_seen i y at = let a = map-stands (field_seen at_place) m.fields i (field_outline (types_in tree) y) (ap (λ z. slice_get z i) h.fields
-          ∙ stands-map (field_outline (types_in tree)) fs i y at) in
+      in_seen i y at = let a = map_at (field_seen at_place) m.fields i (field_outline (types_in tree) y) (ap (λ z. slice_get z i) h.fields
+          ∙ at_map (field_outline (types_in tree)) fs i y at) in
           (a.0, a.1, ap (λ z. z.owner) a.2, ap (λ z. z.name) a.2)
 
       go : (t : Ty) → (t ≡ type_meant (types_in tree) f.type) × Means (outline tree) f.type t → (b : Bool) → b ≡ is_type_name (types_in tree) f.name
@@ -152,7 +154,7 @@ module _ (tree : List DeclTree) (known : List Known) (are : AreKnown tree known)
           let a = position-passes (λ x. (x.owner.0 == f.owner) && bytes_eq x.name f.name) m.fields i (sym z) in
           let b = both-true a.0.owner.0 f.owner a.0.name f.name a.2 in
           let c = in_tree i a.0 a.1 in
-          field_twice (earlier-stands fs (f ∷ rest) e i c.0 c.1) here (stands-within fs i c.0 c.1) (c.2 ∙ b.0) (c.3 ∙ b.1)
+          field_twice (earlier-stands fs (f ∷ rest) e i c.0 c.1) here (slice_get_within fs i c.0 c.1) (c.2 ∙ b.0) (c.3 ∙ b.1)
       go t k false q None z =
           let x : Field = record { owner = record { 0 = f.owner }; name = f.name; is_static = g.is_static; ty = t; place = f.place } in
           record {
@@ -188,9 +190,9 @@ module _ (tree : List DeclTree) (known : List Known) (are : AreKnown tree known)
     good_field = h.good_field;
     count = let a = length-append m.headings (x ∷ []) in let b = length-append ms (n ∷ []) in let c = h.count in omega (arith, a, b, c);
     heads = λ i y k u v. ⊎_elim
-        (λ a. ⊎_elim (λ b. h.heads i y k a b) (λ b. absurd (let l = stands-within m.headings i y a in let e = b.0 in let c = h.count in omega
+        (λ a. ⊎_elim (λ b. h.heads i y k a b) (λ b. absurd (let l = slice_get_within m.headings i y a in let e = b.0 in let c = h.count in omega
         (arith, l, e, c))) (push-cases ms n i k v))
-        (λ a. ⊎_elim (λ b. absurd (let l = stands-within ms i k b in let e = a.0 in let c = h.count in omega (arith, l, e, c)))
+        (λ a. ⊎_elim (λ b. absurd (let l = slice_get_within ms i k b in let e = a.0 in let c = h.count in omega (arith, l, e, c)))
         (λ b. subst (λ z. HeadIs z k) a.1 (subst (λ z. HeadIs x z) b.1 is)) (push-cases ms n i k v))
         (push-cases m.headings x i y u);
     method_once = λ i j a b u v s w. once-more ms n (λ a b. (a.owner ≡ b.owner) × (a.head.name ≡ b.head.name)) (λ a b s. (sym s.0, sym s.1))
@@ -208,7 +210,7 @@ module _ (tree : List DeclTree) (known : List Known) (are : AreKnown tree known)
       here = stands-at ms n rest e
 
       has : Contains (methods_in tree) n
-      has = member-at (methods_in tree) (length ms) n here
+      has = contains_at (methods_in tree) (length ms) n here
 
       heads_it : (ls : List Local) (r : Option Ty) (s : Option ℕ) → AreParams tree known are n.head.params ls
           → r ≡ option_map (type_meant (types_in tree)) n.head.type → HeadIs (heading n.owner n.head f ls r s) n
@@ -303,7 +305,7 @@ module _ (tree : List DeclTree) (known : List Known) (are : AreKnown tree known)
           let b = both-true a.0.owner n.owner a.0.name n.head.name a.2 in
           let c = stands-beside m.headings ms h.count i a.0 a.1 in
           let d = h.heads i a.0 c.0 a.1 c.1 in
-          method_twice (earlier-stands ms (n ∷ rest) e i c.0 c.1) here (stands-within ms i c.0 c.1) (sym d.owner ∙ b.0) (sym d.name ∙ b.1)
+          method_twice (earlier-stands ms (n ∷ rest) e i c.0 c.1) here (slice_get_within ms i c.0 c.1) (sym d.owner ∙ b.0) (sym d.name ∙ b.1)
       go None z =
           tell (AreMembers fs (ms ++ n ∷ [])) (ConditionAt tree) (params_of known n.head.params) _ (params-tells tree known are n has)
           (λ ls p. tell (AreMembers fs (ms ++ n ∷ [])) (ConditionAt tree) (result_of known n.head.type) _ (result-tells tree known are n has)

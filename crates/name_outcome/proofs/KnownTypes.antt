@@ -4,6 +4,8 @@ use Rattle.std.specs.Prelude.{slice_get, codes}
 use Rattle.std.specs.Str.{bytes_eq, chars}
 use Rattle.std.proofs.lemmas.List.{map-append}
 use Rattle.std.proofs.lemmas.Slice.Eq.{bytes_eq-Decides}
+use Rattle.std.proofs.lemmas.Option.{slice_get_within}
+use Rattle.kaba_base.proofs.Listed.{map_at, contains_at}
 use Rattle.java_tree.specs.Syntax.{DeclTree}
 use Rattle.java_core.specs.Formed.{HasNoTwice}
 use Rattle.java_core.proofs.Positions.{position-map, position-passes}
@@ -14,7 +16,7 @@ use Rattle.name_outcome.specs.Classes.{object_known, know_named, know, known_of}
 use Rattle.name_rules.specs.Outline.{name_of, place_of, is_interface_of, is_known, types_in, type_named}
 use Rattle.name_rules.specs.Conditions.{ConditionAt, type_twice, known_twice}
 use Rattle.name_outcome.proofs.Sees.{Tells}
-use Rattle.name_outcome.proofs.Runs.{run-tells, stands-at, stands-within, earlier-stands, push-cases, member-at, map-stands, once-push, none-passes}
+use Rattle.name_outcome.proofs.Runs.{run-tells, stands-at, earlier-stands, push-cases, once-push, none-passes}
 
 pub number_of-named : (ks : List Known) (n : List ℕ) → number_of ks n ≡ type_named (map (λ x. x.name) ks) n
 number_of-named ks n = sym (position-map (λ x. x.name) (λ m. bytes_eq m n) ks)
@@ -42,10 +44,10 @@ know-tells whole done rest d ks e h = go (is_known (name_of d)) refl (type_named
     here = stands-at done d rest e
 
     twice : (i : ℕ) → slice_get (types_in done) i ≡ Some (name_of d) → ConditionAt whole (Twice (name_of d) (place_of d))
-    twice zero f = known_twice (member-at whole (length done) d here) (inl (sym (cc f)))
+    twice zero f = known_twice (contains_at whole (length done) d here) (inl (sym (cc f)))
     twice (suc i) f =
-        let g = map-stands name_of done i (name_of d) f in
-        type_twice (earlier-stands done (d ∷ rest) e i g.0 g.1) here (stands-within done i g.0 g.1) g.2
+        let g = map_at name_of done i (name_of d) f in
+        type_twice (earlier-stands done (d ∷ rest) e i g.0 g.1) here (slice_get_within done i g.0 g.1) g.2
 
     names : map name_of (done ++ d ∷ []) ≡ map name_of done ++ name_of d ∷ []
     names = map-append name_of done (d ∷ [])
@@ -67,7 +69,7 @@ know-tells whole done rest d ks e h = go (is_known (name_of d)) refl (type_named
 
     go : (a : Bool) → is_known (name_of d) ≡ a → (o : Option ℕ) → type_named (types_in done) (name_of d) ≡ o
         → Tells (AreKnown (done ++ d ∷ [])) (ConditionAt whole) (know_named ks (name_of d) (is_interface_of d) (place_of d))
-    go true b o c = rw b (known_twice (member-at whole (length done) d here) (inr b))
+    go true b o c = rw b (known_twice (contains_at whole (length done) d here) (inr b))
     go false b (Some i) c = rw (b, number_of-named ks (name_of d), h.names, c) (twice i (named-stands (types_in done) (name_of d) i c))
     go false b None c = rw (b, number_of-named ks (name_of d), h.names, c) (more b c)
 

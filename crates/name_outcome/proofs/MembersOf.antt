@@ -1,6 +1,8 @@
 -- Where the fields and methods of a tree stand: in which declaration, and of what form.
 use Rattle.std.proofs.Common.{◌≡◌, ℕ, zero, suc, ◌+◌, ◌≤◌, ◌⊎◌, inl, inr, ⊎_elim, Bool, true, false, List, [], ◌∷◌, length, Some, None, refl, sym, ap, subst, arith}
 use Rattle.std.specs.Prelude.{slice_get}
+use Rattle.std.proofs.lemmas.Option.{slice_get_within}
+use Rattle.kaba_base.proofs.Listed.{append_cases}
 use Rattle.java_lex.specs.Writable.{IsName}
 use Rattle.java_tree.specs.Syntax.{HeadTree, MemberTree, FieldTree, MethodTree, DeclTree, ClassTree, InterfaceTree}
 use Rattle.name_rules.specs.declared.parts.Kind.TheVariants as kinds
@@ -8,7 +10,6 @@ use Rattle.name_rules.specs.Outline.{FieldAt, MethodAt, fields_of, methods_of, h
 use Rattle.java_tree.specs.Formed.{Each, IsFormedBase, IsFormedHead, IsFormedBody, IsFormedMember, IsFormedDecl}
 use Rattle.name_outcome.proofs.Sees.{same_some}
 use Rattle.name_outcome.proofs.MethodClashes.{owner-declared}
-use Rattle.name_outcome.proofs.Runs.{append-cases, stands-within}
 
 -- what belongs to this declaration of a list, whose types are numbered from c on
 pub record MemberIn (owner : ℕ) (Is : DeclTree → Type 0) (c : ℕ) (ds : List DeclTree) : Type 0 where
@@ -100,13 +101,13 @@ pub field-in : (c : ℕ) (ds : List DeclTree) → Each IsFormedDecl ds → (i : 
 field-in c [] g i f e = absurd (cc e)
 field-in c (d ∷ ds) g i f e =
     ⊎_elim (λ h. let k = field-declared c d g.0 i f h in at-first c d ds k.0 (record { class = k.3; name = k.1; type = k.2 }))
-    (λ h. at-later c d ds (field-in (suc c) ds g.1 h.0 f h.2)) (append-cases (fields_declared c d) (fields_from (suc c) ds) i f e)
+    (λ h. at-later c d ds (field-in (suc c) ds g.1 h.0 f h.2)) (append_cases (fields_declared c d) (fields_from (suc c) ds) i f e)
 
 pub method-in : (c : ℕ) (ds : List DeclTree) → Each IsFormedDecl ds → (i : ℕ) (m : MethodAt) → slice_get (methods_from c ds) i ≡ Some m → MethodIn c ds m
 method-in c [] g i m e = absurd (cc e)
 method-in c (d ∷ ds) g i m e =
     ⊎_elim (λ h. method-declared c d g.0 ds i m h) (λ h. at-later c d ds (method-in (suc c) ds g.1 h.0 m h.2))
-    (append-cases (methods_declared c d) (methods_from (suc c) ds) i m e)
+    (append_cases (methods_declared c d) (methods_from (suc c) ds) i m e)
 
 -- methods stand in the order of their owners
 least-owner : (c : ℕ) (ds : List DeclTree) → Each IsFormedDecl ds → (i : ℕ) (m : MethodAt) → slice_get (methods_from c ds) i ≡ Some m → c ≤ m.owner
@@ -116,7 +117,7 @@ pub owners-rise : (c : ℕ) (ds : List DeclTree) → Each IsFormedDecl ds → (i
     → slice_get (methods_from c ds) j ≡ Some b → i ≤ j → a.owner ≤ b.owner
 owners-rise c [] g i j a b e f lt = absurd (cc e)
 owners-rise c (d ∷ ds) g i j a b e f lt =
-    go (append-cases (methods_declared c d) (methods_from (suc c) ds) i a e) (append-cases (methods_declared c d) (methods_from (suc c) ds) j b f)
+    go (append_cases (methods_declared c d) (methods_from (suc c) ds) i a e) (append_cases (methods_declared c d) (methods_from (suc c) ds) j b f)
     (λ k l p q r. owners-rise (suc c) ds g.1 k l a b p q r)
   where
     go : (slice_get (methods_declared c d) i ≡ Some a) ⊎ ((k : ℕ) × (i ≡ length (methods_declared c d) + k) × (slice_get (methods_from (suc c) ds) k ≡ Some a))
@@ -125,5 +126,5 @@ owners-rise c (d ∷ ds) g i j a b e f lt =
         → a.owner ≤ b.owner
     go (inl p) (inl q) more = let x = owner-declared c d i a p in let y = owner-declared c d j b q in omega (arith, x, y)
     go (inl p) (inr q) more = let x = owner-declared c d i a p in let y = least-owner (suc c) ds g.1 q.0 b q.2 in omega (arith, x, y)
-    go (inr p) (inl q) more = absurd (let l = stands-within (methods_declared c d) j b q in let m = p.1 in omega (arith, l, m, lt))
+    go (inr p) (inl q) more = absurd (let l = slice_get_within (methods_declared c d) j b q in let m = p.1 in omega (arith, l, m, lt))
     go (inr p) (inr q) more = more p.0 q.0 p.2 q.2 (let l = p.1 in let m = q.1 in omega (arith, l, m, lt))

@@ -4,6 +4,7 @@ use Rattle.std.specs.Prelude.{slice_get}
 use Rattle.std.specs.Option.{option_map}
 use Rattle.std.proofs.lemmas.List.{map-append, append-nil, append_assoc, length-append, length-map}
 use Rattle.std.proofs.Math.Numerals.{add-one}
+use Rattle.kaba_base.proofs.Listed.{contains_at}
 use Rattle.java_tree.specs.declared.TypeName.{TypeName}
 use Rattle.java_tree.specs.Syntax.{Statements, HeadTree, MemberTree, FieldTree, MethodTree, DeclTree, ClassTree, InterfaceTree}
 use Rattle.java_core.specs.declared.Ty.{Ty}
@@ -27,7 +28,7 @@ use Rattle.java_tree.specs.Formed.{Each, IsFormedBody, IsFormedMember, IsFormedD
 use Rattle.name_rules.specs.Resolves.{Counts, no_number, StsResolve, declares_all, params_from, here_of, BodyResolves, r_no_body, r_body, BodiesResolve, r_no_methods, r_method, heading_of}
 use Rattle.name_rules.specs.Conditions.{ConditionAt, StsFault, in_body, of_method}
 use Rattle.name_outcome.proofs.Sees.{Sees, Tells, tell, turn}
-use Rattle.name_outcome.proofs.Runs.{run-tells, stands-at, push-cases, member-at}
+use Rattle.name_outcome.proofs.Runs.{run-tells, stands-at, push-cases}
 use Rattle.name_outcome.proofs.KnownTypes.{AreKnown}
 use Rattle.name_outcome.proofs.Modifiers.{FlagsAre, flags-tells}
 use Rattle.name_outcome.proofs.Params.{AreParams, params-tells, result-tells}
@@ -134,7 +135,7 @@ module _ (tree : List DeclTree) (known : List Known) (are : AreKnown tree known)
       (λ r q. q)
     where
       has : Contains (methods_in tree) x
-      has = member-at (methods_in tree) (length ms) x (stands-at ms x rest e)
+      has = contains_at (methods_in tree) (length ms) x (stands-at ms x rest e)
 
       size : length w.0 ≡ length ms
       size = sym (length-map w.0 _) ∙ ap length h.heads ∙ length-map ms _

@@ -5,6 +5,7 @@ use Rattle.std.specs.Str.{bytes_eq}
 use Rattle.std.proofs.lemmas.Bool.{false≢true, and_parts, not-true, eqb-true, eq-eqb, eqb-false, or_cases}
 use Rattle.std.proofs.lemmas.List.{length-append, length-map}
 use Rattle.std.proofs.lemmas.Slice.Eq.{bytes_eq-Decides}
+use Rattle.kaba_base.proofs.Listed.{map_at, at_map, append_cases}
 use Rattle.java_tree.specs.Syntax.{DeclTree, HeadTree, MemberTree, FieldTree, MethodTree, ClassTree, InterfaceTree}
 use Rattle.java_core.specs.Programs.{PlainMethod}
 use Rattle.java_core.specs.Classes.{IsSubclass}
@@ -20,7 +21,7 @@ use Rattle.name_outcome.specs.Members.{Members, meet, same_slot, clash_of, clash
 use Rattle.name_rules.specs.Outline.{MethodAt, is_private, methods_of, heads_of, methods_declared, methods_from, methods_in, types_in, method_outline, outline}
 use Rattle.name_rules.specs.Conditions.{ConditionAt, overload, private_reused, no_main, AreOneSlot}
 use Rattle.name_outcome.proofs.Sees.{Tells, tell, same_some}
-use Rattle.name_outcome.proofs.Runs.{run-tells, append-cases, stands-at, push-cases, map-stands, stands-map, none-passes, stands-beside}
+use Rattle.name_outcome.proofs.Runs.{run-tells, stands-at, push-cases, none-passes, stands-beside}
 use Rattle.name_outcome.proofs.KnownTypes.{AreKnown}
 use Rattle.name_outcome.proofs.Reached.{AreAbove}
 use Rattle.java_core.proofs.Meets.{meet-stands}
@@ -48,7 +49,7 @@ owner-from : (c : ℕ) (ds : List DeclTree) (i : ℕ) (m : MethodAt) → slice_g
 owner-from c [] i m e = absurd (cc e)
 owner-from c (d ∷ ds) i m e =
     ⊎_elim (λ h. let a = owner-declared c d i m h in omega (arith, a)) (λ h. let a = owner-from (suc c) ds h.0 m h.2 in omega (arith, a))
-    (append-cases (methods_declared c d) (methods_from (suc c) ds) i m e)
+    (append_cases (methods_declared c d) (methods_from (suc c) ds) i m e)
 
 pub classes-count : (tree : List DeclTree) → length (outline tree).classes ≡ suc (length tree)
 unfolding outline
@@ -60,12 +61,12 @@ owner-within tree i m e = let a = owner-from 1 tree i m e in let b = classes-cou
 pub method_at-outline : (tree : List DeclTree) (i : ℕ) (m : MethodAt) → slice_get (methods_in tree) i ≡ Some m → slice_get (outline tree).methods i
     ≡ Some (method_outline (types_in tree) m)
 unfolding outline
-method_at-outline tree i m e = stands-map (method_outline (types_in tree)) (methods_in tree) i m e
+method_at-outline tree i m e = at_map (method_outline (types_in tree)) (methods_in tree) i m e
 
 pub outline-method : (tree : List DeclTree) (i : ℕ) (k : PlainMethod) → slice_get (outline tree).methods i ≡ Some k → (m : MethodAt)
     × (slice_get (methods_in tree) i ≡ Some m) × (method_outline (types_in tree) m ≡ k)
 unfolding outline
-outline-method tree i k e = map-stands (method_outline (types_in tree)) (methods_in tree) i k e
+outline-method tree i k e = map_at (method_outline (types_in tree)) (methods_in tree) i k e
 
 -- ---- clashes
 

@@ -4,8 +4,10 @@ use Rattle.std.specs.Prelude.{slice_get, if◌then◌else◌}
 use Rattle.std.proofs.lemmas.Bool.{or_cases, or_parts, false≢true}
 use Rattle.std.proofs.lemmas.List.{length-append}
 use Rattle.std.proofs.Math.Bool.{or-true}
+use Rattle.std.proofs.lemmas.Option.{slice_get_within}
 use Rattle.kaba_base.specs.declared.words.Keyword.{Keyword}
 use Rattle.kaba_base.specs.declared.words.Keyword.TheVariants as keys
+use Rattle.kaba_base.proofs.Listed.{contains_at}
 use Rattle.java_tree.specs.declared.Modifier.{Modifier}
 use Rattle.java_tree.specs.Syntax.{DeclTree}
 use Rattle.name_rules.specs.declared.Form.TheVariants as forms
@@ -17,7 +19,7 @@ use Rattle.name_outcome.specs.Classes.{no_flags, is_taken, noted, flag, flags_of
 use Rattle.name_rules.specs.Outline.{has_word, is_public_word, is_private_word, is_abstract_word, is_static_word}
 use Rattle.name_rules.specs.Conditions.{ConditionAt, HasModifiers, disagree, is_unfit, modifiers_disagree, modifier_unfit}
 use Rattle.name_outcome.proofs.Sees.{Tells, turn, same_some}
-use Rattle.name_outcome.proofs.Runs.{run-tells, stands-at, stands-within, earlier-stands, push-cases, member-at}
+use Rattle.name_outcome.proofs.Runs.{run-tells, stands-at, earlier-stands, push-cases}
 
 abbrev pub is_protected_word : Keyword → Bool
 is_protected_word keys.Protected = true
@@ -127,7 +129,7 @@ fit-push kind done m e u g = record {
   agree = λ i j a b at there lt. ⊎_elim
       (λ p. ⊎_elim (λ q. g.agree i j a b p q lt) (λ q. subst (λ z. disagree a.word z.word ≡ false) q.1 (no-word (λ v. disagree v m.word) done e i a p))
       (push-cases done m j b there))
-      (λ p. absurd (let s = p.0 in let t = stands-within (done ++ m ∷ []) j b there in let l = length-append done (m ∷ []) in omega (arith, s, t, l, lt)))
+      (λ p. absurd (let s = p.0 in let t = slice_get_within (done ++ m ∷ []) j b there in let l = length-append done (m ∷ []) in omega (arith, s, t, l, lt)))
       (push-cases done m i a at);
 }
 
@@ -141,8 +143,8 @@ module _ (tree : List DeclTree) (kind : Kind) (mods : List Modifier) (has : HasM
   misplaced done rest m f at h e =
       ⊎_elim
       (λ t. let g = word-stands (λ v. disagree v m.word) done (sym (h.taken m.word) ∙ t) in
-      modifiers_disagree has (earlier-stands done (m ∷ rest) at g.0 g.1 g.2) (stands-at done m rest at) (stands-within done g.0 g.1 g.2) g.3)
-      (λ u. modifier_unfit has (member-at mods (length done) m (stands-at done m rest at)) u)
+      modifiers_disagree has (earlier-stands done (m ∷ rest) at g.0 g.1 g.2) (stands-at done m rest at) (slice_get_within done g.0 g.1 g.2) g.3)
+      (λ u. modifier_unfit has (contains_at mods (length done) m (stands-at done m rest at)) u)
       (or_cases (is_taken f m.word) (is_unfit kind m.word) e)
 
   pub flags-fit : Tells (λ f. FlagsAre mods f × NoStatic kind f × AreFit kind mods) (ConditionAt tree) (flags_of kind mods)

@@ -4,6 +4,7 @@ use Rattle.std.specs.Prelude.{slice_get}
 use Rattle.std.proofs.lemmas.Bool.{false≢true, cases_lt}
 use Rattle.std.proofs.lemmas.List.{length-append}
 use Rattle.std.proofs.lemmas.Option.{slice_get_past}
+use Rattle.kaba_base.proofs.Listed.{map_at, at_map, behind as back-stands}
 use Rattle.java_tree.specs.Syntax.{DeclTree}
 use Rattle.java_core.specs.Trees.{Sts}
 use Rattle.java_core.specs.Programs.{Plain, PlainMethod, PlainLocal, PlainSlot}
@@ -15,9 +16,7 @@ use Rattle.name_rules.specs.Resolves.{Counts, StsResolve, declares_all, params_f
 use Rattle.name_rules.specs.Conditions.{overload}
 use Rattle.name_rules.specs.Causes.{HasNoCondition}
 use Rattle.name_outcome.proofs.Sees.{same_some}
-use Rattle.name_outcome.proofs.Runs.{map-stands, stands-map}
 use Rattle.name_outcome.proofs.Bridge.{main-of, of-main}
-use Rattle.name_outcome.proofs.FormedMembers.{back-stands}
 use Rattle.name_outcome.proofs.MembersOf.{method-in}
 use Rattle.name_outcome.proofs.Excludes.{OneMet, one-met}
 use Rattle.name_outcome.proofs.Only.{none-only, counts-split, from, Agree, agree-at, sts-only}
@@ -65,7 +64,7 @@ module _ (P Q : Plain) (same : map heading_of P.methods ≡ map heading_of Q.met
   -- the method of the other program
   other-method : (i : ℕ) (k : PlainMethod) → slice_get P.methods i ≡ Some k → (l : PlainMethod) × (slice_get Q.methods i ≡ Some l)
       × (heading_of l ≡ heading_of k)
-  other-method i k e = map-stands heading_of Q.methods i (heading_of k) (ap (λ z. slice_get z i) (sym same) ∙ stands-map heading_of P.methods i k e)
+  other-method i k e = map_at heading_of Q.methods i (heading_of k) (ap (λ z. slice_get z i) (sym same) ∙ at_map heading_of P.methods i k e)
 
   -- the slot of the other program of a method of a slot
   slot-of : AreSlots Q → (a : PlainSlot) (i : ℕ) (k : PlainMethod) → slice_get P.methods i ≡ Some k → k.is_static ≡ false → IsOfSlot a k
@@ -205,8 +204,8 @@ module _ (tree : List DeclTree) (formed : IsFormedTree tree) (none : HasNoCondit
       methods =
           methods-only (outline tree) (one-met (outline tree) (λ c i j h k p q lt same u v other. none _ (overload p q lt same u v other))) 0 p.last
           q.last (λ n m e. (method-in 1 tree formed n m e).is.body) p.bodies q.bodies same
-          (λ n k l e f. slot-only P Q slots p.slots k l (same_some (sym (stands-map heading_of P.methods n k e) ∙ ap (λ z. slice_get z n) same
-          ∙ stands-map heading_of Q.methods n l f)) (p.slots.each n k e) (q.slots.each n l f))
+          (λ n k l e f. slot-only P Q slots p.slots k l (same_some (sym (at_map heading_of P.methods n k e) ∙ ap (λ z. slice_get z n) same
+          ∙ at_map heading_of Q.methods n l f)) (p.slots.each n k e) (q.slots.each n l f))
           p.numbers q.numbers
 
       main : P.main ≡ Q.main

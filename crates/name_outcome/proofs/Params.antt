@@ -6,6 +6,8 @@ use Rattle.std.specs.Str.{bytes_eq, chars}
 use Rattle.std.proofs.lemmas.Bool.{false≢true}
 use Rattle.std.proofs.lemmas.List.{map-append}
 use Rattle.std.proofs.lemmas.Slice.Eq.{bytes_eq-Decides}
+use Rattle.std.proofs.lemmas.Option.{slice_get_within}
+use Rattle.kaba_base.proofs.Listed.{map_at, contains_at}
 use Rattle.java_tree.specs.declared.TypeName.{TypeName}
 use Rattle.java_tree.specs.declared.Param.{Param}
 use Rattle.java_tree.specs.Syntax.{DeclTree}
@@ -24,7 +26,7 @@ use Rattle.name_rules.specs.Meanings.{Means}
 use Rattle.name_rules.specs.Asked.{IsDeclared, of_param, of_result, by_type}
 use Rattle.name_rules.specs.Conditions.{ConditionAt, unknown, type_as_param, param_twice, IsUnknownType, no_such_type}
 use Rattle.name_outcome.proofs.Sees.{Tells, tell, turn}
-use Rattle.name_outcome.proofs.Runs.{run-tells, stands-at, stands-within, earlier-stands, push-cases, member-at, map-stands, once-push}
+use Rattle.name_outcome.proofs.Runs.{run-tells, stands-at, earlier-stands, push-cases, once-push}
 use Rattle.name_outcome.proofs.TypeNames.{type-tells, type-meant}
 use Rattle.name_outcome.proofs.KnownTypes.{AreKnown}
 use Rattle.name_outcome.proofs.KnownClasses.{known-named, type_names-outline}
@@ -85,7 +87,7 @@ module _ (tree : List DeclTree) (known : List Known) (are : AreKnown tree known)
           here = stands-at done q rest e
 
           has : Contains m.head.params q
-          has = member-at m.head.params (length done) q here
+          has = contains_at m.head.params (length done) q here
 
           go : (t : Ty) → (t ≡ type_meant (types_in tree) q.ty) × Means (outline tree) q.ty t → (b : Bool) → b ≡ is_type_name (types_in tree) q.name
               → (c : Bool) → has_local q.name ls ≡ c
@@ -94,8 +96,8 @@ module _ (tree : List DeclTree) (known : List Known) (are : AreKnown tree known)
           go t k true f c g = type_as_param at has (sym f)
           go t k false f true g =
               let a = has-stands q.name ls g in
-              let b = map-stands (λ q. q.name) done a.0 q.name (ap (λ z. slice_get z a.0) (sym h.names) ∙ a.1) in
-              param_twice at (earlier-stands done (q ∷ rest) e a.0 b.0 b.1) here (stands-within done a.0 b.0 b.1) b.2
+              let b = map_at (λ q. q.name) done a.0 q.name (ap (λ z. slice_get z a.0) (sym h.names) ∙ a.1) in
+              param_twice at (earlier-stands done (q ∷ rest) e a.0 b.0 b.1) here (slice_get_within done a.0 b.0 b.1) b.2
           go t k false f false g =
               let l : Local = record { name = q.name; ty = t; place = q.place } in
               record {

@@ -14,11 +14,13 @@ use Rattle.name_outcome.proofs.Sees.{Tells}
 use Rattle.java_core.proofs.Reached.{reached, reached-sound, reached-whole}
 use Rattle.std.proofs.lemmas.Bool.{false≢true, cases_lt}
 use Rattle.std.proofs.lemmas.List.{length-append}
+use Rattle.std.proofs.lemmas.Option.{slice_get_within}
+use Rattle.kaba_base.proofs.Listed.{map_at}
 use Rattle.java_tree.specs.Syntax.{DeclTree}
 use Rattle.name_rules.specs.declared.Refusal.TheVariants.{Loop}
 use Rattle.name_rules.specs.Outline.{types_in, class_outline, outline}
 use Rattle.name_rules.specs.Conditions.{ConditionAt, loop}
-use Rattle.name_outcome.proofs.Runs.{run-tells, stands-at, stands-within, map-stands}
+use Rattle.name_outcome.proofs.Runs.{run-tells, stands-at}
 
 module _ (P : Plain) where
   or-if : (x y : Bool) → (if x then true else y) ≡ x || y
@@ -77,7 +79,7 @@ no_super tree h = let e = h.direct.1 in omega (arith, e)
 pub class_stands : (tree : List DeclTree) (i : ℕ) (k : PlainClass) → slice_get (outline tree).classes (suc i) ≡ Some k → (d : DeclTree)
     × (slice_get tree i ≡ Some d) × (class_outline (types_in tree) d ≡ k)
 unfolding outline
-class_stands tree i k e = map-stands (class_outline (types_in tree)) tree i k e
+class_stands tree i k e = map_at (class_outline (types_in tree)) tree i k e
 
 pub loops-tells : (tree : List DeclTree) (rows : List (List Bool)) → AreAbove (outline tree) rows
     → Tells (NoLoops tree (outline tree).classes) (ConditionAt tree) (loops_of rows (outline tree).classes)
@@ -99,12 +101,12 @@ loops-tells tree rows above = run-tells (ConditionAt tree) (outline tree).classe
 
         go : (b : Bool) → above_by rows k n ≡ b → Tells (NoLoops tree (done ++ k ∷ [])) (ConditionAt tree)
             (if b then Err (Loop k.name k.tag.place) else Ok (n + 1))
-        go true f = in_loop n here (above.proper n n k here (stands-within (outline tree).classes n k here) f)
+        go true f = in_loop n here (above.proper n n k here (slice_get_within (outline tree).classes n k here) f)
         go false f = record {
           count = let a = h.count in let b = length-append done (k ∷ []) in omega (arith, a, b);
           none = λ c lt l. ⊎_elim (λ less. h.none c less l)
               (λ same. let at : c ≡ n = let a = h.count in let b = length-append done (k ∷ []) in omega (arith, a, b, lt, same) in
               let here2 : slice_get (outline tree).classes c ≡ Some k = ap (slice_get (outline tree).classes) at ∙ here in
-              false≢true (sym (ap (above_by rows k) at ∙ f) ∙ above.proper_whole c c k here2 (stands-within (outline tree).classes c k here2) l))
+              false≢true (sym (ap (above_by rows k) at ∙ f) ∙ above.proper_whole c c k here2 (slice_get_within (outline tree).classes c k here2) l))
               (cases_lt c (length done));
         }

@@ -1,11 +1,11 @@
 -- Steps over lists that stop at the first fault, and what stands where in a list.
-use Rattle.std.proofs.Common.{◌≡◌, ℕ, zero, suc, ◌+◌, ◌<◌, ◌⊎◌, inl, inr, ⊎_elim, Bool, true, List, [], ◌∷◌, ◌++◌, map, length, get_or, Some, None, Result, Contains, refl, sym, ap, ◌∙◌, subst, arith}
+use Rattle.std.proofs.Common.{◌≡◌, ℕ, zero, suc, ◌+◌, ◌⊎◌, inl, inr, ⊎_elim, Bool, true, List, [], ◌∷◌, ◌++◌, length, Some, None, Result, refl, sym, ap, ◌∙◌, subst, arith}
 use Rattle.std.specs.Prelude.{slice_get, position}
 use Rattle.std.specs.List.{position_from}
-use Rattle.std.specs.Option.{option_map}
 use Rattle.std.proofs.lemmas.List.{append-nil, append_assoc}
-use Rattle.std.proofs.lemmas.Option.{slice_get-map}
+use Rattle.std.proofs.lemmas.Option.{slice_get_within}
 use Rattle.std.proofs.lemmas.Iterator.Adapters.{position_from-zero}
+use Rattle.kaba_base.proofs.Listed.{at_left, middle, below_at}
 use Rattle.java_core.proofs.Positions.{passes-position}
 use Rattle.java_core.specs.Formed.{HasNoTwice}
 use Rattle.name_rules.specs.declared.Refusal.{Refusal}
@@ -23,26 +23,12 @@ run-tells F whole f I step done (x ∷ xs) s e h =
 
 -- ---- what stands where
 
-pub middle-stands : {A : Type 0} (xs : List A) (v : A) (ys : List A) → slice_get (xs ++ v ∷ ys) (length xs) ≡ Some v
-middle-stands [] v ys = refl
-middle-stands (x ∷ xs) v ys = middle-stands xs v ys
-
 pub stands-at : {A : Type 0} {whole : List A} (done : List A) (x : A) (rest : List A) → whole ≡ done ++ x ∷ rest → slice_get whole (length done) ≡ Some x
-stands-at done x rest e = ap (λ z. slice_get z (length done)) e ∙ middle-stands done x rest
-
-pub stands-within : {A : Type 0} (xs : List A) (i : ℕ) (x : A) → slice_get xs i ≡ Some x → i < length xs
-stands-within [] i x e = absurd (cc e)
-stands-within (y ∷ ys) zero x e = omega arith
-stands-within (y ∷ ys) (suc i) x e = let h = stands-within ys i x e in omega (arith, h)
-
-pub stands-front : {A : Type 0} (xs ys : List A) (i : ℕ) (x : A) → slice_get xs i ≡ Some x → slice_get (xs ++ ys) i ≡ Some x
-stands-front [] ys i x e = absurd (cc e)
-stands-front (z ∷ xs) ys zero x e = e
-stands-front (z ∷ xs) ys (suc i) x e = stands-front xs ys i x e
+stands-at done x rest e = ap (λ z. slice_get z (length done)) e ∙ middle done x rest
 
 pub earlier-stands : {A : Type 0} {whole : List A} (done rest : List A) → whole ≡ done ++ rest → (i : ℕ) (x : A) → slice_get done i ≡ Some x
     → slice_get whole i ≡ Some x
-earlier-stands done rest e i x h = ap (λ z. slice_get z i) e ∙ stands-front done rest i x h
+earlier-stands done rest e i x h = ap (λ z. slice_get z i) e ∙ at_left done rest i x h
 
 pub push-cases : {A : Type 0} (xs : List A) (y : A) (i : ℕ) (x : A) → slice_get (xs ++ y ∷ []) i ≡ Some x → (slice_get xs i ≡ Some x)
     ⊎ ((i ≡ length xs) × (y ≡ x))
@@ -51,42 +37,10 @@ push-cases [] y (suc i) x e = absurd (cc e)
 push-cases (z ∷ xs) y zero x e = inl e
 push-cases (z ∷ xs) y (suc i) x e = ⊎_elim (λ h. inl h) (λ h. inr (ap suc h.0, h.1)) (push-cases xs y i x e)
 
-pub append-cases : {A : Type 0} (xs ys : List A) (i : ℕ) (x : A) → slice_get (xs ++ ys) i ≡ Some x → (slice_get xs i ≡ Some x)
-    ⊎ ((j : ℕ) × (i ≡ length xs + j) × (slice_get ys j ≡ Some x))
-append-cases [] ys i x e = inr (i, omega arith, e)
-append-cases (z ∷ xs) ys zero x e = inl e
-append-cases (z ∷ xs) ys (suc i) x e = ⊎_elim (λ h. inl h) (λ h. inr (h.0, (let k = h.1 in omega (arith, k)), h.2)) (append-cases xs ys i x e)
-
-pub member-at : {A : Type 0} (xs : List A) (i : ℕ) (x : A) → slice_get xs i ≡ Some x → Contains xs x
-member-at [] i x e = absurd (cc e)
-member-at (y ∷ ys) zero x e = (0, omega arith, same_some e)
-member-at (y ∷ ys) (suc i) x e = let h = member-at ys i x e in (suc h.0, (let k = h.1 in omega (arith, k)), h.2)
-
-pub member-stands : {A : Type 0} (xs : List A) (x : A) → Contains xs x → (i : ℕ) × (slice_get xs i ≡ Some x)
-member-stands xs x h = (h.0, go xs h.0 h.1 h.2)
-  where
-    go : (ys : List _) (i : ℕ) → i < length ys → get_or ys i x ≡ x → slice_get ys i ≡ Some x
-    go [] i lt e = absurd (omega (arith, lt))
-    go (y ∷ ys) zero lt e = ap Some e
-    go (y ∷ ys) (suc i) lt e = go ys i (omega (arith, lt)) e
-
-pub some-stands : {A : Type 0} (xs : List A) (i : ℕ) → i < length xs → (x : A) × (slice_get xs i ≡ Some x)
-some-stands [] i lt = absurd (omega (arith, lt))
-some-stands (x ∷ xs) zero lt = (x, refl)
-some-stands (x ∷ xs) (suc i) lt = some-stands xs i (omega (arith, lt))
-
 -- what stands beside it in a list of the same length
 pub stands-beside : {A B : Type 0} (xs : List A) (ys : List B) → length xs ≡ length ys → (i : ℕ) (x : A) → slice_get xs i ≡ Some x
     → (y : B) × (slice_get ys i ≡ Some y)
-stands-beside xs ys e i x at = some-stands ys i (let l = stands-within xs i x at in omega (arith, l, e))
-
-pub map-stands : {A B : Type 0} (f : A → B) (xs : List A) (i : ℕ) (y : B) → slice_get (map f xs) i ≡ Some y → (x : A) × (slice_get xs i ≡ Some x) × (f x ≡ y)
-map-stands f [] i y e = absurd (cc e)
-map-stands f (x ∷ xs) zero y e = (x, refl, same_some e)
-map-stands f (x ∷ xs) (suc i) y e = map-stands f xs i y e
-
-pub stands-map : {A B : Type 0} (f : A → B) (xs : List A) (i : ℕ) (x : A) → slice_get xs i ≡ Some x → slice_get (map f xs) i ≡ Some (f x)
-stands-map f xs i x e = slice_get-map f xs i ∙ ap (option_map f) e
+stands-beside xs ys e i x at = below_at ys i (let l = slice_get_within xs i x at in omega (arith, l, e))
 
 -- one more behind those that differ from it
 pub once-more : {A : Type 0} (xs : List A) (x : A) (Same : A → A → Type 0) → ((a b : A) → Same a b → Same b a)

@@ -8,6 +8,7 @@ use Rattle.std.proofs.lemmas.List.{length-map}
 use Rattle.std.proofs.lemmas.Option.{slice_get-map}
 use Rattle.std.proofs.lemmas.Slice.Eq.{bytes_eq-Decides}
 use Rattle.kaba_base.specs.declared.ClassId.{ClassId}
+use Rattle.kaba_base.proofs.Listed.{map_at}
 use Rattle.java_tree.specs.Syntax.{DeclTree}
 use Rattle.java_core.specs.Trees.{at_place}
 use Rattle.java_core.specs.Programs.{Plain, PlainClass, PlainMethod, field_seen}
@@ -24,7 +25,7 @@ use Rattle.name_outcome.specs.Resolved as resolved
 use Rattle.name_rules.specs.Outline.{MethodAt, fields_in, methods_in, types_in, method_outline, outline}
 use Rattle.name_rules.specs.Meanings.{IsStaticMethodOf, IsMet}
 use Rattle.name_outcome.proofs.Sees.{Sees, StandsField, StandsMethod, OwnMethod, MetMethod}
-use Rattle.name_outcome.proofs.Runs.{map-stands, none-passes, stands-beside}
+use Rattle.name_outcome.proofs.Runs.{none-passes, stands-beside}
 use Rattle.name_outcome.proofs.KnownTypes.{AreKnown}
 use Rattle.name_outcome.proofs.KnownClasses.{known-named}
 use Rattle.name_outcome.proofs.Reached.{AreAbove}
@@ -54,7 +55,7 @@ module _ (tree : List DeclTree) (known : List Known) (are : AreKnown tree known)
   own-stands : (c : ℕ) (n : List ℕ) (f : ℕ) → own_field_of O c n ≡ Some f → StandsField T O f
   own-stands c n f e =
       let a = position-passes (λ f. is_field_of c n f) O.fields f e in
-      let b = map-stands (field_seen at_place) m.fields f a.0 (ap (λ z. slice_get z f) (sym fields-are) ∙ a.1) in
+      let b = map_at (field_seen at_place) m.fields f a.0 (ap (λ z. slice_get z f) (sym fields-are) ∙ a.1) in
       record {
         seen = b.0;
         member = a.0;

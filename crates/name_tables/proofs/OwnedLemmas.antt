@@ -9,11 +9,11 @@ use Rattle.std.proofs.lemmas.Bool.{and_parts}
 use Rattle.std.proofs.lemmas.Iterator.Adapters.{position_from-zero}
 use Rattle.std.proofs.lemmas.Bool.Decides.{Decides-eqb}
 use Rattle.std.proofs.lemmas.Slice.Eq.{bytes_eq-Decides}
+use Rattle.kaba_base.proofs.Texts.{text_test}
 use Rattle.indexmap.specs.IndexMap.{get}
 use Rattle.java_core.specs.Classes.{first_or}
 use Rattle.name_tables.specs.Owned.{AreOwned, owned_in}
 use Rattle.name_tables.specs.declared.owned.Owned.{Owned}
-use Rattle.name_tables.proofs.SpotLemmas.{text_test}
 
 -- ---- the table
 

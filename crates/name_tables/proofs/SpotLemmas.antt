@@ -5,18 +5,13 @@ use Rattle.std.specs.List.{position_from}
 use Rattle.std.specs.Option.{option_map_or}
 use Rattle.std.specs.declared.vec.Vec.{Vec}
 use Rattle.std.specs.declared.alloc.Global.{Global}
-use Rattle.std.specs.Str.{bytes_eq, encode_utf8_all}
+use Rattle.std.specs.Str.{bytes_eq}
 use Rattle.std.proofs.lemmas.Slice.Eq.{bytes_eq-Decides}
 use Rattle.std.proofs.lemmas.List.{append_assoc, length-append, length-map, map-append}
+use Rattle.kaba_base.proofs.Listed.{middle}
 use Rattle.name_tables.specs.declared.spots.Spots.{Spots}
 use Rattle.java_core.specs.Owned.{passes, first_among}
-use Rattle.java_core.proofs.Words.{is_word-same}
-use Rattle.name_outcome.proofs.Runs.{middle-stands}
 use Rattle.name_tables.specs.Spots.{AreSpots, spots_from, spots_of}
-
--- texts are the same exactly where their names are
-pub text_test : (a b : List ℕ) → bytes_eq (encode_utf8_all a) (encode_utf8_all b) ≡ bytes_eq a b
-text_test a b = is_word-same a b (encode_utf8_all a) (encode_utf8_all b) refl refl
 
 pub same_ok : {A E : Type 0} (a b : A) → ◌≡◌ {A = Result A E} (Ok a) (Ok b) → a ≡ b
 same_ok a b e = ap (λ o. elim o [ Ok x ↦ x | Err r ↦ a ]) e
@@ -72,7 +67,7 @@ module _ {A : Type 0} (name : A → List ℕ) (p : A → Bool) (n : List ℕ) wh
       ≡ position_from (λ x. p x && bytes_eq (name x) n) k rest
   among done [] k e = refl
   among done (x ∷ rest) k e =
-      by_name (bytes_eq (name x) n) (p x) (ap (passes p) (subst (λ i. slice_get (done ++ x ∷ rest) i ≡ Some x) e (middle-stands done x rest)))
+      by_name (bytes_eq (name x) n) (p x) (ap (passes p) (subst (λ i. slice_get (done ++ x ∷ rest) i ≡ Some x) e (middle done x rest)))
       (ap (λ w. first_among p w (spots_from (k + 1) n (map name rest))) (sym (append_assoc done (x ∷ []) rest))
       ∙ among (done ++ x ∷ []) rest (k + 1) (length-append done (x ∷ []) ∙ ap (λ i. i + 1) e))
     where

@@ -3,6 +3,7 @@ use Rattle.std.proofs.Common.{◌≡◌, ℕ, suc, Bool, true, false, List, [], 
 use Rattle.std.specs.Prelude.{slice_get}
 use Rattle.std.proofs.lemmas.List.{length-map}
 use Rattle.kaba_base.specs.declared.Place.{Place}
+use Rattle.kaba_base.proofs.Listed.{at_map}
 use Rattle.java_tree.specs.declared.TypeName.{TypeName}
 use Rattle.java_tree.specs.Syntax.{Expression, Expressions, Statement, Statements, Else, OptionalStatement}
 use Rattle.java_tree.specs.Syntax as tree
@@ -16,8 +17,8 @@ use Rattle.name_rules.specs.Outline.{MethodAt, is_static_word, is_type_name}
 use Rattle.name_rules.specs.Meanings.{bound_names}
 use Rattle.name_rules.specs.Resolves.{target, bound, Counts, ResolvesTo, r_number, r_character, r_text, r_truth, r_null, r_this, r_local, r_static_field, r_own_field, r_class_field, r_field, r_index, r_own_static_call, r_own_call, r_static_call, r_call, r_super_call, r_create, r_create_array, r_cast, r_instance_of, r_unary, r_binary, AllResolve, r_no_more, r_and_more, ResolvesIf, r_none, r_some, scope_after, scope_after_part, IsLocal, StResolves, r_declare, r_block, r_assign, r_act, r_print, r_choose, r_while, r_for, r_return, r_break, r_continue, StsResolve, r_no_statements, r_and_then, ArmsResolve, r_no_else, r_else, r_arm, PartResolves, r_absent, r_present, declares, declares_all, declares_arms, params_from, here_of, BodyResolves, r_no_body, r_body, BodiesResolve, r_no_methods, r_method}
 use Rattle.java_core.specs.Untagged.{bare_tag, bare, bare_all, bare_if, bare_target, bare_st, bare_sts, bare_arms, untag_local, untag_method, untagged, untag_body}
-use Rattle.name_outcome.proofs.Runs.{stands-map}
-use Rattle.places_aside.proofs.Outlines.{ap2, word-same, method_at_unplaced}
+use Rattle.java_core.proofs.Untagged.{ap2}
+use Rattle.places_aside.proofs.Outlines.{word-same, method_at_unplaced}
 use Rattle.places_aside.proofs.Meanings.{names-same, named-same, means, means-cast, class-name-same, static-field, static-method, nearest-field, met}
 use Rattle.name_outcome.proofs.FormedMembers.{bare-variables as variables-same}
 
@@ -95,7 +96,7 @@ module _ (O : Plain) (here : Here) where
     local-same {n = n} {i = i} l = record {
       ty = l.ty;
       means = means O l.means;
-      stands = ap (λ z. slice_get z i) (variables-same k) ∙ stands-map untag_local (variables_of k) i _ l.stands;
+      stands = ap (λ z. slice_get z i) (variables-same k) ∙ at_map untag_local (variables_of k) i _ l.stands;
       no_type = ap (λ z. is_type_name z n) (names-same O) ∙ l.no_type;
       fresh = l.fresh;
     }

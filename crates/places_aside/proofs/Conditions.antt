@@ -1,6 +1,7 @@
 -- No condition that refuses names holds of a tree without its places where none holds of it.
 use Rattle.std.proofs.Common.{◌≡◌, ◌⊎◌, inl, inr, ⊎_elim, ℕ, ◌||◌, true, false, List, map, Option, Some, None, Contains, is_some, refl, sym, ap, ◌∙◌, subst}
 use Rattle.std.specs.Prelude.{slice_get, codes}
+use Rattle.kaba_base.proofs.Listed.{map_at, at_map}
 use Rattle.java_tree.specs.declared.Modifier.{Modifier}
 use Rattle.java_tree.specs.Syntax.{Statements, DeclTree, ClassTree, InterfaceTree}
 use Rattle.java_tree.specs.Places.{all_unplaced, may_unplaced, id_unplaced, modifier_unplaced, param_unplaced, stmts_unplaced, decl_unplaced, unplaced}
@@ -14,8 +15,8 @@ use Rattle.name_rules.specs.Resolves.{here_of}
 use Rattle.name_rules.specs.Conditions.{StsFault, disagree, is_unfit, kind_of, HasModifiers, of_type, of_field, of_method, HasWrongBody, missing, superfluous, in_concrete, AreOneSlot, unknown, type_twice, known_twice, super_twice, field_twice, method_twice, param_twice, loop, overload, type_as_field, type_as_param, face_as_parent, class_as_face, private_reused, no_main, modifiers_disagree, modifier_unfit, wrong_body, in_body}
 use Rattle.name_rules.specs.Causes.{HasNoCondition}
 use Rattle.java_core.specs.Untagged.{untag_class, untag_method, untagged}
-use Rattle.name_outcome.proofs.Runs.{map-stands, stands-map}
-use Rattle.places_aside.proofs.Outlines.{ap2, word-same, name-same, types-same, same-all, field_at_unplaced, method_at_unplaced, fields-same, methods-same, outline-same}
+use Rattle.java_core.proofs.Untagged.{ap2}
+use Rattle.places_aside.proofs.Outlines.{word-same, name-same, types-same, same-all, field_at_unplaced, method_at_unplaced, fields-same, methods-same, outline-same}
 use Rattle.places_aside.proofs.Meanings.{named-same, supers-same, below-back}
 use Rattle.places_aside.proofs.Resolved.{all-mapped, from-map, from-all, from-maybe, parent-unplaced, faces-unplaced, method-back, asked-back, main-bare}
 use Rattle.name_outcome.proofs.FormedMembers.{bare-types as param-types-same}
@@ -24,7 +25,7 @@ use Rattle.places_aside.proofs.Faults.{sts}
 -- an item of a list without places stands where it stood
 stands-back : {A : Type 0} (u : A → A) (xs : List A) (i : ℕ) (y : A) → slice_get (all_unplaced u xs) i ≡ Some y
     → (x : A) × (slice_get xs i ≡ Some x) × (u x ≡ y)
-stands-back u xs i y e = map-stands u xs i y (ap (λ z. slice_get z i) (sym (all-mapped u xs)) ∙ e)
+stands-back u xs i y e = map_at u xs i y (ap (λ z. slice_get z i) (sym (all-mapped u xs)) ∙ e)
 
 kind-same : (d : DeclTree) → kind_of (decl_unplaced d) ≡ kind_of d
 kind-same (ClassTree ms n c fs bs p) = refl
@@ -62,19 +63,19 @@ module _ (tree : List DeclTree) where
 
   method-in : (i : ℕ) (k : PlainMethod) → slice_get (outline (unplaced tree)).methods i ≡ Some k
       → (h : PlainMethod) × (slice_get O.methods i ≡ Some h) × (untag_method h ≡ k)
-  method-in i k e = map-stands untag_method O.methods i k (ap (λ (z : Plain). slice_get z.methods i) (sym same) ∙ e)
+  method-in i k e = map_at untag_method O.methods i k (ap (λ (z : Plain). slice_get z.methods i) (sym same) ∙ e)
 
   class-in : (i : ℕ) (k : PlainClass) → slice_get (outline (unplaced tree)).classes i ≡ Some k
       → (h : PlainClass) × (slice_get O.classes i ≡ Some h) × (untag_class h ≡ k)
-  class-in i k e = map-stands untag_class O.classes i k (ap (λ (z : Plain). slice_get z.classes i) (sym same) ∙ e)
+  class-in i k e = map_at untag_class O.classes i k (ap (λ (z : Plain). slice_get z.classes i) (sym same) ∙ e)
 
   field-at : (i : ℕ) (f : FieldAt) → slice_get (fields_in (unplaced tree)) i ≡ Some f
       → (g : FieldAt) × (slice_get (fields_in tree) i ≡ Some g) × (field_at_unplaced g ≡ f)
-  field-at i f e = map-stands field_at_unplaced (fields_in tree) i f (ap (λ z. slice_get z i) (sym (fields-same tree)) ∙ e)
+  field-at i f e = map_at field_at_unplaced (fields_in tree) i f (ap (λ z. slice_get z i) (sym (fields-same tree)) ∙ e)
 
   method-at : (i : ℕ) (m : MethodAt) → slice_get (methods_in (unplaced tree)) i ≡ Some m
       → (k : MethodAt) × (slice_get (methods_in tree) i ≡ Some k) × (method_at_unplaced k ≡ m)
-  method-at i m e = map-stands method_at_unplaced (methods_in tree) i m (ap (λ z. slice_get z i) (sym (methods-same tree)) ∙ e)
+  method-at i m e = map_at method_at_unplaced (methods_in tree) i m (ap (λ z. slice_get z i) (sym (methods-same tree)) ∙ e)
 
   field-back : (f : FieldAt) → Contains (fields_in (unplaced tree)) f → (g : FieldAt) × Contains (fields_in tree) g × (field_at_unplaced g ≡ f)
   field-back f c = from-map field_at_unplaced (fields_in tree) f (subst (λ z. Contains z f) (fields-same tree) c)
@@ -177,7 +178,7 @@ module _ (tree : List DeclTree) where
         (⊎_elim (λ u. inl (subst (λ z. IsSubclass O z b.0.owner) (sym first) (subst (λ z. IsSubclass O h.owner z) (sym second) (below-in u))))
         (λ u. inr (subst (λ z. IsSubclass O z a.0.owner) (sym second) (subst (λ z. IsSubclass O k.owner z) (sym first) (below-in u)))) s))
     no_condition r (no_main f) =
-        none _ (no_main (λ m k e h. f m (untag_method k) (ap (λ (z : Plain). slice_get z.methods m) same ∙ stands-map untag_method O.methods m k e)
+        none _ (no_main (λ m k e h. f m (untag_method k) (ap (λ (z : Plain). slice_get z.methods m) same ∙ at_map untag_method O.methods m k e)
         (main-bare O h)))
     no_condition r (modifiers_disagree {kind = kind} {mods = ms} {i = i} {j = j} {a = x} {b = y} c e f lt d) =
         let a = mods-back kind ms c in

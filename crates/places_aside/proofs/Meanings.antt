@@ -6,6 +6,7 @@ use Rattle.std.proofs.lemmas.List.{length-map}
 use Rattle.std.proofs.lemmas.Option.{slice_get-map}
 use Rattle.kaba_base.specs.declared.Place.{Place}
 use Rattle.kaba_base.specs.declared.ClassId.{ClassId}
+use Rattle.kaba_base.proofs.Listed.{map_at, at_map}
 use Rattle.java_tree.specs.declared.TypeBase.{TypeBase}
 use Rattle.java_tree.specs.declared.TypeName.{TypeName}
 use Rattle.java_tree.specs.Syntax.{NameRef}
@@ -18,8 +19,7 @@ use Rattle.java_core.proofs.Positions.{position-map}
 use Rattle.name_rules.specs.Outline.{type_named}
 use Rattle.name_rules.specs.Meanings.{type_names, class_named, MeansBase, an_int, a_boolean, a_char, a_text, a_class, Means, MeansCastBase, to_int, to_boolean, to_char, to_class, MeansCast, is_bound, is_class_name, IsStaticFieldOf, IsStaticMethodOf, IsNearestField, IsMet}
 use Rattle.java_core.specs.Untagged.{untag_class, untag_field, untag_method, untagged}
-use Rattle.name_outcome.proofs.Runs.{map-stands, stands-map}
-use Rattle.places_aside.proofs.Outlines.{ap2}
+use Rattle.java_core.proofs.Untagged.{ap2}
 
 -- what is looked for in each item is found in its image
 pub maps : {A B C : Type 0} (u : A → B) (f : B → C) (g : A → C) → ((x : A) → f (u x) ≡ g x) → (xs : List A) → map f (map u xs) ≡ map g xs
@@ -109,27 +109,27 @@ module _ (O : Plain) where
 
   pub static-field : {c f : ℕ} {n : List ℕ} → IsStaticFieldOf O c n f → IsStaticFieldOf bare-outline c n f
   static-field {c} {f} {n} s =
-      record { member = untag_field s.member; own = own-field-same c n ∙ s.own; stands = stands-map untag_field O.fields f s.member s.stands; static = s.static }
+      record { member = untag_field s.member; own = own-field-same c n ∙ s.own; stands = at_map untag_field O.fields f s.member s.stands; static = s.static }
 
   pub static-method : {c m : ℕ} {n : List ℕ} → IsStaticMethodOf O c n m → IsStaticMethodOf bare-outline c n m
   static-method {c} {m} {n} s =
-      record { member = untag_method s.member; stands = stands-map untag_method O.methods m s.member s.stands; owner = s.owner; name = s.name; static = s.static }
+      record { member = untag_method s.member; stands = at_map untag_method O.methods m s.member s.stands; owner = s.owner; name = s.name; static = s.static }
 
   pub nearest-field : {c f : ℕ} {n : List ℕ} {k : PlainField} → IsNearestField O c n f k → IsNearestField bare-outline c n f (untag_field k)
-  nearest-field {c} {f} {n} {k} s = record { nearest = field-same c n ∙ s.nearest; stands = stands-map untag_field O.fields f k s.stands }
+  nearest-field {c} {f} {n} {k} s = record { nearest = field-same c n ∙ s.nearest; stands = at_map untag_field O.fields f k s.stands }
 
   pub nearest-back : {c f : ℕ} {n : List ℕ} {k : PlainField} → IsNearestField bare-outline c n f k
       → (h : PlainField) × IsNearestField O c n f h × (untag_field h ≡ k)
   nearest-back {c} {f} {n} {k} s =
-      let a = map-stands untag_field O.fields f k s.stands in
+      let a = map_at untag_field O.fields f k s.stands in
       (a.0, record { nearest = sym (field-same c n) ∙ s.nearest; stands = a.1 }, a.2)
 
   pub met : {c m : ℕ} {n : List ℕ} {k : PlainMethod} → IsMet O c n m k → IsMet bare-outline c n m (untag_method k)
-  met {c} {m} {n} {k} s = record { stands = stands-map untag_method O.methods m k s.stands; name = s.name; above = below s.above }
+  met {c} {m} {n} {k} s = record { stands = at_map untag_method O.methods m k s.stands; name = s.name; above = below s.above }
 
   pub met-back : {c m : ℕ} {n : List ℕ} {k : PlainMethod} → IsMet bare-outline c n m k → (h : PlainMethod) × IsMet O c n m h × (untag_method h ≡ k)
   met-back {c} {m} {n} {k} s =
-      let a = map-stands untag_method O.methods m k s.stands in (
+      let a = map_at untag_method O.methods m k s.stands in (
         a.0,
         record {
           stands = a.1;

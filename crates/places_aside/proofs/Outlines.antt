@@ -14,9 +14,7 @@ use Rattle.name_rules.specs.Outline.{FieldAt, MethodAt, name_of, has_word, is_ab
 use Rattle.kaba_base.specs.declared.ClassId.{ClassId}
 use Rattle.java_core.specs.Programs.{PlainClass}
 use Rattle.java_core.specs.Untagged.{bare_tag, untag_local, untag_class, untag_field, untag_method, untagged}
-
-pub ap2 : {A B C : Type 0} (f : A → B → C) {a b : A} {c d : B} → a ≡ b → c ≡ d → f a c ≡ f b d
-ap2 f {b = b} {c = c} p q = ap (λ z. f z c) p ∙ ap (λ z. f b z) q
+use Rattle.java_core.proofs.Untagged.{ap2}
 
 -- ---- lists
 

@@ -2,6 +2,7 @@
 use Rattle.std.proofs.Common.{◌≡◌, ℕ, List, [], ◌∷◌, map, Option, Some, None, Contains, refl, sym, ap, ◌∙◌, subst}
 use Rattle.std.specs.Option.{is_some}
 use Rattle.kaba_base.specs.declared.Place.{Place}
+use Rattle.kaba_base.proofs.Listed.{map_at, at_map, at_contains, contains_at}
 use Rattle.java_tree.specs.declared.Id.{Id}
 use Rattle.java_tree.specs.declared.TypeName.{TypeName}
 use Rattle.java_tree.specs.Syntax.{DeclTree, ClassTree, InterfaceTree}
@@ -14,7 +15,6 @@ use Rattle.name_rules.specs.Asked.{IsSuper, a_parent, a_face, IsDeclared, of_fie
 use Rattle.name_rules.specs.Resolves.{Counts, BodiesResolve, heading_of, HasSlot, no_slot, a_slot, AreSlots, Resolves}
 use Rattle.java_core.specs.Untagged.{untag_class, untag_field, untag_method, untagged}
 use Rattle.name_outcome.proofs.UntaggedNumbers as numbers
-use Rattle.name_outcome.proofs.Runs.{member-at, member-stands, map-stands, stands-map}
 use Rattle.name_outcome.proofs.Sees.{same_some}
 use Rattle.places_aside.proofs.Outlines.{field_at_unplaced, method_at_unplaced, fields-same, methods-same, outline-same}
 use Rattle.places_aside.proofs.Meanings.{named-same}
@@ -30,8 +30,8 @@ all-mapped u (x ∷ xs) = ap (λ z. u x ∷ z) (all-mapped u xs)
 -- an item of a mapped list is the image of one
 pub from-map : {A : Type 0} (u : A → A) (xs : List A) (y : A) → Contains (map u xs) y → (x : A) × Contains xs x × (u x ≡ y)
 from-map u xs y h =
-    let a = member-stands (map u xs) y h in let b = map-stands u xs a.0 y a.1 in
-    (b.0, member-at xs a.0 b.0 b.1, b.2)
+    let a = at_contains (map u xs) y h in let b = map_at u xs a.0 y a.1 in
+    (b.0, contains_at xs a.0 b.0 b.1, b.2)
 
 pub from-all : {A : Type 0} (u : A → A) (xs : List A) (y : A) → Contains (all_unplaced u xs) y → (x : A) × Contains xs x × (u x ≡ y)
 from-all u xs y h = from-map u xs y (subst (λ z. Contains z y) (all-mapped u xs) h)
@@ -93,9 +93,9 @@ module _ (P : Plain) where
 
   slots : AreSlots P → AreSlots (untagged P)
   slots p = record {
-    each = λ m k e. let a = map-stands untag_method P.methods m k e in subst (HasSlot (untagged P)) a.2 (has-slot (p.each m a.0 a.1));
-    first = λ s slot e. let a = p.first s slot e in (untag_method a.0, stands-map untag_method P.methods slot.first a.0 a.1, a.2);
-    least = λ s m slot k e h i. let a = map-stands untag_method P.methods m k h in p.least s m slot a.0 e a.1 (ap (λ z. z.slot) a.2 ∙ i);
+    each = λ m k e. let a = map_at untag_method P.methods m k e in subst (HasSlot (untagged P)) a.2 (has-slot (p.each m a.0 a.1));
+    first = λ s slot e. let a = p.first s slot e in (untag_method a.0, at_map untag_method P.methods slot.first a.0 a.1, a.2);
+    least = λ s m slot k e h i. let a = map_at untag_method P.methods m k h in p.least s m slot a.0 e a.1 (ap (λ z. z.slot) a.2 ∙ i);
     apart = p.apart;
     order = p.order;
   }
@@ -121,9 +121,9 @@ resolves-bare tree P r =
       last = r.last;
       numbers = subst (λ z. Counts 0 z r.last) (sym (numbers.methods-same P.methods)) r.numbers;
       main = untag_method r.main;
-      main_stands = stands-map untag_method P.methods P.main r.main r.main_stands;
+      main_stands = at_map untag_method P.methods P.main r.main r.main_stands;
       main_is = main-bare P r.main_is;
-      main_first = λ m k e h. let a = map-stands untag_method P.methods m k e in r.main_first m a.0 a.1 (main-back P a.0 (subst IsMain (sym a.2) h));
+      main_first = λ m k e h. let a = map_at untag_method P.methods m k e in r.main_first m a.0 a.1 (main-back P a.0 (subst IsMain (sym a.2) h));
     }
   where
     headings : (ks : List PlainMethod) → map heading_of (map untag_method ks) ≡ map untag_method (map heading_of ks)

@@ -6,6 +6,7 @@ use Rattle.std.proofs.lemmas.List.Elements.{Contains-append_left, Contains-appen
 use Rattle.std.proofs.Math.Seq.{take-suc}
 use Rattle.std.proofs.Math.Numerals.{add-one}
 use Rattle.kaba_base.specs.declared.ClassId.{ClassId}
+use Rattle.kaba_base.proofs.Listed.{one_from, one as one-is, no-member}
 use Rattle.kaba_bits.specs.Sets.{bit, row, IsNoneFrom, GainsBit}
 use Rattle.kaba_bits.proofs.SetLemmas.{bit-below}
 use Rattle.fact_model.specs.declared.facts.Facts.{Facts}
@@ -13,15 +14,6 @@ use Rattle.fact_model.specs.Classes.{supers_of, IsBelow, same, through}
 use Rattle.fact_model.specs.InRange.{IsClass}
 use Rattle.fact_model.specs.Items.{site_class}
 use Rattle.points_to.specs.Above.{class_id, IsAboveRow, AreSitesBelow, HasSite, Gained, Walked}
-
-pub no-member : {X : Type 0} {P : Type 0} (x : X) → Contains ([]) x → P
-no-member x c = let lt = c.1 in absurd (omega (arith, lt))
-
-pub one-member : {X : Type 0} (y x : X) → Contains (y ∷ []) x → y ≡ x
-one-member y x c = ⊎_elim (λ h. no-member x h) (λ e. e) (Contains-push_cases [] y x c)
-
-pub one-is : {X : Type 0} (x : X) → Contains (x ∷ []) x
-one-is x = Contains-push [] x
 
 -- ---- what a row gains
 }
@@ -77,10 +69,10 @@ module _ (F : Facts) where
     len = g.len ∙ len;
     start = g.told a (one-is a);
     sound = λ y h. ⊎_elim (λ k. absurd (none y k))
-        (λ c. subst (λ z. IsBelow F a.0 z) (ap (λ (z : ClassId). z.0) (one-member a (class_id y) c)) same) (g.news y h);
+        (λ c. subst (λ z. IsBelow F a.0 z) (ap (λ (z : ClassId). z.0) (one_from a (class_id y) c)) same) (g.news y h);
     settled = λ y h. ⊎_elim (λ k. absurd (none y k)) (λ c. inl c) (g.settled y h);
-    from = λ y c. ⊎_elim (λ d. no-member y d) (λ d. subst (λ (z : ClassId). IsBelow F a.0 z.0) (one-member a y d) same) (g.comes y c);
-    inside = λ y c. ⊎_elim (λ d. no-member y d) (λ d. subst (IsClass F) (one-member a y d) in_range) (g.comes y c);
+    from = λ y c. ⊎_elim (λ d. no-member y d) (λ d. subst (λ (z : ClassId). IsBelow F a.0 z.0) (one_from a y d) same) (g.comes y c);
+    inside = λ y c. ⊎_elim (λ d. no-member y d) (λ d. subst (IsClass F) (one_from a y d) in_range) (g.comes y c);
   }
 
   module _ (a : ℕ) where

@@ -5,6 +5,7 @@ use Rattle.std.specs.List.{All, filter_map, flat_map, range_with_len}
 use Rattle.std.specs.List.Sorted.{IsPermutation}
 use Rattle.std.proofs.lemmas.List.Elements.{All-contains, All-contains_itself, All-map, All-append, Contains-append_left, Contains-append_right}
 use Rattle.std.proofs.lemmas.List.Sorted.{All-permutation, IsPermutation-sym}
+use Rattle.kaba_base.proofs.Listed.{flat_has, map_has, all_of}
 use Rattle.kaba_bits.specs.Sets.{IsStep}
 use Rattle.fact_model.specs.declared.facts.Facts.{Facts}
 use Rattle.fact_model.specs.declared.facts.NewInfo.{NewInfo}
@@ -30,7 +31,7 @@ use Rattle.points_to.specs.declared.work.Member.TheVariants.{Parameter, Returned
 use Rattle.points_to.specs.declared.found.Found.{Found}
 use Rattle.points_to.specs.declared.index.Index.{Index}
 use Rattle.points_to.proofs.EdgeLemmas.{new_told, flow_edge, cast_edge, load_read, store_write, call_run, argument_write, result_read, body_target, target_body}
-use Rattle.points_to.proofs.MadeLemmas.{all_of, all_among, all_some, all_flat, has_mapped, has_some, has_flat, has_number, of_mapped}
+use Rattle.points_to.proofs.MadeLemmas.{all_among, all_some, all_flat, has_some, has_number, of_mapped}
 
 -- what is asked for holds
 module _ (F : Facts) (R : InRange F) where
@@ -83,23 +84,23 @@ module _ (F : Facts) (R : InRange F) where
 -- what all that is asked for is, is what each fact asks for
 module _ {F : Facts} {E : Edge → Type 0} {S : Told → Type 0} {R : Read → Type 0} {W : Write → Type 0} {U : Run → Type 0} (a : AreFixed F E S R W U) where
   pub new_fixed : (x : NewInfo) → Contains F.news.items x → S (told_of_new x)
-  new_fixed x c = All-contains S (asked_told F) (told_of_new x) a.told (has_mapped told_of_new F.news.items x c)
+  new_fixed x c = All-contains S (asked_told F) (told_of_new x) a.told (map_has told_of_new F.news.items x c)
 
   pub flow_fixed : (x : FlowInfo) → Contains F.flows.items x → E (edge_of_flow x)
-  flow_fixed x c = All-contains E (asked_edges F) (edge_of_flow x) a.edges (Contains-append_left _ _ _ (has_mapped edge_of_flow F.flows.items x c))
+  flow_fixed x c = All-contains E (asked_edges F) (edge_of_flow x) a.edges (Contains-append_left _ _ _ (map_has edge_of_flow F.flows.items x c))
 
   pub cast_fixed : (x : CastInfo) → Contains F.casts.items x → E (edge_of_cast x)
-  cast_fixed x c = All-contains E (asked_edges F) (edge_of_cast x) a.edges (Contains-append_right _ _ _ (has_mapped edge_of_cast F.casts.items x c))
+  cast_fixed x c = All-contains E (asked_edges F) (edge_of_cast x) a.edges (Contains-append_right _ _ _ (map_has edge_of_cast F.casts.items x c))
 
   pub load_fixed : (x : LoadInfo) → Contains F.loads.items x → R (read_of_load x)
-  load_fixed x c = All-contains R (asked_reads F) (read_of_load x) a.reads (Contains-append_left _ _ _ (has_mapped read_of_load F.loads.items x c))
+  load_fixed x c = All-contains R (asked_reads F) (read_of_load x) a.reads (Contains-append_left _ _ _ (map_has read_of_load F.loads.items x c))
 
   pub store_fixed : (x : StoreInfo) → Contains F.stores.items x → W (write_of_store x)
-  store_fixed x c = All-contains W (asked_writes F) (write_of_store x) a.writes (Contains-append_left _ _ _ (has_mapped write_of_store F.stores.items x c))
+  store_fixed x c = All-contains W (asked_writes F) (write_of_store x) a.writes (Contains-append_left _ _ _ (map_has write_of_store F.stores.items x c))
 
   module _ (x : CallInfo) (c : Contains F.calls.items x) where
     pub run_fixed : U (run_of_call x)
-    run_fixed = All-contains U (asked_runs F) (run_of_call x) a.runs (has_mapped run_of_call F.calls.items x c)
+    run_fixed = All-contains U (asked_runs F) (run_of_call x) a.runs (map_has run_of_call F.calls.items x c)
 
     pub result_fixed : (y : Read) → read_of_result x ≡ Some y → R y
     result_fixed y e = All-contains R (asked_reads F) y a.reads (Contains-append_right (map read_of_load F.loads.items)
@@ -107,7 +108,7 @@ module _ {F : Facts} {E : Edge → Type 0} {S : Told → Type 0} {R : Read → T
 
     pub argument_fixed : (k : ℕ) (y : Write) → k < length x.args.items → write_of_argument x k ≡ Some y → W y
     argument_fixed k y lt e = All-contains W (asked_writes F) y a.writes (Contains-append_right (map write_of_store F.stores.items)
-        (flat_map writes_of_call F.calls.items) y (has_flat writes_of_call F.calls.items x y c
+        (flat_map writes_of_call F.calls.items) y (flat_has writes_of_call F.calls.items x y c
         (has_some (write_of_argument x) (range_with_len 0 (length x.args.items)) k y (has_number (length x.args.items) k lt) e)))
 
 -- where all that was found is closed, the sets are

@@ -1,13 +1,9 @@
 -- Lists that are made of others: what holds of each of their elements, and which elements they have.
-use Rattle.std.proofs.Common.{◌≡◌, ℕ, zero, suc, ◌+◌, ◌<◌, List, [], ◌∷◌, get_or, map, Option, Some, None, Contains, refl, ap, sym, subst, ◌∙◌, arith}
+use Rattle.std.proofs.Common.{◌≡◌, ℕ, zero, suc, ◌+◌, ◌<◌, List, [], ◌∷◌, get_or, Option, Some, None, Contains, refl, ap, sym, subst, ◌∙◌, arith}
 use Rattle.std.specs.Option.{option_map}
 use Rattle.std.specs.List.{All, cons_option, filter_map, flat_map, range_with_len}
-use Rattle.std.proofs.lemmas.List.{length-map, get_or-map}
 use Rattle.std.proofs.lemmas.List.FromFn.{length-range_with_len, get_or-range_with_len}
-use Rattle.std.proofs.lemmas.List.Elements.{All-nil, All-cons, All-head, All-tail, All-append, All-contains, Contains-get_or, Contains-append_left, Contains-append_right}
-
-pub all_of : {X : Type 0} (P : X → Type 0) (xs : List X) → ((x : X) → Contains xs x → P x) → All P xs
-all_of P xs f k d lt = f _ (Contains-get_or xs k d lt)
+use Rattle.std.proofs.lemmas.List.Elements.{All-nil, All-cons, All-head, All-tail, All-append, All-contains}
 
 -- what holds of each of a list holds of each of those that are all in it
 pub all_among : {X : Type 0} (P : X → Type 0) (xs ys : List X) → All P xs → All (Contains xs) ys → All P ys
@@ -32,18 +28,10 @@ behind None ys y c = c
 behind (Some z) ys y c = (suc c.0, omega (arith, c.1), c.2)
 
 module _ {X Y : Type 0} where
-  pub has_mapped : (f : X → Y) (xs : List X) (x : X) → Contains xs x → Contains (map f xs) (f x)
-  has_mapped f xs x c = (c.0, omega (arith, c.1, length-map xs f), get_or-map f xs c.0 x (f x) c.1 ∙ ap f c.2)
-
   pub has_some : (h : X → Option Y) (xs : List X) (x : X) (y : Y) → Contains xs x → h x ≡ Some y → Contains (filter_map h xs) y
   has_some h [] x y c e = absurd (omega (arith, c.1))
   has_some h (z ∷ zs) x y (zero, lt, is) e = subst (λ o. Contains (cons_option o (filter_map h zs)) y) (sym (ap h is ∙ e)) (0, omega arith, refl)
   has_some h (z ∷ zs) x y (suc k, lt, is) e = behind (h z) (filter_map h zs) y (has_some h zs x y (k, omega (arith, lt), is) e)
-
-  pub has_flat : (f : X → List Y) (xs : List X) (x : X) (y : Y) → Contains xs x → Contains (f x) y → Contains (flat_map f xs) y
-  has_flat f [] x y c d = absurd (omega (arith, c.1))
-  has_flat f (z ∷ zs) x y (zero, lt, is) d = Contains-append_left (f z) (flat_map f zs) y (subst (λ w. Contains (f w) y) (sym is) d)
-  has_flat f (z ∷ zs) x y (suc k, lt, is) d = Contains-append_right (f z) (flat_map f zs) y (has_flat f zs x y (k, omega (arith, lt), is) d)
 
 pub has_number : (n k : ℕ) → k < n → Contains (range_with_len 0 n) k
 has_number n k lt =

@@ -44,10 +44,6 @@ pub on_true_of : {P : Type 0} (g : Bool) → (g ≡ true → P) → OnTrue g P
 on_true_of true p = p refl
 on_true_of false p = tt
 
-pub on_true_then : {P Q : Type 0} (g : Bool) → (P → Q) → OnTrue g P → OnTrue g Q
-on_true_then true f p = f p
-on_true_then false f p = tt
-
 -- what a turn keeps from one element to the next, and what it gives for each
 pub round_first : (W V Q : Type 0) (g h : Bool) → OnFalse g W → OnFalse h (W → V × Q) → OnFalse (g || h) V
 round_first W V Q true h w f = tt

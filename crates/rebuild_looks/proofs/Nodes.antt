@@ -6,10 +6,11 @@ use Rattle.std.proofs.lemmas.Option.{same_Some}
 use Rattle.std.specs.Cmp.{both_ways}
 use Rattle.kaba_base.specs.declared.NodeId.{NodeId}
 use Rattle.kaba_base.specs.declared.ClassId.{ClassId}
+use Rattle.kaba_base.proofs.Listed.{contains_cases}
 use Rattle.java_core.specs.Programs.{Plain}
 use Rattle.java_core.specs.Classes.{supers_of, IsSubclass, same_class, through, below, is_concrete}
 use Rattle.java_core.proofs.Subclasses.{below-subclass, subclass-below}
-use Rattle.java_core.proofs.Upwards.{contains_cases, IsMemberClass, above_object}
+use Rattle.java_core.proofs.Upwards.{IsMemberClass, above_object}
 use Rattle.kaba_order.specs.Orders.{is_le, is_live}
 use Rattle.fact_model.specs.Items.{site_at, site_row, column_kind}
 use Rattle.fact_model.specs.declared.facts.Facts.{Facts}

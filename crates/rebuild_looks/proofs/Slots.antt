@@ -2,7 +2,7 @@
 use Rattle.std.proofs.Common.{◌≡◌, ℕ, ◌<◌, ◌&&◌, [], Option, Some, None, refl, sym, ap, ◌∙◌}
 use Rattle.std.specs.Prelude.{true, length, slice_get, option_and_then}
 use Rattle.std.specs.Option.{option_map_or}
-use Rattle.std.proofs.lemmas.Bool.{false≢true, and_from, and_parts, eqb-true, eq-eqb}
+use Rattle.std.proofs.lemmas.Bool.{false≢true, and_from, and_parts, eq-eqb}
 use Rattle.kaba_base.specs.declared.NodeId.{NodeId}
 use Rattle.java_core.specs.Programs.{Plain, PlainMethod}
 use Rattle.java_core.specs.Classes.{slot_of_method}
@@ -10,6 +10,7 @@ use Rattle.kaba_order.specs.Orders.{is_le}
 use Rattle.fact_model.specs.Items.{column_kind, column_slot}
 use Rattle.fact_model.specs.Classes.{is_def, is_slot}
 use Rattle.fact_model.specs.declared.facts.Facts.{Facts}
+use Rattle.fact_model.proofs.ClassLemmas.{slot_says}
 use Rattle.hier_model.specs.Hierarchies.{Hierarchy, place_of_column, member_name, is_above, is_offered, offers_slot, is_method}
 use Rattle.hier_model.proofs.AnyLemmas.{any_below_some, any_below_has}
 use Rattle.flow_rules.specs.declared.items.ColumnItem.{ColumnItem}
@@ -19,11 +20,6 @@ use Rattle.rebuild_model.specs.Renaming.{renaming_of}
 use Rattle.rebuild_model.specs.Members.{offers_body}
 use Rattle.rebuild_looks.specs.Known.{Known, Offers, sides}
 use Rattle.rebuild_looks.proofs.Nodes.{is_offered_at, offers_at}
-
--- the test of a slot, and what it says
-pub slot_says : (o : Option ℕ) (x : ℕ) → is_slot o x ≡ true → o ≡ Some x
-slot_says None x h = absurd (false≢true h)
-slot_says (Some y) x h = ap Some (eqb-true y x h)
 
 pub slot_test : (o : Option ℕ) (x : ℕ) → o ≡ Some x → is_slot o x ≡ true
 slot_test o x h = ap (λ z. is_slot z x) h ∙ eq-eqb x x refl

@@ -16,6 +16,7 @@ use Rattle.fact_model.specs.Entries.{IsTable}
 use Rattle.fact_model.specs.declared.facts.Facts.{Facts}
 use Rattle.fact_model.specs.declared.sets.PointsTo.{PointsTo}
 use Rattle.fact_model.specs.declared.sets.Table.{Table}
+use Rattle.fact_model.proofs.ClassLemmas.{slot_says}
 use Rattle.hier_model.specs.Hierarchies.{Hierarchy, IsHierarchyOf}
 use Rattle.hier_rules.specs.First.{first_broken}
 use Rattle.flow_rules.specs.Facts.{IsFactsOf}
@@ -23,7 +24,6 @@ use Rattle.java_core.specs.Untagged.{untagged}
 use Rattle.facts_order.proofs.Pairs.{IsPlaced}
 use Rattle.rebuild_model.specs.Written.{IsWritten}
 use Rattle.rebuild_looks.specs.Known.{Known}
-use Rattle.rebuild_looks.proofs.Slots.{slot_says}
 use Rattle.rebuild_looks.proofs.Concrete.{concrete_bodies}
 use Rattle.rebuild_types.proofs.Bodies.{methods_typed}
 

@@ -1,5 +1,6 @@
 -- Steps of the loops over lists.
 use Rattle.std.proofs.Common.{◌≡◌, ℕ, ◌+◌, ◌<◌, List, [], ◌∷◌, ◌++◌, length, drop, get_or, Result, Ok, sym, ap, ◌∙◌}
+use Rattle.kaba_base.proofs.Listed.{drop_at}
 use Rattle.java_tree.specs.declared.Expr.{Expr}
 use Rattle.java_tree.specs.Syntax as tree
 use Rattle.java_core.specs.declared.RExpr.{RExpr}
@@ -11,7 +12,6 @@ use Rattle.name_rules.specs.declared.parts.Here.{Here}
 use Rattle.name_outcome.specs.Answers.{with}
 use Rattle.name_outcome.specs.Expressions.{walk, walk_all, ex_last}
 use Rattle.resolved_bodies.proofs.Rows.{exprs_push}
-use Rattle.resolved_bodies.proofs.Steps.{next_at}
 
 -- one argument more
 pub all_next : (t : Table) (h : Here) (scope : List Bound) (k j : ℕ) (done pushed : List RExpr) (list : List Expr) (n : ℕ) (s : Expr) (e : RExpr)
@@ -23,5 +23,5 @@ all_next t h scope k j done pushed list n s e o below at given push before =
     let rest = drop (n + 1) list in
     ap (λ x. walk_all t h scope x j (tree.exprs rest)) (ap (exprs at_place) push ∙ exprs_push done e)
     ∙ ap (λ x. with x (λ x. walk_all t h scope (ex_last (exprs at_place done) x.0) x.1 (tree.exprs rest))) (sym given)
-    ∙ ap (λ x. walk_all t h scope (exprs at_place done) k (tree.exprs x)) (sym (next_at list n s below at))
+    ∙ ap (λ x. walk_all t h scope (exprs at_place done) k (tree.exprs x)) (sym (drop_at list n s below at))
     ∙ before

@@ -16,8 +16,9 @@ use Rattle.name_rules.specs.declared.parts.Here.{Here}
 use Rattle.name_outcome.specs.Answers.{with, IsRefused, Gives}
 use Rattle.name_outcome.specs.Statements.{State, walk_expr, walk_st, walk_sts, walk_arm, walk_arms, walk_else, walk_value, walk_optional, st_last, arm_last, ending, kept}
 use Rattle.resolved_bodies.proofs.StatementRows.{stmts_push, arms_push}
-use Rattle.resolved_bodies.proofs.Steps.{next_at, passes}
+use Rattle.resolved_bodies.proofs.Steps.{passes}
 use Rattle.std.proofs.Common.{subst}
+use Rattle.kaba_base.proofs.Listed.{drop_at}
 
 module _ (t : Table) (h : Here) (inside : Bool) where
   -- one statement more
@@ -30,7 +31,7 @@ module _ (t : Table) (h : Here) (inside : Bool) where
       let rest = drop (n + 1) list in
       ap (λ x. walk_sts t h inside x after j (tree.stmts rest)) (ap (stmts at_place) push ∙ stmts_push done e)
       ∙ ap (λ x. with x (λ x. walk_sts t h inside (st_last (stmts at_place done) x.0) x.1 x.2 (tree.stmts rest))) (sym given)
-      ∙ ap (λ x. walk_sts t h inside (stmts at_place done) scope k (tree.stmts x)) (sym (next_at list n s below at))
+      ∙ ap (λ x. walk_sts t h inside (stmts at_place done) scope k (tree.stmts x)) (sym (drop_at list n s below at))
       ∙ before
 
   in_arm : {D : Type 0} (x : Ex) (b : Result (Sts × State) Refusal) (go : Ex × Sts × State → Result D Refusal)
@@ -50,7 +51,7 @@ module _ (t : Table) (h : Here) (inside : Bool) where
   arm_split scope k done list n s below at =
       arm_parts (walk_expr t h scope k (tree.expr_of s.test)) (λ j. walk_sts t h inside no_st scope j (tree.stmts s.body.items))
       (λ a. walk_arms t h inside (arm_last done a.0 a.1) scope a.2 (tree.arms_seen (drop (n + 1) list)))
-      ∙ ap (λ x. walk_arms t h inside done scope k (tree.arms_seen x)) (sym (next_at list n s below at))
+      ∙ ap (λ x. walk_arms t h inside done scope k (tree.arms_seen x)) (sym (drop_at list n s below at))
 
   -- one arm more
   pub arms_next : (scope : List Bound) (k j : State) (done pushed : List RArm) (list : List Arm) (n : ℕ) (s : Arm) (e : RArm)

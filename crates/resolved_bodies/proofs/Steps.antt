@@ -1,11 +1,8 @@
 -- Steps of the loops over lists.
-use Rattle.std.proofs.Common.{◌≡◌, ℕ, ◌+◌, ◌<◌, drop-cons, List, ◌∷◌, length, drop, get_or, Result, sym, ap, ◌∙◌, suc, add-one}
+use Rattle.std.proofs.Common.{◌≡◌, List, ◌∷◌, Result, ap}
 use Rattle.name_rules.specs.declared.Refusal.{Refusal}
 use Rattle.name_rules.specs.declared.Refusal.TheVariants as refusals
 use Rattle.name_outcome.specs.Answers.{with, IsRefused}
-
-pub next_at : {A : Type 0} (list : List A) (n : ℕ) (s : A) → n < length list → s ≡ get_or list n s → drop n list ≡ s ∷ drop (n + 1) list
-next_at list n s below at = drop-cons list n s below ∙ ap (λ x. x ∷ drop (suc n) list) (sym at) ∙ ap (λ k. s ∷ drop k list) (sym (add-one n))
 
 -- a fault passes on
 pub passes : {B D : Type 0} (r : Refusal) (o : Result B Refusal) (go : B → Result D Refusal) → IsRefused r o → IsRefused r (with o go)

@@ -17,6 +17,7 @@ use Rattle.java_core.specs.Formed.{IsFormed}
 use Rattle.fact_model.specs.Classes.{parent_of, is_slot, is_body, own_body, finds_within}
 use Rattle.fact_model.specs.Flowing.{point_at as listed_at}
 use Rattle.fact_model.specs.declared.facts.Facts.{Facts}
+use Rattle.fact_model.proofs.ClassLemmas.{slot_says}
 use Rattle.flow_rules.specs.declared.items.ColumnItem.{ColumnItem}
 use Rattle.flow_rules.specs.declared.items.ColumnItem.TheVariants as column
 use Rattle.flow_rules.specs.declared.items.PointItem.TheVariants as point
@@ -35,10 +36,6 @@ use Rattle.run_cover.proofs.HasRows.{method_of, of_method, in_slot, this_point_o
 use Rattle.java_core.specs.declared.TyBase.TheVariants.{Int}
 use Rattle.java_core.proofs.Positions.{position-map}
 use Rattle.run_cover.proofs.Found.{each_get, same_parent, same_length, body_listed, nearest_some}
-
-slot_is : (o : Option ℕ) (x : ℕ) → is_slot o x ≡ true → o ≡ Some x
-slot_is None x e = absurd (false≢true e)
-slot_is (Some y) x e = ap (λ z. Some z) (eqb-true y x e)
 
 java_slot_is : (o : Option ℕ) (x : ℕ) → java.is_slot o x ≡ true → o ≡ Some x
 java_slot_is None x e = absurd (false≢true e)
@@ -89,7 +86,7 @@ module _ (Q : Plain) (F : Facts) (formed : IsFormed (untagged Q)) (facts : IsFac
         method = k;
         there = d;
         owner = ap (λ z. option_map_or (λ (k : PlainMethod). k.owner) z 0) (sym d) ∙ eqb-true (owner_of Q (column.Def m)) a h.0;
-        slot = slot_is k.slot x (ap (λ z. is_slot (option_and_then (λ (k : PlainMethod). k.slot) z) x) (sym d) ∙ h.1);
+        slot = slot_says k.slot x (ap (λ z. is_slot (option_and_then (λ (k : PlainMethod). k.slot) z) x) (sym d) ∙ h.1);
       }
 
   own_item : (a x m : ℕ) → IsOwn a x m → is_body a x (column_info Q (column.Def m)) ≡ true

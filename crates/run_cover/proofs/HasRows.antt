@@ -1,5 +1,5 @@
 -- Fields, results and variables of an object's type have rows and points, in a formed program.
-use Rattle.std.proofs.Common.{◌≡◌, ℕ, zero, suc, List, [], ◌∷◌, ◌++◌, Option, Some, None, length, refl, sym, ap, ◌∙◌, subst, arith}
+use Rattle.std.proofs.Common.{◌≡◌, ℕ, ◌++◌, Option, Some, None, length, refl, sym, ap, ◌∙◌, subst, arith}
 use Rattle.std.specs.Prelude.{◌<◌, ◌||◌, nat_lt, not, Bool, true, false, slice_get}
 use Rattle.std.specs.Option.{option_map, option_map_or, is_some}
 use Rattle.std.proofs.lemmas.Bool.{eq-eqb, or_left, or_right}
@@ -18,17 +18,13 @@ use Rattle.flow_rules.specs.Numbered.{is_first_in, is_first, row_number, point_n
 use Rattle.flow_rules.proofs.Listed.{at_left}
 use Rattle.java_core.specs.Untagged.{untag_field, untag_method, untagged}
 use Rattle.std.proofs.lemmas.Option.{slice_get-map}
+use Rattle.kaba_base.proofs.Listed.{get_same}
 use Rattle.run_cover.proofs.Untagging.{untyped_params}
 use Rattle.run_cover.proofs.HasNumbers.{field_row, this_row, result_row, own_variable_row, static_point, this_point, variable_point, result_point}
 
 pub object_there : (o : Option Ty) (t : ObjectType) → object_if o ≡ Some t → (u : Ty) × (o ≡ Some u) × (object_of u ≡ Some t)
 object_there None t e = absurd (cc)
 object_there (Some u) t e = (u, refl, e)
-
-get_within : {A : Type 0} (xs ys : List A) (i : ℕ) → i < length xs → slice_get (xs ++ ys) i ≡ slice_get xs i
-get_within [] ys i h = absurd (omega (arith, h))
-get_within (x ∷ xs) ys zero h = refl
-get_within (x ∷ xs) ys (suc i) h = get_within xs ys i (omega (arith, h))
 
 lt_of : (a b : ℕ) → nat_lt a b ≡ true → a < b
 lt_of a b e = grind (arith, e)
@@ -123,7 +119,7 @@ module _ (Q : Plain) (formed : IsFormed (untagged Q)) where
           let j = in_slot m k e s h in
           let f = first_of_slot s j.slot j.stands in
           let here : slice_get (types_of k.params) i ≡ Some v.ty = slice_get-map (λ v. v.ty) k.params i
-          ∙ ap (λ z. option_map (λ v. v.ty) z) (sym (get_within k.params k.locals i (lt_of i (length k.params) l)) ∙ ev) in
+          ∙ ap (λ z. option_map (λ v. v.ty) z) (sym (get_same k.params k.locals i (lt_of i (length k.params) l)) ∙ ev) in
           let there : slice_get (types_of f.method.params) i ≡ Some v.ty = ap (λ z. slice_get z i) (f.params ∙ sym j.params ∙ untyped_params k.params) ∙ here in
           let w = mapped_some (λ (v : PlainLocal). v.ty) (slice_get f.method.params i) v.ty (sym (slice_get-map (λ v. v.ty) f.method.params i) ∙ there) in
           let r = own_variable_row P Q j.slot.first f.method f.there i w.0 t (at_left f.method.params f.method.locals i w.0 w.1)

@@ -3,7 +3,7 @@ use Rattle.std.proofs.Common.{◌≡◌, ℕ, zero, suc, ◌+◌, List, [], ◌�
 use Rattle.std.specs.Prelude.{Bool, true, false, Contains, slice_get}
 use Rattle.std.specs.Option.{option_map, option_to_list}
 use Rattle.std.specs.List.{flat_map}
-use Rattle.std.proofs.lemmas.Option.{same_Some}
+use Rattle.std.proofs.lemmas.Option.{same_Some, slice_get_within}
 use Rattle.std.proofs.lemmas.Grind.{flat_map-append}
 use Rattle.std.proofs.lemmas.List.Elements.{Contains-append_left, Contains-append_right}
 use Rattle.java_core.specs.Trees.{Tag, Ex, Exs, no_ex, ex_then, local, field, index, call, static_call, super_call, create, create_array, cast, instance_of, unary, binary, Target, to_local, to_static, to_own, to_field, to_element, no_target, St, Sts, Arms, declare, block, assign, act, print, choose, loop, return, break, continue, no_st, st_then, no_other, otherwise, arm}
@@ -16,7 +16,7 @@ use Rattle.flow_rules.specs.declared.items.RowItem.TheVariants as row
 use Rattle.flow_rules.specs.Labels.{size, label, label_all, size_if, label_if, size_target, label_target, size_st, size_sts, label_st, label_sts, label_arms}
 use Rattle.flow_rules.specs.Parts.{Part, a_creation, a_test, is_accessed, parts, parts_all, parts_if, parts_set, parts_return, parts_assign, parts_st, parts_sts, parts_arms, parts_body, parts_of}
 use Rattle.flow_rules.specs.Operands.{type_in}
-use Rattle.flow_rules.proofs.Listed.{at_contains, at_below, flat_has, at_left}
+use Rattle.flow_rules.proofs.Listed.{at_contains, flat_has, at_left}
 
 -- the number of what has a row of its own
 abbrev pub number_in : Option RowItem → List ℕ
@@ -177,7 +177,7 @@ module _ {A : Type 0} where
   twice_apart xs ys x h c d =
       let a = at_contains xs x c in
       let b = at_contains ys x d in
-      absurd (omega (arith, at_below xs a.0 x a.1, h a.0 (length xs + b.0) x (at_left xs ys a.0 x a.1) (back xs ys b.0 x b.1)))
+      absurd (omega (arith, slice_get_within xs a.0 x a.1, h a.0 (length xs + b.0) x (at_left xs ys a.0 x a.1) (back xs ys b.0 x b.1)))
 
 -- two parts of a list with one number are one
 one_part : (ps : List Part) (p q : Part) (n : ℕ) → HasNoTwice (numbers_in ps) → Contains ps p → Contains ps q → Contains (part_number p) n

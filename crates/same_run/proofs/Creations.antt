@@ -3,7 +3,7 @@ use Rattle.std.proofs.Common.{◌≡◌, ℕ, ◌<◌, Option, Some, None, lengt
 use Rattle.std.specs.Prelude.{Bool, true, false, ◌==◌, slice_get, Contains}
 use Rattle.std.specs.Option.{option_map, option_map_or, is_some}
 use Rattle.std.specs.Str.{bytes_eq}
-use Rattle.std.proofs.lemmas.Option.{same_Some}
+use Rattle.std.proofs.lemmas.Option.{same_Some, slice_get_within}
 use Rattle.std.proofs.lemmas.Bool.{and_from, and_parts, eq-eqb, eqb-true}
 use Rattle.std.proofs.lemmas.Slice.Eq.{bytes_eq-Decides}
 use Rattle.kaba_base.specs.declared.Place.{Place}
@@ -46,7 +46,7 @@ use Rattle.facts_order.proofs.Classes.{below_subclass}
 use Rattle.facts_order.proofs.Columns.{Stands, for_field, for_declaration, for_body, for_mark, column_stands, numbered_column}
 use Rattle.flow_rules.proofs.NumberedItems.{numbered_columns, numbered_sites}
 use Rattle.facts_order.proofs.Sites.{site_types, site_part, created_row}
-use Rattle.flow_rules.proofs.Listed.{at_map, at_below}
+use Rattle.flow_rules.proofs.Listed.{at_map}
 use Rattle.rebuild_model.specs.Renaming.{retyped}
 use Rattle.rebuild_looks.specs.Known.{Known, Offers, sides}
 use Rattle.rebuild_looks.proofs.Fields as fields
@@ -207,7 +207,7 @@ module _ {Q : Plain} {F : Facts} {H : Hierarchy} {W : Plain} (K : Known (untagge
 
         site_below : (n s : ℕ) → site_number P Q n ≡ Some s → s < length F.sites.items
         site_below n s es =
-            let x = (numbered_sites P Q).at n s es in at_below F.sites.items s (site_info x.0)
+            let x = (numbered_sites P Q).at n s es in slice_get_within F.sites.items s (site_info x.0)
             (subst (λ z. slice_get z s ≡ Some (site_info x.0)) (sym facts.sites) (at_map site_info (sites_of P Q) s x.0 x.1))
 
         values_of : (n : ℕ) (y : ObjectType) (c s : ℕ) → site_number P Q n ≡ Some s → y ≡ site_type F s → T.type_of (node s) ≡ c → (f : ℕ)

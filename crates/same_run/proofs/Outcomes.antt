@@ -2,7 +2,7 @@
 use Rattle.std.proofs.Common.{◌≡◌, ℕ, zero, suc, ◌<◌, Option, Some, None, length, refl, sym, ap, ◌∙◌, subst, arith}
 use Rattle.std.specs.Prelude.{Bool, true, false, ◌==◌, ◌&&◌, nat_lt, max, slice_get, Contains}
 use Rattle.std.proofs.lemmas.Option.{same_Some}
-use Rattle.std.proofs.lemmas.Bool.{false≢true, and_from, eq-eqb, or_left, or_right, lt-ltb, eqb-true}
+use Rattle.std.proofs.lemmas.Bool.{false≢true, and_from, eq-eqb, or_left, or_right, lt-ltb, eqb-true, and_right}
 use Rattle.std.proofs.lemmas.List.Elements.{All-contains}
 use Rattle.std.proofs.lemmas.List.Folds.{list_any-from_Any}
 use Rattle.std.specs.Cmp.{both_ways}
@@ -55,7 +55,6 @@ use Rattle.rebuild_types.proofs.Asked.{new_class}
 use Rattle.rebuild_types.proofs.Served.{row_of_class, row_in_is}
 use Rattle.same_run.proofs.Ties.{type_at, type_over}
 use Rattle.same_run.proofs.Sited.{IsGiven, MadeAs, node_of, free_apart, IsMet, met_at, met_passing}
-use Rattle.java_meaning.proofs.Operators.{and_false}
 
 module _ {Q : Plain} {F : Facts} {H : Hierarchy} {W : Plain} (K : Known (untagged Q) Q F H W) (pt : PointsTo) (t : Table) (X : IsGiven Q F H pt t) where
   open X use {placed, ready, table}
@@ -246,7 +245,7 @@ module _ {Q : Plain} {F : Facts} {H : Hierarchy} {W : Plain} (K : Known (untagge
 
     -- an array without a class takes no object of one
     no_class_sub : (X : Plain) (c : ClassId) (d : ℕ) (u : Ty) → object_of u ≡ None → is_subtype X (record { base = Class c; dim = d }) u ≡ false
-    no_class_sub X c d u e = and_false (d == u.dim) (is_sub_base X (Class c) u.base) (go u.base e)
+    no_class_sub X c d u e = and_right (d == u.dim) (is_sub_base X (Class c) u.base) (go u.base e)
       where
         go : (b : TyBase) → object_in b u.dim ≡ None → is_sub_base X (Class c) b ≡ false
         go Int h = refl

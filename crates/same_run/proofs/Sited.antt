@@ -2,7 +2,7 @@
 use Rattle.std.proofs.Common.{◌≡◌, ℕ, ◌<◌, Option, Some, None, length, refl, ap, ◌∙◌, subst}
 use Rattle.std.specs.Prelude.{Bool, true, false, ◌==◌}
 use Rattle.std.specs.Option.{option_map_or, unwrap_or}
-use Rattle.std.proofs.lemmas.Bool.{false≢true}
+use Rattle.std.proofs.lemmas.Bool.{false≢true, and_right}
 use Rattle.kaba_base.specs.declared.NodeId.{NodeId}
 use Rattle.kaba_bits.specs.Sets.{bit, row as bits}
 use Rattle.kaba_order.specs.Orders.{is_le}
@@ -43,7 +43,6 @@ use Rattle.rebuild_looks.proofs.Fields.{finds_field, one_field}
 use Rattle.rebuild_given.proofs.Rest.{half}
 use Rattle.rebuild_given.proofs.Needed as needed
 use Rattle.same_run.proofs.Ties.{type_at, type_over}
-use Rattle.java_meaning.proofs.Operators.{and_false}
 
 -- what a test of an option found
 pub some_test : {A : Type 0} (o : Option A) (f : A → Bool) → option_map_or f o false ≡ true → (a : A) × (o ≡ Some a) × (f a ≡ true)
@@ -59,7 +58,7 @@ class_free P Str d t e = refl
 class_free P (Class c) d t e = absurd (cc)
 
 pub free_apart : (P : Plain) (s : Ty) (t : ObjectType) → object_of s ≡ None → is_subtype P s (type_at t) ≡ false
-free_apart P s t e = and_false (s.dim == t.dim) (is_sub_base P s.base (Class t.class)) (class_free P s.base s.dim t e)
+free_apart P s t e = and_right (s.dim == t.dim) (is_sub_base P s.base (Class t.class)) (class_free P s.base s.dim t e)
 
 -- what a program is rebuilt from: it is placed, it is ready with its facts, their sets and their table, and the hierarchy is that of the table
 pub record IsGiven (Q : Plain) (F : Facts) (H : Hierarchy) (pt : PointsTo) (t : Table) : Type 0 where

@@ -1,10 +1,11 @@
 -- Lists and tests over the numbers of the nodes.
-use Rattle.std.proofs.Common.{◌≡◌, ℕ, zero, suc, ◌+◌, Bool, true, false, cond, ◌&&◌, List, [], ◌∷◌, ◌++◌, length, map, get_or, add-one, zero-add, arith, sym, ap, ◌∙◌, ⊎_elim, refl}
+use Rattle.std.proofs.Common.{◌≡◌, ℕ, ◌+◌, Bool, true, false, cond, ◌&&◌, List, [], ◌∷◌, ◌++◌, length, map, get_or, add-one, zero-add, sym, ap, ◌∙◌, ⊎_elim, refl}
 use Rattle.std.specs.List.{filter, range_with_len}
 use Rattle.std.proofs.lemmas.Bool.{cases_Bool, false≢true}
 use Rattle.std.proofs.lemmas.List.{map-append}
 use Rattle.std.proofs.lemmas.List.Elements.{filter-append}
 use Rattle.std.proofs.lemmas.List.FromFn.{get_or-map-range_with_len, length-map-range_with_len}
+use Rattle.kaba_base.proofs.Listed.{range_more}
 use Rattle.kaba_bits.proofs.SetLemmas.{bit-below}
 use Rattle.kaba_order.specs.Orders.{Ordered, is_le, is_live}
 use Rattle.fact_model.specs.declared.facts.Facts.{Facts}
@@ -25,13 +26,6 @@ pub dead_high : (F : Facts) (H : Hierarchy) → IsHierarchyOf F H → (o : Order
     → false ≡ is_le H.order a b
 dead_high F H h o live a b same is dead = sym (⊎_elim
     (λ t. absurd (false≢true (dead_in H o live b same is dead ∙ h.sized.order.upper_lives a b t))) (λ f. f) (cases_Bool (is_le H.order a b)))
-
--- one number more
-range_more : (a n : ℕ) → range_with_len a (suc n) ≡ range_with_len a n ++ (a + n) ∷ []
-range_more a zero = let e : a ≡ a + 0 = omega arith in ap (λ k. k ∷ []) e
-range_more a (suc n) =
-    let e : (a + 1) + n ≡ a + suc n = omega arith in
-    ap (λ l. a ∷ l) (range_more (a + 1) n ∙ ap (λ k. range_with_len (a + 1) n ++ k ∷ []) e)
 
 if_one : {A : Type 0} (t : ℕ → A) (b : Bool) (i : ℕ) → map t (cond b (i ∷ []) []) ≡ cond b (t i ∷ []) []
 if_one t true i = refl

@@ -2,6 +2,7 @@
 use Rattle.std.proofs.Common.{◌≡◌, ℕ, ◌<◌, Bool, true, false, List, [], length, Option, Some, None, Contains, refl, sym, ap, ◌∙◌, subst}
 use Rattle.std.specs.Prelude.{option_and_then}
 use Rattle.std.specs.Option.{is_some, option_map_or}
+use Rattle.std.proofs.lemmas.Option.{slice_get_within}
 use Rattle.java_lex.specs.Writable.{IsName}
 use Rattle.java_tree.specs.Syntax.{NullLit, Expressions}
 use Rattle.java_tree.specs.Formed as printed
@@ -31,7 +32,7 @@ use Rattle.run_cover.proofs.HasRows.{method_of}
 use Rattle.run_cover.proofs.Types.{class_apart, slot_called}
 use Rattle.run_cover.proofs.TypedParts as typed_parts
 use Rattle.run_cover.proofs.TypedParts.{TypedBody}
-use Rattle.flow_rules.proofs.Listed.{at_below, below_at, contains_at}
+use Rattle.flow_rules.proofs.Listed.{below_at, contains_at}
 use Rattle.rebuild_types.proofs.Retyped.{class_typed}
 use Rattle.rebuild_types.proofs.Finding.{access_found, found_instance}
 use Rattle.written_tree.specs.Names.{nowhere, class_name, row_name, written_base}
@@ -81,7 +82,7 @@ module _ (C : Given) (B : Bodied C) where
       subst
       (λ o. let e = option_map_or (λ (g : PlainField). static_field_tree (is_simple h wr g.owner g.name) (class_name P g.owner) g.name) o (NullLit nowhere) in
       IsFormed e × (is_target e ≡ true)) (sym s.stands)
-      (field_tree (is_simple h wr c x) (class_name P c) x (known_class_named C c (at_below P.classes c w.holder w.stands)) w.name.name)
+      (field_tree (is_simple h wr c x) (class_name P c) x (known_class_named C c (slice_get_within P.classes c w.holder w.stands)) w.name.name)
 
   pub static_call_formed : (wr : List ℕ) (d : ℕ) (es : Expressions) → IsStaticMethod P d
       → (AreFormed es → IsFormed (static_call_name P h wr d es)) × (printed.is_call (static_call_name P h wr d es) ≡ true)
@@ -92,7 +93,7 @@ module _ (C : Given) (B : Bodied C) where
       subst
       (λ o. let e = option_map_or (λ (g : PlainMethod). static_call_tree (is_simple h wr g.owner g.name) (class_name P g.owner) g.name es) o
       (NullLit nowhere) in (AreFormed es → IsFormed e) × (printed.is_call e ≡ true)) (sym s.stands)
-      (call_tree (is_simple h wr c x) (class_name P c) x es (known_class_named C c (at_below P.classes c w.holder w.stands)) w.name)
+      (call_tree (is_simple h wr c x) (class_name P c) x es (known_class_named C c (slice_get_within P.classes c w.holder w.stands)) w.name)
 
   same_number : (i : Option RowItem) → row_in N i ≡ number_if (row_number P Q) i
   unfolding numbers

@@ -26,6 +26,7 @@ use Rattle.fact_model.specs.Classes.{is_slot}
 use Rattle.fact_model.specs.declared.facts.ColumnInfo.{ColumnInfo}
 use Rattle.fact_model.specs.declared.facts.ColKind.{ColKind}
 use Rattle.fact_model.specs.declared.facts.ColKind.TheVariants as kind
+use Rattle.fact_model.proofs.ClassLemmas.{slot_says as slot_is}
 use Rattle.hier_model.specs.Hierarchies.{Hierarchy, place_of_column, is_at, is_above, stands_at, is_offered, is_method, offers_slot, is_class_node}
 use Rattle.hier_model.proofs.AnyLemmas.{any_below_some}
 use Rattle.hier_rules.specs.Names.{is_member}
@@ -46,7 +47,6 @@ use Rattle.written_tree.specs.Bodies.{written_sts}
 use Rattle.written_tree.specs.Members.{is_declaration, value_of_none, filling, parameters, param, head, body, holder_members, class_members, interface_heads}
 use Rattle.written_tree.specs.Supers.{is_cover, nodes_that, superclass, type_id, extended}
 use Rattle.written_tree.specs.Written.{class_modifiers, type_tree}
-use Rattle.rebuild_looks.proofs.Slots.{slot_says as slot_is}
 use Rattle.tree_rebuilds.proofs.Members.{IsHeadTree, IsHeadAt, IsMember, a_field, a_body, a_head, a_filler, class_from, interface_from, IsStatic, a_static_field, a_static_method, holder_from}
 use Rattle.tree_rebuilds.proofs.Nodes.{items, tree, Declares, a_node, a_holder, declares}
 use Rattle.tree_rebuilds.proofs.Order.{superclass_from, cover_from, among_from}

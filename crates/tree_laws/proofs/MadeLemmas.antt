@@ -8,6 +8,7 @@ use Rattle.std.proofs.Math.ListN.{get_or-map as get_or_map_default}
 use Rattle.kaba_base.specs.declared.NodeId.{NodeId}
 use Rattle.kaba_base.specs.declared.ClassId.{ClassId}
 use Rattle.kaba_bits.specs.Sets.{row}
+use Rattle.kaba_bits.proofs.FirstLemmas.{cases_Option}
 use Rattle.kaba_order.specs.Orders.{is_le, is_live, IsPartialOrder, is_among, is_below_some, is_above_some, stays, merged_to, IsLeastMerged}
 use Rattle.kaba_order.proofs.MergeLemmas.{has_any_some, any_has_some, among-All}
 use Rattle.fact_model.specs.Classes.{below}
@@ -15,7 +16,7 @@ use Rattle.fact_model.specs.declared.facts.Facts.{Facts}
 use Rattle.hier_model.specs.Hierarchies.{Hierarchy, node, place_of_column, place_of_row, origin_of}
 use Rattle.hier_model.specs.Start.{is_below_all, lowest}
 use Rattle.hier_model.specs.Edits.{merged_order, under_order, dropped_order, least_of, first_between, all_there, merged_origin, merged_node, merged}
-use Rattle.hier_model.proofs.MergedLemmas.{cases_Option, none_between, least_is}
+use Rattle.hier_model.proofs.MergedLemmas.{none_between, least_is}
 use Rattle.hier_model.proofs.OrderedLemmas.{made_le}
 use Rattle.hier_model.proofs.EditedOrders.{under_pairs, dropped_made, merged_made, merged_le, merged_live, merged_below, least_among}
 use Rattle.hier_begin.proofs.ShapeLemmas.{shape, placed}

@@ -8,8 +8,10 @@ use Rattle.std.proofs.lemmas.List.{get_or-map, get_or_past}
 use Rattle.std.proofs.lemmas.List.FromFn.{get_or-map-range_with_len, length-map-range_with_len}
 use Rattle.kaba_base.specs.declared.ClassId.{ClassId}
 use Rattle.kaba_base.specs.Words.{first_that}
+use Rattle.kaba_base.proofs.Listed.{contains_cases, later}
 use Rattle.kaba_bits.specs.Sets.{bit, IsSubset, rising, rising_from}
 use Rattle.kaba_bits.proofs.SetLemmas.{bit-below}
+use Rattle.kaba_bits.proofs.FirstLemmas.{cases_Option}
 use Rattle.kaba_order.specs.Orders.{is_le, is_live}
 use Rattle.fact_model.specs.Items.{column_at, column_kind, column_class, column_slot, row_class}
 use Rattle.fact_model.specs.Classes.{IsBelow, same, below, is_interface}
@@ -28,7 +30,6 @@ use Rattle.fact_model.proofs.ClassLemmas.{below-then}
 use Rattle.hier_model.specs.Hierarchies.{Hierarchy, node, origin_of, member_name, IsHierarchyOf}
 use Rattle.hier_model.specs.Names.{is_shared}
 use Rattle.hier_model.specs.Start.{is_filled, is_subset, concept_at, column_place, is_below_all, lowest, owners, start_origin, start_from}
-use Rattle.hier_model.proofs.MergedLemmas.{cases_Option}
 use Rattle.hier_model.proofs.LowestLemmas.{list_all-at}
 use Rattle.hier_model.proofs.SetTests.{filled-some, subset-sound, subset-complete}
 use Rattle.hier_model.proofs.StartLemmas.{rows_with-bit, ext-length, int-length, node-le, nodes-count, ColumnStands, column_stands}
@@ -47,18 +48,11 @@ use Rattle.tree_laws.specs.Kept.{origin_at, field_at, slot_at, IsKept, HasNoInte
 use Rattle.tree_laws.proofs.OriginLemmas.{start_keeps}
 use Rattle.tree_laws.proofs.KeptLemmas.{orders}
 
-shift : {X : Type 0} (y : X) (xs : List X) (x : X) → Contains xs x → Contains (y ∷ xs) x
-shift y xs x (i, lt, e) = (suc i, omega (arith, lt), e)
-
-unshift : {X : Type 0} (y : X) (xs : List X) (x : X) → Contains (y ∷ xs) x → (y ≡ x) ⊎ Contains xs x
-unshift y xs x (zero, lt, e) = inl e
-unshift y xs x (suc i, lt, e) = inr (i, omega (arith, lt), e)
-
 -- the rising list of a set has exactly its numbers
 rising_has : (k : ℕ) (xs : List Bool) (c y : ℕ) → bit xs c ≡ true → y ≡ k + c → Contains (rising_from k xs) y
 rising_has k [] c y h e = absurd (false≢true h)
 rising_has k (true ∷ xs) zero y h e = (0, omega arith, omega (arith, e))
-rising_has k (true ∷ xs) (suc c) y h e = shift k (rising_from (k + 1) xs) y (rising_has (k + 1) xs c y h (omega (arith, e)))
+rising_has k (true ∷ xs) (suc c) y h e = later k (rising_from (k + 1) xs) y (rising_has (k + 1) xs c y h (omega (arith, e)))
 rising_has k (false ∷ xs) zero y h e = absurd (false≢true h)
 rising_has k (false ∷ xs) (suc c) y h e = rising_has (k + 1) xs c y h (omega (arith, e))
 
@@ -75,12 +69,12 @@ filter_all p h (x ∷ xs) = ap (λ b. cond b (x ∷ filter p xs) (filter p xs)) 
 map_has : {X : Type 0} (f : ℕ → X) (cs : List ℕ) (c : ℕ) → Contains cs c → Contains (map f cs) (f c)
 map_has f [] c h = absurd (omega (arith, h.1))
 map_has f (y ∷ ys) c (zero, lt, e) = (0, omega arith, ap f e)
-map_has f (y ∷ ys) c (suc i, lt, e) = shift (f y) (map f ys) (f c) (map_has f ys c (i, omega (arith, lt), e))
+map_has f (y ∷ ys) c (suc i, lt, e) = later (f y) (map f ys) (f c) (map_has f ys c (i, omega (arith, lt), e))
 
 map_of : {X : Type 0} (f : ℕ → X) (cs : List ℕ) (x : X) → Contains (map f cs) x → (c : ℕ) × Contains cs c × (f c ≡ x)
 map_of f [] x h = absurd (omega (arith, h.1))
 map_of f (y ∷ ys) x (zero, lt, e) = (y, (0, omega arith, refl), e)
-map_of f (y ∷ ys) x (suc i, lt, e) = let r = map_of f ys x (i, omega (arith, lt), e) in (r.0, shift y ys r.0 r.1, r.2)
+map_of f (y ∷ ys) x (suc i, lt, e) = let r = map_of f ys x (i, omega (arith, lt), e) in (r.0, later y ys r.0 r.1, r.2)
 
 -- the first that passes a test, and that there is one
 first_says : (p : ClassId → Bool) (ks : List ClassId) (k : ClassId) → first_that p ks ≡ Some k → (p k ≡ true) × Contains ks k
@@ -88,7 +82,7 @@ first_says p [] k e = absurd (cc e)
 first_says p (x ∷ xs) k e =
     ⊎_elim
     (λ yes. let here : x ≡ k = same_Some x k (sym (ap (λ b. cond b (Some x) (first_that p xs)) yes) ∙ e) in (ap p (sym here) ∙ yes, (0, omega arith, here)))
-    (λ no. let r = first_says p xs k (sym (ap (λ b. cond b (Some x) (first_that p xs)) no) ∙ e) in (r.0, shift x xs k r.1))
+    (λ no. let r = first_says p xs k (sym (ap (λ b. cond b (Some x) (first_that p xs)) no) ∙ e) in (r.0, later x xs k r.1))
     (cases_Bool (p x))
 
 first_none : (p : ClassId → Bool) (ks : List ClassId) (k : ClassId) → first_that p ks ≡ None → Contains ks k → p k ≡ true → ⊥
@@ -99,12 +93,12 @@ first_none p (x ∷ xs) k e h t =
     (λ no. ⊎_elim
     (λ here. false≢true (sym no ∙ ap p here ∙ t))
     (λ rest. first_none p xs k (sym (ap (λ b. cond b (Some x) (first_that p xs)) no) ∙ e) rest t)
-    (unshift x xs k h))
+    (contains_cases x xs k h))
     (cases_Bool (p x))
 
 below_all : (F : Facts) (k : ClassId) (ks : List ClassId) → ((x : ClassId) → Contains ks x → below F k.0 x.0 ≡ true) → is_below_all F ks k ≡ true
 below_all F k [] h = refl
-below_all F k (x ∷ ks) h = and_from (below F k.0 x.0) (is_below_all F ks k) (h x (0, omega arith, refl)) (below_all F k ks (λ y c. h y (shift x ks y c)))
+below_all F k (x ∷ ks) h = and_from (below F k.0 x.0) (is_below_all F ks k) (h x (0, omega arith, refl)) (below_all F k ks (λ y c. h y (later x ks y c)))
 
 module _ (F : Facts) (pt : PointsTo) (t : Table) (l : Lattice) (A : AreAnalysed F pt t l) (W : HasNoInterface F) where
   abbrev ps : List Pair
@@ -211,24 +205,24 @@ module _ (F : Facts) (pt : PointsTo) (t : Table) (l : Lattice) (A : AreAnalysed 
     x,
     (0, omega arith, refl),
     λ k c. ⊎_elim (λ here. subst (λ (z : ClassId). IsBelow F x.0 z.0) here same)
-        (λ rest. absurd (omega (arith, rest.1))) (unshift x [] k c),
+        (λ rest. absurd (omega (arith, rest.1))) (contains_cases x [] k c),
   )
   has_lowest a (y ∷ ys) x h =
-      let r = has_lowest a ys y (λ k c. h k (shift x (y ∷ ys) k c)) in
+      let r = has_lowest a ys y (λ k c. h k (later x (y ∷ ys) k c)) in
       let one = h x (0, omega arith, refl) in
-      let two = h r.0 (shift x (y ∷ ys) r.0 r.1) in
+      let two = h r.0 (later x (y ∷ ys) r.0 r.1) in
       ⊎_elim
       (λ down. (
         x,
         (0, omega arith, refl),
         λ k c. ⊎_elim (λ here. subst (λ (z : ClassId). IsBelow F x.0 z.0) here same)
-            (λ rest. below-then F down (r.2 k rest)) (unshift x (y ∷ ys) k c),
+            (λ rest. below-then F down (r.2 k rest)) (contains_cases x (y ∷ ys) k c),
       ))
       (λ up. (
         r.0,
-        shift x (y ∷ ys) r.0 r.1,
+        later x (y ∷ ys) r.0 r.1,
         λ k c. ⊎_elim (λ here. subst (λ (z : ClassId). IsBelow F r.0.0 z.0) here up) (λ rest. r.2 k rest)
-            (unshift x (y ∷ ys) k c),
+            (contains_cases x (y ∷ ys) k c),
       ))
       (chain F A.order a x.0 r.0.0 one.0 two.0 one.1 two.1)
 

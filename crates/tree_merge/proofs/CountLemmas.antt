@@ -1,6 +1,6 @@
 -- The number of pairs of nodes that are not ordered falls where two of them become one, or one is put below another.
 use Rattle.std.proofs.Common.{◌≡◌, ℕ, zero, suc, ◌+◌, ◌<◌, ◌≤◌, ⊎_elim, ◌==◌, ◌&&◌, ◌||◌, not, Bool, true, false, List, length, refl, sym, ap, ◌∙◌, subst, arith, eqb-true}
-use Rattle.std.proofs.lemmas.Bool.{cases_eq, false≢true, and_parts, and_from, not-true, or_left, or_right, false_from_ne_true}
+use Rattle.std.proofs.lemmas.Bool.{cases_eq, false≢true, and_parts, and_from, not-true, or_left, or_right, false_from_ne_true, and_right}
 use Rattle.kaba_base.specs.declared.NodeId.{NodeId}
 use Rattle.kaba_bits.specs.Sets.{bit}
 use Rattle.kaba_bits.proofs.SetLemmas.{bit-below}
@@ -45,10 +45,6 @@ fewer old new len only x y was is =
     (λ a. sum_le N (λ b. one_if (is_apart new a b)) (λ b. one_if (is_apart old a b)) (each a)) row_lt in
     subst (λ M. sum_below M (λ a. sum_below M (λ b. one_if (is_apart new a b))) < unordered old) (sym len) less
 
-and_false : (a b : Bool) → b ≡ false → (a && b) ≡ false
-and_false true b h = h
-and_false false b h = refl
-
 module _ (o : Ordered) (p : IsPartialOrder o) where
   was_apart : (new : Ordered) → ((a : ℕ) → is_live new a ≡ true → is_live o a ≡ true)
       → ((a b : ℕ) → is_live new a ≡ true → is_live new b ≡ true → is_le o a b ≡ true → is_le new a b ≡ true)
@@ -71,7 +67,7 @@ module _ (o : Ordered) (p : IsPartialOrder o) where
       fewer o new (ap length (under_live o p l h))
       (was_apart new (λ a e. sym (ap (λ v. bit v a) (under_live o p l h)) ∙ e)
       (λ a b la lb e. under_pairs o p l h a b ∙ or_left (is_le o a b) (is_le o a l && is_le o h b) e))
-      l h (apart_from l h ll lh apart) (and_false (is_live new l && is_live new h) (not (is_le new l h)) (ap not pair))
+      l h (apart_from l h ll lh apart) (and_right (is_live new l && is_live new h) (not (is_le new l h)) (ap not pair))
 
   module _ (set : List NodeId) (m : ℕ) (has : is_among set m ≡ true) (live : (s : ℕ) → is_among set s ≡ true → is_live o s ≡ true)
       (none : (x : ℕ) → IsBetween o set x → ⊥) where

@@ -1,12 +1,9 @@
 -- Lists of trees that are written one after the other: what is written so far, and then what the rest becomes.
-use Rattle.std.proofs.Common.{◌≡◌, ℕ, suc, ◌+◌, ◌<◌, List, [], ◌∷◌, ◌++◌, length, drop, get_or, drop-cons, add-one, refl, sym, ap, ◌∙◌}
+use Rattle.std.proofs.Common.{◌≡◌, ◌+◌, List, [], ◌∷◌, ◌++◌, refl, ap}
 use Rattle.java_tree.specs.declared.Expr.{Expr}
 use Rattle.java_tree.specs.declared.Stmt.{Stmt}
 use Rattle.java_tree.specs.declared.Arm.{Arm}
 use Rattle.java_tree.specs.Syntax.{Expressions, no_more, and_more, Statements, no_statements, and_then, Arms, no_arms, and_arm, expr_of, exprs, stmt_of, stmts, arms_seen}
-
-pub next_at : {A : Type 0} (list : List A) (n : ℕ) (s : A) → n < length list → s ≡ get_or list n s → drop n list ≡ s ∷ drop (n + 1) list
-next_at list n s below at = drop-cons list n s below ∙ ap (λ x. x ∷ drop (suc n) list) (sym at) ∙ ap (λ k. s ∷ drop k list) (sym (add-one n))
 
 abbrev pub append_exprs : Expressions → Expressions → Expressions
 append_exprs no_more es = es

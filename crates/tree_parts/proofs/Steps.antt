@@ -1,6 +1,7 @@
 -- One item more of a list that is written.
 use Rattle.std.proofs.Common.{◌≡◌, ℕ, ◌+◌, ◌<◌, ◌≤◌, List, [], ◌∷◌, ◌++◌, length, drop, get_or, sym, ap, ◌∙◌}
 use Rattle.std.proofs.lemmas.List.{drop_all}
+use Rattle.kaba_base.proofs.Listed.{drop_at}
 use Rattle.java_tree.specs.declared.Expr.{Expr}
 use Rattle.java_tree.specs.declared.Stmt.{Stmt}
 use Rattle.java_tree.specs.declared.Arm.{Arm}
@@ -9,11 +10,11 @@ use Rattle.java_tree.specs.Syntax.{Expressions, and_more, Statements, and_then, 
 use Rattle.java_core.specs.declared.RExpr.{RExpr}
 use Rattle.java_core.specs.declared.RStmt.{RStmt}
 use Rattle.java_core.specs.declared.RArm.{RArm}
-use Rattle.java_core.specs.Trees.{Arms, no_other, no_place, expr_of, exprs, stmt_of, stmts, arms_seen}
+use Rattle.java_core.specs.Trees.{Arms, no_place, expr_of, exprs, stmt_of, stmts, arms_seen}
 use Rattle.written_tree.specs.Bodies.{scope_after}
 use Rattle.tree_parts.specs.declared.within.Within.{Within}
 use Rattle.tree_parts.specs.Written as written
-use Rattle.tree_parts.proofs.Appended.{append_exprs, append_stmts, append_arms, next_at, exprs_push, stmts_push, arms_push}
+use Rattle.tree_parts.proofs.Appended.{append_exprs, append_stmts, append_arms, exprs_push, stmts_push, arms_push}
 
 -- with no item left, what is written so far is the whole
 pub all_written : {X T : Type 0} {o : T} (append : T → T → T) (rest : List X → T) (done : T) (list : List X) (n : ℕ) → append done (rest []) ≡ done
@@ -31,7 +32,7 @@ module _ (w : Within) where
       ap (λ x. append_exprs (tree.exprs x) rest) push
       ∙ exprs_push done e rest
       ∙ ap (λ x. append_exprs (tree.exprs done) (and_more x rest)) given
-      ∙ ap (λ x. append_exprs (tree.exprs done) (written.expressions w scope (exprs no_place x))) (sym (next_at list n s below at))
+      ∙ ap (λ x. append_exprs (tree.exprs done) (written.expressions w scope (exprs no_place x))) (sym (drop_at list n s below at))
       ∙ before
 
   pub sts_next : {o : Statements} (scope inner : List ℕ) (done pushed : List Stmt) (list : List RStmt) (n : ℕ) (s : RStmt) (e : Stmt)
@@ -46,7 +47,7 @@ module _ (w : Within) where
       ∙ ap (λ x. append_stmts (tree.stmts done) (and_then x rest)) given
       ∙ ap (λ x. append_stmts (tree.stmts done) (and_then (written.statement w scope (stmt_of no_place s)) (written.statements w x (stmts no_place
       (drop (n + 1) list))))) after
-      ∙ ap (λ x. append_stmts (tree.stmts done) (written.statements w scope (stmts no_place x))) (sym (next_at list n s below at))
+      ∙ ap (λ x. append_stmts (tree.stmts done) (written.statements w scope (stmts no_place x))) (sym (drop_at list n s below at))
       ∙ before
 
   pub arms_next : {o : tree.Arms} (scope : List ℕ) (other : Arms) (done pushed : List Arm) (list : List RArm) (n : ℕ) (s : RArm) (a : Arm)
@@ -61,5 +62,5 @@ module _ (w : Within) where
       ∙ arms_push done a rest
       ∙ ap (λ x. append_arms (tree.arms_seen done) (and_arm x (tree.stmts a.body.items) rest)) test
       ∙ ap (λ x. append_arms (tree.arms_seen done) (and_arm (written.expression w scope (expr_of no_place s.test)) x rest)) body
-      ∙ ap (λ x. append_arms (tree.arms_seen done) (written.arms w scope (arms_seen no_place x other))) (sym (next_at list n s below at))
+      ∙ ap (λ x. append_arms (tree.arms_seen done) (written.arms w scope (arms_seen no_place x other))) (sym (drop_at list n s below at))
       ∙ before

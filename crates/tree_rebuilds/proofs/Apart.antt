@@ -1,11 +1,12 @@
 -- Where no obligation on names is broken, the names of types differ from each other, from those of the holders and from String.
-use Rattle.std.proofs.Common.{◌≡◌, ◌≢◌, ℕ, zero, suc, ◌&&◌, ◌||◌, Bool, true, false, List, [], ◌∷◌, Some, None, refl, sym, ap, ◌∙◌, subst, ⊎_elim}
+use Rattle.std.proofs.Common.{◌≡◌, ◌≢◌, ℕ, suc, ◌&&◌, ◌||◌, Bool, true, false, List, [], ◌∷◌, Some, None, refl, sym, ap, ◌∙◌, subst, ⊎_elim}
 use Rattle.std.specs.Prelude.{not, length, slice_get, codes, ◌==◌}
 use Rattle.std.specs.List.{list_any}
 use Rattle.std.specs.Str.{bytes_eq}
-use Rattle.std.proofs.lemmas.Bool.{false≢true, and_from, and_parts, or_left, or_right, or_parts, ne_eqb, cases_eq, cases_Bool, or_cases, eqb-true}
+use Rattle.std.proofs.lemmas.Bool.{false≢true, and_from, and_parts, or_parts, ne_eqb, cases_eq, cases_Bool, or_cases, eqb-true}
 use Rattle.std.proofs.lemmas.Option.{same_Some}
 use Rattle.std.proofs.lemmas.Slice.Eq.{bytes_eq-Decides}
+use Rattle.std.proofs.lemmas.Map.Keys.{any_passes_from_place}
 use Rattle.kaba_bits.proofs.FirstLemmas.{first_below_None, when-None}
 use Rattle.kaba_bits.proofs.SetLemmas.{bit-below}
 use Rattle.kaba_order.specs.Orders.{is_live}
@@ -30,11 +31,6 @@ pub any_at : {A : Type 0} (p : A → Bool) (xs : List A) → list_any p xs ≡ t
 any_at p [] h = absurd (false≢true h)
 any_at p (x ∷ xs) h =
     ⊎_elim (λ e. (0, x, refl, e)) (λ e. let z = any_at p xs (sym (ap (λ b. b || list_any p xs) e) ∙ h) in (suc z.0, z.1, z.2, z.3)) (cases_Bool (p x))
-
-pub any_there : {A : Type 0} (p : A → Bool) (xs : List A) (i : ℕ) (x : A) → slice_get xs i ≡ Some x → p x ≡ true → list_any p xs ≡ true
-any_there p [] i x e h = absurd (cc e)
-any_there p (y ∷ ys) zero x e h = or_left (p y) (list_any p ys) (ap p (same_Some y x e) ∙ h)
-any_there p (y ∷ ys) (suc i) x e h = or_right (p y) (list_any p ys) (any_there p ys i x e h)
 
 -- what has static members is a class of the program, and also with places
 module _ (P : Plain) (formed : IsFormed P) (c : ℕ) where
@@ -111,5 +107,5 @@ module _ (F : Facts) (pt : PointsTo) (H : Hierarchy) (none : first_broken F pt H
       let i = class_there P Q placed F facts c k e in
       let z = class_at P Q placed F facts c i.0 i.1 in
       let name : i.0.name ≡ type_name H n = z.name ∙ ap (λ (y : PlainClass). y.name) (same_Some _ _ (sym z.stands ∙ e)) ∙ sym same in
-      false≢true (sym none ∙ any_there (λ k. k.holder && bytes_eq k.name (type_name H n)) F.classes.items c i.0 i.1
+      false≢true (sym none ∙ any_passes_from_place (λ k. k.holder && bytes_eq k.name (type_name H n)) F.classes.items c i.0 i.1
       (and_from i.0.holder (bytes_eq i.0.name (type_name H n)) (z.holder ∙ holder_placed P Q placed c h) ((bytes_eq-Decides i.0.name (type_name H n)).1 name)))

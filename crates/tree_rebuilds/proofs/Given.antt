@@ -2,6 +2,7 @@
 use Rattle.std.proofs.Common.{◌≡◌, ℕ, ◌&&◌, true, Option, Some, None, refl, sym, ap, ◌∙◌, subst}
 use Rattle.std.specs.Prelude.{length, slice_get}
 use Rattle.std.proofs.lemmas.Bool.{false≢true, and_from, or_left, eqb-true, eq-eqb}
+use Rattle.std.proofs.lemmas.Option.{slice_get_within}
 use Rattle.kaba_base.specs.declared.NodeId.{NodeId}
 use Rattle.kaba_order.specs.Orders.{is_le, is_live}
 use Rattle.java_core.specs.Programs.{Plain}
@@ -17,7 +18,7 @@ use Rattle.hier_rules.specs.First.{first_broken}
 use Rattle.flow_rules.specs.declared.items.ColumnItem.{ColumnItem}
 use Rattle.flow_rules.specs.Numbered.{columns_of}
 use Rattle.flow_rules.specs.Facts.{numbers, column_info, kind_of, IsFactsOf}
-use Rattle.flow_rules.proofs.Listed.{at_map, map_at, at_below}
+use Rattle.flow_rules.proofs.Listed.{at_map, map_at}
 use Rattle.facts_order.proofs.Pairs.{IsPlaced}
 use Rattle.flow_rules.proofs.NumberedItems.{numbered_columns}
 use Rattle.rebuild_model.specs.Renaming.{Places, Renaming, renaming_of}
@@ -95,6 +96,6 @@ module _ {P Q : Plain} {F : Facts} {pt : PointsTo} {H : Hierarchy} {V : Plain} (
       let c = column_there i n s in
       or_left (has_class_member F H n) (has_object F H n)
       (any_below_has (λ c. is_of_class (column_kind F c) && is_offered H n c) (length F.columns.items) c.number
-      (at_below F.columns.items c.number (column_info Q i) c.info)
+      (slice_get_within F.columns.items c.number (column_info Q i) c.info)
       (and_from (is_of_class (column_kind F c.number)) (is_offered H n c.number) (ap is_of_class (columns.kind i c.number c.numbered) ∙ k)
       (offered_there n c.number c.live c.at)))

@@ -3,7 +3,7 @@ use Rattle.std.proofs.Common.{◌≡◌, ℕ, zero, suc, ◌<◌, ◌&&◌, ◌|
 use Rattle.std.specs.Prelude.{◌⊎◌, ◌==◌, not, length, slice_get, option_and_then}
 use Rattle.std.specs.Option.{is_some}
 use Rattle.std.proofs.lemmas.Bool.{false≢true, and_parts, and_from, or_right, eqb-true, eq-eqb, cases_Bool}
-use Rattle.std.proofs.lemmas.Option.{same_Some}
+use Rattle.std.proofs.lemmas.Option.{same_Some, slice_get_within}
 use Rattle.kaba_base.specs.declared.words.Keyword.TheVariants.{Public}
 use Rattle.kaba_order.specs.Orders.{is_live, is_le}
 use Rattle.java_tree.specs.declared.Modifier.{Modifier}
@@ -20,12 +20,13 @@ use Rattle.fact_model.specs.declared.facts.Facts.{Facts}
 use Rattle.fact_model.specs.declared.facts.ColumnInfo.{ColumnInfo}
 use Rattle.fact_model.specs.declared.facts.ColKind.TheVariants as kind
 use Rattle.fact_model.specs.declared.sets.PointsTo.{PointsTo}
+use Rattle.fact_model.proofs.ClassLemmas.{slot_says as slot_is}
 use Rattle.hier_model.specs.Hierarchies.{Hierarchy, place_of_row, stands_at, any_below, offers_slot, has_class_member, has_object, is_class_node, is_method, member_name}
 use Rattle.hier_model.proofs.AnyLemmas.{any_below_some, any_below_has}
 use Rattle.flow_rules.specs.declared.items.ColumnItem.{ColumnItem}
 use Rattle.flow_rules.specs.declared.items.ColumnItem.TheVariants as column
 use Rattle.flow_rules.specs.Facts.{numbers, kind_of, column_info}
-use Rattle.flow_rules.proofs.Listed.{first, at_map, map_from, map_has, at_below, below_at, index_at}
+use Rattle.flow_rules.proofs.Listed.{first, at_map, map_from, map_has, below_at, index_at}
 use Rattle.flow_rules.proofs.NumberedItems.{numbered_columns}
 use Rattle.facts_order.proofs.Columns.{Stands as IsOfText, for_field, for_declaration, for_body, for_mark, column_stands}
 use Rattle.rebuild_model.specs.Renaming.{Renaming, renaming_of, column_name}
@@ -38,7 +39,6 @@ use Rattle.tree_rebuilds.proofs.Nodes.{by_node, items, tree, node_tree, node_at,
 use Rattle.tree_rebuilds.proofs.Members.{IsMember, IsHeadTree, IsHeadAt, class_from, interface_from, body_has, head_has, filler_has, interface_has, in_class, as_filler}
 use Rattle.tree_rebuilds.proofs.Given.{Given, T, Stands, columns, at_from, column_there, class_there}
 use Rattle.tree_rebuilds.proofs.Resolved.{BodiesMatch, owner_is, name_is, static_is, bodyless, bodied, types_are, slot_types_are, code_is}
-use Rattle.rebuild_looks.proofs.Slots.{slot_says as slot_is}
 
 -- the least number of those that pass a test
 pub least_below : (p : ℕ → Bool) (n : ℕ) → any_below n p ≡ true → (k : ℕ) × (k < n) × (p k ≡ true) × (any_below k p ≡ false)
@@ -177,7 +177,7 @@ module _ {P Q : Plain} {F : Facts} {pt : PointsTo} {H : Hierarchy} {V : Plain} (
   declared_at : (mods : List Modifier) (n : ℕ) (h : HeadTree) (t : IsHeadAt P R₀ F H mods n h) → IsDeclaredAt n t.slot
   declared_at mods n h t =
       let C = columns G in
-      let i = C.item t.number (at_below F.columns.items t.number t.info t.info_stands) in
+      let i = C.item t.number (slice_get_within F.columns.items t.number t.info t.info_stands) in
       let info = index_at F.columns.items t.number (record { kind = kind.Is; class = record { 0 = 0 }; slot = None; name = []; label = [] }) t.info
       t.info_stands in
       let k : kind_of i.0 ≡ t.info.kind = sym (C.kind i.0 t.number i.1) ∙ ap (λ (z : ColumnInfo). z.kind) info in
@@ -324,7 +324,7 @@ module _ {P Q : Plain} {F : Facts} {pt : PointsTo} {H : Hierarchy} {V : Plain} (
       let z = least_below p (suc c.number) (or_right (any_below c.number p) (p c.number) here) in
       let a = and_parts (is_declaration (column_kind F z.0)) (is_slot (column_slot F z.0) s && stands_at H n z.0) z.2 in
       let b = and_parts (is_slot (column_slot F z.0) s) (stands_at H n z.0) a.1 in
-      let lt = at_below F.columns.items c.number (column_info Q (column.Dcl m)) c.info in
+      let lt = slice_get_within F.columns.items c.number (column_info Q (column.Dcl m)) c.info in
       let k = below_at F.columns.items z.0 (omega (arith, z.1, lt)) in
       let info = index_at F.columns.items z.0 (record { kind = kind.Is; class = record { 0 = 0 }; slot = None; name = []; label = [] }) k.0 k.1 in
       record {

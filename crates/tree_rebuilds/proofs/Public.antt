@@ -18,6 +18,7 @@ use Rattle.fact_model.specs.Classes.{is_def, is_slot}
 use Rattle.fact_model.specs.declared.facts.Facts.{Facts}
 use Rattle.fact_model.specs.declared.facts.ColKind.TheVariants.{Def}
 use Rattle.fact_model.specs.declared.sets.PointsTo.{PointsTo}
+use Rattle.fact_model.proofs.ClassLemmas.{slot_says as slot_is}
 use Rattle.hier_model.specs.Hierarchies.{Hierarchy, is_class_node, is_offered, offers_slot, is_method, member_name}
 use Rattle.hier_model.proofs.AnyLemmas.{any_below_some, any_below_has}
 use Rattle.flow_rules.specs.declared.items.ColumnItem.{ColumnItem}
@@ -39,7 +40,6 @@ use Rattle.tree_rebuilds.proofs.Members.{IsHeadTree, IsMember, a_field, a_body, 
 use Rattle.tree_rebuilds.proofs.Given.{Given, T, R, Stands, columns, stands_from, column_there, offered_there}
 use Rattle.tree_rebuilds.proofs.Resolved.{owner_is, name_is, static_is, public_is, bodyless, types_are}
 use Rattle.tree_rebuilds.proofs.Methods.{as_method, as_head, in_type, is_abstract, declared_name, method_slot, first_method, old_method}
-use Rattle.rebuild_looks.proofs.Slots.{slot_says as slot_is}
 use Rattle.tree_rebuilds.proofs.Filled.{filling_is}
 
 module _ {P Q : Plain} {F : Facts} {pt : PointsTo} {H : Hierarchy} {V : Plain} (G : Given P Q F pt H V) where

@@ -3,7 +3,7 @@ use Rattle.std.proofs.Common.{◌≡◌, ℕ, suc, ◌+◌, ◌<◌, true, false
 use Rattle.std.specs.Prelude.{length, map, slice_get, nat_lt}
 use Rattle.std.specs.Option.{option_map, is_some}
 use Rattle.std.proofs.lemmas.Bool.{lt-ltb}
-use Rattle.std.proofs.lemmas.Option.{same_Some}
+use Rattle.std.proofs.lemmas.Option.{same_Some, slice_get_within}
 use Rattle.java_tree.specs.declared.Modifier.{Modifier}
 use Rattle.java_tree.specs.Syntax.{HeadTree, Statements}
 use Rattle.java_core.specs.declared.Ty.{Ty}
@@ -22,7 +22,7 @@ use Rattle.flow_rules.specs.declared.items.ObjectType.{ObjectType}
 use Rattle.flow_rules.specs.declared.items.RowItem.TheVariants as row
 use Rattle.flow_rules.specs.Operands.{object_of, object_if, variable_in, variable_row, result_in}
 use Rattle.flow_rules.specs.Ordered.{each}
-use Rattle.flow_rules.proofs.Listed.{at_below, at_left}
+use Rattle.flow_rules.proofs.Listed.{at_left}
 use Rattle.rebuild_model.specs.Renaming.{retyped, retyped_if}
 use Rattle.rebuild_model.specs.Matches.{MatchesSts}
 use Rattle.rebuild_model.specs.Members.{new_types, slot_types, HasTypes, HasSlotTypes, HasCode}
@@ -99,7 +99,7 @@ module _ {P Q : Plain} {F : Facts} {pt : PointsTo} {H : Hierarchy} {V : Plain} (
       ∙ ap (λ z. retyped ((R G).row_type (row.Param s n)) v.ty ∷ z) (slot_params m s k (n + 1) vs (λ i j w e d. f (suc i) j w (omega (arith, e)) d))
 
   of_slot_params : (m s : ℕ) (k : PlainMethod) → k.slot ≡ Some s → new_types (R G) m k 0 k.params ≡ slot_types (R G) s (types_of k.params)
-  of_slot_params m s k e = slot_params m s k 0 k.params (λ i j v d h. slot_param m s j k e (let lt = at_below k.params i v h in omega (arith, d, lt)))
+  of_slot_params m s k e = slot_params m s k 0 k.params (λ i j v d h. slot_param m s j k e (let lt = slice_get_within k.params i v h in omega (arith, d, lt)))
 
   -- ---- a resolved method
 

@@ -2,6 +2,7 @@
 use Rattle.std.proofs.Common.{◌≡◌, ℕ, zero, suc, true, List, [], ◌∷◌, ◌++◌, Option, Some, None, refl, sym, ap, ◌∙◌, subst}
 use Rattle.std.specs.Prelude.{length, map, slice_get, nat_lt, if◌then◌else◌}
 use Rattle.std.specs.Option.{option_map}
+use Rattle.std.proofs.lemmas.Option.{slice_get_within}
 use Rattle.kaba_base.specs.declared.ClassId.{ClassId}
 use Rattle.kaba_order.specs.Orders.{is_live}
 use Rattle.java_core.specs.declared.Ty.{Ty}
@@ -25,7 +26,7 @@ use Rattle.flow_rules.specs.Numbered.{row_number, rows_of}
 use Rattle.flow_rules.specs.Types.{variable_object}
 use Rattle.flow_rules.specs.Facts.{numbers, row_info, IsFactsOf}
 use Rattle.flow_rules.proofs.NumberedItems.{numbered_rows}
-use Rattle.flow_rules.proofs.Listed.{at_below, at_map}
+use Rattle.flow_rules.proofs.Listed.{at_map}
 use Rattle.rebuild_model.specs.Renaming.{Places, Renaming, renaming_of, reclassed, retyped}
 use Rattle.written_tree.specs.Names.{written_base, written_type}
 use Rattle.written_tree.specs.Written.{java_tree}
@@ -107,7 +108,7 @@ module _ (P Q : Plain) (F : Facts) (facts : IsFactsOf P Q F) (H : Hierarchy) (hi
   row_live i r e =
       let x = (numbered_rows P Q).at i r e in
       let at = subst (λ z. slice_get z r ≡ Some (row_info (numbers P Q) Q x.0)) (sym facts.rows) (at_map (row_info (numbers P Q) Q) (rows_of P Q) r x.0 x.1) in
-      hierarchy.placed.rows r (at_below F.rows.items r (row_info (numbers P Q) Q x.0) at)
+      hierarchy.placed.rows r (slice_get_within F.rows.items r (row_info (numbers P Q) Q x.0) at)
 
   module _ (V : Plain) (resolves : Resolves (java_tree P Q F H) V) (new : IsFormed (untagged V)) (pt : PointsTo) (none : first_broken F pt H ≡ None) where
     abbrev types : List (List ℕ)

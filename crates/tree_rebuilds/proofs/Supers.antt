@@ -4,12 +4,13 @@ use Rattle.std.specs.Prelude.{◌⊎◌, not, length, map, option_and_then}
 use Rattle.std.specs.Option.{option_map, option_map_or, option_to_list}
 use Rattle.std.proofs.lemmas.Bool.{false≢true, and_from, and_parts, cases_Bool, not-true}
 use Rattle.kaba_base.specs.declared.ClassId.{ClassId}
+use Rattle.kaba_base.proofs.Listed.{contains_cases}
 use Rattle.kaba_order.specs.Orders.{IsPartialOrder, is_le, is_live}
 use Rattle.java_tree.specs.Syntax.{DeclTree}
 use Rattle.java_core.specs.Programs.{Plain, PlainClass}
 use Rattle.java_core.specs.Classes.{supers_of, IsSubclass, same_class, through}
 use Rattle.java_core.specs.Formed.{IsFormed}
-use Rattle.java_core.proofs.Upwards.{contains_cases, above_object}
+use Rattle.java_core.proofs.Upwards.{above_object}
 use Rattle.name_rules.specs.Outline.{parent_named, faces_named, parent_meant, id_meant, types_in}
 use Rattle.name_rules.specs.Resolves.{Resolves}
 use Rattle.java_core.specs.Untagged.{untagged}

@@ -19,6 +19,7 @@ use Rattle.fact_model.specs.declared.facts.ColumnInfo.{ColumnInfo}
 use Rattle.fact_model.specs.declared.facts.ColKind.{ColKind}
 use Rattle.fact_model.specs.declared.facts.ColKind.TheVariants as kind
 use Rattle.fact_model.specs.declared.sets.PointsTo.{PointsTo}
+use Rattle.fact_model.proofs.ClassLemmas.{slot_says as slot_is}
 use Rattle.hier_model.specs.Hierarchies.{Hierarchy, stands_at, is_offered, is_method, offers_slot, member_name, is_class_node}
 use Rattle.hier_model.proofs.AnyLemmas.{any_below_some, any_below_has}
 use Rattle.hier_rules.specs.declared.broken.Rule.TheVariants.{B6}
@@ -37,7 +38,6 @@ use Rattle.rebuild_model.specs.Members.{is_made_at, offers_body, is_headed, is_f
 use Rattle.written_tree.specs.Names.{nowhere}
 use Rattle.written_tree.specs.Members.{is_declaration, filling, head, first_head, slot_head, field_member, body_member, bodyless, is_first_there, heads_of_slot, column_heads, own_member, column_members, filler, class_members, interface_heads}
 use Rattle.tree_rebuilds.proofs.Nodes.{items}
-use Rattle.rebuild_looks.proofs.Slots.{slot_says as slot_is}
 use Rattle.tree_rebuilds.proofs.Members.{IsHeadTree, first_head_from, in_class, as_filler, flat_option_from}
 use Rattle.tree_resolves.proofs.Origins.{R}
 use Rattle.tree_resolves.proofs.Modifiers.{Given}

@@ -5,6 +5,7 @@ use Rattle.std.specs.Option.{is_some, option_map}
 use Rattle.std.proofs.lemmas.Bool.{false≢true, cases_Bool}
 use Rattle.std.proofs.lemmas.Option.{same_Some}
 use Rattle.kaba_base.specs.declared.words.Keyword.TheVariants.{Public, Abstract, Static}
+use Rattle.kaba_base.proofs.Tests.{none_of}
 use Rattle.java_tree.specs.declared.Modifier.{Modifier}
 use Rattle.java_tree.specs.Syntax.{HeadTree, DeclTree}
 use Rattle.java_core.specs.Programs.{Plain, PlainMethod}
@@ -97,10 +98,6 @@ mapped : {A B : Type 0} (f : A → B) (o : Option A) → is_some (option_map f o
 mapped f None = refl
 mapped f (Some x) = refl
 
-is_none : {A : Type 0} (o : Option A) → is_some o ≡ false → o ≡ None
-is_none None h = refl
-is_none (Some x) h = absurd (false≢true (sym h))
-
 -- a method with a body that is not abstract, an abstract one without a body, and a head of an interface
 right_body : (x : MethodAt) → has_word is_abstract_word x.head.mods ≡ false → is_some x.body ≡ true → HasWrongBody x → ⊥
 right_body x plain bodied (missing p q r) = false≢true (sym (ap is_some r) ∙ bodied)
@@ -135,7 +132,7 @@ module _ {P Q : Plain} {F : Facts} {pt : PointsTo} {H : Hierarchy} (G : Given P 
 
   static_body : (m : ℕ) (old : PlainMethod) → slice_get P.methods m ≡ Some old → old.is_static ≡ true → is_some old.body ≡ true
   static_body m old e s =
-      ⊎_elim (λ h. h) (λ h. absurd (false≢true (sym ((G.formed.methods m old e).bodyless (is_none old.body h)).0 ∙ s))) (cases_Bool (is_some old.body))
+      ⊎_elim (λ h. h) (λ h. absurd (false≢true (sym ((G.formed.methods m old e).bodyless (none_of old.body h)).0 ∙ s))) (cases_Bool (is_some old.body))
 
   sound : (x : MethodAt) → HasMethod P Q F H x → IsSound x
   sound x (node_body n i c m k a e at o) = record {

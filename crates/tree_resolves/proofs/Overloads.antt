@@ -3,7 +3,7 @@ use Rattle.std.proofs.Common.{◌≡◌, ℕ, zero, suc, ◌+◌, ◌<◌, Bool,
 use Rattle.std.specs.Prelude.{◌⊎◌, nat_lt, map, slice_get, length, option_and_then}
 use Rattle.std.specs.Option.{option_map, option_map_or, option_to_list}
 use Rattle.std.proofs.lemmas.Bool.{false≢true, lt-ltb}
-use Rattle.std.proofs.lemmas.Option.{same_Some}
+use Rattle.std.proofs.lemmas.Option.{same_Some, slice_get_within}
 use Rattle.kaba_base.specs.declared.ClassId.{ClassId}
 use Rattle.kaba_base.specs.declared.NodeId.{NodeId}
 use Rattle.java_tree.specs.declared.Modifier.{Modifier}
@@ -25,7 +25,7 @@ use Rattle.flow_rules.specs.declared.items.RowItem.TheVariants as row
 use Rattle.flow_rules.specs.declared.items.ColumnItem.TheVariants as column
 use Rattle.flow_rules.specs.Operands.{variable_row, variable_in, result_in}
 use Rattle.flow_rules.specs.Ordered.{each}
-use Rattle.flow_rules.proofs.Listed.{at_below, map_at, contains_at, one_from, index_at}
+use Rattle.flow_rules.proofs.Listed.{map_at, contains_at, one_from, index_at}
 use Rattle.rebuild_looks.specs.Known.{AreColumns}
 use Rattle.rebuild_given.proofs.Given.{columns as columns_are}
 use Rattle.name_rules.specs.Outline.{MethodAt, methods_in, method_outline, param_outline, type_meant, class_outline, name_of, outline, is_static, is_static_word, has_word}
@@ -96,7 +96,7 @@ module _ {P Q : Plain} {F : Facts} {pt : PointsTo} {H : Hierarchy} (G : Given P 
       record {
         signature = sig.slot;
         stands = sig.stands;
-        params = params_from_slot m s k 0 k.params (λ i j v u h. slot_param m s j k d (let lt = at_below k.params i v h in omega (arith, u, lt)))
+        params = params_from_slot m s k 0 k.params (λ i j v u h. slot_param m s j k d (let lt = slice_get_within k.params i v h in omega (arith, u, lt)))
             ∙ ap (slot_params s 0) sig.params;
         result = two_maps (written_type P H ((R P Q F H).row_type (result_in k.slot m))) (meant (row.Return s)) k.result
             (λ t. ap (λ o. meant (result_in o m) t) d)

@@ -9,6 +9,7 @@ use Rattle.std.proofs.lemmas.Option.{same_Some}
 use Rattle.std.proofs.lemmas.List.{map-append}
 use Rattle.std.proofs.lemmas.List.Elements.{Contains-append_left, Contains-append_right}
 use Rattle.std.proofs.lemmas.Slice.Eq.{bytes_eq-Decides}
+use Rattle.std.proofs.lemmas.Map.Keys.{any_passes_from_place}
 use Rattle.kaba_bits.specs.Sets.{first_below}
 use Rattle.kaba_bits.proofs.FirstLemmas.{first_below_None, when-None}
 use Rattle.kaba_bits.proofs.SetLemmas.{bit-below}
@@ -40,7 +41,7 @@ use Rattle.name_rules.specs.Outline.{FieldAt, MethodAt, fields_in, methods_in, n
 use Rattle.rebuild_model.specs.Renaming.{renaming_of}
 use Rattle.rebuild_given.proofs.Given.{columns as columns_are}
 use Rattle.written_tree.specs.Members.{head, param}
-use Rattle.tree_rebuilds.proofs.Apart.{any_there, taken_parts, holder_placed}
+use Rattle.tree_rebuilds.proofs.Apart.{taken_parts, holder_placed}
 use Rattle.tree_rebuilds.proofs.Nodes.{items, tree, tree_name, Declares, a_node, a_holder, declares}
 use Rattle.tree_rebuilds.proofs.Members.{IsHeadTree}
 use Rattle.tree_resolves.proofs.Origins.{R, old_words, HasMethod, node_body, node_head, node_filler, interface_head, static_method, HasField, node_field, static_field, method_origin, field_origin}
@@ -95,7 +96,7 @@ module _ {P Q : Plain} {F : Facts} {pt : PointsTo} {H : Hierarchy} (G : Given P 
       (λ c k at h e. v.no_class c k at e)
     where
       any_name : (xs : List (List ℕ)) (y : List ℕ) → Contains xs y → list_any (λ v. bytes_eq v y) xs ≡ true
-      any_name xs y d = let z = at_contains xs y d in any_there (λ v. bytes_eq v y) xs z.0 y z.1 ((bytes_eq-Decides y y).1 refl)
+      any_name xs y d = let z = at_contains xs y d in any_passes_from_place (λ v. bytes_eq v y) xs z.0 y z.1 ((bytes_eq-Decides y y).1 refl)
 
   field_variable : (f : ℕ) (k : PlainField) → slice_get P.fields f ≡ Some k → Contains (all_variables Q) k.name
   field_variable f k e =
@@ -166,7 +167,7 @@ module _ {P Q : Plain} {F : Facts} {pt : PointsTo} {H : Hierarchy} (G : Given P 
           let i = class_there P Q G.placed F G.facts c k at in
           let z = class_at P Q G.placed F G.facts c i.0 i.1 in
           let name : i.0.name ≡ x = z.name ∙ ap (λ (y : PlainClass). y.name) (same_Some _ _ (sym z.stands ∙ at)) ∙ e in
-          false≢true (sym r.0 ∙ any_there (λ k. k.holder && bytes_eq k.name x) F.classes.items c i.0 i.1
+          false≢true (sym r.0 ∙ any_passes_from_place (λ k. k.holder && bytes_eq k.name x) F.classes.items c i.0 i.1
           (and_from i.0.holder (bytes_eq i.0.name x) (z.holder ∙ holder_placed P Q G.placed c h) ((bytes_eq-Decides i.0.name x).1 name))))
 
   field_is_free : (x : FieldAt) → HasField P Q F H x → is_type_name types x.name ≡ false

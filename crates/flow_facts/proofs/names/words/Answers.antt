@@ -1,8 +1,8 @@
 use Rattle.std.proofs.Common.{◌+◌, ◌++◌, ◌∷◌, drop, map, sym, ap, ◌∙◌}
 use Rattle.std.specs.Prelude.{string_bytes}
 use Rattle.std.specs.Str.{bytes_eq, encode_utf8_all}
+use Rattle.std.proofs.lemmas.List.{drop_more}
 use Rattle.flow_rules.specs.Ordered.{once_after}
-use Rattle.flow_facts.proofs.Steps.{front}
 use Rattle.flow_facts.proofs.names.words.Goals as goal
 
 pub loop-name-preserved : goal.loop-name-preserved
@@ -12,5 +12,5 @@ loop-name-preserved c =
     let x = c.name-item.result in
     c.in-Ok-add_word.ensures.value (drop (i + 1) xs)
     ∙ ap (λ l. c.loop-name.words.items ++ once_after bytes_eq encode_utf8_all (map string_bytes c.loop-name.seen.keys) l)
-    (sym (front xs i x c.loop-name-test.true ∙ ap (λ y. y ∷ drop (i + 1) xs) (sym c.name-item.is)))
+    (sym (drop_more xs i x c.loop-name-test.true ∙ ap (λ y. y ∷ drop (i + 1) xs) (sym c.name-item.is)))
     ∙ c.loop-name.invariant

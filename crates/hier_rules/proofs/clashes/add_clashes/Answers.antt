@@ -1,8 +1,8 @@
-use Rattle.std.proofs.Common.{◌≡◌, ℕ, ◌+◌, ◌<◌, ◌∙◌, ap, sym, subst, None, Some, List, Option, get_or, arith}
+use Rattle.std.proofs.Common.{◌≡◌, ℕ, ◌+◌, ◌<◌, ◌∙◌, ap, sym, subst, None, List, Option, get_or, arith}
+use Rattle.kaba_base.proofs.Texts.{bytes_exact}
 use Rattle.hier_model.specs.Hierarchies.{member_name}
 use Rattle.hier_rules.specs.declared.clashes.ClashPair.{ClashPair}
 use Rattle.hier_rules.specs.Namesakes.{last_of, AreClashes}
-use Rattle.hier_rules.proofs.TakenLemmas.{bytes_same}
 use Rattle.hier_rules.proofs.ClashLemmas.{limit, last_says, within_some, fewer, with_one}
 use Rattle.hier_rules.proofs.clashes.add_clashes.Goals as goal
 
@@ -32,7 +32,7 @@ namesakes-preserved c =
     let xs : List ClashPair = c.namesakes.clashes.items in
     let more : List ClashPair = c.add_clash.new.clashes.items in
     let lt : k < d = c.namesakes.invariant.below k c.in-Some.is in
-    let same : member_name H k ≡ name = bytes_same (member_name H k) name (c.namesakes.invariant.named k c.in-Some.is) in
+    let same : member_name H k ≡ name = bytes_exact (member_name H k) name (c.namesakes.invariant.named k c.in-Some.is) in
     let was : AreClashes F H d (k + 1) xs = subst (λ (p : Option ℕ). AreClashes F H d (limit p) xs) c.in-Some.is c.namesakes.invariant.found in
     let now : AreClashes F H d k more = subst (λ (l : List ClashPair). AreClashes F H d k l) (sym c.in_ok-add_clash-in-Some.ensures)
     (with_one F H d k xs lt was) in
@@ -52,7 +52,7 @@ namesakes-smaller c =
     let name = member_name H d in
     let k : ℕ = c.in-Some.c in
     let lt : k < d = c.namesakes.invariant.below k c.in-Some.is in
-    let same : member_name H k ≡ name = bytes_same (member_name H k) name (c.namesakes.invariant.named k c.in-Some.is) in
+    let same : member_name H k ≡ name = bytes_exact (member_name H k) name (c.namesakes.invariant.named k c.in-Some.is) in
     let e : get_or c.args.links.now k None ≡ last_of H name k =
     c.requires.links.exact k (omega (arith, lt, c.requires.column, c.requires.links.width)) ∙ ap (λ x. last_of H x k) same in
     let r = last_says H name k in

@@ -2,8 +2,8 @@ use Rattle.std.proofs.Common.{◌∙◌, ap, Some, cond}
 use Rattle.std.specs.Prelude.{string_bytes}
 use Rattle.std.specs.Str.{bytes_eq, encode_utf8_all}
 use Rattle.std.proofs.lemmas.Map.Text.{hash_map_updates_text}
+use Rattle.kaba_base.proofs.Texts.{text_test}
 use Rattle.indexmap.specs.IndexMap.{get_by_text}
-use Rattle.hier_rules.proofs.ClashLemmas.{text_test}
 use Rattle.hier_rules.proofs.clashes.put_last.Goals as goal
 
 pub returns-clause-put : goal.returns-clause-put

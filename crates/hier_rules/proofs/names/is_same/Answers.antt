@@ -1,9 +1,9 @@
 use Rattle.std.proofs.lemmas.Slice.Eq.{bytes_eq-Decides}
-use Rattle.hier_rules.proofs.NameLemmas.{same_test}
+use Rattle.kaba_base.proofs.Tests.{same_truth}
 use Rattle.hier_rules.proofs.names.is_same.Goals as goal
 
 pub returns : goal.returns
 returns c =
     let a = c.args.a.now in
     let b = c.args.b.now in
-    same_test _ _ (λ h. (bytes_eq-Decides a b).1 (c.same.ensures.value.0 h)) (λ h. c.same.ensures.value.1 ((bytes_eq-Decides a b).0 h))
+    same_truth _ _ (λ h. (bytes_eq-Decides a b).1 (c.same.ensures.value.0 h)) (λ h. c.same.ensures.value.1 ((bytes_eq-Decides a b).0 h))

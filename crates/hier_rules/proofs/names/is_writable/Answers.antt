@@ -1,7 +1,7 @@
 use Rattle.std.proofs.Common.{ap, ◌∙◌}
 use Rattle.std.proofs.lemmas.Str.{encodes-chars}
 use Rattle.kaba_base.specs.Words.{is_name}
-use Rattle.hier_rules.proofs.NameLemmas.{encodes-same}
+use Rattle.kaba_base.proofs.Texts.{encodes-same}
 use Rattle.hier_rules.proofs.names.is_writable.Goals as goal
 
 pub returns : goal.returns

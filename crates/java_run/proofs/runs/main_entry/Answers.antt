@@ -1,9 +1,10 @@
 use Rattle.std.proofs.Common.{ap, sym, ◌∙◌}
 use Rattle.std.specs.Option.{option_map}
+use Rattle.kaba_base.proofs.Tests.{none_or_some}
 use Rattle.java_core.specs.Trees.{no_place}
 use Rattle.java_core.specs.Programs.{program_of}
 use Rattle.linear_code.specs.Seen.{entry_of, tables_of}
-use Rattle.java_run.proofs.Starts.{none_or_some, main_begins}
+use Rattle.java_run.proofs.Starts.{main_begins}
 use Rattle.java_run.proofs.runs.main_entry.Goals as goal
 
 pub unreachable-requires : goal.unreachable-requires

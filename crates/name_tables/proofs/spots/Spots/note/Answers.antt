@@ -6,9 +6,10 @@ use Rattle.std.specs.declared.vec.Vec.{Vec}
 use Rattle.std.specs.declared.alloc.Global.{Global}
 use Rattle.std.proofs.lemmas.Map.Text.{hash_map_updates_text}
 use Rattle.std.proofs.lemmas.Slice.Eq.{bytes_eq-Decides}
+use Rattle.kaba_base.proofs.Texts.{text_test}
 use Rattle.indexmap.specs.IndexMap.{get_by_text}
 use Rattle.name_tables.specs.Spots.{spots_of}
-use Rattle.name_tables.proofs.SpotLemmas.{text_test, found_items, taken-put}
+use Rattle.name_tables.proofs.SpotLemmas.{found_items, taken-put}
 use Rattle.name_tables.proofs.spots.Spots.note.Goals as goal
 
 pub returns : goal.returns

@@ -4,8 +4,9 @@ use Rattle.std.specs.Str.{bytes_eq, encode_utf8_all}
 use Rattle.std.specs.declared.vec.Vec.{Vec}
 use Rattle.std.specs.declared.alloc.Global.{Global}
 use Rattle.std.proofs.lemmas.Map.Text.{hash_map_updates_text}
+use Rattle.kaba_base.proofs.Texts.{text_test}
 use Rattle.indexmap.specs.IndexMap.{get_by_text}
-use Rattle.name_tables.proofs.SpotLemmas.{text_test, found_items}
+use Rattle.name_tables.proofs.SpotLemmas.{found_items}
 use Rattle.name_tables.proofs.spots.Spots.taken.Goals as goal
 
 pub returns-in-Some-clause-rest : goal.returns-in-Some-clause-rest
