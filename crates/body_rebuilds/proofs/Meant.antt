@@ -19,9 +19,10 @@ use Rattle.java_core.specs.declared.Op.TheVariants as op
 use Rattle.java_core.specs.Programs.{Plain}
 use Rattle.java_core.specs.Types.{is_class}
 use Rattle.java_core.specs.Formed.{IsCastType, to_int as is_int, to_char as is_char, to_class as is_of_class}
+use Rattle.java_core.specs.Subtypes.{class_id}
 use Rattle.kaba_order.specs.Orders.{is_live}
 use Rattle.hier_model.specs.Hierarchies.{Hierarchy, type_name}
-use Rattle.name_rules.specs.Outline.{is_text_type, class_id}
+use Rattle.name_rules.specs.Outline.{is_text_type}
 use Rattle.name_rules.specs.Meanings.{class_named, MeansBase, an_int, a_boolean, a_char, a_text, a_class, Means, MeansCastBase, to_int, to_boolean, to_char, to_class, MeansCast}
 use Rattle.name_rules.specs.Resolves.{un_op, bin_op}
 use Rattle.written_tree.specs.Names.{row_name, written_base, written_type, prefix_mark, infix_mark}

@@ -12,6 +12,7 @@ use Rattle.kaba_base.proofs.Listed.{contains_cases}
 use Rattle.flow_rules.proofs.Listed.{at_left, below_at as get_there}
 use Rattle.java_core.specs.Programs.{PlainLocal, PlainMethod}
 use Rattle.java_core.specs.Formed.{variables_of, numbers_below}
+use Rattle.java_core.proofs.NumbersBelow.{has_below}
 use Rattle.name_rules.specs.declared.parts.Bound.{Bound}
 use Rattle.name_rules.specs.Meanings.{local_of, in_scope, is_bound, bound_names}
 use Rattle.name_rules.specs.Resolves.{bound, params_from}
@@ -119,14 +120,6 @@ name_absent p c (v ∷ ps) x h e =
     ap (λ z. if z then Some c else local_of x (params_from (suc c) ps)) (sym first ∙ both.0)
     ∙ name_absent p (suc c) ps x (λ j w ej. ap p (let z : suc c + j ≡ c + suc j = omega arith in z) ∙ h (suc j) w ej) both.1
 
-below_of : (n j : ℕ) → Contains (numbers_below n) j → j < n
-below_of zero j h = absurd (let l = h.1 in omega (arith, l))
-below_of (suc n) j h = go (contains_cases n (numbers_below n) j h) (λ d. below_of n j d)
-  where
-    go : (n ≡ j) ⊎ Contains (numbers_below n) j → (Contains (numbers_below n) j → j < n) → j < suc n
-    go (inl e) r = omega (arith, e)
-    go (inr d) r = let l = r d in omega (arith, l)
-
 get_name : (ps : List PlainLocal) (i : ℕ) (v : PlainLocal) → slice_get ps i ≡ Some v → slice_get (map (λ (v : PlainLocal). v.name) ps) i ≡ Some v.name
 get_name [] i v e = absurd (cc)
 get_name (p ∷ ps) zero v e = ap Some (ap (λ z. z.name) (same_Some p v e))
@@ -139,7 +132,7 @@ pub scoped_params : (k : PlainMethod) (ps : List PlainLocal) → map (λ v. v.na
     → Scoped k (numbers_below (length k.params)) (parameters 0 k.params) (params_from 0 ps)
 scoped_params k ps same once = record {
   found = λ i c.
-      let v = get_there k.params i (below_of (length k.params) i c) in
+      let v = get_there k.params i (has_below (length k.params) i c) in
       ap (λ z. local_of (option_map_or (λ (v : PlainLocal). v.name) z []) (params_from 0 ps)) (at_left k.params k.locals i v.0 v.1)
       ∙ ap (λ z. local_of v.0.name z) (params_named 0 ps ∙ ap (named 0) same)
       ∙ name_found 0 (map (λ v. v.name) k.params) i v.0.name once (get_name k.params i v.0 v.1)

@@ -26,6 +26,7 @@ use Rattle.flow_rules.specs.Numbered.{row_number, column_number}
 use Rattle.flow_rules.specs.Lists.{supers_of}
 use Rattle.flow_rules.specs.Facts.{numbers, this_of_row, owner_of, IsFactsOf}
 use Rattle.java_core.specs.Untagged.{untagged}
+use Rattle.java_core.proofs.SearchOrder.{slot_is}
 use Rattle.run_cover.proofs.Found.{same_length}
 use Rattle.run_cover.proofs.Bodies.{finds_some}
 use Rattle.flow_rules.proofs.Listed.{all_of}
@@ -36,10 +37,6 @@ use Rattle.facts_order.proofs.Rows.{item_row, row_types}
 use Rattle.facts_order.proofs.Bodies.{this_method, this_column}
 use Rattle.facts_order.proofs.Tests.{gathered_from, both_from}
 use Rattle.facts_order.proofs.Fitted.{part_fitted}
-
-slot_is : (o : Option ℕ) (s : ℕ) → is_slot o s ≡ true → o ≡ Some s
-slot_is None s e = absurd (false≢true e)
-slot_is (Some r) s e = ap Some (eqb-true r s e)
 
 module _ (P Q : Plain) (placed : IsPlaced P Q) (formed : IsFormed P) (typed : IsTyped P) where
   -- the method that a super call finds, in the class where it stands

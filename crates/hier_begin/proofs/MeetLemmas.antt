@@ -15,10 +15,11 @@ use Rattle.fact_model.specs.declared.sets.PointsTo.{PointsTo}
 use Rattle.fact_model.specs.declared.sets.Table.{Table}
 use Rattle.hier_model.specs.Hierarchies.{Hierarchy, place_of_column, place_of_row, is_above, is_at, stands_at, is_offered}
 use Rattle.hier_model.proofs.AnyLemmas.{any_below_some, any_below_has}
+use Rattle.hier_model.specs.Edits.{is_one_slot}
 use Rattle.hier_laws.specs.Shapes.{Given, Shape, Offers}
 use Rattle.hier_laws.specs.Obligations.{IsOther, Half, Rest}
 use Rattle.hier_rules.specs.declared.broken.Rule.TheVariants.{B2, B3, B4, B5, B6, B7}
-use Rattle.hier_rules.specs.Asked.{is_tie, is_super, is_called, slots_of, is_one_slot, is_other_body, meets, places_of}
+use Rattle.hier_rules.specs.Asked.{is_tie, is_super, is_called, slots_of, is_other_body, meets, places_of}
 use Rattle.hier_rules.specs.Instances.{of_both, of_row, of_column}
 use Rattle.hier_rules.specs.Obligations.{is_strictly_above, is_below, differ, row_le, column_le, place_of_site, is_nearer, has_nearer, wrong_body, wrong_need, first_wrong_need, is_between, has_between, wrong_super, first_wrong_super, is_body_at, two_bodies, first_two_bodies, unoffered, first_unoffered, untied, unheld, first_untied, wrong_outcome, first_wrong_outcome}
 use Rattle.hier_rules.specs.Obligations as rule

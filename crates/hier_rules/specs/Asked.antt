@@ -10,6 +10,7 @@ use Rattle.fact_model.specs.declared.facts.TestInfo.{TestInfo}
 use Rattle.fact_model.specs.declared.facts.StoreInfo.{StoreInfo}
 use Rattle.fact_model.specs.declared.sets.PointsTo.{PointsTo}
 use Rattle.hier_model.specs.Hierarchies.{any_below}
+use Rattle.hier_model.specs.Edits.{is_one_slot}
 
 -- whether two numbers are those of a pair
 abbrev pub is_pair : ℕ → ℕ → ℕ → ℕ → Bool
@@ -35,12 +36,6 @@ bound_of f (x ∷ xs) = max (f x + 1) (bound_of f xs)
 -- the slots of all calls are below this
 abbrev pub slots_of : Facts → ℕ
 slots_of F = bound_of (λ k. k.slot) F.calls.items
-
--- whether two slots are there and the same
-abbrev pub is_one_slot : Option ℕ → Option ℕ → Bool
-is_one_slot None y = false
-is_one_slot (Some x) None = false
-is_one_slot (Some x) (Some y) = x == y
 
 -- whether two slots are there and differ
 abbrev pub are_two_slots : Option ℕ → Option ℕ → Bool

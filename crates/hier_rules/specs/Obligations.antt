@@ -9,9 +9,10 @@ use Rattle.fact_model.specs.Classes.{is_def, below, finds}
 use Rattle.fact_model.specs.declared.facts.Facts.{Facts}
 use Rattle.fact_model.specs.declared.sets.PointsTo.{PointsTo}
 use Rattle.hier_model.specs.Hierarchies.{Hierarchy, place_of_column, place_of_row, stands_at, is_offered, any_below, is_class_node}
+use Rattle.hier_model.specs.Edits.{is_one_slot}
 use Rattle.hier_rules.specs.declared.broken.Broken.{Broken}
 use Rattle.hier_rules.specs.declared.broken.Rule.TheVariants.{B2, B3, B4, B5, B6, B7, B9}
-use Rattle.hier_rules.specs.Asked.{is_tie, is_super, is_called, slots_of, is_other_body, is_one_slot, meets, places_of}
+use Rattle.hier_rules.specs.Asked.{is_tie, is_super, is_called, slots_of, is_other_body, meets, places_of}
 use Rattle.hier_rules.specs.Instances.{of_both, of_row, of_column, of_three}
 
 -- whether a place is strictly above the node n

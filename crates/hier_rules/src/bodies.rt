@@ -5,9 +5,10 @@ ghost use Rattle.hier_rules.specs.Words.{IsNonDecreasing, bit, row, first_below,
 ghost use Rattle.std.specs.Option.{option_and_then};
 ghost use Rattle.fact_model.specs.Items.{site_class, column_kind, column_class, column_slot, row_class};
 ghost use Rattle.fact_model.specs.Classes.{is_def, finds};
-ghost use Rattle.hier_rules.specs.Asked.{is_super, is_called, slots_of, is_one_slot, is_other_body};
+ghost use Rattle.hier_rules.specs.Asked.{is_super, is_called, slots_of, is_other_body};
 ghost use Rattle.hier_rules.specs.Instances.{of_column};
 ghost use Rattle.hier_rules.specs.Obligations.{is_nearer, has_nearer, wrong_body, wrong_need, first_wrong_need, is_between, has_between, wrong_super, first_wrong_super, is_body_at, two_bodies, first_two_bodies};
+ghost use Rattle.hier_model.specs.Edits.{is_one_slot};
 
 use crate::broken::{Broken, Nodes, Rule};
 use crate::pairs::super_rows;

@@ -1,7 +1,6 @@
 -- The line of an edit that was refused.
 use Rattle.std.specs.Prelude.{ℕ, List, [], ◌∷◌, ◌++◌, codes, Option, Some, None}
 use Rattle.std.specs.Fmt.{decimal}
-use Rattle.kaba_base.specs.declared.NodeId.{NodeId}
 use Rattle.kaba_base.specs.declared.RowId.{RowId}
 use Rattle.kaba_base.specs.declared.ColId.{ColId}
 use Rattle.hier_rules.specs.declared.broken.Rule.{Rule}
@@ -11,12 +10,7 @@ use Rattle.hier_rules.specs.declared.broken.Nodes.TheVariants.{One, Two, Three}
 use Rattle.hier_rules.specs.declared.broken.Broken.{Broken}
 use Rattle.hier_edit.specs.declared.ApplyFault.{ApplyFault}
 use Rattle.hier_edit.specs.declared.ApplyFault.TheVariants.{UnknownNode, UnknownMember, NotEmpty, Breaks, Memory}
-
-abbrev pub node_text : NodeId → List ℕ
-node_text n = codes "n" ++ decimal n.0
-
-abbrev pub column_text : ColId → List ℕ
-column_text c = codes "c" ++ decimal c.0
+use Rattle.edit_script.specs.Script.{node_word, column_word}
 
 -- the name of an obligation
 abbrev pub rule_text : Rule → List ℕ
@@ -31,9 +25,9 @@ rule_text B8 = codes "B8"
 rule_text B9 = codes "B9"
 
 abbrev pub nodes_text : Nodes → List ℕ
-nodes_text (One n) = node_text n
-nodes_text (Two n m) = node_text n ++ (codes " " ++ node_text m)
-nodes_text (Three n m k) = node_text n ++ (codes " " ++ (node_text m ++ (codes " " ++ node_text k)))
+nodes_text (One n) = node_word n
+nodes_text (Two n m) = node_word n ++ (codes " " ++ node_word m)
+nodes_text (Three n m k) = node_word n ++ (codes " " ++ (node_word m ++ (codes " " ++ node_word k)))
 
 -- a row or a column that may not be there
 abbrev pub some_row_text : Option RowId → List ℕ
@@ -42,7 +36,7 @@ some_row_text (Some r) = codes "r" ++ decimal r.0
 
 abbrev pub some_column_text : Option ColId → List ℕ
 some_column_text None = codes "-"
-some_column_text (Some c) = column_text c
+some_column_text (Some c) = column_word c
 
 -- breaks RULE nodes nI nJ row rI column cI
 abbrev pub broken_text : Broken → List ℕ
@@ -52,9 +46,9 @@ broken_text b =
 
 -- why an edit is refused
 abbrev pub fault_text : ApplyFault → List ℕ
-fault_text (UnknownNode n) = codes "unknown node " ++ node_text n
-fault_text (UnknownMember c) = codes "unknown member " ++ column_text c
-fault_text (NotEmpty n) = codes "not empty " ++ node_text n
+fault_text (UnknownNode n) = codes "unknown node " ++ node_word n
+fault_text (UnknownMember c) = codes "unknown member " ++ column_word c
+fault_text (NotEmpty n) = codes "not empty " ++ node_word n
 fault_text (Breaks b) = broken_text b
 fault_text Memory = []
 

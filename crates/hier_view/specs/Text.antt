@@ -8,10 +8,9 @@ use Rattle.kaba_order.specs.Orders.{Ordered, is_le, is_live}
 use Rattle.fact_model.specs.Items.{column_kind}
 use Rattle.fact_model.specs.declared.facts.Facts.{Facts}
 use Rattle.fact_model.specs.declared.facts.ClassInfo.{ClassInfo}
-use Rattle.fact_model.specs.declared.facts.ColKind.{ColKind}
-use Rattle.fact_model.specs.declared.facts.ColKind.TheVariants.{Fld, Dcl, Def, Is}
 use Rattle.lattice_view.specs.Lists.{part_text}
 use Rattle.hier_model.specs.Hierarchies.{Hierarchy, stands_at, place_of_row, type_name, member_name, origin_of, any_below, is_class_node}
+use Rattle.hier_model.specs.Edits.{is_mark}
 
 -- the numbers below n that pass a test, in rising order
 abbrev pub those_below : ℕ → (ℕ → Bool) → List ℕ
@@ -44,12 +43,6 @@ abbrev pub rows_at : Facts → Hierarchy → ℕ → List ℕ
 rows_at F H n = those_below (length F.rows.items) (λ r. place_of_row H r == n)
 
 -- the name of a member after a colon; the mark of a tested type has none
-abbrev pub is_mark : ColKind → Bool
-is_mark Is = true
-is_mark Fld = false
-is_mark Dcl = false
-is_mark Def = false
-
 abbrev pub name_part : Bool → List ℕ → List ℕ
 name_part true name = []
 name_part false name = codes ":" ++ encode_utf8_all name

@@ -5,7 +5,8 @@ ghost use Rattle.std.specs.Str.{encode_utf8_all};
 ghost use Rattle.kaba_order.specs.Orders.{is_live};
 ghost use Rattle.fact_model.specs.InRange.{InRange, IsClass};
 ghost use Rattle.hier_model.specs.Hierarchies.{IsHierarchyOf};
-ghost use Rattle.hier_view.specs.Text.{is_mark, kind_text, origin_text, head_text, column_part, columns_text, node_lines, node_line, hierarchy_text};
+ghost use Rattle.hier_view.specs.Text.{kind_text, origin_text, head_text, column_part, columns_text, node_lines, node_line, hierarchy_text};
+ghost use Rattle.hier_model.specs.Edits.{is_mark};
 
 use crate::lists::{columns_at, covers, live_nodes, rows_at};
 use fact_model::{ColKind, Facts, class_at};

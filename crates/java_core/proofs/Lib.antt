@@ -1,6 +1,7 @@
 pub mod Rows
 pub mod Subclasses
 pub mod Positions
+pub mod NumbersBelow
 pub mod SearchOrder
 pub mod Upwards
 pub mod Offered

@@ -1,11 +1,17 @@
 -- What is found first in the order in which declarations are looked for.
 use Rattle.std.proofs.Common.{◌≡◌, ℕ, suc, zero, List, [], ◌∷◌, ◌++◌, length, Option, Some, None, refl, sym, ap, ◌∙◌}
+use Rattle.std.specs.Prelude.{true}
 use Rattle.std.specs.List.{flat_map}
+use Rattle.std.proofs.lemmas.Bool.{eqb-true, false≢true}
 use Rattle.std.specs.Option.{option_map, option_map_or, option_and_then}
 use Rattle.kaba_base.specs.declared.ClassId.{ClassId}
 use Rattle.kaba_base.specs.declared.MemberId.{MemberId}
 use Rattle.java_core.specs.Programs.{Plain}
-use Rattle.java_core.specs.Classes.{parent_of, first_or, first_found, nearest, faces_above, chain, search_order, nearest_of, own_method, declaration_of}
+use Rattle.java_core.specs.Classes.{parent_of, first_or, first_found, nearest, faces_above, chain, search_order, nearest_of, own_method, declaration_of, is_slot}
+
+pub slot_is : (o : Option ℕ) (s : ℕ) → is_slot o s ≡ true → o ≡ Some s
+slot_is None s h = absurd (false≢true h)
+slot_is (Some r) s h = ap Some (eqb-true r s h)
 
 pub first_or-assoc : (a b c : Option ℕ) → first_or (first_or a b) c ≡ first_or a (first_or b c)
 first_or-assoc None b c = refl

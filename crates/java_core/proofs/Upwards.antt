@@ -58,6 +58,9 @@ module _ (P : Plain) where
     chain-above {c} (at_class e) = record { holder = c; above = same_class; found = e }
     chain-above {c} (above_class {p = p} none e up) = further (through (parent-super P c p e) same_class) (chain-above up)
 
+    pub nearest-own : {c d : ℕ} → IsNearest P own c d → (k : ℕ) × (own k ≡ Some d)
+    nearest-own n = let a = chain-above n in (a.holder, a.found)
+
   module _ (formed : IsFormed P) where
     pub no_super : (c : ClassId) → Contains (supers_of P 0) c → ⊥
     no_super c h = let lt : h.0 < 0 = rw (formed.object.first, formed.object.parent, formed.object.faces) at h.1 in omega (arith, lt)

@@ -10,6 +10,7 @@ use Rattle.std.proofs.lemmas.List.Elements.{Contains-append_left, Contains-appen
 use Rattle.kaba_base.proofs.Listed.{one_from, one as one-is, no-member}
 use Rattle.kaba_bits.specs.Sets.{bit, row, size}
 use Rattle.kaba_bits.proofs.SetLemmas.{bit-below}
+use Rattle.kaba_bits.proofs.RowLemmas.{set-kept}
 use Rattle.java_core.specs.Squares.{in_row, is_below, AreRows}
 use Rattle.java_core.specs.Subtypes.{IsUnder, itself, under, AreInside, IsOwnRow, IsExact, AreExact, Filled, IsHeld, Gained, Walked}
 use Rattle.java_core.specs.Owned.{listed}
@@ -19,10 +20,6 @@ use Rattle.java_core.specs.Owned.{listed}
 -- where one bit is set
 set-bits : (r : List Bool) (x y : ℕ) → x < length r → bit (set r x true) y ≡ true → (bit r y ≡ true) ⊎ (y ≡ x)
 set-bits r x y lt h = ⊎_elim (λ e. inr e) (λ ne. inl (sym (get_or-set_other r x y true false ne) ∙ h)) (cases_eq y x)
-
-set-kept : (r : List Bool) (x y : ℕ) → x < length r → bit r y ≡ true → bit (set r x true) y ≡ true
-set-kept r x y lt h = ⊎_elim (λ e. subst (λ z. bit (set r x true) z ≡ true) (sym e) (get_or-set_same r x true false lt))
-    (λ ne. get_or-set_other r x y true false ne ∙ h) (cases_eq y x)
 
 pub gained-wait : (rows : List (List Bool)) (known : List Bool) (x : ℕ) (r : List Bool) (w : List ℕ) → x < length r → size (set r x true) ≡ size r + 1
     → Gained rows known (x ∷ []) r (set r x true) w (w ++ x ∷ [])

@@ -1,7 +1,6 @@
 -- What the first token of an expression rules out.
 use Rattle.std.proofs.Common.{refl, subst, ◌≡◌, ℕ, List, [], ◌∷◌, Some, None, Bool, true, false}
 use Rattle.kaba_base.specs.declared.Place.{Place}
-use Rattle.kaba_base.specs.declared.words.Keyword.TheVariants as keys
 use Rattle.java_lex.specs.declared.Token.{Token}
 use Rattle.java_lex.specs.declared.TokenKind.{TokenKind}
 use Rattle.java_lex.specs.declared.TokenKind.TheVariants as kinds
@@ -9,10 +8,11 @@ use Rattle.java_lex.specs.declared.Mark.{Mark}
 use Rattle.java_lex.specs.declared.Mark.TheVariants as marks
 use denote.Enum.Bare.{sameb, same_true}
 use Rattle.java_lex.specs.contracts.Mark.{the_type as mark_type}
+use Rattle.java_lex.specs.Lexing.{token}
 use Rattle.java_tree.specs.Syntax.{Expression}
-use Rattle.java_tree.specs.Tokens.{token, mark, is_sign, casts_kind}
+use Rattle.java_tree.specs.Tokens.{mark, is_sign, casts_kind}
 use Rattle.java_tree.specs.Nesting.{next_is}
-use Rattle.java_tree.specs.Expressions.{IsExpr, binary, instance_of, operand, IsPrefixed, signed, least, cast_named, cast_int, cast_char, bare, IsPost, field, call_on, index, name, call, super_call, round, new_object, new_array, int_literal, char_literal, string_literal, true_literal, false_literal, null_literal, this_word}
+use Rattle.java_tree.specs.Expressions.{IsExpr, binary, instance_of, operand, IsPrefixed, signed, least, cast_named, cast_int, cast_char, bare, IsPost, field, call_on, index}
 use Rattle.java_parse.specs.Front.{after, least_next, sign_next, stepping_next, after_by, least_by, least_kind, closes}
 use Rattle.java_parse.proofs.Fronts.{bool_cases}
 

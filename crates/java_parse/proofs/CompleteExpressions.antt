@@ -8,11 +8,12 @@ use Rattle.java_lex.specs.declared.TokenKind.{TokenKind}
 use Rattle.java_lex.specs.declared.TokenKind.TheVariants as kinds
 use Rattle.java_lex.specs.declared.Mark.{Mark}
 use Rattle.java_lex.specs.declared.Mark.TheVariants as marks
+use Rattle.java_lex.specs.Lexing.{token}
 use Rattle.java_tree.specs.declared.TypeBase.{TypeBase}
 use Rattle.java_tree.specs.declared.TypeBase.TheVariants as bases
 use Rattle.java_tree.specs.declared.TypeName.{TypeName}
 use Rattle.java_tree.specs.Syntax.{Expression, NewArrayOf, Expressions, no_more, and_more}
-use Rattle.java_tree.specs.Tokens.{token, mark, key, word, level, casts}
+use Rattle.java_tree.specs.Tokens.{mark, key, word, level, casts}
 use Rattle.java_parse.specs.declared.End.{End}
 use Rattle.java_parse.specs.declared.End.TheVariants as ends
 use Rattle.java_parse.specs.Want.{NExpr, NMore, NPrefixed, NPost, NAtom, NNew, NSized, NDims, NType, NTail, NArgs, NMoreArgs}

@@ -8,20 +8,21 @@ use Rattle.java_lex.specs.declared.TokenKind.{TokenKind}
 use Rattle.java_lex.specs.declared.TokenKind.TheVariants as kinds
 use Rattle.java_lex.specs.declared.Mark.{Mark}
 use Rattle.java_lex.specs.declared.Mark.TheVariants as marks
+use Rattle.java_lex.specs.Lexing.{token}
 use Rattle.java_tree.specs.declared.TypeName.{TypeName}
 use Rattle.java_tree.specs.Syntax.{Expression, NameRef, Statement, LocalOf, Statements, no_statements, Arms, no_arms, Else, OptionalStatement}
-use Rattle.java_tree.specs.Tokens.{token, mark, key, word, compound, stepping}
+use Rattle.java_tree.specs.Tokens.{mark, key, word, compound, stepping}
 use Rattle.java_tree.specs.Statements.{as_body}
 use Rattle.java_parse.specs.declared.End.{End}
 use Rattle.java_parse.specs.declared.End.TheVariants as ends
 use Rattle.java_parse.specs.Want.{NPost, NType, NTail, NInit, NLocal, NValue, NAct, NTested, NItem, NItems, NStmt, NForHead, NFirst, NStep, NBranches}
 use Rattle.java_parse.specs.Front.{after, after_key, word_next, index_next, stmt_snoc, arm_snoc, final_of, stepping_next, compound_next, is_target, is_call, done, starts_local, start, SOther}
-use Rattle.java_tree.specs.Expressions.{named_base, IsDims, no_dims, one_dim, IsType, a_type, IsExpr, IsPost, field, call_on, index, name, call, super_call, round, new_object, new_array}
+use Rattle.java_tree.specs.Expressions.{named_base, IsDims, no_dims, one_dim, IsType, a_type, IsExpr, IsPost, field, call_on, index, name, super_call, round, new_object}
 use Rattle.java_tree.specs.Statements.{is_choice, IsValue, no_value, a_value, IsInit, no_init, an_init, IsLocal, a_local, IsTarget, to_name, to_field, to_index, IsCall, plain_call, call_upon, call_above, IsAct, assign, assign_by, step_after, step_before, do_call, print, do_new, IsFirst, no_first, first_local, first_act, IsStep, no_step, a_step, IsItem, local_item, stmt_item, IsItems, no_items, next_item, IsStmt, block, empty, acting, choice, while_loop, for_loop, return_word, break_word, continue_word, IsArms, last_arm, else_arm, more_arms}
 use Rattle.java_parse.proofs.Fronts.{Starts, start_is}
 use Rattle.java_tree.specs.Nesting.{next_is}
 use Rattle.java_parse.specs.Front.{index_next, follows_word}
-use Rattle.java_tree.specs.Expressions.{int_base, boolean_base, char_base, int_literal, char_literal, string_literal, true_literal, false_literal, null_literal, this_word}
+use Rattle.java_tree.specs.Expressions.{int_base, boolean_base, char_base}
 use Rattle.java_parse.specs.Reading.{Reads}
 use Rattle.java_parse.proofs.Post.{stmt_append, arm_append}
 use Rattle.java_parse.proofs.SoundStatements.{stmt_append-none, stmt_append-snoc, arm_append-snoc, arm_append-one}

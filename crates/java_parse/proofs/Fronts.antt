@@ -14,13 +14,14 @@ use Rattle.java_tree.specs.declared.Modifier.{Modifier}
 use Rattle.java_tree.specs.declared.TypeBase.{TypeBase}
 use Rattle.java_tree.specs.declared.TypeName.{TypeName}
 use Rattle.java_tree.specs.Syntax.{Expression, CastOf}
-use Rattle.java_tree.specs.Tokens.{token, mark, key, word, level, is_sign, is_modifier}
+use Rattle.java_tree.specs.Tokens.{mark, key, word, level, is_sign, is_modifier}
 use Rattle.java_tree.specs.Expressions.{IsBase, int_base, boolean_base, char_base, named_base, IsPrefixed, cast_named, cast_int, cast_char, IsPost, int_literal, char_literal, string_literal, true_literal, false_literal, null_literal, this_word}
 use Rattle.java_tree.specs.Statements.{IsFinal, not_final, is_final}
 use Rattle.java_parse.specs.declared.End.{End}
 use Rattle.java_parse.specs.Front.{after, after_by, after_key, after_key_by, word_next, word_by, operator, operator_by, instance_next, least_next, least_by, least_kind, sign_next, sign_by, cast_next, may_cast, base_next, base_by, literal_next, literal_by, index_next, is_array, final_of, stands_next, stands_by, operator_of, Start, SBlock, SEmpty, SIf, SWhile, SFor, SReturn, SBreak, SContinue, SOther, start, start_by, modifier_next, modifier_by}
 use denote.Enum.Bare.{sameb, same_true}
 use Rattle.java_lex.specs.contracts.Mark.{the_type as mark_type}
+use Rattle.java_lex.specs.Lexing.{token}
 use Rattle.kaba_base.specs.contracts.words.Keyword.{the_type as key_type}
 
 pub option_cases : {A P : Type 0} (o : Option A) → (o ≡ None → P) → ((x : A) → o ≡ Some x → P) → P

@@ -7,11 +7,12 @@ use Rattle.java_lex.specs.declared.Token.{Token}
 use Rattle.java_lex.specs.declared.TokenKind.TheVariants as kinds
 use Rattle.java_lex.specs.declared.Mark.{Mark}
 use Rattle.java_lex.specs.declared.Mark.TheVariants as marks
+use Rattle.java_lex.specs.Lexing.{token}
 use Rattle.java_tree.specs.declared.TypeBase.{TypeBase}
 use Rattle.java_tree.specs.declared.TypeBase.TheVariants as bases
 use Rattle.java_tree.specs.declared.TypeName.{TypeName}
 use Rattle.java_tree.specs.Syntax.{Expression, IntLit, CharLit, StrLit, BoolLit, NullLit, ThisRef, NameRef, FieldOf, IndexOf, CallOf, CallOn, SuperCallOf, NewOf, NewArrayOf, CastOf, InstanceOfClass, UnaryOf, BinaryOf, Expressions, no_more, and_more}
-use Rattle.java_tree.specs.Tokens.{token, mark, key, word, level, is_sign, casts}
+use Rattle.java_tree.specs.Tokens.{mark, key, word, level, is_sign, casts}
 
 -- a type without brackets
 pub data IsBase : List Token → List Token → TypeBase → Place → Type 0 where

@@ -8,11 +8,8 @@ use Rattle.java_lex.specs.declared.TokenKind.{TokenKind}
 use Rattle.java_lex.specs.declared.TokenKind.TheVariants as kinds
 use Rattle.java_lex.specs.declared.Mark.{Mark}
 use Rattle.java_lex.specs.declared.Mark.TheVariants as marks
+use Rattle.java_lex.specs.Lexing.{token}
 use Rattle.java_tree.specs.Places.{nowhere}
-
--- one token
-abbrev pub token : TokenKind → Place → Token
-token k p = record { kind = k; place = p }
 
 abbrev pub mark : Mark → Place → Token
 mark m p = token (kinds.Mark m) p

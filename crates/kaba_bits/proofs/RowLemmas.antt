@@ -7,6 +7,11 @@ use Rattle.std.proofs.lemmas.List.Sums.{sum_by-le}
 use Rattle.std.proofs.lemmas.List.Elements.{All-from_get_or}
 use Rattle.kaba_bits.proofs.SetLemmas.{same_bits, size-le-length}
 
+-- a row with one bit more has what it had
+pub set-kept : (r : List Bool) (x y : ℕ) → x < length r → bit r y ≡ true → bit (set r x true) y ≡ true
+set-kept r x y lt h = ⊎_elim (λ e. subst (λ z. bit (set r x true) z ≡ true) (sym e) (get_or-set_same r x true false lt))
+    (λ ne. get_or-set_other r x y true false ne ∙ h) (cases_eq y x)
+
 pub widths-set : (rows : List (List Bool)) (into : ℕ) (new : List Bool) → length new ≡ length (row rows into) → (k : ℕ)
     → length (row (set rows into new) k) ≡ length (row rows k)
 widths-set rows into new e k = grind (arith, common_steps)

@@ -11,9 +11,10 @@ use Rattle.java_tree.specs.Syntax.{DeclTree}
 use Rattle.java_core.specs.Programs.{Plain, PlainClass, PlainMethod}
 use Rattle.java_core.specs.Classes.{supers_of, IsSubclass, same_class, through, IsProperSubclass}
 use Rattle.java_core.specs.Formed.{IsMain}
+use Rattle.java_core.specs.Subtypes.{class_id}
 use Rattle.name_rules.specs.declared.parts.Kind.{Kind}
 use Rattle.name_rules.specs.declared.parts.Kind.TheVariants as kinds
-use Rattle.name_rules.specs.Outline.{FieldAt, MethodAt, is_private, has_word, is_abstract_word, is_known, is_type_name, name_of, mods_of, faces_named, types_in, class_id, object, outline}
+use Rattle.name_rules.specs.Outline.{FieldAt, MethodAt, is_private, has_word, is_abstract_word, is_known, is_type_name, name_of, mods_of, faces_named, types_in, object, outline}
 use Rattle.name_rules.specs.Resolves.{heading_of}
 use Rattle.name_rules.specs.Conditions.{unknown, type_twice, known_twice, super_twice, field_twice, method_twice, param_twice, loop, overload, type_as_field, type_as_param, face_as_parent, class_as_face, private_reused, no_main, modifiers_disagree, modifier_unfit, wrong_body, in_body, AreOneSlot, HasModifiers, of_type, of_field, of_method, HasWrongBody, missing, superfluous, in_concrete, is_unfit, kind_of}
 use Rattle.name_rules.specs.Causes.{HasNoCondition}

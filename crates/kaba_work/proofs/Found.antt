@@ -14,7 +14,7 @@ use Rattle.java_core.specs.Classes.{parent_of, supers_of, IsSubclass, IsProperSu
 use Rattle.java_core.specs.Types.{a_value, class_type, types_of, Signature, signature_of_slot, signature_of_method, call_signature, super_signature, field_type, field_in, value_type, access_type}
 use Rattle.java_core.proofs.Positions.{position-passes, passes-position}
 use Rattle.java_core.proofs.Subclasses.{subclass_cases, below-subclass, nearest-here}
-use Rattle.name_rules.specs.Outline.{class_id}
+use Rattle.java_core.specs.Subtypes.{class_id}
 use Rattle.kaba_work.specs.Sample.{field_name, extra_name, method_name}
 use Rattle.kaba_work.specs.Program.{int, class_made, main_class_made, field_made, method_made, main_made, sample_program}
 use Rattle.kaba_work.proofs.Places.{StandsAt, is_row, is_last, stands, row_at, last_at, PairAt, is_first, is_second, pair_stands, first_at, second_at}

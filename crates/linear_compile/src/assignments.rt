@@ -9,7 +9,8 @@ ghost use Rattle.java_meaning.specs.Values.{default_of};
 ghost use Rattle.linear_code.specs.Ops.{slot, constant};
 ghost use Rattle.linear_code.specs.Seen.{operand_of};
 ghost use Rattle.linear_code.specs.Code.{operand, code_local, code_initial, code_assign, default_op, store_op};
-ghost use Rattle.linear_compile.specs.Scopes.{plain, env, IsReady, bare};
+ghost use Rattle.linear_compile.specs.Scopes.{plain, env, IsReady};
+ghost use Rattle.java_core.specs.Untagged.{bare_tag};
 
 use crate::code::{Code, further};
 use crate::expressions::{compile, compile_to};
@@ -162,7 +163,7 @@ fn store_field(
     at: u32,
 ) -> Result<(), AllocError>
     requires { IsReady scope.now }
-    ensures { OnOk result (code.new ≡ code_assign (plain scope.now) (env scope.now) (to_field bare (expr_of no_place base.now) name.now)
+    ensures { OnOk result (code.new ≡ code_assign (plain scope.now) (env scope.now) (to_field bare_tag (expr_of no_place base.now) name.now)
         (expr_of no_place value.now) at ++ code.old) }
 {
     let next = further(at, 1)?;
@@ -188,7 +189,7 @@ fn store_element(
     at: u32,
 ) -> Result<(), AllocError>
     requires { IsReady scope.now }
-    ensures { OnOk result (code.new ≡ code_assign (plain scope.now) (env scope.now) (to_element bare (expr_of no_place base.now) (expr_of no_place index.now))
+    ensures { OnOk result (code.new ≡ code_assign (plain scope.now) (env scope.now) (to_element bare_tag (expr_of no_place base.now) (expr_of no_place index.now))
         (expr_of no_place value.now) at ++ code.old) }
 {
     let next = further(at, 1)?;

@@ -11,6 +11,7 @@ use Rattle.std.proofs.lemmas.List.Folds.{list_any-append}
 use Rattle.std.proofs.lemmas.Slice.Eq.{bytes_eq-Decides}
 use Rattle.std.proofs.lemmas.Option.{slice_get_within}
 use Rattle.kaba_base.specs.declared.Place.{Place}
+use Rattle.kaba_base.proofs.Listed.{later, contains_cases}
 use Rattle.java_tree.specs.declared.TypeName.{TypeName}
 use Rattle.java_tree.specs.declared.TypeBase.{TypeBase}
 use Rattle.java_tree.specs.declared.TypeBase.TheVariants as bases
@@ -66,21 +67,11 @@ local_of-last (x ∷ scope) b n i e = go (bytes_eq x.name n) refl (local_of-last
     go false f more = ⊎_elim (λ h. inl (ap (λ z. if z then Some x.number else local_of n scope) f ∙ h)) (λ h. inr h)
         (more (sym (ap (λ z. if z then Some x.number else local_of n (scope ++ b ∷ [])) f) ∙ e))
 
-pub contains-more : (xs : List ℕ) (i j : ℕ) → Contains xs j → Contains (i ∷ xs) j
-contains-more xs i j h = (suc h.0, (let l = h.1 in omega (arith, l)), h.2)
-
-pub contains-cases : (xs : List ℕ) (i j : ℕ) → Contains (i ∷ xs) j → (i ≡ j) ⊎ Contains xs j
-contains-cases xs i j h = go h.0 h.1 h.2
-  where
-    go : (a : ℕ) → a < length (i ∷ xs) → get_or (i ∷ xs) a j ≡ j → (i ≡ j) ⊎ Contains xs j
-    go zero l e = inl e
-    go (suc a) l e = inr (a, (let m = l in omega (arith, m)), e)
-
 pub scope-more : {k : PlainMethod} {scope : List Bound} {nums : List ℕ} (n : List ℕ) (i : ℕ) (w : PlainLocal) → ScopeIs k scope nums
     → slice_get (variables_of k) i ≡ Some w → w.name ≡ n → ScopeIs k (bound scope n i) (i ∷ nums)
 scope-more {k} {scope} {nums} n i w s at same = record {
   found = λ m j e. ⊎_elim
-      (λ h. let f = s.found m j h in (contains-more nums i j f.0, f.1))
+      (λ h. let f = s.found m j h in (later i nums j f.0, f.1))
       (λ h. (subst (λ z. Contains (i ∷ nums) z) h (0, omega arith, refl), subst (λ z. z < length (variables_of k)) h (slice_get_within (variables_of k) i w at)))
       (local_of-last scope (record { name = n; number = i }) m j e);
   named = λ j v c e. ap (λ z. is_bound z v.name) (map-append (λ b. b.name) scope (record { name = n; number = i } ∷ []))
@@ -90,7 +81,7 @@ scope-more {k} {scope} {nums} n i w s at same = record {
       (or_left (bytes_eq n v.name) false ((bytes_eq-Decides n v.name).1 (sym same
       ∙ ap (λ z. z.name) (same_some (sym at ∙ subst (λ z. slice_get (variables_of k) z ≡ Some v) (sym h) e))))))
       (λ h. or_left (is_bound (bound_names scope) v.name) (is_bound (n ∷ []) v.name) (s.named j v h e))
-      (contains-cases nums i j c);
+      (contains_cases i nums j c);
 }
 
 -- ---- types

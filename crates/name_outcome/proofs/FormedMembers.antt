@@ -19,21 +19,24 @@ use Rattle.name_outcome.proofs.Sees.{same_some}
 use Rattle.name_outcome.proofs.Runs.{stands-beside}
 use Rattle.name_outcome.proofs.KnownClasses.{class_at-outline, type_names-outline}
 use Rattle.name_outcome.proofs.KnownMembers.{both-true, GoodMethod}
-use Rattle.name_outcome.proofs.SeesOutline.{nearest-own, fields-are}
+use Rattle.name_outcome.proofs.SeesOutline.{fields-are}
 use Rattle.name_outcome.proofs.MethodClashes.{outline-method}
 use Rattle.name_outcome.proofs.Bridge.{Steps, P, whole, size, slots-are}
 use Rattle.java_core.specs.Untagged.{untag_local, untag_class, untag_field, untag_method, untag_body}
-use Rattle.name_outcome.proofs.FormedBodies.{Suits, ScopeIs, contains-more, contains-cases, formed-sts, good-sts, counts-each, counts-behind}
+use Rattle.name_outcome.proofs.FormedBodies.{Suits, ScopeIs, formed-sts, good-sts, counts-each, counts-behind}
 use Rattle.name_outcome.proofs.FormedProgram.{R, class-in, within-classes, free-name, meant-type, same-field, alike-field, each-of}
 use Rattle.name_outcome.proofs.MembersOf.{field-in, MethodIn, method-in}
 use Rattle.std.specs.Option.{option_map}
 use Rattle.std.proofs.lemmas.List.Elements.{Contains-append_cases}
 use Rattle.std.proofs.lemmas.Option.{slice_get_within}
 use Rattle.kaba_base.proofs.Listed.{map_at, at_map, behind, at_contains}
+use Rattle.kaba_base.proofs.Tests.{none_or_some}
 use Rattle.java_lex.specs.Writable.{IsName}
 use Rattle.java_tree.specs.declared.TypeName.{TypeName}
 use Rattle.java_tree.specs.declared.Param.{Param}
 use Rattle.java_core.specs.Trees.{Sts}
+use Rattle.java_core.proofs.NumbersBelow.{has_below, below_has}
+use Rattle.java_core.proofs.Upwards.{nearest-own}
 use Rattle.java_tree.specs.Formed.{IsFormedParam, IsFormedBody}
 use Rattle.name_rules.specs.Conditions.{missing, in_concrete}
 
@@ -42,23 +45,6 @@ pub body-at : {O : Plain} {ms : List MethodAt} {ks : List PlainMethod} → Bodie
 body-at r_no_methods j m k e f = absurd (cc e)
 body-at {O} (r_method {m = n} {k = l} b rest) zero m k e f = subst (λ z. BodyResolves O z k) (same_some e) (subst (λ z. BodyResolves O n z) (same_some f) b)
 body-at (r_method b rest) (suc j) m k e f = body-at rest j m k e f
-
--- the numbers below one
-below-has : (n j : ℕ) → j < n → Contains (numbers_below n) j
-below-has zero j lt = absurd (omega (arith, lt))
-below-has (suc n) j lt = go (cases_lt j n) (λ l. below-has n j l)
-  where
-    go : (j < n) ⊎ (n ≤ j) → (j < n → Contains (numbers_below n) j) → Contains (numbers_below (suc n)) j
-    go (inl l) more = contains-more (numbers_below n) n j (more l)
-    go (inr l) more = subst (λ z. Contains (n ∷ numbers_below n) z) (let e : n ≡ j = omega (arith, l, lt) in e) (0, omega arith, refl)
-
-has-below : (n j : ℕ) → Contains (numbers_below n) j → j < n
-has-below zero j h = absurd (let l = h.1 in omega (arith, l))
-has-below (suc n) j h = go (contains-cases (numbers_below n) n j h) (λ k. has-below n j k)
-  where
-    go : (n ≡ j) ⊎ Contains (numbers_below n) j → (Contains (numbers_below n) j → j < n) → j < suc n
-    go (inl e) more = omega (arith, e)
-    go (inr k) more = let l = more k in omega (arith, l)
 
 params-found : (c : ℕ) (ps : List PlainLocal) (n : List ℕ) (i : ℕ) → local_of n (params_from c ps) ≡ Some i → i < c + length ps
 params-found c [] n i e = absurd (cc e)
@@ -91,9 +77,9 @@ scope-params K = record {
   found = λ n i e.
       let l = params-found 0 K.params n i e in let s = length-map K.params untag_local in let t = ap length (bare-variables K)
       ∙ length-map (variables_of K) untag_local ∙ length-append K.params K.locals in
-      (below-has (length (map untag_local K.params)) i (omega (arith, l, s)), omega (arith, l, t));
+      (below_has (length (map untag_local K.params)) i (omega (arith, l, s)), omega (arith, l, t));
   named = λ j v c e.
-      let l = has-below (length (map untag_local K.params)) j c in
+      let l = has_below (length (map untag_local K.params)) j c in
       let a = map_at untag_local K.params j v (front-stands (map untag_local K.params) (map untag_local K.locals) j v l e) in
       subst (λ z. is_bound (bound_names (params_from 0 K.params)) z ≡ true) (ap (λ z. z.name) a.2) (params-bound 0 K.params j a.0 a.1);
 }
@@ -186,9 +172,6 @@ params-seen : (types : List (List ℕ)) (qs : List Param) → map (λ v. v.name)
 params-seen types [] = refl
 params-seen types (q ∷ qs) = ap (λ z. q.name ∷ z) (params-seen types qs)
 
-no-some : {A : Type 0} {o : Option A} {x : A} → o ≡ None → o ≡ Some x → ⊥
-no-some e f = cc (sym e ∙ f)
-
 module _ (tree : List DeclTree) (s : Steps tree) (i : ℕ) (K : PlainMethod) (e : slice_get s.methods i ≡ Some K) (x : MethodAt)
     (at : slice_get (methods_in tree) i ≡ Some x) (h : heading_of K ≡ method_outline (types_in tree) x) where
   good : GoodMethod tree s.known s.are x
@@ -227,7 +210,7 @@ module _ (tree : List DeclTree) (s : Steps tree) (i : ℕ) (K : PlainMethod) (e 
       b = map_at untag_local K.locals a.0 v a.1
 
       go : BodyResolves (outline tree) x K → IsFormedLocal (R tree s) v
-      go (r_no_body p q r) = absurd (no-some {o = slice_get K.locals a.0} (ap (λ z. slice_get z a.0) r) b.1)
+      go (r_no_body p q r) = absurd (none_or_some (slice_get K.locals a.0) _ (ap (λ z. slice_get z a.0) r) b.1)
       go (r_body {ss = ss} p q r counts) =
           let lt = slice_get_within K.locals a.0 b.0 b.1 in
           let size = length-append K.params K.locals in
@@ -253,7 +236,7 @@ module _ (tree : List DeclTree) (s : Steps tree) (i : ℕ) (K : PlainMethod) (e 
     where
       go : BodyResolves (outline tree) x K → (untag_method K).body ≡ None
       go (r_no_body p q r) = ap untag_body q
-      go (r_body p q r c) = absurd (no-some {o = x.body} f p)
+      go (r_body p q r c) = absurd (none_or_some x.body _ f p)
 
   static-is : is_static x ≡ K.is_static
   static-is = sym (ap (λ z. z.is_static) h)
@@ -280,7 +263,7 @@ module _ (tree : List DeclTree) (s : Steps tree) (i : ℕ) (K : PlainMethod) (e 
   code xs f = go body
     where
       go : BodyResolves (outline tree) x K → FormedSts (R tree s) (untag_method K) false (numbers_below (length (untag_method K).params)) xs
-      go (r_no_body p q r) = absurd (no-some {o = (untag_method K).body} (ap untag_body q) f)
+      go (r_no_body p q r) = absurd (none_or_some (untag_method K).body _ (ap untag_body q) f)
       go (r_body {xs = ys} p q r counts) =
           subst (FormedSts (R tree s) (untag_method K) false (numbers_below (length (untag_method K).params)))
           (same_some (sym (ap untag_body q) ∙ f))
@@ -308,7 +291,7 @@ module _ (tree : List DeclTree) (s : Steps tree) (i : ℕ) (K : PlainMethod) (e 
   slot-in n = (λ f. to f (are-slots.each i K e), λ f. from f (are-slots.each i K e))
     where
       to : K.slot ≡ Some n → HasSlot (P tree s) K → IsInSlot (R tree s) n (untag_method K)
-      to f (no_slot a b) = absurd (no-some {o = K.slot} b f)
+      to f (no_slot a b) = absurd (none_or_some K.slot _ b f)
       to f (a_slot {s = r} {slot = slot} a b c d) =
           let stands = subst (λ z. slice_get s.draft.slots z ≡ Some slot) (same_some (sym b ∙ f)) c in
           record { slot = slot; stands = stands; instance = a; name = d.name; params = bare-types K.params ∙ d.params; result = d.result }

@@ -16,6 +16,7 @@ use Rattle.java_core.specs.Classes.{IsSubclass, parent_of, first_or, nearest, ow
 use Rattle.java_core.specs.Found.{IsNearest, at_class, above_class}
 use Rattle.java_core.proofs.Positions.{position-map, position-passes, passes-position}
 use Rattle.java_core.proofs.Subclasses.{nearest_of-nearest}
+use Rattle.java_core.proofs.Upwards.{nearest-own}
 use Rattle.name_outcome.specs.Known.{Known}
 use Rattle.name_outcome.specs.declared.parts.Heading.{Heading}
 use Rattle.name_outcome.specs.Tables as table
@@ -31,10 +32,6 @@ use Rattle.name_outcome.proofs.KnownClasses.{known-named}
 use Rattle.name_outcome.proofs.Reached.{AreAbove}
 use Rattle.name_outcome.proofs.KnownMembers.{AreMembers, both-true, true-both}
 use Rattle.name_outcome.proofs.MethodClashes.{owner-within, method_at-outline, outline-method}
-
-pub nearest-own : (P : Plain) (own : ℕ → Option ℕ) {a d : ℕ} → IsNearest P own a d → (c : ℕ) × (own c ≡ Some d)
-nearest-own P own (at_class {c = c} e) = (c, e)
-nearest-own P own (above_class e up rest) = nearest-own P own rest
 
 module _ (tree : List DeclTree) (known : List Known) (are : AreKnown tree known) (rows : List (List Bool)) (above : AreAbove (outline tree) rows)
     (m : Members) (members : AreMembers tree known are (fields_in tree) (methods_in tree) m) where

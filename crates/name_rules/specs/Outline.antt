@@ -20,6 +20,7 @@ use Rattle.java_core.specs.declared.TyBase.{TyBase}
 use Rattle.java_core.specs.declared.TyBase.TheVariants as ty
 use Rattle.java_core.specs.Trees.{at_place}
 use Rattle.java_core.specs.Programs.{Plain, PlainClass, PlainField, PlainMethod, PlainLocal}
+use Rattle.java_core.specs.Subtypes.{class_id}
 use Rattle.name_rules.specs.declared.parts.Kind.{Kind}
 use Rattle.name_rules.specs.declared.parts.Kind.TheVariants as kinds
 
@@ -93,9 +94,6 @@ is_known n = is_text_type n || bytes_eq (codes "System") n
 -- whether a name is a type's, so that no variable, parameter or field may have it
 abbrev pub is_type_name : List (List ℕ) → List ℕ → Bool
 is_type_name types n = is_some (type_named types n) || is_known n
-
-abbrev pub class_id : ℕ → ClassId
-class_id k = record { 0 = k }
 
 -- the class of a number; a name that no type has stands for Object here, and is refused as unknown
 abbrev pub class_at : Option ℕ → ClassId

@@ -21,10 +21,6 @@ use Rattle.points_to.specs.Above.{class_id, IsAboveRow, AreSitesBelow, HasSite, 
 
 pub set-bits : (r : List Bool) (x y : ℕ) → bit (set r x true) y ≡ true → (bit r y ≡ true) ⊎ (y ≡ x)
 set-bits r x y h = ⊎_elim (λ e. inr e) (λ ne. inl (sym (get_or-set_other r x y true false ne) ∙ h)) (cases_eq y x)
-
-pub set-kept : (r : List Bool) (x y : ℕ) → x < length r → bit r y ≡ true → bit (set r x true) y ≡ true
-set-kept r x y lt h = ⊎_elim (λ e. subst (λ z. bit (set r x true) z ≡ true) (sym e) (get_or-set_same r x true false lt))
-    (λ ne. get_or-set_other r x y true false ne ∙ h) (cases_eq y x)
 }
 
 pub gained-then : (first second : List ClassId) (r0 r1 r2 : List Bool) (w0 w1 w2 : List ClassId)

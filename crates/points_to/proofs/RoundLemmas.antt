@@ -8,7 +8,7 @@ use Rattle.std.proofs.lemmas.List.Elements.{All-contains}
 use Rattle.kaba_base.specs.declared.ClassId.{ClassId}
 use Rattle.kaba_bits.specs.Sets.{bit, row, IsSubset, IsStep}
 use Rattle.kaba_bits.proofs.SetLemmas.{bit-below}
-use Rattle.kaba_bits.proofs.RowLemmas.{bit-row-below}
+use Rattle.kaba_bits.proofs.RowLemmas.{bit-row-below, set-kept}
 use Rattle.kaba_bits.proofs.StepLemmas.{closed_more}
 use Rattle.fact_model.specs.InRange.{InRange, IsClass}
 use Rattle.fact_model.specs.declared.facts.Facts.{Facts}
@@ -23,7 +23,7 @@ use Rattle.points_to.specs.declared.work.Run.{Run}
 use Rattle.points_to.specs.declared.reads.Union.{Union}
 use Rattle.points_to.specs.declared.writes.Pending.{Pending}
 use Rattle.points_to.specs.declared.runs.Begun.{Begun}
-use Rattle.points_to.proofs.AboveLemmas.{set-bits, set-kept}
+use Rattle.points_to.proofs.AboveLemmas.{set-bits}
 use Rattle.points_to.proofs.EdgeLemmas.{target_below}
 use Rattle.points_to.proofs.LoopLemmas.{within_more}
 

@@ -16,9 +16,10 @@ use Rattle.fact_model.proofs.RangeLemmas.{column-below}
 use Rattle.fact_model.proofs.ClassLemmas.{finds-found}
 use Rattle.hier_model.specs.Hierarchies.{Hierarchy, place_of_row, is_offered}
 use Rattle.hier_model.proofs.AnyLemmas.{any_below_has}
+use Rattle.hier_model.specs.Edits.{is_one_slot}
 use Rattle.hier_laws.specs.Shapes.{Given}
 use Rattle.hier_laws.specs.Obligations.{NoneIsNearer, SupersStandAbove, NoneIsBetween, NoneIsOwn, TestsFail, Half}
-use Rattle.hier_rules.specs.Asked.{is_super, is_one_slot, is_other_body}
+use Rattle.hier_rules.specs.Asked.{is_super, is_other_body}
 use Rattle.hier_rules.specs.Obligations.{differ, row_le, column_le, place_of_site, is_nearer, has_nearer, is_between, has_between}
 use Rattle.hier_rules.specs.Obligations as rule
 use Rattle.hier_rules.specs.First.{first_broken}

@@ -11,6 +11,7 @@ use Rattle.java_core.proofs.Positions.{position-passes, passes-position}
 use Rattle.java_core.proofs.Subclasses.{proper-subclass, subclass-then, nearest-nearest_of}
 use Rattle.java_core.proofs.Upwards.{IsOnChain, along}
 use Rattle.java_core.proofs.Offered.{IsOwn, own_method-own, own-own_method, slot_of-offered}
+use Rattle.java_core.proofs.SearchOrder.{slot_is as slot_says}
 use Rattle.kaba_order.specs.Orders.{is_le, is_live}
 use Rattle.fact_model.specs.declared.facts.Facts.{Facts}
 use Rattle.hier_model.specs.Hierarchies.{Hierarchy, is_class_node, offers_slot}
@@ -22,10 +23,6 @@ use Rattle.rebuild_looks.proofs.Nodes.{subclass_of, le_of, stands_once, offers_o
 use Rattle.rebuild_looks.proofs.Slots.{same_name, OffersSlot, offers_item, asked_body}
 use Rattle.rebuild_looks.proofs.Methods.{Sort, a_body, a_head, a_filler}
 use Rattle.rebuild_looks.proofs.Declared.{IsNewBody, new_body, of_slot}
-
-pub slot_says : (o : Option ℕ) (x : ℕ) → is_slot o x ≡ true → o ≡ Some x
-slot_says None x h = absurd (false≢true h)
-slot_says (Some y) x h = ap Some (eqb-true y x h)
 
 -- a method of a slot that a class itself declares
 pub record HasOwn (W : Plain) (c q g : ℕ) : Type 0 where

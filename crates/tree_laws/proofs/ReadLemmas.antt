@@ -25,10 +25,11 @@ use Rattle.fact_model.proofs.RangeLemmas.{column-below}
 use Rattle.fact_model.specs.declared.facts.ColKind.TheVariants.{Def}
 use Rattle.hier_model.specs.Hierarchies.{Hierarchy, place_of_row, is_offered}
 use Rattle.hier_model.proofs.AnyLemmas.{any_below_some, any_below_has}
+use Rattle.hier_model.specs.Edits.{is_one_slot}
 use Rattle.hier_laws.specs.Shapes.{Given, Offers}
 use Rattle.hier_laws.specs.Obligations.{NoneIsOwn, Half}
 use Rattle.hier_rules.specs.declared.broken.Rule.TheVariants.{B2, B3, B4, B5, B7}
-use Rattle.hier_rules.specs.Asked.{is_tie, is_super, is_called, bound_of, slots_of, is_one_slot, is_other_body, meets, places_of}
+use Rattle.hier_rules.specs.Asked.{is_tie, is_super, is_called, bound_of, slots_of, is_other_body, meets, places_of}
 use Rattle.hier_rules.specs.Instances.{of_both, of_row}
 use Rattle.hier_rules.specs.Obligations.{differ, row_le, column_le, place_of_site, has_nearer, wrong_body, wrong_need, first_wrong_need, is_between, has_between, wrong_super, first_wrong_super, first_unoffered, untied, unheld, first_untied, wrong_outcome, first_wrong_outcome}
 use Rattle.hier_rules.specs.Obligations as rule

@@ -22,8 +22,8 @@ use Rattle.fact_model.specs.declared.sets.PointsTo.{PointsTo}
 use Rattle.fact_model.proofs.ClassLemmas.{slot_says as slot_is}
 use Rattle.hier_model.specs.Hierarchies.{Hierarchy, stands_at, is_offered, is_method, offers_slot, member_name, is_class_node}
 use Rattle.hier_model.proofs.AnyLemmas.{any_below_some, any_below_has}
+use Rattle.hier_model.specs.Edits.{is_one_slot}
 use Rattle.hier_rules.specs.declared.broken.Rule.TheVariants.{B6}
-use Rattle.hier_rules.specs.Asked.{is_one_slot}
 use Rattle.hier_rules.specs.Instances.{of_column}
 use Rattle.hier_rules.specs.Obligations.{is_body_at, two_bodies}
 use Rattle.flow_rules.specs.declared.items.ColumnItem.{ColumnItem}

@@ -13,6 +13,7 @@ use Rattle.java_core.specs.Formed.{variables_of}
 use Rattle.java_core.proofs.Subclasses.{nearest_of-nearest, nearest-here}
 use Rattle.java_core.specs.Found.{IsNearest, at_class, above_class}
 use Rattle.java_core.proofs.Positions.{position-passes}
+use Rattle.java_core.proofs.Upwards.{nearest-own}
 use Rattle.kaba_base.specs.declared.ClassId.{ClassId}
 use Rattle.kaba_order.specs.Orders.{is_live}
 use Rattle.name_rules.specs.declared.parts.Kind.TheVariants as kinds
@@ -38,10 +39,6 @@ use Rattle.tree_resolves.proofs.Modifiers.{Given}
 use Rattle.tree_resolves.proofs.Supers.{type_number, holder_named, supers_are, above_object}
 use Rattle.tree_resolves.proofs.Variables.{field_free, local_free}
 use Rattle.rebuild_looks.proofs.Fields.{field_holder, method_holder}
-
-found_in : (P : Plain) (f : ℕ → Option ℕ) (a d : ℕ) → IsNearest P f a d → (k : ℕ) × (f k ≡ Some d)
-found_in P f a d (at_class e) = (a, e)
-found_in P f a d (above_class {p = p} e up n) = found_in P f p.0 d n
 
 module _ {P Q : Plain} {F : Facts} {pt : PointsTo} {H : Hierarchy} (G : Given P Q F pt H) where
   open written P Q F H use {trees as T, types, program as O}
@@ -100,7 +97,7 @@ module _ {P Q : Plain} {F : Facts} {pt : PointsTo} {H : Hierarchy} (G : Given P 
       go : (o : Option ℕ) → field_of O c x ≡ o → field_of O c x ≡ None
       go None e = e
       go (Some f) e =
-          let n = found_in O (λ k. own_field_of O k x) c f (nearest_of-nearest O (λ k. own_field_of O k x) e) in
+          let n = nearest-own O (λ k. own_field_of O k x) (nearest_of-nearest O (λ k. own_field_of O k x) {a = c} {d = f} e) in
           let p = position-passes (λ g. is_field_of n.0 x g) O.fields f n.1 in
           let y = field_at f p.0 p.1 in
           let name = (bytes_eq-Decides p.0.name x).0 (and_parts (p.0.owner == n.0) (bytes_eq p.0.name x) p.2).1 in

@@ -8,7 +8,7 @@ use Rattle.std.proofs.lemmas.Bool.{false≢true, or_left, or_right, or_cases, ca
 use Rattle.std.proofs.lemmas.List.{map-append}
 use Rattle.std.proofs.lemmas.List.Elements.{Contains-append_left, Contains-append_right, Contains-append_cases}
 use Rattle.std.proofs.lemmas.Slice.Eq.{bytes_eq-Decides}
-use Rattle.kaba_base.proofs.Listed.{contains_cases}
+use Rattle.kaba_base.proofs.Listed.{first, one, later, no-member, contains_cases}
 use Rattle.java_core.specs.Programs.{PlainLocal, PlainMethod}
 use Rattle.java_core.specs.Formed.{variables_of}
 use Rattle.name_rules.specs.Meanings.{is_bound}
@@ -16,18 +16,9 @@ use Rattle.written_tree.specs.Bodies.{variable_name, is_named, is_in_scope}
 
 -- ---- lists of numbers
 
-contains_more : (xs : List ℕ) (i j : ℕ) → Contains xs j → Contains (i ∷ xs) j
-contains_more xs i j h = (suc h.0, (let l = h.1 in omega (arith, l)), h.2)
-
-contains_first : (xs : List ℕ) (i : ℕ) → Contains (i ∷ xs) i
-contains_first xs i = (0, omega arith, refl)
-
-contains_none : (j : ℕ) → Contains [] j → ⊥
-contains_none j h = let l = h.1 in omega (arith, l)
-
 -- a test of numbers that one in the list passes
 any_number : (p : ℕ → Bool) (xs : List ℕ) (i : ℕ) → Contains xs i → p i ≡ true → list_any p xs ≡ true
-any_number p [] i h e = absurd (contains_none i h)
+any_number p [] i h e = no-member i h
 any_number p (x ∷ xs) i h e =
     ⊎_elim (λ same. or_left (p x) (list_any p xs) (ap p same ∙ e)) (λ more. or_right (p x) (list_any p xs) (any_number p xs i more e))
     (contains_cases x xs i h)
@@ -35,7 +26,7 @@ any_number p (x ∷ xs) i h e =
 some_number : (p : ℕ → Bool) (xs : List ℕ) → list_any p xs ≡ true → (i : ℕ) × Contains xs i × (p i ≡ true)
 some_number p [] h = absurd (false≢true h)
 some_number p (x ∷ xs) h =
-    ⊎_elim (λ e. (x, contains_first xs x, e)) (λ e. let z = some_number p xs e in (z.0, contains_more xs x z.0 z.1, z.2)) (or_cases (p x) (list_any p xs) h)
+    ⊎_elim (λ e. (x, first x xs, e)) (λ e. let z = some_number p xs e in (z.0, later x xs z.0 z.1, z.2)) (or_cases (p x) (list_any p xs) h)
 
 any_mapped : (f : ℕ → List ℕ) (p : List ℕ → Bool) (xs : List ℕ) → list_any p (map f xs) ≡ list_any (λ i. p (f i)) xs
 any_mapped f p [] = refl
@@ -91,15 +82,15 @@ module _ (k : PlainMethod) where
           ∙ sym (map-append (variable_name k) scope (i ∷ []));
       there = λ j h. ⊎_elim
           (λ a. s.there j a)
-          (λ b. ⊎_elim (λ same. (v, subst (λ z. slice_get (variables_of k) z ≡ Some v) same e)) (λ x. absurd (contains_none j x)) (contains_cases i [] j b))
+          (λ b. ⊎_elim (λ same. (v, subst (λ z. slice_get (variables_of k) z ≡ Some v) same e)) (λ x. no-member j x) (contains_cases i [] j b))
           (Contains-append_cases scope (i ∷ []) j h);
       into = λ j h. ⊎_elim
-          (λ same. Contains-append_right scope (i ∷ []) j (subst (λ z. Contains (i ∷ []) z) same (contains_first [] i)))
+          (λ same. Contains-append_right scope (i ∷ []) j (subst (λ z. Contains (i ∷ []) z) same (one i)))
           (λ a. Contains-append_left scope (i ∷ []) j (s.into j a))
           (contains_cases i formed j h);
       back = λ j h. ⊎_elim
-          (λ a. contains_more formed i j (s.back j a))
-          (λ b. ⊎_elim (λ same. subst (λ z. Contains (i ∷ formed) z) same (contains_first formed i)) (λ x. absurd (contains_none j x))
+          (λ a. later i formed j (s.back j a))
+          (λ b. ⊎_elim (λ same. subst (λ z. Contains (i ∷ formed) z) same (first i formed)) (λ x. no-member j x)
           (contains_cases i [] j b))
           (Contains-append_cases scope (i ∷ []) j h);
     }

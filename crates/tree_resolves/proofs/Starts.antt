@@ -4,6 +4,7 @@ use Rattle.std.specs.Prelude.{map, slice_get, length}
 use Rattle.java_tree.specs.declared.Param.{Param}
 use Rattle.java_core.specs.Programs.{Plain, PlainLocal, PlainMethod}
 use Rattle.java_core.specs.Formed.{variables_of, numbers_below}
+use Rattle.java_core.proofs.NumbersBelow.{has_below, below_has}
 use Rattle.hier_model.specs.Hierarchies.{Hierarchy}
 use Rattle.flow_rules.specs.Ordered.{each}
 use Rattle.flow_rules.proofs.Listed.{first, more, one_from, below_at, at_left}
@@ -13,20 +14,6 @@ use Rattle.rebuild_model.specs.Renaming.{Renaming}
 use Rattle.written_tree.specs.Bodies.{variable_name}
 use Rattle.written_tree.specs.Members.{param, parameters}
 use Rattle.tree_resolves.proofs.Scopes.{IsScope, name_is}
-
-below_has : (n j : ℕ) → j < n → Contains (numbers_below n) j
-below_has zero j lt = absurd (omega (arith, lt))
-below_has (suc n) j lt =
-    ⊎_elim
-    (λ l. more j n (numbers_below n) (below_has n j l))
-    (λ g. let e : n ≡ j = omega (arith, g, lt) in subst (Contains (n ∷ numbers_below n)) e (first n (numbers_below n)))
-    (cases_lt j n)
-
-has_below : (n j : ℕ) → Contains (numbers_below n) j → j < n
-has_below zero j c = absurd (let l = c.1 in omega (arith, l))
-has_below (suc n) j c =
-    ⊎_elim (λ d. let e = one_from n j d in omega (arith, e)) (λ d. let l = has_below n j d in omega (arith, l))
-    (Contains-append_cases (n ∷ []) (numbers_below n) j c)
 
 parameters_has : (n : ℕ) (vs : List PlainLocal) (i j : ℕ) → i < length vs → j ≡ n + i → Contains (parameters n vs) j
 parameters_has n [] i j lt e = absurd (omega (arith, lt))

@@ -3,13 +3,14 @@ use Rattle.std.specs.Prelude.{ℕ, List, [], ◌∷◌, ◌++◌, codes}
 use Rattle.std.specs.List.{flat_map}
 use Rattle.hier_tree.specs.declared.Conflict.{Conflict}
 use Rattle.edit_view.specs.Lines.{edit_text}
-use Rattle.hier_script.specs.Refusals.{node_text, broken_text}
+use Rattle.hier_script.specs.Refusals.{broken_text}
 use Rattle.tree_merge.specs.declared.steps.TreeStep.{TreeStep}
 use Rattle.tree_merge.specs.declared.trees.NoTree.{NoTree}
+use Rattle.edit_script.specs.Script.{node_word}
 
 -- nI nJ nK
 abbrev pub conflict_text : Conflict → List ℕ
-conflict_text c = node_text c.lower ++ (codes " " ++ (node_text c.first ++ (codes " " ++ node_text c.second)))
+conflict_text c = node_word c.lower ++ (codes " " ++ (node_word c.first ++ (codes " " ++ node_word c.second)))
 
 -- tree nI nJ nK: EDIT
 abbrev pub log_line : TreeStep → List ℕ

@@ -1,12 +1,12 @@
 use Rattle.std.proofs.Common.{length, sym, ◌∙◌, ◌&&◌}
 use Rattle.std.specs.Prelude.{nat_lt}
 use Rattle.fact_model.specs.Items.{column_slot}
-use Rattle.hier_rules.specs.Asked.{is_one_slot}
 use Rattle.hier_rules.specs.declared.broken.Rule.TheVariants.{B6}
 use Rattle.hier_rules.specs.Instances.{of_column}
 use Rattle.hier_rules.specs.Obligations.{is_body_at}
 use Rattle.hier_rules.proofs.AnyLemmas.{none_where}
 use Rattle.hier_rules.proofs.bodies.first_second_body.Goals as goal
+use Rattle.hier_model.specs.Edits.{is_one_slot}
 
 pub returns-then-not-is_body_at : goal.returns-then-not-is_body_at
 returns-then-not-is_body_at c =
