@@ -13,7 +13,6 @@ use Rattle.java_tree.specs.Syntax.{DeclTree}
 use Rattle.java_core.specs.Trees.{at_place}
 use Rattle.java_core.specs.Programs.{Plain, PlainClass, PlainMethod, field_seen}
 use Rattle.java_core.specs.Classes.{IsSubclass, parent_of, first_or, nearest, own_field_of, field_of, is_field_of}
-use Rattle.java_core.specs.Found.{IsNearest, at_class, above_class}
 use Rattle.java_core.proofs.Positions.{position-map, position-passes, passes-position}
 use Rattle.java_core.proofs.Subclasses.{nearest_of-nearest}
 use Rattle.java_core.proofs.Upwards.{nearest-own}

@@ -1,7 +1,7 @@
 -- A walk upwards finds the classes at or above one.
 use Rattle.std.proofs.Common.{◌≡◌, ℕ, ◌+◌, ◌<◌, ◌⊎◌, inl, inr, ⊎_elim, Bool, true, false, List, [], ◌∷◌, ◌++◌, length, take, get_or, set, Contains, sym, ap, ◌∙◌, subst, arith}
 use Rattle.std.proofs.lemmas.Bool.{cases_eq, cases_lt, false≢true}
-use Rattle.std.proofs.lemmas.List.{get_or-set_same, get_or-set_other}
+use Rattle.std.proofs.lemmas.List.{get_or-set_other}
 use Rattle.std.proofs.lemmas.List.Elements.{Contains-append_left, Contains-append_right, Contains-push, Contains-push_cases, Contains-append_cases}
 use Rattle.std.proofs.Math.Seq.{take-suc}
 use Rattle.std.proofs.Math.Numerals.{add-one}
@@ -13,6 +13,7 @@ use Rattle.fact_model.specs.declared.facts.Facts.{Facts}
 use Rattle.fact_model.specs.Classes.{supers_of, IsBelow, same, through}
 use Rattle.fact_model.specs.InRange.{IsClass}
 use Rattle.fact_model.specs.Items.{site_class}
+use Rattle.fact_model.proofs.ClassLemmas.{below-then}
 use Rattle.points_to.specs.Above.{class_id, IsAboveRow, AreSitesBelow, HasSite, Gained, Walked}
 
 -- ---- what a row gains
@@ -55,10 +56,6 @@ gained-more xs i d r0 r1 r2 w0 w1 w2 lt g h =
 -- ---- the walk
 
 module _ (F : Facts) where
-  below-then : {a b c : ℕ} → IsBelow F a b → IsBelow F b c → IsBelow F a c
-  below-then same k = k
-  below-then (through direct rest) k = through direct (below-then rest k)
-
   pub walked-start : (a : ClassId) (r s : List Bool) (w : List ClassId) → length r ≡ length F.classes.items → ((y : ℕ) → bit r y ≡ true → ⊥) → IsClass F a
       → Gained (a ∷ []) r s [] w → Walked F a.0 s w
   walked-start a r s w len none in_range g = record {
@@ -77,9 +74,9 @@ module _ (F : Facts) where
     walked-step r s rest after x w g = record {
       len = g.len ∙ w.len;
       start = g.kept a w.start;
-      sound = λ y h. ⊎_elim (λ k. w.sound y k) (λ k. below-then here (through {c = class_id y} k same)) (g.news y h);
+      sound = λ y h. ⊎_elim (λ k. w.sound y k) (λ k. below-then F here (through {c = class_id y} k same)) (g.news y h);
       settled = λ y h. ⊎_elim (λ k. old y (w.settled y k)) (λ c. inl c) (g.settled y h);
-      from = λ y c. ⊎_elim (λ d. w.from y (Contains-append_left rest (x ∷ []) y d)) (λ d. below-then here (through {c = y} d same)) (g.comes y c);
+      from = λ y c. ⊎_elim (λ d. w.from y (Contains-append_left rest (x ∷ []) y d)) (λ d. below-then F here (through {c = y} d same)) (g.comes y c);
       inside = λ y c. ⊎_elim (λ d. w.inside y (Contains-append_left rest (x ∷ []) y d)) (λ d. let i = g.inside y d in let l = w.len in omega
           (arith, i, l)) (g.comes y c);
     }

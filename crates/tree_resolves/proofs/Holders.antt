@@ -11,7 +11,6 @@ use Rattle.java_core.specs.Programs.{Plain, PlainClass, PlainField, PlainMethod}
 use Rattle.java_core.specs.Classes.{field_of, own_field_of, is_field_of, supers_of, IsSubclass, same_class, through}
 use Rattle.java_core.specs.Formed.{variables_of}
 use Rattle.java_core.proofs.Subclasses.{nearest_of-nearest, nearest-here}
-use Rattle.java_core.specs.Found.{IsNearest, at_class, above_class}
 use Rattle.java_core.proofs.Positions.{position-passes}
 use Rattle.java_core.proofs.Upwards.{nearest-own}
 use Rattle.kaba_base.specs.declared.ClassId.{ClassId}

@@ -9,7 +9,6 @@ use Rattle.hier_model.specs.Hierarchies.{Hierarchy}
 use Rattle.flow_rules.specs.Ordered.{each}
 use Rattle.flow_rules.proofs.Listed.{first, more, one_from, below_at, at_left}
 use Rattle.std.proofs.lemmas.List.Elements.{Contains-append_cases}
-use Rattle.std.proofs.lemmas.Bool.{cases_lt}
 use Rattle.rebuild_model.specs.Renaming.{Renaming}
 use Rattle.written_tree.specs.Bodies.{variable_name}
 use Rattle.written_tree.specs.Members.{param, parameters}
