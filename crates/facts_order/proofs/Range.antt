@@ -69,7 +69,8 @@ module _ (P Q : Plain) (placed : IsPlaced P Q) (formed : IsFormed P) (typed : Is
   point_bound i q e = (item_point P Q F facts i q e).4
 
   site_index : (s : ℕ) (x : Site) → slice_get (sites_of P Q) s ≡ Some x → s < length F.sites.items
-  site_index s x e = slice_get_within F.sites.items s _ (subst (λ y. slice_get y s ≡ Some (site_info x)) (sym facts.sites) (at_map site_info (sites_of P Q) s x e))
+  site_index s x e = slice_get_within F.sites.items s _
+      (subst (λ y. slice_get y s ≡ Some (site_info x)) (sym facts.sites) (at_map site_info (sites_of P Q) s x e))
 
   site_bound : (n s : ℕ) → site_number P Q n ≡ Some s → s < length F.sites.items
   site_bound n s e = let z = (numbered_sites P Q).at n s e in site_index s z.0 z.1

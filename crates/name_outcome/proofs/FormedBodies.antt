@@ -11,7 +11,7 @@ use Rattle.std.proofs.lemmas.List.Folds.{list_any-append}
 use Rattle.std.proofs.lemmas.Slice.Eq.{bytes_eq-Decides}
 use Rattle.std.proofs.lemmas.Option.{slice_get_within}
 use Rattle.kaba_base.specs.declared.Place.{Place}
-use Rattle.kaba_base.proofs.Listed.{later, contains_cases}
+use Rattle.kaba_base.proofs.Listed.{first, later, contains_cases}
 use Rattle.java_tree.specs.declared.TypeName.{TypeName}
 use Rattle.java_tree.specs.declared.TypeBase.{TypeBase}
 use Rattle.java_tree.specs.declared.TypeBase.TheVariants as bases
@@ -72,7 +72,7 @@ pub scope-more : {k : PlainMethod} {scope : List Bound} {nums : List ℕ} (n : L
 scope-more {k} {scope} {nums} n i w s at same = record {
   found = λ m j e. ⊎_elim
       (λ h. let f = s.found m j h in (later i nums j f.0, f.1))
-      (λ h. (subst (λ z. Contains (i ∷ nums) z) h (0, omega arith, refl), subst (λ z. z < length (variables_of k)) h (slice_get_within (variables_of k) i w at)))
+      (λ h. (subst (λ z. Contains (i ∷ nums) z) h (first i nums), subst (λ z. z < length (variables_of k)) h (slice_get_within (variables_of k) i w at)))
       (local_of-last scope (record { name = n; number = i }) m j e);
   named = λ j v c e. ap (λ z. is_bound z v.name) (map-append (λ b. b.name) scope (record { name = n; number = i } ∷ []))
       ∙ list_any-append (λ m. bytes_eq m v.name) (bound_names scope) (n ∷ [])
