@@ -4,7 +4,7 @@ use Rattle.std.specs.Prelude.{◌==◌, ◌&&◌, not, slice_get, if◌then◌el
 use Rattle.std.specs.Option.{option_map_or}
 use Rattle.std.proofs.lemmas.List.{append_assoc, length-append}
 use Rattle.kaba_base.specs.declared.ClassId.{ClassId}
-use Rattle.kaba_base.proofs.Listed.{middle}
+use Rattle.kaba_base.proofs.ListLemmas.{middle}
 use Rattle.java_core.specs.declared.Field.{Field}
 use Rattle.java_core.specs.Trees.{no_place}
 use Rattle.java_core.specs.Programs.{Plain, field_seen}

@@ -1,7 +1,7 @@
 -- A concept whose intent is that of another without what a row lacks.
 use Rattle.std.proofs.Common.{◌≡◌, ℕ, ◌<◌, Bool, true, List, length, sym, ◌∙◌, arith}
 use Rattle.std.proofs.lemmas.Bool.{and_from}
-use Rattle.kaba_base.proofs.Tests.{same_truth}
+use Rattle.kaba_base.proofs.TestLemmas.{same_truth}
 use Rattle.kaba_bits.specs.Sets.{bit, row, IsSubset}
 use Rattle.kaba_bits.proofs.SetLemmas.{same_bits, bit-below}
 use Rattle.fact_model.specs.Concepts.{Pair, IsExtent, IsIntent, IsConcept}

@@ -2,7 +2,7 @@
 use Rattle.std.proofs.Common.{◌≡◌, ⊎_elim, inl, inr, ℕ, zero, suc, ◌<◌, ◌≤◌, List, [], ◌∷◌, length, map, get_or, refl, sym, ap, ◌∙◌, subst, arith, AllPairs}
 use Rattle.std.specs.Prelude.{◌⊎◌, Contains}
 use Rattle.std.proofs.lemmas.List.Kept.{AllPairs-from_increasing}
-use Rattle.kaba_base.proofs.Listed.{first}
+use Rattle.kaba_base.proofs.ListLemmas.{first}
 use Rattle.kaba_bits.specs.Sets.{ListsBelow}
 
 after : {A : Type 0} (x z : A) (xs : List A) → Contains xs z → Contains (x ∷ xs) z

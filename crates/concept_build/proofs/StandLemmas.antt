@@ -2,7 +2,7 @@
 use Rattle.std.proofs.Common.{◌≡◌, ◌↔◌, ℕ, suc, zero, ◌+◌, ◌<◌, ◌≤◌, Bool, true, false, List, [], ◌∷◌, length, refl, sym, ap, ◌∙◌, subst, arith}
 use Rattle.std.proofs.lemmas.Bool.{false≢true}
 use Rattle.std.proofs.lemmas.List.{get_or-map, length-map}
-use Rattle.kaba_base.proofs.Tests.{same_truth}
+use Rattle.kaba_base.proofs.TestLemmas.{same_truth}
 use Rattle.kaba_bits.specs.Sets.{bit, row, size, rising_from, rising, IsSubset, IsNoneFrom}
 use Rattle.kaba_bits.proofs.SetLemmas.{bit-below, same_bits, size-true, size-false, subset-same, subset-both}
 use Rattle.fact_model.specs.Concepts.{IsConcept, RowStands, ColumnStands}

@@ -4,7 +4,7 @@ use Rattle.std.specs.Prelude.{slice_get, nat_lt, ◌==◌, if◌then◌else◌}
 use Rattle.std.specs.Str.{bytes_eq}
 use Rattle.std.proofs.lemmas.Bool.{eqb-true, eqb-false, eq-eqb, lt-ltb, ltb-true}
 use Rattle.std.proofs.lemmas.List.{append_assoc, length-append}
-use Rattle.kaba_base.proofs.Listed.{middle}
+use Rattle.kaba_base.proofs.ListLemmas.{middle}
 use Rattle.name_rules.specs.declared.Refusal.{Refusal}
 use Rattle.name_outcome.specs.declared.parts.Heading.{Heading}
 use Rattle.name_outcome.specs.Answers.{run, with, unless}

@@ -1,11 +1,11 @@
 //! Where methods of one name meet, and the main method.
 #![tactic(auto)]
 
-ghost use Rattle.std.specs.Prelude.{◌≡◌, ℕ, ◌+◌, ◌&&◌, ◌||◌, not, nat_lt, List, map, position, slice_get, Some, IfOk};
-ghost use Rattle.name_outcome.specs.Answers.{Gives};
+ghost use Rattle.std.specs.Prelude.{◌≡◌, ℕ, ◌+◌, ◌&&◌, ◌||◌, not, nat_lt, List, map, position, slice_get, Some, Ok, IfOk};
+ghost use Rattle.name_outcome.specs.Answers.{Gives, unless};
 ghost use Rattle.name_outcome.specs.Tables.{is_above};
 ghost use Rattle.name_outcome.specs.Members.{meet, same_slot, clash_of, clash_step, clashes_of, main_of};
-ghost use Rattle.declared_types.specs.Clashes.{clash_at, clash_among, clash_after};
+ghost use Rattle.declared_types.specs.Clashes.{clash_at, clash_among};
 ghost use Rattle.name_tables.specs.Spots.{AreSpots, spots_of};
 ghost use Rattle.declared_types.specs.Marks.{AreTested};
 
@@ -111,22 +111,15 @@ fn clash_among(
     Ok(None)
 }
 
-/// The number after `k`, where the method `b` of number `k` clashes with none of the list.
-fn clash_after(
-    alloc: Global,
-    rows: &Hierarchy,
-    all: &Vec<Heading>,
-    list: &[u32],
-    k: u32,
-    b: &Heading,
-) -> Result<u32, Refusal>
-    ensures gives { Gives (λ n. n) result (clash_after rows.now all.now.items k b.now list.now) }
+/// The number after `k`, unless there is a clash.
+fn after_unless(clash: Option<Refusal>, k: u32) -> Result<u32, Refusal>
+    ensures gives { Gives (λ n. n) result (unless clash (Ok (k + 1))) }
     ensures next { IfOk result (λ n. n ≡ k + 1) }
 {
-    if let Some(refusal) = clash_among(alloc, rows, all, list, k, b)? {
-        return Err(refusal);
+    match clash {
+        Some(refusal) => Err(refusal),
+        None => after(k),
     }
-    after(k)
 }
 
 /// The method `b` of number `k` clashes with none of those before it; they are gone through where it is suspected.
@@ -146,7 +139,8 @@ fn clash_step(
     ensures next { IfOk result (λ n. n ≡ k + 1) }
 {
     if is_suspect(suspects, k) {
-        return clash_after(alloc, rows, all, spots.at(&b.name), k, b);
+        let clash = clash_among(alloc, rows, all, spots.at(&b.name), k, b)?;
+        return after_unless(clash, k);
     }
     after(k)
 }

@@ -1,3 +1,2 @@
 pub mod Derivation
-pub mod Worklist
 pub mod Laws

@@ -6,8 +6,8 @@ use Rattle.std.proofs.lemmas.List.Folds.{list_any-append}
 use Rattle.std.proofs.lemmas.List.Elements.{Contains-append_left, Contains-append_right, Contains-append_cases}
 use Rattle.std.proofs.lemmas.Bool.{false≢true, or_left, or_right, or_cases}
 use Rattle.std.proofs.lemmas.Option.{same_Some}
-use Rattle.kaba_base.proofs.Listed.{contains_cases, later}
-pub use Rattle.kaba_base.proofs.Listed.{first, one, contains_at, at_contains, below_at, at_map, map_at, at_left, map_has, map_from, flat_has, flat_from, one_from, all_of}
+use Rattle.kaba_base.proofs.ListLemmas.{contains_cases, later}
+pub use Rattle.kaba_base.proofs.ListLemmas.{first, one, contains_at, at_contains, below_at, at_map, map_at, at_left, map_has, map_from, flat_has, flat_from, one_from, all_of}
 use Rattle.java_core.proofs.Positions.{position-passes, passes-position}
 use Rattle.indexmap.specs.IndexSet.{insert_key}
 use Rattle.flow_rules.specs.Ordered.{put_in, by_place, once_after, once, each, when}

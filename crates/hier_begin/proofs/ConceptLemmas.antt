@@ -5,7 +5,7 @@ use Rattle.std.proofs.lemmas.Bool.{and_from}
 use Rattle.std.proofs.lemmas.List.{length-map}
 use Rattle.std.proofs.lemmas.List.FromFn.{get_or-map-range_with_len, length-map-range_with_len}
 use Rattle.kaba_base.specs.declared.NodeId.{NodeId}
-use Rattle.kaba_base.proofs.Tests.{same_truth}
+use Rattle.kaba_base.proofs.TestLemmas.{same_truth}
 use Rattle.kaba_bits.specs.Sets.{bit, row, HasWidth, when}
 use Rattle.kaba_bits.proofs.SetLemmas.{bit-below, same_bits, subset-both}
 use Rattle.kaba_bits.proofs.FirstLemmas.{first_below_None}

@@ -4,7 +4,7 @@ use Rattle.std.specs.Prelude.{nat_lt, not}
 use Rattle.std.specs.Option.{option_map, option_and_then}
 use Rattle.std.proofs.lemmas.Bool.{false≢true, and_parts, and_from, or_cases, eqb-true, eq-eqb, ltb-true}
 use Rattle.kaba_base.specs.declared.NodeId.{NodeId}
-use Rattle.kaba_base.proofs.Tests.{refuted}
+use Rattle.kaba_base.proofs.TestLemmas.{refuted}
 use Rattle.kaba_bits.specs.Sets.{bit, row, or_else, first_below, when}
 use Rattle.kaba_bits.proofs.FirstLemmas.{first_below_clear}
 use Rattle.kaba_order.specs.Orders.{is_le}

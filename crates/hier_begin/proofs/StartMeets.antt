@@ -6,7 +6,7 @@ use Rattle.std.proofs.lemmas.Bool.{false≢true, and_parts, or_cases, eq-eqb}
 use Rattle.std.proofs.lemmas.List.{length-map}
 use Rattle.std.proofs.lemmas.Slice.Eq.{bytes_eq-Decides}
 use Rattle.kaba_base.specs.Words.{is_name}
-use Rattle.kaba_base.proofs.Tests.{refuted}
+use Rattle.kaba_base.proofs.TestLemmas.{refuted}
 use Rattle.kaba_bits.specs.Sets.{bit, row, or_else, first_below}
 use Rattle.kaba_bits.proofs.SetLemmas.{bit-below}
 use Rattle.kaba_bits.proofs.FirstLemmas.{first_below_clear}

@@ -17,7 +17,7 @@ use Rattle.kaba_base.specs.declared.NodeId.{NodeId}
 use Rattle.kaba_base.specs.declared.ColId.{ColId}
 use Rattle.kaba_base.specs.declared.RowId.{RowId}
 use Rattle.kaba_base.specs.declared.ClassId.{ClassId}
-use Rattle.kaba_base.proofs.Tests.{same_truth}
+use Rattle.kaba_base.proofs.TestLemmas.{same_truth}
 use Rattle.kaba_bits.specs.Sets.{bit, row, HasWidth, rising, first_below, when}
 use Rattle.kaba_bits.proofs.SetLemmas.{same_bits, bit-below}
 use Rattle.kaba_bits.proofs.FirstLemmas.{first_below_same, cases_Option}

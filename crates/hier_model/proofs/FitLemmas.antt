@@ -31,7 +31,7 @@ use Rattle.hier_model.specs.declared.edits.ChangeFault.{ChangeFault}
 use Rattle.hier_model.specs.declared.edits.ChangeFault.TheVariants.{UnknownNode, UnknownMember, NotEmpty, Cycle, Memory}
 use Rattle.hier_model.proofs.LowestLemmas.{all_there_all}
 use Rattle.std.specs.Prelude.{IfOk}
-use Rattle.kaba_base.proofs.Tests.{same_truth}
+use Rattle.kaba_base.proofs.TestLemmas.{same_truth}
 use Rattle.hier_model.proofs.MergedLemmas.{none_between}
 use Rattle.hier_model.proofs.EditedOrders.{under_live, under_made, dropped_made, dropped_partial, merged_made, least_among}
 

@@ -2,7 +2,7 @@
 use Rattle.std.proofs.Common.{◌≡◌, ℕ, ◌<◌, ◌↔◌, ◌⊎◌, ◌||◌, ◌&&◌, ◌==◌, not, Bool, true, false, List, length, Option, Some, None, Result, Ok, Err, All, refl, sym, ap, ◌∙◌, subst, arith, ⊎_elim, inl, inr, eqb-true}
 use Rattle.std.proofs.lemmas.Bool.{cases_Bool, cases_lt, and_parts, and_from}
 use Rattle.kaba_base.specs.declared.NodeId.{NodeId}
-use Rattle.kaba_base.proofs.Tests.{from_not}
+use Rattle.kaba_base.proofs.TestLemmas.{from_not}
 use Rattle.kaba_bits.specs.Sets.{bit, row, first_below, when}
 use Rattle.kaba_bits.proofs.SetLemmas.{bit-below}
 use Rattle.kaba_bits.proofs.FirstLemmas.{first_below_found, first_below_clear, first_below_None, first_below_Some, cases_Option}

@@ -2,7 +2,7 @@
 use Rattle.std.proofs.Common.{◌≡◌, ℕ, zero, suc, ◌<◌, ◌||◌, not, Bool, true, false, List, [], ◌∷◌, length, get_or, All, refl, sym, ap, ◌∙◌, ⊎_elim, arith, eqb, eqb-true, eq-eqb}
 use Rattle.std.proofs.lemmas.Bool.{false≢true, and_parts, and_from, or_cases, or_left, or_right, cases_Bool, cases_lt}
 use Rattle.std.proofs.lemmas.List.Elements.{All-contains, All-from_get_or, Contains-get_or}
-use Rattle.kaba_base.proofs.Tests.{same_truth, refuted}
+use Rattle.kaba_base.proofs.TestLemmas.{same_truth, refuted}
 use Rattle.kaba_bits.specs.Sets.{bit, IsSubset, IsEmpty, ListsBelow}
 use Rattle.kaba_bits.proofs.SetLemmas.{bit-below}
 use Rattle.hier_model.specs.Start.{is_filled, is_subset, is_same_set}

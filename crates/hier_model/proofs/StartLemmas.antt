@@ -11,7 +11,7 @@ use Rattle.std.proofs.Math.ListN.{get_or-map as get_or_map_default, get_or-eq_de
 use Rattle.derivations.proofs.Derivations.{derivable_by}
 use Rattle.kaba_base.specs.declared.NodeId.{NodeId}
 use Rattle.kaba_base.specs.declared.ColId.{ColId}
-use Rattle.kaba_base.proofs.Tests.{same_truth}
+use Rattle.kaba_base.proofs.TestLemmas.{same_truth}
 use Rattle.kaba_bits.specs.Sets.{bit, row, HasWidth, IsSubset, first_below, when}
 use Rattle.kaba_bits.proofs.SetLemmas.{bit-below, same_bits, subset-both}
 use Rattle.kaba_bits.proofs.FirstLemmas.{first_below_None, first_below_Some, when-Some, cases_Option}

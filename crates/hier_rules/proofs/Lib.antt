@@ -1,5 +1,4 @@
 pub mod AnyLemmas
-pub mod PairLemmas
 pub mod KeyLemmas
 pub mod NameLemmas
 pub mod TakenLemmas

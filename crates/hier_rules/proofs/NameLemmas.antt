@@ -6,7 +6,7 @@ use Rattle.std.specs.Str.{chars}
 use Rattle.std.proofs.lemmas.Bool.{cases_order, and_parts, and_from, or_cases, or_right, eq-eqb, ne_eqb, lt-ltb, ltb-true, false≢true, false_from_ne_true}
 use Rattle.std.proofs.lemmas.Str.{chars-IsAscii}
 use Rattle.kaba_base.specs.declared.NodeId.{NodeId}
-use Rattle.kaba_base.proofs.Tests.{same_truth}
+use Rattle.kaba_base.proofs.TestLemmas.{same_truth}
 use Rattle.kaba_bits.specs.Sets.{bit, first_below}
 use Rattle.kaba_bits.proofs.FirstLemmas.{first_below_clear}
 use Rattle.kaba_bits.proofs.SetLemmas.{bit-below}

@@ -2,7 +2,7 @@
 use Rattle.std.proofs.Common.{◌≡◌, ◌≢◌, ℕ, ◌<◌, ◌&&◌, eqb, not, Bool, true, List, length, refl, sym, ap, ◌∙◌, arith, ⊎_elim}
 use Rattle.std.specs.Str.{bytes_eq}
 use Rattle.std.proofs.lemmas.Bool.{cases_eq, cases_lt, and_parts, and_from, ne_eqb, false≢true, eq-eqb}
-use Rattle.kaba_base.proofs.Tests.{same_truth}
+use Rattle.kaba_base.proofs.TestLemmas.{same_truth}
 use Rattle.kaba_base.proofs.Texts.{bytes_exact, bytes_of}
 use Rattle.kaba_order.specs.Orders.{is_live}
 use Rattle.fact_model.specs.declared.facts.Facts.{Facts}

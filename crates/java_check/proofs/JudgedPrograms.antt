@@ -4,7 +4,7 @@ use Rattle.std.specs.Result.{IfOk, IfErr}
 use Rattle.std.specs.declared.vec.Vec.{Vec}
 use Rattle.std.specs.declared.alloc.Global.{Global}
 use Rattle.kaba_base.specs.declared.Place.{Place}
-use Rattle.kaba_base.proofs.Listed.{map_at, at_map}
+use Rattle.kaba_base.proofs.ListLemmas.{map_at, at_map}
 use Rattle.java_core.specs.declared.RStmt.{RStmt}
 use Rattle.java_core.specs.declared.Method.{Method}
 use Rattle.java_core.specs.declared.Program.{Program}

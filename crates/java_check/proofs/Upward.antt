@@ -8,7 +8,7 @@ use Rattle.std.proofs.lemmas.List.{get_or_past, length-map}
 use Rattle.std.proofs.lemmas.List.Folds.{Any-from_list_any, list_any-from_Any}
 use Rattle.std.proofs.lemmas.Option.{slice_get_within}
 use Rattle.kaba_base.specs.declared.ClassId.{ClassId}
-use Rattle.kaba_base.proofs.Listed.{contains_cases}
+use Rattle.kaba_base.proofs.ListLemmas.{contains_cases}
 use Rattle.java_core.specs.declared.Program.{Program}
 use Rattle.java_core.specs.Trees.{no_place}
 use Rattle.java_core.specs.Programs.{Plain, PlainMethod, program_of, class_seen}

@@ -8,8 +8,8 @@ use Rattle.std.proofs.lemmas.Bool.{and_parts, eqb-true, eq-eqb, false≢true}
 use Rattle.std.proofs.lemmas.Slice.Eq.{bytes_eq-Decides}
 use Rattle.kaba_base.specs.declared.ClassId.{ClassId}
 use Rattle.kaba_base.specs.declared.MemberId.{MemberId}
-use Rattle.kaba_base.proofs.Listed.{contains_cases}
-use Rattle.kaba_base.proofs.Tests.{from_not}
+use Rattle.kaba_base.proofs.ListLemmas.{contains_cases}
+use Rattle.kaba_base.proofs.TestLemmas.{from_not}
 use Rattle.java_core.specs.Programs.{Plain, PlainMethod}
 use Rattle.java_core.specs.Classes.{parent_of, faces_of, supers_of, IsSubclass, same_class, through, below, first_or, nearest_of, is_method_of, own_method, faces_above, first_found, declaration_of, slot_of_method, slot_of}
 use Rattle.java_core.specs.Found.{IsNearest, at_class, above_class, IsOffered}

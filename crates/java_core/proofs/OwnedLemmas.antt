@@ -4,7 +4,7 @@ use Rattle.std.specs.Prelude.{slice_get, ◌==◌, if◌then◌else◌}
 use Rattle.std.specs.List.{position, position_from}
 use Rattle.std.proofs.lemmas.List.{append_assoc, length-append}
 use Rattle.std.proofs.lemmas.Iterator.Adapters.{position_from-zero}
-use Rattle.kaba_base.proofs.Listed.{middle}
+use Rattle.kaba_base.proofs.ListLemmas.{middle}
 use Rattle.java_core.specs.Owned.{owned_from, passes, first_among}
 use Rattle.java_core.proofs.Positions.{position-same}
 

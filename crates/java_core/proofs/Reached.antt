@@ -6,7 +6,7 @@ use Rattle.std.proofs.lemmas.Bool.{or_cases, or_left, or_right, eqb-true, eq-eqb
 use Rattle.std.proofs.lemmas.List.Folds.{list_any-from_Any}
 use Rattle.std.proofs.lemmas.Map.Steps.{length-le_from_distinct_below}
 use Rattle.kaba_base.specs.declared.ClassId.{ClassId}
-use Rattle.kaba_base.proofs.Tests.{same_truth}
+use Rattle.kaba_base.proofs.TestLemmas.{same_truth}
 use Rattle.java_core.specs.Plain.{Plain}
 use Rattle.java_core.specs.Classes.{supers_of, IsSubclass, same_class, through, reaches}
 use Rattle.java_core.proofs.Subclasses.{supers-within, reaches-subclass}

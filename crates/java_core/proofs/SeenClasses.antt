@@ -8,8 +8,8 @@ use Rattle.std.proofs.lemmas.List.Elements.{Contains-append_cases}
 use Rattle.std.proofs.lemmas.Option.{slice_get_within}
 use Rattle.kaba_base.specs.declared.Place.{Place}
 use Rattle.kaba_base.specs.declared.ClassId.{ClassId}
-use Rattle.kaba_base.proofs.Listed.{one_from, no-member}
-use Rattle.kaba_base.proofs.Tests.{same_truth}
+use Rattle.kaba_base.proofs.ListLemmas.{one_from, no-member}
+use Rattle.kaba_base.proofs.TestLemmas.{same_truth}
 use Rattle.java_core.specs.declared.Class.{Class}
 use Rattle.java_core.specs.Trees.{Tag}
 use Rattle.java_core.specs.Plain.{Plain, PlainClass, class_seen}

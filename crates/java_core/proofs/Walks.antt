@@ -7,7 +7,7 @@ use Rattle.std.proofs.lemmas.List.{get_or-set_same, get_or-set_other, length-app
 use Rattle.std.proofs.Math.Seq.{take-suc}
 use Rattle.std.proofs.Math.Numerals.{add-one}
 use Rattle.std.proofs.lemmas.List.Elements.{Contains-append_left, Contains-append_right, Contains-push, Contains-push_cases, Contains-append_cases}
-use Rattle.kaba_base.proofs.Listed.{one_from, one as one-is, no-member}
+use Rattle.kaba_base.proofs.ListLemmas.{one_from, one as one-is, no-member}
 use Rattle.kaba_bits.specs.Sets.{bit, row, size}
 use Rattle.kaba_bits.proofs.SetLemmas.{bit-below}
 use Rattle.kaba_bits.proofs.RowLemmas.{set-kept}

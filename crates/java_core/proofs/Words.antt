@@ -2,7 +2,7 @@
 use Rattle.std.proofs.Common.{◌≡◌, ℕ, List, sym, ap, ◌∙◌}
 use Rattle.std.specs.Str.{bytes_eq, encode_utf8_all}
 use Rattle.std.proofs.lemmas.Slice.Eq.{bytes_eq-Decides}
-use Rattle.kaba_base.proofs.Tests.{same_truth}
+use Rattle.kaba_base.proofs.TestLemmas.{same_truth}
 use Rattle.kaba_base.proofs.Texts.{encodes-same}
 
 pub is_word-same : (n w t s : List ℕ) → t ≡ encode_utf8_all n → encode_utf8_all w ≡ s → bytes_eq t s ≡ bytes_eq n w

@@ -7,7 +7,7 @@ use Rattle.java_tree.specs.declared.Param.{Param}
 use Rattle.java_print.specs.Items.{Item}
 use Rattle.java_print.specs.Layout.{comma, mods_items, params_items, listed_items, list_items}
 use Rattle.kaba_base.specs.declared.Keyword.{Keyword}
-use Rattle.kaba_base.proofs.Listed.{drop_at}
+use Rattle.kaba_base.proofs.ListLemmas.{drop_at}
 use Rattle.java_tree.specs.declared.Id.{Id}
 use Rattle.java_print.specs.Adds.{Adds, Puts}
 use Rattle.java_print.proofs.Adding.{adds_then}

@@ -4,7 +4,7 @@ use Rattle.std.specs.Prelude.{◌≢◌, string_bytes}
 use Rattle.std.specs.declared.string.String.{String}
 use Rattle.std.specs.declared.alloc.Global.{Global}
 use Rattle.std.specs.Option.{option_map, option_and_then}
-use Rattle.kaba_base.proofs.Listed.{map_map}
+use Rattle.kaba_base.proofs.ListLemmas.{map_map}
 use Rattle.java_core.specs.Trees.{Sts}
 use Rattle.java_core.specs.Programs.{Plain}
 use Rattle.java_core.specs.Formed.{IsFormed}

@@ -1,4 +1,4 @@
-pub mod Listed
-pub mod Tests
+pub mod ListLemmas
+pub mod TestLemmas
 pub mod Texts
 pub mod Written

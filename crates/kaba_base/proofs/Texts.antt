@@ -14,7 +14,7 @@ use Rattle.unicode_ident.proofs.Computing.{unicode_ident}
 use Rattle.kaba_base.specs.Words.{first_that, key_text, key_of, is_none, is_start, is_part, is_word, next_is}
 use Rattle.kaba_base.specs.declared.words.Keyword.{Keyword}
 use Rattle.kaba_base.specs.declared.words.TheConstants.{KEYWORDS}
-use Rattle.kaba_base.proofs.Tests.{same_truth}
+use Rattle.kaba_base.proofs.TestLemmas.{same_truth}
 
 -- bytes that are UTF-8 are told by their characters
 pub same_chars : (xs ys : List ℕ) → IsUtf8 xs → IsUtf8 ys → chars xs ≡ chars ys → xs ≡ ys

@@ -1,7 +1,7 @@
 -- What the clauses on least orders say fixes the order.
 use Rattle.std.proofs.Common.{◌≡◌, ℕ, Bool, List, length, sym, ap, ◌∙◌, subst}
 use Rattle.kaba_base.specs.declared.NodeId.{NodeId}
-use Rattle.kaba_base.proofs.Tests.{same_truth}
+use Rattle.kaba_base.proofs.TestLemmas.{same_truth}
 use Rattle.kaba_bits.specs.Sets.{HasWidth}
 use Rattle.kaba_bits.proofs.SetLemmas.{same_bits}
 use Rattle.kaba_bits.proofs.RowLemmas.{same_rows}

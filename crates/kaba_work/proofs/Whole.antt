@@ -6,7 +6,7 @@ use Rattle.std.specs.List.{range_with_len}
 use Rattle.std.proofs.lemmas.Bool.{false≢true}
 use Rattle.std.proofs.lemmas.Option.{same_Some}
 use Rattle.kaba_base.specs.declared.Place.{Place}
-use Rattle.kaba_base.proofs.Listed.{at_contains as at_contains}
+use Rattle.kaba_base.proofs.ListLemmas.{at_contains as at_contains}
 use Rattle.java_tree.specs.declared.Id.{Id}
 use Rattle.java_tree.specs.declared.TypeName.{TypeName}
 use Rattle.java_tree.specs.declared.TypeBase.TheVariants as bases

@@ -29,8 +29,8 @@ use Rattle.name_outcome.proofs.MembersOf.{field-in, MethodIn, method-in}
 use Rattle.std.specs.Option.{option_map}
 use Rattle.std.proofs.lemmas.List.Elements.{Contains-append_cases}
 use Rattle.std.proofs.lemmas.Option.{slice_get_within}
-use Rattle.kaba_base.proofs.Listed.{map_at, at_map, behind, at_contains}
-use Rattle.kaba_base.proofs.Tests.{none_or_some}
+use Rattle.kaba_base.proofs.ListLemmas.{map_at, at_map, behind, at_contains}
+use Rattle.kaba_base.proofs.TestLemmas.{none_or_some}
 use Rattle.java_lex.specs.Writable.{IsName}
 use Rattle.java_tree.specs.declared.TypeName.{TypeName}
 use Rattle.java_tree.specs.declared.Param.{Param}

@@ -6,7 +6,7 @@ use Rattle.std.proofs.lemmas.Bool.{eqb-true, false≢true}
 use Rattle.std.proofs.lemmas.List.{map-append}
 use Rattle.std.proofs.lemmas.Option.{slice_get_within}
 use Rattle.kaba_base.specs.declared.ClassId.{ClassId}
-use Rattle.kaba_base.proofs.Listed.{map_at, at_map, contains_at}
+use Rattle.kaba_base.proofs.ListLemmas.{map_at, at_map, contains_at}
 use Rattle.java_tree.specs.declared.Id.{Id}
 use Rattle.java_tree.specs.Syntax.{DeclTree, ClassTree, InterfaceTree}
 use Rattle.java_core.specs.Programs.{PlainClass}

@@ -5,7 +5,7 @@ use Rattle.std.specs.Str.{bytes_eq, chars}
 use Rattle.std.proofs.lemmas.List.{map-append}
 use Rattle.std.proofs.lemmas.Slice.Eq.{bytes_eq-Decides}
 use Rattle.std.proofs.lemmas.Option.{slice_get_within}
-use Rattle.kaba_base.proofs.Listed.{map_at, contains_at}
+use Rattle.kaba_base.proofs.ListLemmas.{map_at, contains_at}
 use Rattle.java_tree.specs.Syntax.{DeclTree}
 use Rattle.java_core.specs.Formed.{HasNoTwice}
 use Rattle.java_core.proofs.Positions.{position-map, position-passes}

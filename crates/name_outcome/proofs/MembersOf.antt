@@ -2,7 +2,7 @@
 use Rattle.std.proofs.Common.{◌≡◌, ℕ, zero, suc, ◌+◌, ◌≤◌, ◌⊎◌, inl, inr, ⊎_elim, Bool, true, false, List, [], ◌∷◌, length, Some, None, refl, sym, ap, subst, arith}
 use Rattle.std.specs.Prelude.{slice_get}
 use Rattle.std.proofs.lemmas.Option.{slice_get_within}
-use Rattle.kaba_base.proofs.Listed.{append_cases}
+use Rattle.kaba_base.proofs.ListLemmas.{append_cases}
 use Rattle.java_lex.specs.Writable.{IsName}
 use Rattle.java_tree.specs.Syntax.{HeadTree, MemberTree, FieldTree, MethodTree, DeclTree, ClassTree, InterfaceTree}
 use Rattle.name_rules.specs.declared.parts.Kind.TheVariants as kinds

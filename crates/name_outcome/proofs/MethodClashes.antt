@@ -5,7 +5,7 @@ use Rattle.std.specs.Str.{bytes_eq}
 use Rattle.std.proofs.lemmas.Bool.{false≢true, and_parts, not-true, eqb-true, eq-eqb, eqb-false, or_cases}
 use Rattle.std.proofs.lemmas.List.{length-append, length-map}
 use Rattle.std.proofs.lemmas.Slice.Eq.{bytes_eq-Decides}
-use Rattle.kaba_base.proofs.Listed.{map_at, at_map, append_cases}
+use Rattle.kaba_base.proofs.ListLemmas.{map_at, at_map, append_cases}
 use Rattle.java_tree.specs.Syntax.{DeclTree, HeadTree, MemberTree, FieldTree, MethodTree, ClassTree, InterfaceTree}
 use Rattle.java_core.specs.Programs.{PlainMethod}
 use Rattle.java_core.specs.Classes.{IsSubclass}

@@ -7,7 +7,7 @@ use Rattle.std.proofs.Math.Bool.{or-true}
 use Rattle.std.proofs.lemmas.Option.{slice_get_within}
 use Rattle.kaba_base.specs.declared.words.Keyword.{Keyword}
 use Rattle.kaba_base.specs.declared.words.Keyword.TheVariants as keys
-use Rattle.kaba_base.proofs.Listed.{contains_at}
+use Rattle.kaba_base.proofs.ListLemmas.{contains_at}
 use Rattle.java_tree.specs.declared.Modifier.{Modifier}
 use Rattle.java_tree.specs.Syntax.{DeclTree}
 use Rattle.name_rules.specs.declared.Form.TheVariants as forms

@@ -15,7 +15,7 @@ use Rattle.java_core.proofs.Reached.{reached, reached-sound, reached-whole}
 use Rattle.std.proofs.lemmas.Bool.{false≢true, cases_lt}
 use Rattle.std.proofs.lemmas.List.{length-append}
 use Rattle.std.proofs.lemmas.Option.{slice_get_within}
-use Rattle.kaba_base.proofs.Listed.{map_at}
+use Rattle.kaba_base.proofs.ListLemmas.{map_at}
 use Rattle.java_tree.specs.Syntax.{DeclTree}
 use Rattle.name_rules.specs.declared.Refusal.TheVariants.{Loop}
 use Rattle.name_rules.specs.Outline.{types_in, class_outline, outline}

@@ -5,7 +5,7 @@ use Rattle.std.specs.List.{position_from}
 use Rattle.std.proofs.lemmas.List.{append-nil, append_assoc}
 use Rattle.std.proofs.lemmas.Option.{slice_get_within}
 use Rattle.std.proofs.lemmas.Iterator.Adapters.{position_from-zero}
-use Rattle.kaba_base.proofs.Listed.{at_left, middle, below_at}
+use Rattle.kaba_base.proofs.ListLemmas.{at_left, middle, below_at}
 use Rattle.java_core.proofs.Positions.{passes-position}
 use Rattle.java_core.specs.Formed.{HasNoTwice}
 use Rattle.name_rules.specs.declared.Refusal.{Refusal}

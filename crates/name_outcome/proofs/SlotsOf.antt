@@ -2,7 +2,7 @@
 use Rattle.std.proofs.Common.{◌≡◌, ℕ, ◌<◌, ◌≤◌, ⊎_elim, true, false, List, [], ◌∷◌, ◌++◌, length, Some, None, sym, ap, ◌∙◌, subst, arith}
 use Rattle.std.specs.Prelude.{slice_get}
 use Rattle.std.proofs.lemmas.Option.{slice_get_within}
-use Rattle.kaba_base.proofs.Listed.{at_left, middle}
+use Rattle.kaba_base.proofs.ListLemmas.{at_left, middle}
 use Rattle.java_core.specs.Programs.{PlainSlot}
 use Rattle.name_outcome.specs.declared.parts.Heading.{Heading}
 use Rattle.name_rules.specs.Outline.{MethodAt, is_static, method_outline}

@@ -2,4 +2,3 @@ pub mod TypeTable
 pub mod SpotLemmas
 pub mod OwnedLemmas
 pub mod ScopeTable
-pub mod ParamScopes

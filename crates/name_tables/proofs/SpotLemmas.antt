@@ -8,7 +8,7 @@ use Rattle.std.specs.declared.alloc.Global.{Global}
 use Rattle.std.specs.Str.{bytes_eq}
 use Rattle.std.proofs.lemmas.Slice.Eq.{bytes_eq-Decides}
 use Rattle.std.proofs.lemmas.List.{append_assoc, length-append, length-map, map-append}
-use Rattle.kaba_base.proofs.Listed.{middle}
+use Rattle.kaba_base.proofs.ListLemmas.{middle}
 use Rattle.name_tables.specs.declared.spots.Spots.{Spots}
 use Rattle.java_core.specs.Owned.{passes, first_among}
 use Rattle.name_tables.specs.Spots.{AreSpots, spots_from, spots_of}

@@ -1,7 +1,7 @@
 -- No condition that refuses names holds of a tree without its places where none holds of it.
 use Rattle.std.proofs.Common.{◌≡◌, ◌⊎◌, inl, inr, ⊎_elim, ℕ, ◌||◌, true, false, List, map, Option, Some, None, Contains, is_some, refl, sym, ap, ◌∙◌, subst}
 use Rattle.std.specs.Prelude.{slice_get, codes}
-use Rattle.kaba_base.proofs.Listed.{map_at, at_map}
+use Rattle.kaba_base.proofs.ListLemmas.{map_at, at_map}
 use Rattle.java_tree.specs.declared.Modifier.{Modifier}
 use Rattle.java_tree.specs.Syntax.{Statements, DeclTree, ClassTree, InterfaceTree}
 use Rattle.java_tree.specs.Places.{all_unplaced, may_unplaced, id_unplaced, modifier_unplaced, param_unplaced, stmts_unplaced, decl_unplaced, unplaced}

@@ -2,7 +2,7 @@
 use Rattle.std.proofs.Common.{◌≡◌, ℕ, List, [], ◌∷◌, map, Option, Some, None, Contains, refl, sym, ap, ◌∙◌, subst}
 use Rattle.std.specs.Option.{is_some}
 use Rattle.kaba_base.specs.declared.Place.{Place}
-use Rattle.kaba_base.proofs.Listed.{map_at, at_map, at_contains, contains_at}
+use Rattle.kaba_base.proofs.ListLemmas.{map_at, at_map, at_contains, contains_at}
 use Rattle.java_tree.specs.declared.Id.{Id}
 use Rattle.java_tree.specs.declared.TypeName.{TypeName}
 use Rattle.java_tree.specs.Syntax.{DeclTree, ClassTree, InterfaceTree}

@@ -5,7 +5,7 @@ use Rattle.std.specs.List.{All, filter_map, flat_map, range_with_len}
 use Rattle.std.specs.List.Sorted.{IsPermutation}
 use Rattle.std.proofs.lemmas.List.Elements.{All-contains, All-contains_itself, All-map, All-append, Contains-append_left, Contains-append_right}
 use Rattle.std.proofs.lemmas.List.Sorted.{All-permutation, IsPermutation-sym}
-use Rattle.kaba_base.proofs.Listed.{flat_has, map_has, all_of}
+use Rattle.kaba_base.proofs.ListLemmas.{flat_has, map_has, all_of}
 use Rattle.kaba_bits.specs.Sets.{IsStep}
 use Rattle.fact_model.specs.declared.facts.Facts.{Facts}
 use Rattle.fact_model.specs.declared.facts.NewInfo.{NewInfo}

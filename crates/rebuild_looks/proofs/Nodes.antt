@@ -6,7 +6,7 @@ use Rattle.std.proofs.lemmas.Option.{same_Some}
 use Rattle.std.specs.Cmp.{both_ways}
 use Rattle.kaba_base.specs.declared.NodeId.{NodeId}
 use Rattle.kaba_base.specs.declared.ClassId.{ClassId}
-use Rattle.kaba_base.proofs.Listed.{contains_cases}
+use Rattle.kaba_base.proofs.ListLemmas.{contains_cases}
 use Rattle.java_core.specs.Programs.{Plain}
 use Rattle.java_core.specs.Classes.{supers_of, IsSubclass, same_class, through, below, is_concrete}
 use Rattle.java_core.proofs.Subclasses.{below-subclass, subclass-below}

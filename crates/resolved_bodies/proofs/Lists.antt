@@ -1,6 +1,6 @@
 -- Steps of the loops over lists.
 use Rattle.std.proofs.Common.{◌≡◌, ℕ, ◌+◌, ◌<◌, List, [], ◌∷◌, ◌++◌, length, drop, get_or, Result, Ok, sym, ap, ◌∙◌}
-use Rattle.kaba_base.proofs.Listed.{drop_at}
+use Rattle.kaba_base.proofs.ListLemmas.{drop_at}
 use Rattle.java_tree.specs.declared.Expr.{Expr}
 use Rattle.java_tree.specs.Syntax as tree
 use Rattle.java_core.specs.declared.RExpr.{RExpr}

@@ -18,7 +18,7 @@ use Rattle.name_outcome.specs.Statements.{State, walk_expr, walk_st, walk_sts, w
 use Rattle.resolved_bodies.proofs.StatementRows.{stmts_push, arms_push}
 use Rattle.resolved_bodies.proofs.Steps.{passes}
 use Rattle.std.proofs.Common.{subst}
-use Rattle.kaba_base.proofs.Listed.{drop_at}
+use Rattle.kaba_base.proofs.ListLemmas.{drop_at}
 
 module _ (t : Table) (h : Here) (inside : Bool) where
   -- one statement more

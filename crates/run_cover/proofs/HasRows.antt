@@ -18,7 +18,7 @@ use Rattle.flow_rules.specs.Numbered.{is_first_in, is_first, row_number, point_n
 use Rattle.flow_rules.proofs.Listed.{at_left}
 use Rattle.java_core.specs.Untagged.{untag_field, untag_method, untagged}
 use Rattle.std.proofs.lemmas.Option.{slice_get-map}
-use Rattle.kaba_base.proofs.Listed.{get_same}
+use Rattle.kaba_base.proofs.ListLemmas.{get_same}
 use Rattle.run_cover.proofs.Untagging.{untyped_params}
 use Rattle.run_cover.proofs.HasNumbers.{field_row, this_row, result_row, own_variable_row, static_point, this_point, variable_point, result_point}
 

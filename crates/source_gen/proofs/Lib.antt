@@ -1,4 +1,3 @@
-pub mod Pushed
 pub mod Loops
 pub mod Nodes
 pub mod Params

@@ -8,7 +8,7 @@ use Rattle.std.proofs.lemmas.List.{get_or-map, get_or_past}
 use Rattle.std.proofs.lemmas.List.FromFn.{get_or-map-range_with_len, length-map-range_with_len}
 use Rattle.kaba_base.specs.declared.ClassId.{ClassId}
 use Rattle.kaba_base.specs.Words.{first_that}
-use Rattle.kaba_base.proofs.Listed.{contains_cases, later}
+use Rattle.kaba_base.proofs.ListLemmas.{contains_cases, later}
 use Rattle.kaba_bits.specs.Sets.{bit, IsSubset, rising, rising_from}
 use Rattle.kaba_bits.proofs.SetLemmas.{bit-below}
 use Rattle.kaba_bits.proofs.FirstLemmas.{cases_Option}

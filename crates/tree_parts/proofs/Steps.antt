@@ -1,7 +1,7 @@
 -- One item more of a list that is written.
 use Rattle.std.proofs.Common.{◌≡◌, ℕ, ◌+◌, ◌<◌, ◌≤◌, List, [], ◌∷◌, ◌++◌, length, drop, get_or, sym, ap, ◌∙◌}
 use Rattle.std.proofs.lemmas.List.{drop_all}
-use Rattle.kaba_base.proofs.Listed.{drop_at}
+use Rattle.kaba_base.proofs.ListLemmas.{drop_at}
 use Rattle.java_tree.specs.declared.Expr.{Expr}
 use Rattle.java_tree.specs.declared.Stmt.{Stmt}
 use Rattle.java_tree.specs.declared.Arm.{Arm}

@@ -3,7 +3,7 @@ use Rattle.std.proofs.Common.{◌≡◌, ◌≢◌, ℕ, zero, suc, ◌+◌, ◌
 use Rattle.std.specs.Prelude.{not, length, filter, ◌==◌}
 use Rattle.std.specs.List.{range_with_len}
 use Rattle.std.proofs.lemmas.Bool.{false≢true, and_from, and_parts, cases_Bool, cases_eq, ne_eqb, eq-eqb, not-true}
-use Rattle.kaba_base.proofs.Listed.{contains_cases}
+use Rattle.kaba_base.proofs.ListLemmas.{contains_cases}
 use Rattle.kaba_bits.specs.Sets.{when}
 use Rattle.kaba_bits.proofs.FirstLemmas.{first_below_Some, first_below_None, when-Some, when-None}
 use Rattle.kaba_bits.proofs.SetLemmas.{bit-below}

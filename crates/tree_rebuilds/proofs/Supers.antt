@@ -4,7 +4,7 @@ use Rattle.std.specs.Prelude.{◌⊎◌, not, length, map, option_and_then}
 use Rattle.std.specs.Option.{option_map, option_map_or, option_to_list}
 use Rattle.std.proofs.lemmas.Bool.{false≢true, and_from, and_parts, cases_Bool, not-true}
 use Rattle.kaba_base.specs.declared.ClassId.{ClassId}
-use Rattle.kaba_base.proofs.Listed.{contains_cases}
+use Rattle.kaba_base.proofs.ListLemmas.{contains_cases}
 use Rattle.kaba_order.specs.Orders.{IsPartialOrder, is_le, is_live}
 use Rattle.java_tree.specs.Syntax.{DeclTree}
 use Rattle.java_core.specs.Programs.{Plain, PlainClass}

@@ -5,7 +5,7 @@ use Rattle.std.specs.Option.{is_some, option_map}
 use Rattle.std.proofs.lemmas.Bool.{false≢true, cases_Bool}
 use Rattle.std.proofs.lemmas.Option.{same_Some}
 use Rattle.kaba_base.specs.declared.words.Keyword.TheVariants.{Public, Abstract, Static}
-use Rattle.kaba_base.proofs.Tests.{none_of}
+use Rattle.kaba_base.proofs.TestLemmas.{none_of}
 use Rattle.java_tree.specs.declared.Modifier.{Modifier}
 use Rattle.java_tree.specs.Syntax.{HeadTree, DeclTree}
 use Rattle.java_core.specs.Programs.{Plain, PlainMethod}

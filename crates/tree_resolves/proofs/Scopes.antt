@@ -8,7 +8,7 @@ use Rattle.std.proofs.lemmas.Bool.{false≢true, or_left, or_right, or_cases, ca
 use Rattle.std.proofs.lemmas.List.{map-append}
 use Rattle.std.proofs.lemmas.List.Elements.{Contains-append_left, Contains-append_right, Contains-append_cases}
 use Rattle.std.proofs.lemmas.Slice.Eq.{bytes_eq-Decides}
-use Rattle.kaba_base.proofs.Listed.{first, one, later, no-member, contains_cases}
+use Rattle.kaba_base.proofs.ListLemmas.{first, one, later, no-member, contains_cases}
 use Rattle.java_core.specs.Programs.{PlainLocal, PlainMethod}
 use Rattle.java_core.specs.Formed.{variables_of}
 use Rattle.name_rules.specs.Meanings.{is_bound}

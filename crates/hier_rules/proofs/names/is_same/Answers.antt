@@ -1,5 +1,5 @@
 use Rattle.std.proofs.lemmas.Slice.Eq.{bytes_eq-Decides}
-use Rattle.kaba_base.proofs.Tests.{same_truth}
+use Rattle.kaba_base.proofs.TestLemmas.{same_truth}
 use Rattle.hier_rules.proofs.names.is_same.Goals as goal
 
 pub returns : goal.returns

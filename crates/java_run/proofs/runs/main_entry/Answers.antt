@@ -1,6 +1,6 @@
 use Rattle.std.proofs.Common.{ap, sym, ◌∙◌}
 use Rattle.std.specs.Option.{option_map}
-use Rattle.kaba_base.proofs.Tests.{none_or_some}
+use Rattle.kaba_base.proofs.TestLemmas.{none_or_some}
 use Rattle.java_core.specs.Trees.{no_place}
 use Rattle.java_core.specs.Programs.{program_of}
 use Rattle.linear_code.specs.Seen.{entry_of, tables_of}

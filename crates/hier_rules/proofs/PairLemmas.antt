@@ -1,1 +1,0 @@
--- Rows of bits made of a list of pairs.

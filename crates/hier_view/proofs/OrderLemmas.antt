@@ -1,1 +1,0 @@
--- A node that is not live stands below none, and none below it.

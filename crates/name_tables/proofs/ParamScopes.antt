@@ -1,1 +1,0 @@
--- The parameters of a method in scope.

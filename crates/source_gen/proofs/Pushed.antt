@@ -1,1 +1,0 @@
--- One item more at the end of a list of trees.

@@ -1,1 +1,0 @@
--- A text without bytes is the name without characters.
