@@ -1,29 +1,6 @@
 //! Names resolved: the program of a tree, or which rule of names the tree breaks and where.
 #![tactic(auto)]
 
-/// What a call made; where it made nothing, what is held is let go, and the function ends with the call's error,
-/// or with the error of the named type that comes from it.
-macro_rules! made {
-    ($call:expr => $fault:ident; $($held:ident),*) => {
-        match $call {
-            Ok(made) => made,
-            Err(fault) => {
-                $(drop($held);)*
-                return Err($fault::from(fault));
-            }
-        }
-    };
-    ($call:expr; $($held:ident),*) => {
-        match $call {
-            Ok(made) => made,
-            Err(fault) => {
-                $(drop($held);)*
-                return Err(fault);
-            }
-        }
-    };
-}
-
 ghost use Rattle.java_tree.specs.Syntax.{decls, tree_of};
 ghost use Rattle.java_core.specs.Trees.{at_place, no_place};
 ghost use Rattle.std.specs.Prelude.{◌≡◌, IfOk, IfErr, map};
@@ -47,7 +24,7 @@ use declared_types::{
 };
 use java_core::{Class, FieldTables, Hierarchy, Program};
 use java_tree::{Decl, Tree};
-use kaba_base::{ClassId, MemberId};
+use kaba_base::{ClassId, MemberId, made};
 pub use name_rules::{Form, Refusal};
 use name_tables::Types;
 use resolved_bodies::{Tables, blocks_of_names, methods_of};
@@ -99,8 +76,26 @@ fn with_bodies(
         (members_seen draft)) }
 {
     let count = narrowed(classes.len());
-    let main = made!(main_number(alloc, &above, count, &draft); known, classes, above, draft);
-    let parents = made!(parents_of(alloc, &classes) => Refusal; known, classes, above, draft);
+    let main = match main_number(alloc, &above, count, &draft) {
+        Ok(main) => main,
+        Err(refusal) => {
+            drop(known);
+            drop(classes);
+            drop(above);
+            drop(draft);
+            return Err(refusal);
+        }
+    };
+    let parents = match parents_of(alloc, &classes) {
+        Ok(parents) => parents,
+        Err(_) => {
+            drop(known);
+            drop(classes);
+            drop(above);
+            drop(draft);
+            return Err(Refusal::Memory);
+        }
+    };
     let field_tables =
         made!(FieldTables::new(alloc, parents.as_slice(), draft.fields.as_slice(), above.supertypes_first()) => Refusal; known, classes, above, draft, parents);
     let blocks =

@@ -21,7 +21,7 @@ use crate::locals::Body;
 use crate::stmts::statements;
 use java_core::{Local, Method, RStmt};
 use java_tree::{Decl, Head, Member, Stmt};
-use kaba_base::ClassId;
+use kaba_base::{ClassId, made};
 use name_outcome::Heading;
 use name_rules::{Here, Kind, Refusal};
 use name_tables::{Scope, after, flags_of, number_at, params_in, result_of};

@@ -23,7 +23,7 @@ use crate::meanings::{
 use java_core::{BinOp, Op, RExpr, UnOp};
 use java_lex::Mark;
 use java_tree::{Expr, Id};
-use kaba_base::{MemberId, Name, Place};
+use kaba_base::{MemberId, Name, Place, made};
 use name_rules::{Form, Here, Refusal};
 use name_tables::{Scope, asked, type_of};
 use std::alloc::Global;

@@ -5,7 +5,7 @@ ghost use Rattle.std.specs.Prelude.{◌≡◌, IfOk, Some, true, false};
 ghost use Rattle.java_core.specs.Trees.{at_place, expr_of, exprs, stmt_of, stmts, arms_seen, else_seen, step_seen, value_of, no_st, block, choose, loop, field, index, call, this, static_call, super_call, create, create_array, cast, instance_of, unary, binary};
 
 use java_core::{BinOp, RArm, RExpr, RStmt, Ty, UnOp};
-use kaba_base::{ClassId, MemberId, Name, Place};
+use kaba_base::{ClassId, MemberId, Name, Place, made};
 use std::alloc::{AllocError, Global};
 
 /// `base.name`

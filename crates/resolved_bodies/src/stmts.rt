@@ -22,7 +22,7 @@ use crate::locals::{Body, declaration, part, value};
 use crate::make;
 use java_core::{RArm, RExpr, RStmt};
 use java_tree::{Arm, Expr, Stmt};
-use kaba_base::Place;
+use kaba_base::{Place, made};
 use name_rules::{Form, Here, Refusal};
 use name_tables::Scope;
 use std::alloc::Global;

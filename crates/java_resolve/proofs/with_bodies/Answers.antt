@@ -15,7 +15,7 @@ returns-in-Ok-new-2 c =
     let cs = map (class_seen at_place) c.args.classes.items in
     let rows = c.args.above in
     let m = members_seen c.args.draft in
-    let k = c.in-Ok.made in
+    let k = c.in-Ok.main in
     let methods = c.in-Ok-methods_of.methods in
     with-then (clashes_of rows m.headings) (main_of m.headings) (λ n. with (methods_of (table c.args.known cs rows m) tree) (λ w. Ok (program cs m n w))) k
     c.in-Ok.ensures
