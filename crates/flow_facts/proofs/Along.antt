@@ -7,9 +7,6 @@ use Rattle.flow_rules.specs.Facts.{IsSameSet}
 pub once_as : {A K : Type 0} {e f : K → K → Bool} (key : A → K) {xs ys : List A} → e ≡ f → xs ≡ ys → once e key xs ≡ once f key ys
 once_as {e = e} key {ys = ys} h k = ap (once e key) k ∙ ap (λ g. once g key ys) h
 
-pub along : {A B C : Type 0} (G : B → C → List A) {xs : List A} {n n' : B} {b b' : C} → xs ≡ G n b → n ≡ n' → b ≡ b' → xs ≡ G n' b'
-along G {n' = n'} {b = b} e h k = e ∙ ap (λ m. G m b) h ∙ ap (G n') k
-
 pub same_set : {A : Type 0} {xs ys : List A} → xs ≡ ys → IsSameSet xs ys
 same_set {ys = ys} e = subst (λ l. IsSameSet l ys) (sym e) (λ x. (λ h. h, λ h. h))
 

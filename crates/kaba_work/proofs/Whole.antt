@@ -119,9 +119,6 @@ module _ (n : ℕ) (most : n ≤ 100) where
   slot_there zero slot e = (refl, same_Some slot_made slot e)
   slot_there (suc s) slot e = absurd (cc e)
 
-  P : Plain
-  P = sample_program n
-
   has_slot : (m : ℕ) (k : PlainMethod) → StandsAt method_made (main_made n) n m k → HasSlot (sample_program n) k
   unfolding sample_program
   has_slot m k (is_row lt e) = subst (HasSlot (sample_program n)) (sym e) (a_slot refl refl refl (record { name = refl; params = refl; result = refl }))

@@ -84,9 +84,6 @@ slot-none n ls r ss e i s at h =
     (same-types ls)))
     (subst (λ z. same_result r z ≡ true) (sym h.result) (same-result r)))
 
-texts : Ty
-texts = record { base = Str; dim = 1 }
-
 takes-one : (ls : List Local) → takes_texts ls ≡ true → map (λ l. l.ty) ls ≡ record { base = Str; dim = 1 } ∷ []
 takes-one [] e = absurd (false≢true e)
 takes-one (l ∷ []) e = ap (λ t. t ∷ []) (type-same l.ty (record { base = Str; dim = 1 }) e)

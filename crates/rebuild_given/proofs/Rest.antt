@@ -18,7 +18,7 @@ use Rattle.hier_model.specs.Hierarchies.{Hierarchy, place_of_row, is_offered}
 use Rattle.hier_model.proofs.AnyLemmas.{any_below_has}
 use Rattle.hier_model.specs.Edits.{is_one_slot}
 use Rattle.hier_laws.specs.Shapes.{Given}
-use Rattle.hier_laws.specs.Obligations.{NoneIsNearer, SupersStandAbove, NoneIsBetween, NoneIsOwn, TestsFail, Half}
+use Rattle.hier_laws.specs.Obligations.{NoneIsNearer, SupersStandAbove, NoneIsBetween, TestsFail, Half}
 use Rattle.hier_rules.specs.Asked.{is_super, is_other_body}
 use Rattle.hier_rules.specs.Obligations.{differ, row_le, column_le, place_of_site, is_nearer, has_nearer, is_between, has_between}
 use Rattle.hier_rules.specs.Obligations as rule
@@ -26,7 +26,7 @@ use Rattle.hier_rules.specs.First.{first_broken}
 use Rattle.hier_begin.proofs.ShapeLemmas.{shape, placed}
 use Rattle.hier_begin.proofs.GivenLemmas.{given, found_at, super_fact}
 use Rattle.hier_begin.proofs.MeetLemmas.{offers, above_says, above_test}
-use Rattle.tree_laws.proofs.ReadLemmas.{no_not, half_of, own_of, one_slot_test, need_right, super_right as super_is, same_outcome}
+use Rattle.tree_laws.proofs.ReadLemmas.{no_not, half_of, one_slot_test, need_right, super_right as super_is, same_outcome}
 use Rattle.hier_begin.proofs.Unbroken.{none_broken}
 
 same_answer : (a b : Bool) → differ a b ≡ false → a ≡ true → b ≡ true
@@ -54,9 +54,6 @@ module _ (F : Facts) (pt : PointsTo) (t : Table) (R : InRange F) (O : InOrder F)
 
   pub half : Half (given F pt t) (shape H)
   half = half_of F pt t R O S T H table offered tied needs supers outcomes
-
-  pub own : NoneIsOwn (given F pt t) (shape H)
-  own = own_of F pt t R O S T H table offered tied needs supers outcomes
 
   -- the body of a need is of the slot
   pub need_slot : (s x d : ℕ) → G.needs s x d ≡ true → column_slot F d ≡ Some x

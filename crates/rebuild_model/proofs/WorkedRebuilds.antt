@@ -57,10 +57,6 @@ made_row : (renaming_of old old hierarchy places).row_type (row.New 0) ≡ Some 
 unfolding renaming_of numbers rows_of row_number parts_of type_in field_of member_field declaration_of search_order
 made_row = refl
 
-kept_row : (renaming_of old old hierarchy places).row_type (row.Local 1 1) ≡ Some 1
-unfolding renaming_of numbers rows_of row_number parts_of type_in field_of member_field declaration_of search_order
-kept_row = refl
-
 name_f : codes "f" ≡ (renaming_of old old hierarchy places).field_name 0
 unfolding renaming_of numbers rows_of row_number columns_of column_number parts_of type_in field_of member_field declaration_of search_order
 name_f = refl

@@ -67,15 +67,6 @@ module _ (H : Hierarchy) (x y : NodeId) (a : AreApart H.order x y) where
       All-cons (IsTryOf H) e (f ∷ edit.Under x y ∷ edit.Under y x ∷ []) (pair_is_try H x y a e he)
       (All-cons (IsTryOf H) f (edit.Under x y ∷ edit.Under y x ∷ []) (all_is_try H x y a k ox oy f hf) two_under)
 
-  pub lower_are : (e : Edit) → IsEditOf (MakeOne (x ∷ y ∷ [])) e → All (IsTryOf H) (edit.Under x y ∷ e ∷ edit.Under y x ∷ [])
-  lower_are e he =
-      All-cons (IsTryOf H) (edit.Under x y) (e ∷ edit.Under y x ∷ []) (under_is_try H x y a)
-      (All-cons (IsTryOf H) e (edit.Under y x ∷ []) (pair_is_try H x y a e he)
-      (All-cons (IsTryOf H) (edit.Under y x) [] (under_is_try H y x (other_way H.order x y a)) (All-nil (IsTryOf H))))
-
-  pub others_are : (e : Edit) → IsEditOf (MakeOne (x ∷ y ∷ [])) e → All (IsTryOf H) (e ∷ edit.Under x y ∷ edit.Under y x ∷ [])
-  others_are e he = All-cons (IsTryOf H) e (edit.Under x y ∷ edit.Under y x ∷ []) (pair_is_try H x y a e he) two_under
-
 -- the nodes with the numbers that pass, from one on and n of them, and one number more
 abbrev pub passing : (ℕ → Bool) → ℕ → ℕ → List NodeId
 passing has a n = map node (filter has (range_with_len a n))

@@ -12,7 +12,7 @@ use Rattle.kaba_base.proofs.ListLemmas.{first, one, later, no-member, contains_c
 use Rattle.java_core.specs.Programs.{PlainLocal, PlainMethod}
 use Rattle.java_core.specs.Formed.{variables_of}
 use Rattle.name_rules.specs.Meanings.{is_bound}
-use Rattle.written_tree.specs.Bodies.{variable_name, is_named, is_in_scope}
+use Rattle.written_tree.specs.Bodies.{variable_name}
 
 -- ---- lists of numbers
 
@@ -64,16 +64,6 @@ module _ (k : PlainMethod) where
     pub not_bound : (x : List ℕ) → ((i : ℕ) (v : PlainLocal) → Contains formed i → slice_get (variables_of k) i ≡ Some v → v.name ≢ x)
         → is_bound names x ≡ false
     not_bound x differs = ⊎_elim (λ h. let z = whose x h in absurd (differs z.0 z.1 (s.back z.0 z.2) z.3 z.4)) (λ h. h) (cases_Bool (is_bound names x))
-
-    -- what the written body takes for free in scope is
-    pub free : (x : List ℕ) → is_in_scope k scope x ≡ false → is_bound names x ≡ false
-    free x h =
-        ⊎_elim
-        (λ b. let z = whose x b in
-        absurd (false≢true (sym h ∙ any_number (is_named k x) scope z.0 z.2
-        (ap (λ o. option_map_or (λ (v : PlainLocal). bytes_eq v.name x) o false) z.3 ∙ (bytes_eq-Decides z.1.name x).1 z.4))))
-        (λ b. b)
-        (cases_Bool (is_bound names x))
 
     -- one more variable in scope
     pub more : (i : ℕ) (v : PlainLocal) → slice_get (variables_of k) i ≡ Some v → IsScope (i ∷ formed) (scope ++ i ∷ []) (names ++ v.name ∷ [])
