@@ -1,5 +1,7 @@
 -- Tests over lists and over numbers, a step at a time.
-use Rattle.std.proofs.Common.{◌≡◌, ℕ, ◌+◌, ◌&&◌, Bool, None, false, add-one, ap}
+use Rattle.std.proofs.Common.{◌≡◌, ℕ, ◌+◌, ◌&&◌, Bool, None, true, false, List, [], ◌∷◌, add-one, ap, ⊎_elim}
+use Rattle.std.specs.List.{list_any}
+use Rattle.std.proofs.lemmas.Bool.{or_cases, or_left, or_right}
 use Rattle.kaba_bits.specs.Sets.{first_below, when}
 use Rattle.kaba_bits.proofs.FirstLemmas.{first_below_clear}
 use Rattle.hier_model.specs.Hierarchies.{any_below}
@@ -11,3 +13,9 @@ any_more p i none here = rw (add-one, none) here
 -- a search whose test has a part that fails
 pub none_where : {B : Type 0} (t : Bool) (q : ℕ → Bool) (v : ℕ → B) (n : ℕ) → t ≡ false → first_below n (λ k. when (t && q k) (v k)) ≡ None
 none_where t q v n e = first_below_clear (λ k. when (t && q k) (v k)) n (λ k lt. ap (λ b. when (b && q k) (v k)) e)
+
+-- what passes a test passes a weaker one
+pub any_weaker : {X : Type 0} (p q : X → Bool) → ((x : X) → q x ≡ true → p x ≡ true) → (xs : List X) → list_any q xs ≡ true → list_any p xs ≡ true
+any_weaker p q f [] h = h
+any_weaker p q f (x ∷ xs) h = ⊎_elim (λ a. or_left (p x) (list_any p xs) (f x a)) (λ b. or_right (p x) (list_any p xs) (any_weaker p q f xs b))
+    (or_cases (q x) (list_any q xs) h)

@@ -1,5 +1,6 @@
 -- A search through a rising list of all numbers that can have an answer.
-use Rattle.std.proofs.Common.{◌≡◌, ℕ, ◌+◌, ◌<◌, ◌↔◌, ◌⊎◌, ◌||◌, ◌&&◌, eqb, cond, Bool, true, false, List, [], ◌∷◌, ◌++◌, length, get_or, take, Contains, Option, Some, None, refl, sym, ap, ◌∙◌, subst, ⊎_elim, arith, inl, inr}
+use Rattle.std.proofs.Common.{◌≡◌, ℕ, suc, zero, ◌+◌, ◌<◌, ◌↔◌, ◌⊎◌, ◌||◌, ◌&&◌, eqb, cond, Bool, true, false, List, [], ◌∷◌, ◌++◌, length, get_or, take, map, Contains, Option, Some, None, refl, sym, ap, ◌∙◌, subst, ⊎_elim, arith, inl, inr}
+use Rattle.std.specs.Prelude.{filter}
 use Rattle.std.specs.List.{list_any}
 use Rattle.std.specs.List.Sorted.{IsNonDecreasing, IsPermutation}
 use Rattle.std.proofs.lemmas.Bool.{cases_lt, cases_Bool, or_cases, and_parts, eqb-true, eq-eqb, false≢true}
@@ -99,6 +100,34 @@ module _ {X : Type 0} (f : X → ℕ) (p : X → Bool) (base : ℕ → Bool) (ou
       (λ fails. subst (λ b. Collects f p base (out ++ cond b (f k ∷ []) []) xs (i + 1)) (sym fails) (subst (λ o. Collects f p base o xs (i + 1))
       (sym (append-nil out)) (collect_skip fails)))
       (cases_Bool (p k))
+
+-- the keys of those of a list that pass a test
+pub keys_of : {X : Type 0} (f : X → ℕ) (p : X → Bool) (xs : List X) (x : ℕ) → Contains (map f (filter p xs)) x ↔ (list_any (λ k. p k && eqb (f k) x) xs ≡ true)
+keys_of f p [] x = (λ c. absurd (omega (arith, c.1)), λ h. absurd (false≢true h))
+keys_of f p (k ∷ xs) x = split (cases_Bool (p k)) (cases_Bool (eqb (f k) x)) (keys_of f p xs x)
+  where
+    later : (y x : ℕ) (ys : List ℕ) → (y ≡ x → ⊥) → Contains (y ∷ ys) x → Contains ys x
+    later y x ys ne (zero, lt, e) = absurd (ne e)
+    later y x ys ne (suc j, lt, e) = (j, omega (arith, lt), e)
+
+    split : (p k ≡ true) ⊎ (p k ≡ false) → (eqb (f k) x ≡ true) ⊎ (eqb (f k) x ≡ false)
+        → Contains (map f (filter p xs)) x ↔ (list_any (λ k. p k && eqb (f k) x) xs ≡ true)
+        → Contains (map f (filter p (k ∷ xs))) x ↔ ((p k && eqb (f k) x) || list_any (λ k. p k && eqb (f k) x) xs ≡ true)
+    split (inr n) e rest = rw n rest
+    split (inl y) (inl e) rest = rw y ((λ c. rw e refl), (λ h. (0, omega arith, eqb-true (f k) x e)))
+    split (inl y) (inr e) rest =
+        rw y (
+          (λ c. rw e (rest.0 (later (f k) x (map f (filter p xs)) (λ s. false≢true (sym e ∙ eq-eqb (f k) x s)) c))),
+          (λ h. let c = rest.1 (rw e at h) in (suc c.0, omega (arith, c.1), c.2)),
+        )
+
+all_pass : {X : Type 0} (xs : List X) → filter (λ x. true) xs ≡ xs
+all_pass [] = refl
+all_pass (x ∷ xs) = ap (λ ys. x ∷ ys) (all_pass xs)
+
+-- the keys of all
+pub keys_all : {X : Type 0} (f : X → ℕ) (xs : List X) (x : ℕ) → Contains (map f xs) x ↔ (list_any (λ k. eqb (f k) x) xs ≡ true)
+keys_all f xs x = subst (λ ys. Contains (map f ys) x ↔ (list_any (λ k. eqb (f k) x) xs ≡ true)) (all_pass xs) (keys_of f (λ k. true) xs x)
 
 -- a sort keeps what a list has
 pub sorted_same : {P : ℕ → Type 0} (xs ys : List ℕ) → IsPermutation xs ys → ((x : ℕ) → Contains xs x ↔ P x) → (x : ℕ) → Contains ys x ↔ P x

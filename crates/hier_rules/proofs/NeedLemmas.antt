@@ -1,20 +1,24 @@
 -- The searches through the slots that are called on a site, and through the places that are asked.
-use Rattle.std.proofs.Common.{◌≡◌, ℕ, ◌<◌, ◌↔◌, cond, true, List, length, get_or, Contains, Option, Some, None, ap, ◌∙◌, arith, ⊎_elim, inl, inr}
+use Rattle.std.proofs.Common.{◌≡◌, ℕ, ◌<◌, ◌↔◌, ◌&&◌, cond, eqb, true, List, length, get_or, Contains, Option, Some, None, ap, ◌∙◌, arith, ⊎_elim, inl, inr}
 use Rattle.std.specs.Option.{option_and_then}
+use Rattle.std.specs.List.{list_any}
 use Rattle.std.specs.List.Sorted.{IsNonDecreasing}
-use Rattle.std.proofs.lemmas.Bool.{cases_Bool}
+use Rattle.std.proofs.lemmas.Bool.{cases_Bool, or_cases}
 use Rattle.std.proofs.lemmas.List.Elements.{Contains-get_or}
 use Rattle.kaba_bits.specs.Sets.{bit, row, first_below}
 use Rattle.fact_model.specs.Items.{site_class}
 use Rattle.fact_model.specs.Classes.{finds}
 use Rattle.fact_model.specs.declared.facts.Facts.{Facts}
 use Rattle.fact_model.specs.declared.facts.CallInfo.{CallInfo}
+use Rattle.fact_model.specs.declared.facts.TestInfo.{TestInfo}
+use Rattle.fact_model.specs.declared.facts.StoreInfo.{StoreInfo}
 use Rattle.fact_model.specs.declared.sets.PointsTo.{PointsTo}
 use Rattle.hier_model.specs.Hierarchies.{Hierarchy}
 use Rattle.hier_rules.specs.declared.broken.Broken.{Broken}
-use Rattle.hier_rules.specs.Asked.{is_called, slots_of, is_asked}
-use Rattle.hier_rules.specs.Obligations.{wrong_body, wrong_need}
+use Rattle.hier_rules.specs.Asked.{is_called, slots_of, is_element, is_asked, places_of}
+use Rattle.hier_rules.specs.Obligations.{wrong_body, wrong_need, first_wrong_of_place}
 use Rattle.hier_rules.proofs.KeyLemmas.{AreKeys, key_found, key_none, bound_above}
+use Rattle.hier_rules.proofs.OutcomeLemmas.{not_asked}
 
 module _ (F : Facts) (pt : PointsTo) (H : Hierarchy) where
   module _ (s : ℕ) (slots : List ℕ) (sorted : IsNonDecreasing slots) (has : (x : ℕ) → Contains slots x ↔ (is_called F pt s x ≡ true)) where
@@ -40,4 +44,26 @@ module _ (F : Facts) (pt : PointsTo) (H : Hierarchy) where
     call_none none = key_none (wrong_need F pt H s) (slots_of F) slots call_keys (λ j l. valued j l ∙ none j l)
 
   module _ (places : List ℕ) (sorted : IsNonDecreasing places) (has : (p : ℕ) → Contains places p ↔ (is_asked F p ≡ true)) where
+    asked_below : (p : ℕ) → is_asked F p ≡ true → p < places_of F
+    asked_below p h =
+        ⊎_elim
+        (λ a. let lt = bound_above (λ (x : TestInfo). x.place.at) (λ x. true) F.tests.items p a in omega (arith, lt))
+        (λ b. let lt = bound_above (λ (x : StoreInfo). x.place.at) (λ x. is_element x.column) F.stores.items p b in omega (arith, lt))
+        (or_cases (list_any (λ (x : TestInfo). eqb x.place.at p) F.tests.items) (list_any (λ (x : StoreInfo). is_element x.column && eqb x.place.at p)
+        F.stores.items) h)
+
+    place_keys : AreKeys (first_wrong_of_place F pt H) (places_of F) places
+    place_keys = record {
+      sorted = sorted;
+      below = λ p c. asked_below p ((has p).0 c);
+      all = λ p. ⊎_elim (λ h. inl ((has p).1 h)) (λ h. inr (not_asked F pt H p h)) (cases_Bool (is_asked F p));
     }
+
+    pub place_found : (i : ℕ) (x : Broken) → i < length places → ((j : ℕ) → j < i → first_wrong_of_place F pt H (get_or places j 0) ≡ None)
+        → first_wrong_of_place F pt H (get_or places i 0) ≡ Some x
+        → first_below (places_of F) (first_wrong_of_place F pt H) ≡ Some x
+    place_found i x lt none h = key_found (first_wrong_of_place F pt H) (places_of F) places place_keys i x lt none h
+
+    pub place_none : ((j : ℕ) → j < length places → first_wrong_of_place F pt H (get_or places j 0) ≡ None)
+        → first_below (places_of F) (first_wrong_of_place F pt H) ≡ None
+    place_none none = key_none (first_wrong_of_place F pt H) (places_of F) places place_keys none

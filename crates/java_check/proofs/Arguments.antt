@@ -37,7 +37,6 @@ drop-all [] (suc i) h = refl
 drop-all (y ∷ ys) zero h = absurd (omega (arith, h))
 drop-all (y ∷ ys) (suc i) h = drop-all ys i (omega (arith, h))
 
-module _ {A : Type 0} (v : A → PlainLocal) where
 pub asked-holds : {A : Type 0} (b : Bool) (k : Kind) (t : Tag) (x y : A) → asked b k t x ≡ Ok y → b ≡ true
 asked-holds true k t x y e = refl
 asked-holds false k t x y e = absurd (cc e)

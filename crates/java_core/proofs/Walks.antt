@@ -207,4 +207,3 @@ module _ (lists : List (Vec ℕ Global)) where
     kept = λ k h. set-kept known b k (let l = before.wide in omega (arith, l, lt)) h;
     told = λ _. get_or-set_same known b true false (let l = before.wide in omega (arith, l, lt));
   }
-  }

@@ -17,7 +17,8 @@ use Rattle.java_tree.specs.Tokens.{level}
 use Rattle.java_print.specs.Items.{Item, Space, kinds_in}
 use Rattle.java_print.specs.Layout.{mark_then, rank, sign_of, same_sign, is_plus_or_minus, is_named, fits, fits_sign, fits_cast, in_round, base_items, dims_items, more_dims_items, type_items, expr_items, args_items}
 use Rattle.java_tree.specs.Formed.{IsNumber, a_small, the_least, IsCastBase, IsFormed, AreFormed}
-use Rattle.java_tree.specs.Tokens.{token, mark, casts, casts_kind}
+use Rattle.java_lex.specs.Lexing.{token}
+use Rattle.java_tree.specs.Tokens.{mark, casts, casts_kind}
 use Rattle.java_tree.specs.Expressions.{IsBase, int_base, boolean_base, char_base, named_base, IsDims, no_dims, one_dim, IsType, a_type, IsExpr, binary, instance_of, operand, IsPrefixed, signed, least, cast_named, cast_int, cast_char, bare, IsPost, field, call_on, index, int_literal, char_literal, string_literal, true_literal, false_literal, null_literal, this_word, name, call, super_call, round, new_object, new_array, IsArgs, no_args, some_args, IsMoreArgs, last_arg, next_arg}
 use Rattle.java_print.proofs.ExprLexes.{level_low, a_sign}
 use Rattle.java_print.proofs.Lexes.{IsSign, plus, minus, bang, flip}

@@ -17,12 +17,9 @@ use Rattle.fact_model.proofs.ClassLemmas.{below-then}
 use Rattle.points_to.specs.Above.{class_id, IsAboveRow, AreSitesBelow, HasSite, Gained, Walked}
 
 -- ---- what a row gains
-}
-}
 
 pub set-bits : (r : List Bool) (x y : ℕ) → bit (set r x true) y ≡ true → (bit r y ≡ true) ⊎ (y ≡ x)
 set-bits r x y h = ⊎_elim (λ e. inr e) (λ ne. inl (sym (get_or-set_other r x y true false ne) ∙ h)) (cases_eq y x)
-}
 
 pub gained-then : (first second : List ClassId) (r0 r1 r2 : List Bool) (w0 w1 w2 : List ClassId)
     → Gained first r0 r1 w0 w1 → Gained second r1 r2 w1 w2 → Gained (first ++ second) r0 r2 w0 w2

@@ -85,7 +85,6 @@ module _ (F : Facts) where
       firsts = λ a la. first_more a c _ (λ b. other b.kind) (old.firsts a la);
       nexts = next_more;
     }
-  }
 
   def_is : (k : ColKind) → is_def k ≡ true → k ≡ Def
   def_is Def h = refl

@@ -38,8 +38,6 @@ module _ (p : ℕ → Bool) (n w at : ℕ) (len : n ≡ w) where
   least_none None x = λ k low lt. x k low (omega (arith, lt, len))
   least_none (Some s) x = x.least
 
--- the same of a set
-module _ (set : List Bool) (w at : ℕ) (len : length set ≡ w) where
 -- a pass over the numbers below w by the least that passes a test
 module _ (P : ℕ → Type 0) (p : ℕ → Bool) (at : ℕ) (out : (k : ℕ) → p k ≡ false → P k) where
   pub pass_to : (s : ℕ) (g : Bool) → IsNoneFrom p at s → OnFalse g ((k : ℕ) → k < at → P k) → OnFalse g ((k : ℕ) → k < s → P k)

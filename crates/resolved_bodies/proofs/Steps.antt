@@ -15,8 +15,3 @@ passes (refusals.TwoKinds n p) o go h = ap (λ x. with x go) h
 passes (refusals.PrivateReused n p) o go h = ap (λ x. with x go) h
 passes refusals.NoMain o go h = ap (λ x. with x go) h
 passes (refusals.NotInProfile f p) o go h = ap (λ x. with x go) h
-
--- a run over what a list is seen as: g reads the list, h an item
-module _ {A B S : Type 0} (g : List A → List B) (h : A → B) (law : (x : A) (xs : List A) → g (x ∷ xs) ≡ h x ∷ g xs) (f : S → B → Result S Refusal) where
--- the same over the list itself
-module _ {A S : Type 0} (f : S → A → Result S Refusal) where

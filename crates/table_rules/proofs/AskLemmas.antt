@@ -52,7 +52,6 @@ module _ (F : Facts) (old new : List (List Bool)) (d : ℕ) (extra : List Bool) 
     };
     declared = λ b c lb lc by. GainsRow-keeps old new d extra gains b c (are.declared b c lb lc by);
   }
-  }
 
 -- empty sets
 pub no_pairs : (F : Facts) (P : ℕ → ℕ → Type 0) (sets : List (List Bool)) (n : ℕ) → n ≡ length F.columns.items → length sets ≡ n → HasWidth n sets
