@@ -1,8 +1,8 @@
 -- The loop over the pieces.
-use Rattle.std.proofs.Common.{◌≡◌, ℕ, ◌+◌, ◌-◌, ◌≤◌, ◌<◌, List, [], ◌∷◌, ◌++◌, length, take, drop, Result, Ok, Err, refl, ap, sym, subst, ◌∙◌, arith, add-one, zero-add, append_assoc, length-append}
-use Rattle.std.proofs.lemmas.List.{take-append-drop, length-take-le, take_rest}
+use Rattle.std.proofs.Common.{◌≡◌, ℕ, ◌+◌, ◌-◌, ◌≤◌, ◌<◌, List, [], ◌∷◌, ◌++◌, length, take, drop, Result, Ok, Err, refl, ap, sym, subst, ◌∙◌, arith, add-one, zero-add, get_or, append_assoc, length-append}
+use Rattle.std.proofs.lemmas.List.{take-append-drop, length-take-le, drop_more, take_rest}
 use Rattle.std.proofs.lemmas.Str.{length-encode, len_utf8_bounds, encodes-chars, is_utf8-from_IsUtf8, IsUtf8-from_is_utf8}
-use Rattle.std.specs.Char.{encode_utf8}
+use Rattle.std.specs.Char.{len_utf8, encode_utf8}
 use Rattle.std.specs.Str.{encode_utf8_all, chars, IsUtf8, is_utf8}
 use Rattle.std.specs.Str.Lossy.{utf8_valid_len}
 use Rattle.std.proofs.lemmas.Bool.{cond-true, cond-false, false_from_ne_true}
@@ -12,11 +12,12 @@ use Rattle.java_lex.specs.declared.LexFault.TheVariants as faults
 use Rattle.kaba_base.specs.declared.Place.{Place}
 use Rattle.java_lex.specs.declared.Token.{Token}
 use Rattle.java_lex.specs.declared.TokenKind.{TokenKind}
+use Rattle.java_lex.specs.declared.scan.FaultKind.{FaultKind}
 use Rattle.java_lex.specs.declared.LexFault.{LexFault}
 use Rattle.java_lex.specs.declared.scan.Piece.{Piece}
-use Rattle.java_lex.specs.declared.scan.Piece.TheVariants.{Gap, Part}
+use Rattle.java_lex.specs.declared.scan.Piece.TheVariants.{Gap, Part, Fault}
 use Rattle.java_lex.specs.Piece.{piece_of, piece_at, reach}
-use Rattle.java_lex.specs.Lexing.{Outcome, lexed, moved, past, width, led, token, from_piece, tokens_of, start, byte_place, Gives}
+use Rattle.java_lex.specs.Lexing.{Outcome, lexed, moved, past, width, led, token, from_piece, fault_at, tokens_of, start, byte_place, Gives}
 use Rattle.java_lex.proofs.Skips.{skipped}
 
 pub skip : (n : ℕ) (xs : List ℕ) (p : Place) → n ≤ length xs → lexed xs n p ≡ lexed (drop n xs) 0 (moved p (take n xs))
@@ -53,6 +54,13 @@ part_step all rest c n p ts us k g e f h =
 abbrev pub fails : LexFault → Outcome
 fails f = Err f
 
+pub fault_step : (all rest : List ℕ) (c n : ℕ) (p : Place) (ts : List Token) (k : FaultKind) → all ≡ c ∷ rest → Fault k n ≡ piece_of c rest
+    → led ts (lexed all 0 p) ≡ Err (fault_at k (moved p (take n all)))
+fault_step all rest c n p ts k e f =
+    ap (λ xs. led ts (lexed xs 0 p)) e
+    ∙ ap (λ q. led ts (from_piece q p (c ∷ rest) (λ m. lexed rest m (past p c)))) (sym f)
+    ∙ ap (λ xs. fails (fault_at k (moved p (take n xs)))) (sym e)
+
 pub width-append : (xs ys : List ℕ) → width (xs ++ ys) ≡ width xs + width ys
 width-append [] ys = sym (zero-add (width ys))
 width-append (x ∷ xs) ys = omega (arith, width-append xs ys)
@@ -64,6 +72,13 @@ pub width-encodes : (cs : List ℕ) → width cs ≡ length (encode_utf8_all cs)
 width-encodes [] = refl
 width-encodes (c ∷ cs) = omega (arith, width-encodes cs, length-append (encode_utf8 c) (encode_utf8_all cs), length-encode c)
 
+-- one more character
+pub moved_step : (xs : List ℕ) (i d : ℕ) (p : Place) → i < length xs → moved p (drop i xs) ≡ moved (past p (get_or xs i d)) (drop (i + 1) xs)
+moved_step xs i d p h = ap (moved p) (drop_more xs i d h)
+
+pub width_step : (xs : List ℕ) (i d : ℕ) → i < length xs → width (drop i xs) ≡ len_utf8 (get_or xs i d) + width (drop (i + 1) xs)
+width_step xs i d h = ap width (drop_more xs i d h)
+
 module _ (n : ℕ) (p : Place) (ts : List Token) where
   pub gap_more : (all : List ℕ) (q : Piece) → q ≡ Gap n → q ≡ piece_at all → reach q < length all
       → led ts (lexed (drop (n + 1) all) 0 (moved p (take (n + 1) all))) ≡ led ts (lexed all 0 p)
@@ -74,6 +89,11 @@ module _ (n : ℕ) (p : Place) (ts : List Token) where
       → reach q < length all → led us (lexed (drop (n + 1) all) 0 (moved p (take (n + 1) all))) ≡ led ts (lexed all 0 p)
   part_more [] q k us w e f h = absurd (omega arith)
   part_more (c ∷ rest) q k us w e f h = part_step (c ∷ rest) rest c n p ts us k w refl (sym e ∙ f) (omega (arith, ap reach e))
+
+  pub fault_more : (all : List ℕ) (q : Piece) (k : FaultKind) → 0 < length all → q ≡ Fault k n → q ≡ piece_at all → led ts (lexed all 0 p)
+      ≡ Err (fault_at k (moved p (take n all)))
+  fault_more [] q k l e f = absurd (omega arith)
+  fault_more (c ∷ rest) q k l e f = fault_step (c ∷ rest) rest c n p ts k refl (sym e ∙ f)
 
 pub length-le-width : (xs : List ℕ) → length xs ≤ width xs
 length-le-width [] = omega arith

@@ -8,12 +8,17 @@ use Rattle.std.specs.Fmt.{decimal}
 use Rattle.std.specs.List.{flat_map}
 use Rattle.std.specs.Str.{encode_utf8_all}
 use Rattle.std.specs.Char.{encode_utf8}
+use Rattle.kaba_base.specs.declared.Keyword.{Keyword}
+use Rattle.kaba_base.specs.declared.Keyword.TheVariants as keys
+use Rattle.kaba_base.specs.Words.{key_text}
+use Rattle.java_lex.specs.declared.Mark.{Mark}
 use Rattle.java_lex.specs.declared.Mark.TheVariants as marks
 use Rattle.java_lex.specs.declared.TokenKind.{TokenKind}
 use Rattle.java_lex.specs.declared.TokenKind.TheVariants as kinds
+use Rattle.java_lex.specs.Spelling.{mark_text}
 use Rattle.java_lex.specs.Printing.{written}
 use Rattle.java_print.specs.Items.{Item, Lexeme, Margin, text, kind_text}
-use Rattle.java_print.specs.Layout.{mark_then, int_items, in_round, dims_items, expr_items}
+use Rattle.java_print.specs.Layout.{mark_then, key_then, word_then, int_items, in_round, dims_items, expr_items}
 use Rattle.java_tree.specs.Syntax.{Expression}
 use Rattle.java_print.specs.Adds.{Adds, Puts, margin_then}
 
@@ -28,6 +33,26 @@ adds_chars a b xs x y h e = record {
       ∙ sym (append_assoc a (encode_utf8_all xs) (encode_utf8_all (text y)))
       ∙ ap (λ zs. zs ++ encode_utf8_all (text y)) (sym h);
 }
+
+mark_bytes : (m : Mark) → encode_utf8_all (mark_text m) ≡ mark_text m
+unfolding encode_utf8
+mark_bytes marks.OpenRound = refl
+mark_bytes _ = refl
+
+key_bytes : (k : Keyword) → encode_utf8_all (key_text k) ≡ key_text k
+unfolding encode_utf8 key_text
+key_bytes keys.Abstract = refl
+key_bytes _ = refl
+
+-- a text of the table of marks, of keywords, of digits
+pub adds_mark : (a b : List ℕ) (m : Mark) → b ≡ a ++ mark_text m → Puts a b (mark_then m)
+adds_mark a b m h r = adds_chars a b (mark_text m) (mark_then m r) r (h ∙ ap (λ ys. a ++ ys) (sym (mark_bytes m))) refl
+
+pub adds_key : (a b : List ℕ) (k : Keyword) → b ≡ a ++ key_text k → Puts a b (key_then k)
+adds_key a b k h r = adds_chars a b (key_text k) (key_then k r) r (h ∙ ap (λ ys. a ++ ys) (sym (key_bytes k))) refl
+
+pub adds_word : (a b n : List ℕ) → b ≡ a ++ encode_utf8_all n → Puts a b (word_then n)
+adds_word a b n h r = adds_chars a b n (word_then n r) r h refl
 
 -- a literal of characters between two quotes
 pub adds_quoted : (a b c d : List ℕ) (q : ℕ) (us : List ℕ) (k : TokenKind) → kind_text k ≡ q ∷ (us ++ q ∷ []) → b ≡ a ++ encode_utf8_all (q ∷ [])

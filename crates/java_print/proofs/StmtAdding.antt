@@ -16,11 +16,10 @@ use Rattle.java_tree.specs.Syntax.{Statement, BlockOf, IfOf, WhileOf, ForOf, Sta
 use Rattle.java_tree.specs.Statements.{is_called, is_out, printed_args}
 use Rattle.java_tree.specs.Size.{stmt_size, stmts_size, arms_size}
 use Rattle.java_tree.proofs.Rows.{stmts_vec, arms_vec}
-use Rattle.java_print.specs.Items.{Item, Space, Margin, text}
+use Rattle.java_print.specs.Items.{Item, Space, End, Margin, text}
 use Rattle.java_print.specs.Layout.{mark_then, key_then, word_then, prints, is_printing, print_head, print_name, bracketed_items, upon_system, expr_items, stmt_items, stmts_items, arms_items, arm_items, else_then, else_items, last_items, bare_items}
 use Rattle.java_print.specs.Adds.{Adds, Puts}
 use Rattle.java_tree.specs.Syntax.{boxed_step}
-use Rattle.java_tree.proofs.Sameness.{for_as}
 use Rattle.java_print.proofs.Adding.{adds_then}
 use Rattle.java_print.proofs.Opened.{call_alone, call_upon}
 
@@ -30,6 +29,10 @@ by_text a b xs x y h e = record {
   added = ap (λ zs. a ++ zs) e ∙ sym (append_assoc a xs (encode_utf8_all (text y)))
       ∙ ap (λ zs. zs ++ encode_utf8_all (text y)) (sym h);
 }
+
+pub adds_end : (a b : List ℕ) → b ≡ a ++ encode_utf8_all (10 ∷ []) → (r : List Item) → Adds a b (End ∷ r) r
+unfolding encode_utf8
+adds_end a b h r = by_text a b (10 ∷ []) (End ∷ r) r h refl
 
 pub adds_print : (a b : List ℕ) (l : Bool) → b ≡ a ++ print_head l → (r : List Item)
     → Adds a b (word_then (codes "System")
@@ -90,9 +93,16 @@ block_of s v p h = ap stmt_of h ∙ ap (λ ss. BlockOf ss p) (stmts_vec v)
 pub while_of : (s : Stmt) (e : Expr) (v : Vec Stmt Global) (p : Place) → s ≡ While e v p → stmt_of s ≡ WhileOf (expr_of e) (stmts v.items) p
 while_of s e v p h = ap stmt_of h ∙ ap (λ ss. WhileOf (expr_of e) ss p) (stmts_vec v)
 
+box_step : (f : Option (Box Stmt Global)) (x : Option Expr) (g : Option (Box Stmt Global)) (v : Vec Stmt Global) (p : Place) → stmt_of (For f x g v p)
+    ≡ ForOf (boxed_step f) (value_of x) (boxed_step g) (stmts v.items) p
+box_step None x None v p = ap (λ ss. ForOf (boxed_step None) (value_of x) (boxed_step None) ss p) (stmts_vec v)
+box_step None x (Some g) v p = ap (λ ss. ForOf (boxed_step None) (value_of x) (boxed_step (Some g)) ss p) (stmts_vec v)
+box_step (Some f) x None v p = ap (λ ss. ForOf (boxed_step (Some f)) (value_of x) (boxed_step None) ss p) (stmts_vec v)
+box_step (Some f) x (Some g) v p = ap (λ ss. ForOf (boxed_step (Some f)) (value_of x) (boxed_step (Some g)) ss p) (stmts_vec v)
+
 pub for_of : (s : Stmt) (f : Option (Box Stmt Global)) (x : Option Expr) (g : Option (Box Stmt Global)) (v : Vec Stmt Global) (p : Place)
     → s ≡ For f x g v p → stmt_of s ≡ ForOf (boxed_step f) (value_of x) (boxed_step g) (stmts v.items) p
-for_of s f x g v p h = ap stmt_of h ∙ for_as f x g v p
+for_of s f x g v p h = ap stmt_of h ∙ box_step f x g v p
 
 if_parts : (a : Vec Arm Global) (o : Option (Vec Stmt Global)) (p : Place) → stmt_of (If a o p) ≡ IfOf (arms_seen a.items) (else_seen o) p
 if_parts a None p = ap (λ al. IfOf al (else_seen None) p) (arms_vec a)

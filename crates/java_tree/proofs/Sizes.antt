@@ -1,5 +1,5 @@
 -- The sizes of lists of trees.
-use Rattle.std.proofs.Common.{◌≡◌, ℕ, ◌+◌, ◌≤◌, List, sym, ap, ◌∙◌, arith}
+use Rattle.std.proofs.Common.{◌≡◌, ℕ, ◌+◌, ◌<◌, ◌≤◌, List, [], ◌∷◌, length, drop, get_or, add-one, drop-cons, refl, sym, ap, ◌∙◌, arith}
 use Rattle.std.specs.Prelude.{Option, Some, None}
 use Rattle.std.specs.declared.vec.Vec.{Vec}
 use Rattle.std.specs.declared.boxed.Box.{Box}
@@ -8,10 +8,40 @@ use Rattle.kaba_base.specs.declared.Place.{Place}
 use Rattle.java_tree.specs.declared.Id.{Id}
 use Rattle.java_tree.specs.declared.Stmt.{Stmt, Block, If, While, For}
 use Rattle.java_tree.specs.declared.Arm.{Arm}
+use Rattle.java_tree.specs.declared.Head.{Head}
+use Rattle.java_tree.specs.declared.Member.{Member}
+use Rattle.java_tree.specs.declared.Decl.{Decl}
 use Rattle.java_tree.specs.declared.Expr.{Expr, Call, SuperCall, New}
-use Rattle.java_tree.specs.Syntax.{Expression, IntLit, CharLit, StrLit, BoolLit, NullLit, ThisRef, NameRef, FieldOf, IndexOf, CallOf, CallOn, SuperCallOf, NewOf, NewArrayOf, CastOf, InstanceOfClass, UnaryOf, BinaryOf, expr_of, exprs, value_of, stmt_of, stmts, arms_seen, boxed_step}
-use Rattle.java_tree.specs.Size.{expr_size, exprs_size, value_size, stmt_size, stmts_size, arms_size, step_size}
-use Rattle.java_tree.proofs.Rows.{exprs_vec, stmts_vec, arms_vec}
+use Rattle.java_tree.specs.Syntax.{Expression, IntLit, CharLit, StrLit, BoolLit, NullLit, ThisRef, NameRef, FieldOf, IndexOf, CallOf, CallOn, SuperCallOf, NewOf, NewArrayOf, CastOf, InstanceOfClass, UnaryOf, BinaryOf, expr_of, exprs, value_of, stmt_of, stmts, arms_seen, boxed_step, heads, member_of, members, decl_of, decls}
+use Rattle.java_tree.specs.Size.{expr_size, exprs_size, value_size, stmt_size, stmts_size, arms_size, step_size, heads_size, member_size, members_size, decl_size, tree_size}
+use Rattle.java_tree.proofs.Rows.{exprs_vec, exprs_shown, stmts_vec, arms_vec}
+
+-- one more is counted
+pub exprs_more : (xs : List Expr) (i : ℕ) (d : Expr) → i < length xs → exprs_size (exprs (drop i xs)) ≡ expr_size (expr_of (get_or xs i d))
+    + exprs_size (exprs (drop (i + 1) xs))
+exprs_more xs i d h = rw (add-one, drop-cons xs i d)
+
+pub stmts_more : (xs : List Stmt) (i : ℕ) (d : Stmt) → i < length xs → stmts_size (stmts (drop i xs)) ≡ stmt_size (stmt_of (get_or xs i d))
+    + stmts_size (stmts (drop (i + 1) xs))
+stmts_more xs i d h = rw (add-one, drop-cons xs i d)
+
+pub arms_more : (xs : List Arm) (i : ℕ) (d : Arm) → i < length xs → arms_size (arms_seen (drop i xs)) ≡ expr_size (expr_of (get_or xs i d).test)
+    + stmts_size (stmts (get_or xs i d).body.items) + arms_size (arms_seen (drop (i + 1) xs))
+arms_more xs i d h = rw (add-one, drop-cons xs i d)
+
+pub members_more : (xs : List Member) (i : ℕ) (d : Member) → i < length xs → members_size (members (drop i xs))
+    ≡ member_size (member_of (get_or xs i d)) + members_size (members (drop (i + 1) xs))
+members_more xs i d h = rw (add-one, drop-cons xs i d)
+
+pub decls_more : (xs : List Decl) (i : ℕ) (d : Decl) → i < length xs → tree_size (decls (drop i xs)) ≡ decl_size (decl_of (get_or xs i d))
+    + tree_size (decls (drop (i + 1) xs))
+decls_more xs i d h = rw (add-one, drop-cons xs i d)
+
+pub heads_count : (xs : List Head) → heads_size (heads xs) ≡ length xs
+heads_count [] = refl
+heads_count (x ∷ xs) = let h = heads_count xs in omega (arith, h)
+
+pub ruleset sizes = (exprs_vec, exprs_shown, exprs_more, stmts_vec, arms_vec, stmts_more, arms_more, members_more, decls_more, heads_count)
 
 -- the size of an expression with arguments, as the program sees them
 pub call_size : (v : Vec Expr Global) {e : Expr} {b : Option (Box Expr Global)} {n : List ℕ} {p : Place} {xs : List Expr} → e ≡ Call b n v p

@@ -2,3 +2,4 @@ pub mod TypeTable
 pub mod SpotLemmas
 pub mod OwnedLemmas
 pub mod ScopeTable
+pub mod ParamScopes

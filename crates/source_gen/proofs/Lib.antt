@@ -1,3 +1,4 @@
+pub mod Pushed
 pub mod Loops
 pub mod Nodes
 pub mod Params
