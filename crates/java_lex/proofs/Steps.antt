@@ -1,5 +1,5 @@
 -- One more step of a scan.
-use Rattle.std.proofs.Common.{◌≡◌, ℕ, ◌+◌, ◌-◌, ◌*◌, ◌≤◌, ◌<◌, ◌==◌, Bool, true, false, List, [], ◌∷◌, ◌++◌, Option, Some, None, refl, ap, sym, ◌∙◌, append_assoc, add_assoc, zero-add, length, get_or, take, drop, arith, codes, nat_lt}
+use Rattle.std.proofs.Common.{◌≡◌, ℕ, ◌+◌, ◌-◌, ◌*◌, ◌≤◌, ◌<◌, ◌==◌, Bool, true, false, List, [], ◌∷◌, ◌++◌, Option, Some, None, refl, ap, sym, ◌∙◌, append_assoc, add_assoc, length, get_or, take, drop, arith, codes, nat_lt}
 use Rattle.std.specs.Char.{digit_value}
 use Rattle.std.specs.Str.Parse.{digits_value_after}
 use Rattle.std.proofs.lemmas.List.{take_all, take_rest, drop_more}
@@ -13,23 +13,10 @@ use Rattle.java_lex.specs.declared.scan.Quoted.{Quoted}
 use Rattle.java_lex.specs.declared.scan.Quoted.TheVariants.{Closed, Open, Wrong}
 use Rattle.java_lex.specs.Piece.{quoted, behind, behind_escape, escaped, on, one_more, comment_end, capped}
 
-pub behind_start : (q : Quoted) → behind [] 0 q ≡ q
-behind_start (Closed vs m) = ap (Closed vs) (zero-add m)
-behind_start Open = refl
-behind_start (Wrong m) = ap Wrong (zero-add m)
-
 pub behind_behind : (us vs : List ℕ) (m n : ℕ) (q : Quoted) → behind us m (behind vs n q) ≡ behind (us ++ vs) (m + n) q
 behind_behind us vs m n (Closed ws k) = rw (append_assoc us vs ws, add_assoc m n k) refl
 behind_behind us vs m n Open = refl
 behind_behind us vs m n (Wrong k) = rw (add_assoc m n k) refl
-
-pub quoted_end : (c : ℕ) (cs : List ℕ) → (c == 34) ≡ true → quoted (c ∷ cs) ≡ Closed [] 1
-quoted_end c [] h = rw h refl
-quoted_end c (d ∷ cs) h = rw h refl
-
-pub quoted_line : (c : ℕ) (cs : List ℕ) → (c == 34) ≡ false → is_line_end c ≡ true → quoted (c ∷ cs) ≡ Open
-quoted_line c [] h k = rw (h, k) refl
-quoted_line c (d ∷ cs) h k = rw (h, k) refl
 
 pub quoted_escape : (c d : ℕ) (cs : List ℕ) → (c == 34) ≡ false → is_line_end c ≡ false → (c == 92) ≡ true
     → quoted (c ∷ d ∷ cs) ≡ behind_escape (escaped d) (quoted cs)

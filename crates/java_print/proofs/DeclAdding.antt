@@ -1,14 +1,11 @@
 -- Lists of declarations and their parts added after others.
-use Rattle.std.proofs.Common.{zero, suc, ◌≡◌, ℕ, ◌+◌, ◌<◌, ◌≤◌, List, [], ◌∷◌, ◌++◌, length, get_or, drop, Bool, true, false, nat_lt, refl, ap, sym, subst, ◌∙◌, arith}
-use Rattle.std.proofs.lemmas.List.{drop_more, drop_all, append-nil}
+use Rattle.std.proofs.Common.{zero, suc, ◌≡◌, ℕ, ◌+◌, ◌<◌, ◌≤◌, List, [], ◌∷◌, length, get_or, drop, Bool, true, false, nat_lt, refl, ap, sym, subst, ◌∙◌, arith}
+use Rattle.std.proofs.lemmas.List.{drop_more, drop_all}
 use Rattle.std.proofs.lemmas.Bool.{lt-ltb}
-use Rattle.std.specs.Str.{encode_utf8_all}
 use Rattle.java_tree.specs.declared.Modifier.{Modifier}
 use Rattle.java_tree.specs.declared.Param.{Param}
-use Rattle.java_tree.specs.declared.Decl.{Decl}
-use Rattle.java_tree.specs.Syntax.{decls}
 use Rattle.java_print.specs.Items.{Item}
-use Rattle.java_print.specs.Layout.{comma, mods_items, params_items, decls_items, listed_items, list_items, tree_text}
+use Rattle.java_print.specs.Layout.{comma, mods_items, params_items, listed_items, list_items}
 use Rattle.kaba_base.specs.declared.Keyword.{Keyword}
 use Rattle.java_tree.specs.declared.Id.{Id}
 use Rattle.java_print.specs.Adds.{Adds, Puts}
@@ -68,10 +65,6 @@ mods_as {a} {b} xs ys e h = subst (λ zs. Puts a b (mods_items zs)) e h
 
 pub params_as : {a b : List ℕ} (xs ys : List Param) → xs ≡ ys → Puts a b (params_items false xs) → Puts a b (params_items false ys)
 params_as {a} {b} xs ys e h = subst (λ zs. Puts a b (params_items false zs)) e h
-
--- the whole text
-pub text_added : (a b : List ℕ) (xs ys : List Decl) → xs ≡ ys → Puts a b (decls_items (decls xs)) → b ≡ a ++ encode_utf8_all (tree_text (decls ys))
-text_added a b xs ys e h = sym (append-nil b) ∙ sym (h []).added ∙ ap (λ zs. a ++ encode_utf8_all (tree_text (decls zs))) e
 
 pub listed_along : {a b : List ℕ} (k : Keyword) (xs : List Id) → 1 ≤ length xs → Puts a b (listed_items k xs) → Puts a b (list_items k xs)
 listed_along k [] l h = absurd (omega arith)

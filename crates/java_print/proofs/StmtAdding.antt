@@ -16,7 +16,7 @@ use Rattle.java_tree.specs.Syntax.{Statement, BlockOf, IfOf, WhileOf, ForOf, Sta
 use Rattle.java_tree.specs.Statements.{is_called, is_out, printed_args}
 use Rattle.java_tree.specs.Size.{stmt_size, stmts_size, arms_size}
 use Rattle.java_tree.proofs.Rows.{stmts_vec, arms_vec}
-use Rattle.java_print.specs.Items.{Item, Space, End, Margin, text}
+use Rattle.java_print.specs.Items.{Item, Space, Margin, text}
 use Rattle.java_print.specs.Layout.{mark_then, key_then, word_then, prints, is_printing, print_head, print_name, bracketed_items, upon_system, expr_items, stmt_items, stmts_items, arms_items, arm_items, else_then, else_items, last_items, bare_items}
 use Rattle.java_print.specs.Adds.{Adds, Puts}
 use Rattle.java_tree.specs.Syntax.{boxed_step}
@@ -29,10 +29,6 @@ by_text a b xs x y h e = record {
   added = ap (λ zs. a ++ zs) e ∙ sym (append_assoc a xs (encode_utf8_all (text y)))
       ∙ ap (λ zs. zs ++ encode_utf8_all (text y)) (sym h);
 }
-
-pub adds_end : (a b : List ℕ) → b ≡ a ++ encode_utf8_all (10 ∷ []) → (r : List Item) → Adds a b (End ∷ r) r
-unfolding encode_utf8
-adds_end a b h r = by_text a b (10 ∷ []) (End ∷ r) r h refl
 
 pub adds_print : (a b : List ℕ) (l : Bool) → b ≡ a ++ print_head l → (r : List Item)
     → Adds a b (word_then (codes "System")

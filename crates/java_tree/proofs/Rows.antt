@@ -1,6 +1,6 @@
 -- What a row of trees is, read as the items of its vector.
 use Rattle.std.proofs.Common.{◌≡◌, refl, sym, ap, ◌∙◌}
-use Rattle.java_tree.specs.declared.Expr.TheBlock.{Row_of-Expr, end_of-Expr, more_of-Expr, items-the_row-Expr, hidden-the_row-Expr-0, items_hidden-the_row-Expr-0}
+use Rattle.java_tree.specs.declared.Expr.TheBlock.{Row_of-Expr, end_of-Expr, more_of-Expr, items-the_row-Expr, hidden-the_row-Expr-0, items_hidden-the_row-Expr-0, shown-the_row-Expr-0, items_shown-the_row-Expr-0}
 use Rattle.java_tree.specs.declared.Stmt.TheBlock.{Row_of-Stmt, end_of-Stmt, more_of-Stmt, items-the_row-Stmt, hidden-the_row-Stmt-0, items_hidden-the_row-Stmt-0, shown-the_row-Stmt-0, items_shown-the_row-Stmt-0, Row_of-Arm, end_of-Arm, more_of-Arm, items-the_row-Arm, hidden-the_row-Arm-1, items_hidden-the_row-Arm-1}
 use Rattle.java_tree.specs.Syntax.{and_more, expr_of, exprs_of, exprs, stmts_of, stmt_of, stmts, and_then, arms_of, arms_seen, and_arm}
 
@@ -10,6 +10,9 @@ exprs-items (more_of-Expr e rest) = ap (and_more (expr_of e)) (exprs-items rest)
 
 pub exprs_vec : (v : _) → exprs_of (hidden-the_row-Expr-0 v) ≡ exprs v.items
 exprs_vec v = exprs-items (hidden-the_row-Expr-0 v) ∙ ap exprs (items_hidden-the_row-Expr-0 v)
+
+pub exprs_shown : (s : _) (k : _) → exprs_of k ≡ exprs (shown-the_row-Expr-0 s k).items
+exprs_shown s k = exprs-items k ∙ sym (ap exprs (items_shown-the_row-Expr-0 s k))
 
 pub stmts-items : {n : _} (k : Row_of-Stmt n) → stmts_of k ≡ stmts (items-the_row-Stmt _ k)
 stmts-items end_of-Stmt = refl
