@@ -1,18 +1,16 @@
 -- Lists of declarations and their parts added after others.
-use Rattle.std.proofs.Common.{zero, suc, ◌≡◌, ℕ, ◌+◌, ◌<◌, ◌≤◌, List, [], ◌∷◌, length, get_or, drop, Bool, true, false, nat_lt, refl, ap, sym, subst, ◌∙◌, arith}
-use Rattle.std.proofs.lemmas.List.{drop_more, drop_all}
+use Rattle.std.proofs.Common.{zero, suc, ◌≡◌, ℕ, ◌+◌, ◌<◌, ◌≤◌, List, [], ◌∷◌, length, get_or, drop, Bool, true, false, nat_lt, refl, sym, subst, arith}
+use Rattle.std.proofs.lemmas.List.{drop_all}
 use Rattle.std.proofs.lemmas.Bool.{lt-ltb}
 use Rattle.java_tree.specs.declared.Modifier.{Modifier}
 use Rattle.java_tree.specs.declared.Param.{Param}
 use Rattle.java_print.specs.Items.{Item}
 use Rattle.java_print.specs.Layout.{comma, mods_items, params_items, listed_items, list_items}
 use Rattle.kaba_base.specs.declared.Keyword.{Keyword}
+use Rattle.kaba_base.proofs.ListLemmas.{drop_at}
 use Rattle.java_tree.specs.declared.Id.{Id}
 use Rattle.java_print.specs.Adds.{Adds, Puts}
 use Rattle.java_print.proofs.Adding.{adds_then}
-
-drop_at : {X : Type 0} (xs : List X) (i : ℕ) (x : X) → i < length xs → x ≡ get_or xs i x → drop i xs ≡ x ∷ drop (i + 1) xs
-drop_at xs i x l k = drop_more xs i x l ∙ ap (λ y. y ∷ drop (i + 1) xs) (sym k)
 
 -- one more item of a list
 pub each_step : {X : Type 0} (f : List X → List Item → List Item) (g : X → List Item → List Item) → ((x : X) (xs : List X) (r : List Item)

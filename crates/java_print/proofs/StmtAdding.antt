@@ -20,6 +20,7 @@ use Rattle.java_print.specs.Items.{Item, Space, Margin, text}
 use Rattle.java_print.specs.Layout.{mark_then, key_then, word_then, prints, is_printing, print_head, print_name, bracketed_items, upon_system, expr_items, stmt_items, stmts_items, arms_items, arm_items, else_then, else_items, last_items, bare_items}
 use Rattle.java_print.specs.Adds.{Adds, Puts}
 use Rattle.java_tree.specs.Syntax.{boxed_step}
+use Rattle.java_tree.proofs.Sameness.{for_as}
 use Rattle.java_print.proofs.Adding.{adds_then}
 use Rattle.java_print.proofs.Opened.{call_alone, call_upon}
 
@@ -89,16 +90,9 @@ block_of s v p h = ap stmt_of h ∙ ap (λ ss. BlockOf ss p) (stmts_vec v)
 pub while_of : (s : Stmt) (e : Expr) (v : Vec Stmt Global) (p : Place) → s ≡ While e v p → stmt_of s ≡ WhileOf (expr_of e) (stmts v.items) p
 while_of s e v p h = ap stmt_of h ∙ ap (λ ss. WhileOf (expr_of e) ss p) (stmts_vec v)
 
-box_step : (f : Option (Box Stmt Global)) (x : Option Expr) (g : Option (Box Stmt Global)) (v : Vec Stmt Global) (p : Place) → stmt_of (For f x g v p)
-    ≡ ForOf (boxed_step f) (value_of x) (boxed_step g) (stmts v.items) p
-box_step None x None v p = ap (λ ss. ForOf (boxed_step None) (value_of x) (boxed_step None) ss p) (stmts_vec v)
-box_step None x (Some g) v p = ap (λ ss. ForOf (boxed_step None) (value_of x) (boxed_step (Some g)) ss p) (stmts_vec v)
-box_step (Some f) x None v p = ap (λ ss. ForOf (boxed_step (Some f)) (value_of x) (boxed_step None) ss p) (stmts_vec v)
-box_step (Some f) x (Some g) v p = ap (λ ss. ForOf (boxed_step (Some f)) (value_of x) (boxed_step (Some g)) ss p) (stmts_vec v)
-
 pub for_of : (s : Stmt) (f : Option (Box Stmt Global)) (x : Option Expr) (g : Option (Box Stmt Global)) (v : Vec Stmt Global) (p : Place)
     → s ≡ For f x g v p → stmt_of s ≡ ForOf (boxed_step f) (value_of x) (boxed_step g) (stmts v.items) p
-for_of s f x g v p h = ap stmt_of h ∙ box_step f x g v p
+for_of s f x g v p h = ap stmt_of h ∙ for_as f x g v p
 
 if_parts : (a : Vec Arm Global) (o : Option (Vec Stmt Global)) (p : Place) → stmt_of (If a o p) ≡ IfOf (arms_seen a.items) (else_seen o) p
 if_parts a None p = ap (λ al. IfOf al (else_seen None) p) (arms_vec a)
