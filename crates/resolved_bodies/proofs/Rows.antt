@@ -1,8 +1,9 @@
 -- What a row of resolved trees is, read as the items of its vector; and what the tree of a form with a list is.
 use Rattle.std.proofs.Common.{◌≡◌, ℕ, subst, Result, Ok, List, [], ◌∷◌, ◌++◌, Option, Some, None, refl, sym, ap, ◌∙◌}
 use Rattle.java_core.specs.declared.RExpr.{RExpr}
-use Rattle.java_core.specs.declared.RExpr.TheBlock.{Row_of-RExpr, end_of-RExpr, more_of-RExpr, items-the_row-RExpr, hidden-the_row-RExpr-0, items_hidden-the_row-RExpr-0}
+use Rattle.java_core.specs.declared.RExpr.TheBlock.{hidden-the_row-RExpr-0}
 use Rattle.java_core.specs.Trees.{at_place, Ex, ex_then, no_ex, expr_of, exprs_of, exprs}
+use Rattle.java_core.proofs.Rows as core_rows
 use Rattle.java_tree.specs.declared.Expr.{Expr, Call, SuperCall, New}
 use Rattle.java_tree.specs.Syntax as tree
 use Rattle.java_tree.proofs.Rows as tree_rows
@@ -18,12 +19,8 @@ use Rattle.name_outcome.specs.Tables.{Table}
 use Rattle.name_outcome.specs.Answers.{Gives, with}
 use Rattle.name_outcome.specs.Expressions.{ex_last, Receiver, receiver, class_before, called_on, after, walk, walk_all}
 
-pub exprs-items : {n : _} (k : Row_of-RExpr n) → exprs_of at_place k ≡ exprs at_place (items-the_row-RExpr _ k)
-exprs-items end_of-RExpr = refl
-exprs-items (more_of-RExpr e rest) = ap (ex_then (expr_of at_place e)) (exprs-items rest)
-
 pub exprs_vec : (v : _) → exprs_of at_place (hidden-the_row-RExpr-0 v) ≡ exprs at_place v.items
-exprs_vec v = exprs-items (hidden-the_row-RExpr-0 v) ∙ ap (exprs at_place) (items_hidden-the_row-RExpr-0 v)
+exprs_vec = core_rows.exprs_vec at_place
 
 pub exprs_push : (xs : List RExpr) (e : RExpr) → exprs at_place (xs ++ e ∷ []) ≡ ex_last (exprs at_place xs) (expr_of at_place e)
 exprs_push [] e = refl

@@ -1,11 +1,12 @@
 -- What a row of resolved statements is, read as the items of its vector; and what the tree of a form with a list is.
-use Rattle.std.proofs.Common.{◌≡◌, List, [], ◌∷◌, ◌++◌, Some, None, refl, sym, ap, ◌∙◌}
+use Rattle.std.proofs.Common.{◌≡◌, List, [], ◌∷◌, ◌++◌, Some, None, refl, ap, ◌∙◌}
 use Rattle.java_core.specs.declared.RExpr.{RExpr}
 use Rattle.java_core.specs.declared.RExpr.TheBlock as rex
 use Rattle.java_core.specs.declared.RStmt.{RStmt}
 use Rattle.java_core.specs.declared.RArm.{RArm}
-use Rattle.java_core.specs.declared.RStmt.TheBlock.{Row_of-RStmt, end_of-RStmt, more_of-RStmt, items-the_row-RStmt, hidden-the_row-RStmt-0, items_hidden-the_row-RStmt-0, shown-the_row-RStmt-0, items_shown-the_row-RStmt-0, Row_of-RArm, end_of-RArm, more_of-RArm, items-the_row-RArm, hidden-the_row-RArm-1, items_hidden-the_row-RArm-1}
+use Rattle.java_core.specs.declared.RStmt.TheBlock.{hidden-the_row-RStmt-0, hidden-the_row-RArm-1}
 use Rattle.java_core.specs.Trees.{at_place, st_then, Arms, no_other, arm, expr_of, target_of, stmt_of, stmts_of, stmts, arms_of, arms_seen}
+use Rattle.java_core.proofs.Rows as core_rows
 use Rattle.java_tree.specs.declared.Expr.{Expr}
 use Rattle.java_tree.specs.declared.Stmt.{Stmt, Block, If, While, For}
 use Rattle.java_tree.specs.declared.Stmt.TheBlock.{hidden-the_row-Stmt-0}
@@ -14,24 +15,11 @@ use Rattle.java_tree.proofs.Rows as tree_rows
 use Rattle.name_outcome.specs.Statements.{st_last, arm_last, ending}
 use Rattle.name_rules.specs.Resolves.{target}
 
-pub stmts-items : {n : _} (k : Row_of-RStmt n) → stmts_of at_place k ≡ stmts at_place (items-the_row-RStmt _ k)
-stmts-items end_of-RStmt = refl
-stmts-items (more_of-RStmt s rest) = ap (st_then (stmt_of at_place s)) (stmts-items rest)
-
 pub stmts_vec : (v : _) → stmts_of at_place (hidden-the_row-RStmt-0 v) ≡ stmts at_place v.items
-stmts_vec v = stmts-items (hidden-the_row-RStmt-0 v) ∙ ap (stmts at_place) (items_hidden-the_row-RStmt-0 v)
-
-pub stmts_shown : (s : _) (k : _) → stmts_of at_place k ≡ stmts at_place (shown-the_row-RStmt-0 s k).items
-stmts_shown s k = stmts-items k ∙ sym (ap (stmts at_place) (items_shown-the_row-RStmt-0 s k))
-
-pub arms-items : {n : _} (k : Row_of-RArm n) (other : Arms) → arms_of at_place k other ≡ arms_seen at_place (items-the_row-RArm _ k) other
-arms-items end_of-RArm other = refl
-arms-items (more_of-RArm t s body rest) other =
-    ap (λ b. arm (expr_of at_place t) b (arms_of at_place rest other)) (stmts_shown s body)
-    ∙ ap (arm (expr_of at_place t) (stmts at_place (shown-the_row-RStmt-0 s body).items)) (arms-items rest other)
+stmts_vec = core_rows.stmts_vec at_place
 
 pub arms_vec : (v : _) (other : Arms) → arms_of at_place (hidden-the_row-RArm-1 v) other ≡ arms_seen at_place v.items other
-arms_vec v other = arms-items (hidden-the_row-RArm-1 v) other ∙ ap (λ xs. arms_seen at_place xs other) (items_hidden-the_row-RArm-1 v)
+arms_vec = core_rows.arms_vec at_place
 
 pub stmts_push : (xs : List RStmt) (s : RStmt) → stmts at_place (xs ++ s ∷ []) ≡ st_last (stmts at_place xs) (stmt_of at_place s)
 stmts_push [] s = refl
