@@ -7,7 +7,6 @@ use Rattle.std.proofs.lemmas.Bool.{le-leb, and_parts, or_cases, or_right, eqb-tr
 use Rattle.std.proofs.lemmas.List.{length-set, length-map}
 use Rattle.std.proofs.lemmas.Option.{slice_get-map, slice_get_within}
 use Rattle.std.proofs.lemmas.Slice.Eq.{bytes_eq-Decides}
-use Rattle.kaba_base.proofs.ListLemmas.{middle}
 use Rattle.kaba_bits.specs.Sets.{IsLeastFrom}
 use Rattle.java_core.proofs.Meets.{meet-stands}
 use Rattle.name_rules.specs.declared.Refusal.{Refusal}
@@ -15,6 +14,7 @@ use Rattle.name_outcome.specs.declared.parts.Heading.{Heading}
 use Rattle.name_outcome.specs.Tables.{is_above}
 use Rattle.name_outcome.specs.Members.{meet, same_slot, clash_of}
 use Rattle.name_outcome.specs.Answers.{unless}
+use Rattle.kaba_base.proofs.ListLemmas.{middle}
 use Rattle.declared_types.specs.Clashes.{clash_at, or_clash, clash_among, clash_after}
 use Rattle.declared_types.proofs.ClashSpots.{not-below}
 use Rattle.name_tables.specs.declared.spots.Spots.{Spots}
@@ -361,6 +361,11 @@ module _ (rows : List (List Bool)) (all : List Heading) (spots : Spots) (exact :
           let w = slice_get_within (map (λ (h : Heading). h.name) all) f n (holds-name n f first) in
           let l = length-map all (λ (h : Heading). h.name) in
           before.each n f first (omega (arith, w, l, le)) p q i j lt e
+
+  pub suspects-then : {E : Type 0} (r : Result (Unit {0}) E) (k : ℕ) (old new : List Bool) → TestedBefore rows all spots k old
+      → OnOk r (HaveTestedAt rows all spots (slice_get all k) k old new) → OnOk r (TestedBefore rows all spots (k + 1) new)
+  suspects-then (Ok x) k old new before h = suspects-more k old new before (slice_get all k) refl h
+  suspects-then (Err e) k old new before h = tt
 
 -- ---- a method that is not suspected
 

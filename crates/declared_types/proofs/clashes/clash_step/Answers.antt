@@ -1,5 +1,5 @@
-use Rattle.std.proofs.Common.{[], map, refl, sym, ap, subst, ◌∙◌, arith}
-use Rattle.name_outcome.specs.Answers.{Gives}
+use Rattle.std.proofs.Common.{◌+◌, Ok, [], map, refl, sym, ap, subst, ◌∙◌, arith}
+use Rattle.name_outcome.specs.Answers.{Gives, unless}
 use Rattle.declared_types.specs.Clashes.{clash_after}
 use Rattle.name_tables.specs.Spots.{spots_from}
 use Rattle.declared_types.specs.Marks.{AreTested}
@@ -12,9 +12,10 @@ returns-then-is_suspect-clause-gives c =
     let rows = c.args.rows.now in
     let all = c.args.all.now.items in
     let b = c.args.b.now in
-    subst (λ o. Gives (λ n. n) c.clash_after.result o)
-    (ap (clash_after rows all c.args.k b) (c.at.ensures ∙ c.requires.spots.exact b.name) ∙ sym (earlier rows c.args.k b [] all 0 refl (omega arith)))
-    c.clash_after.ensures.gives
+    subst (λ o. Gives (λ n. n) c.after_unless.result o)
+    (ap (λ clash. unless clash (Ok (c.args.k + 1))) c.in_ok-clash.ensures ∙ ap (clash_after rows all c.args.k b) (c.at.ensures ∙ c.requires.spots.exact b.name)
+    ∙ sym (earlier rows c.args.k b [] all 0 refl (omega arith)))
+    c.after_unless.ensures.gives
 
 pub returns-clause-gives : goal.returns-clause-gives
 returns-clause-gives c =
