@@ -9,8 +9,8 @@ use Rattle.declared_types.specs.Found.{members_seen}
 use Rattle.java_resolve.proofs.Made.{with-then, made-seen}
 use Rattle.java_resolve.proofs.with_bodies.Goals as goal
 
-pub returns-in-Ok-new-2 : goal.returns-in-Ok-new-2
-returns-in-Ok-new-2 c =
+pub returns-in-Ok-new : goal.returns-in-Ok-new
+returns-in-Ok-new c =
     let tree = decls c.args.list.now in
     let cs = map (class_seen at_place) c.args.classes.items in
     let rows = c.args.above in
@@ -24,4 +24,4 @@ returns-in-Ok-new-2 c =
     (sym c.in-Ok-parents_of.ensures.seen)
     ∙ c.in-Ok-methods_of.ensures)
     ∙ ap Ok
-    (made-seen c.args.classes c.args.draft.fields methods c.args.draft.slots (record { 0 = k }) c.in-Ok-new-2.program c.in-Ok-new-2.ensures)
+    (made-seen c.args.classes c.args.draft.fields methods c.args.draft.slots (record { 0 = k }) c.in-Ok-new.program c.in-Ok-new.ensures)
