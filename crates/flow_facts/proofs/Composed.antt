@@ -2,13 +2,16 @@
 use Rattle.std.proofs.Common.{◌≡◌, ℕ, ◌+◌, Bool, true, false, List, [], ◌∷◌, ◌++◌, sym, ap, ◌∙◌, add-zero, arith}
 use Rattle.std.proofs.lemmas.List.{append_assoc, append-nil}
 use Rattle.std.specs.Prelude.{Option, Some}
+use Rattle.std.specs.declared.vec.Vec.{Vec}
+use Rattle.std.specs.declared.alloc.Global.{Global}
 use Rattle.kaba_base.specs.declared.Place.{Place}
-use Rattle.java_core.specs.Trees.{Tag, Ex, Exs, call, Sts, no_st, loop, to_own, to_element}
+use Rattle.java_core.specs.declared.RStmt.{RStmt}
+use Rattle.java_core.specs.Trees.{Tag, Ex, Exs, call, Sts, no_st, loop, to_own, to_element, at_place, else_seen}
 use Rattle.java_core.specs.Programs.{Plain, PlainMethod}
 use Rattle.flow_rules.specs.declared.items.Operand.{Operand}
-use Rattle.flow_rules.specs.Labels.{size, size_if, size_sts, label, label_all, label_if, label_sts, label_st}
+use Rattle.flow_rules.specs.Labels.{size, size_if, size_sts, size_arms, label, label_all, label_if, label_sts, label_st, label_arms}
 use Rattle.flow_rules.specs.Operands.{operand_of, operands_of, this_operand, call_slot, call_declaration}
-use Rattle.flow_rules.specs.Parts.{Part, a_call, a_store, an_element_store, parts, parts_all, parts_if, parts_sts, parts_st, parts_assign}
+use Rattle.flow_rules.specs.Parts.{Part, a_call, a_store, an_element_store, parts, parts_all, parts_if, parts_sts, parts_st, parts_arms, parts_assign}
 use Rattle.flow_rules.specs.Types.{object_type}
 use Rattle.flow_facts.specs.Views.{call_operand}
 
@@ -21,6 +24,15 @@ pub then_at : {A : Type 0} (old mid new X : List A) (Y : ℕ → List A) (l n : 
 then_at old mid new X Y l n e h k = then old mid new X (Y n) e (k ∙ ap (λ m. mid ++ Y m) h)
 
 module _ (P : Plain) (m : ℕ) (k : PlainMethod) where
+  -- what the arms of an `if` leave, where it is known whether an `else` follows
+  pub with_other : {o z : Option (Vec RStmt Global)} (new : List Part) (n : ℕ) {all : List Part} {last : ℕ} → o ≡ z → n + size_arms (else_seen at_place o) ≡ last
+      → new ++ parts_arms P (object_type P k) m k (label_arms n (else_seen at_place o)) ≡ all
+      → (n + size_arms (else_seen at_place z) ≡ last) × (new ++ parts_arms P (object_type P k) m k (label_arms n (else_seen at_place z)) ≡ all)
+  with_other new n e g p = (
+    sym (ap (λ y. n + size_arms (else_seen at_place y)) e) ∙ g,
+    sym (ap (λ y. new ++ parts_arms P (object_type P k) m k (label_arms n (else_seen at_place y))) e) ∙ p,
+  )
+
   pub call_parts : (t : Tag) (x : List ℕ) (es : Exs) (B : Ex) (u : Bool) (old mid new : List Part) (n l : ℕ) (o : Operand)
       → mid ≡ old ++ parts P (object_type P k) m k true (label n B)
       → o ≡ operand_of P (object_type P k) m k (label n B) → l ≡ n + size B

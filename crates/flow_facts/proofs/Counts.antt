@@ -1,5 +1,5 @@
 -- What is over its limit, and the numbers of a numbering.
-use Rattle.std.proofs.Common.{◌≡◌, ℕ, ◌+◌, ◌<◌, ◌≤◌, List, [], ◌∷◌, ◌++◌, length, refl, sym, ap, ◌∙◌, subst}
+use Rattle.std.proofs.Common.{◌≡◌, ℕ, ◌+◌, ◌<◌, ◌≤◌, List, [], ◌∷◌, ◌++◌, length, refl, ap, ◌∙◌}
 use Rattle.std.specs.List.{flat_map}
 use Rattle.std.specs.Prelude.{Bool, Option, Some, None, cond, nat_eq, map}
 use Rattle.std.proofs.lemmas.Bool.{lt-ltb, le-ltb}
@@ -135,10 +135,6 @@ pub refused_from : (P Q : Plain) (e : FactsFault) → first_interface Q.classes 
 refused_from P Q (fault.TooMany what n) h o = (h, o)
 refused_from P Q (fault.HasInterface x) h o = absurd o
 refused_from P Q fault.Memory h o = tt
-
-pub over_as : (P Q : Plain) (e : FactsFault) (what : Counted) (n : ℕ) → e ≡ fault.TooMany what n
-    → too_many P Q ≡ Some (record { what = what; number = n }) → IsOver P Q e
-over_as P Q e what n h o = subst (IsOver P Q) (sym h) o
 
 -- calls without their places
 pub calls_apart : (xs : List PlacedCall) → map call_seen (map (λ c. c.call) xs) ≡ map (λ c. c.item) (calls_seen xs)

@@ -24,6 +24,17 @@ pub step_at : {A B : Type 0} (f : A → List B) (G H : List A → List B) → ((
     → ys ≡ xs → i < length ys → d ≡ get_or ys i d → old ++ G (drop i xs) ≡ all → new ≡ old ++ f d → new ++ H (drop (i + 1) xs) ≡ all
 step_at f G H is xs ys i d old new all s h at e n = step f G H is xs ys i d old new all s h e (n ∙ ap (λ x. old ++ f x) at)
 
+-- the same with the number of the item, and where what an item gives is made of something of it and something of its number
+pub each_at : {A B : Type 0} (f : ℕ → A → List B) (xs ys : List A) (i : ℕ) (d : A) (old new all : List B) → ys ≡ xs → i < length ys
+    → old ++ each f i (drop i xs) ≡ all → new ≡ old ++ f i (get_or ys i d) → new ++ each f (i + 1) (drop (i + 1) xs) ≡ all
+each_at f xs ys i = step (f i) (each f i) (each f (i + 1)) (λ _ _. refl) xs ys i
+
+pub each_joined : {A B X Y : Type 0} (g : X → Y → List B) (a : A → X) (b : ℕ → Y) (xs ys : List A) (i : ℕ) (d : A) (x : X) (y : Y) (old new all : List B)
+    → ys ≡ xs → i < length ys → old ++ each (λ j o. g (a o) (b j)) i (drop i xs) ≡ all → new ≡ old ++ g x y → x ≡ a (get_or ys i d) → y ≡ b i
+    → new ++ each (λ j o. g (a o) (b j)) (i + 1) (drop (i + 1) xs) ≡ all
+each_joined g a b xs ys i d x y old new all s h e n p q =
+    each_at (λ j o. g (a o) (b j)) xs ys i d old new all s h e (n ∙ ap (λ z. old ++ g z y) p ∙ ap (λ z. old ++ g (a (get_or ys i d)) z) q)
+
 -- the same where the items are seen as plain data: what each gives, one thing of each, and what each gives with its number
 module _ {A B C : Type 0} (v : A → B) where
   pub flat_step : (f : B → List C) (xs ys : List A) (i : ℕ) (d : A) (old new all : List C) → ys ≡ xs → i < length ys → d ≡ get_or ys i d

@@ -19,10 +19,9 @@ use crate::infos::{body_infos, column_infos, point_rows, row_infos, site_infos};
 use crate::lists::PlacedCall;
 use crate::names::{class_infos, variables, words};
 use crate::ordered::by_place;
-use crate::top::Numbered;
-use fact_model::{BodyInfo, CallInfo, ClassInfo, ColumnInfo, Facts, RowInfo, SiteInfo};
+use crate::stages::{Numbered, Tables, Texts};
+use fact_model::{CallInfo, Facts};
 use java_core::Program;
-use kaba_base::{Name, RowId};
 use std::alloc::{AllocError, Global};
 use std::mem::{drop, replace};
 
@@ -39,16 +38,6 @@ fn calls_in_order(alloc: Global, calls: Vec<PlacedCall>) -> Result<Vec<CallInfo>
 {
     let placed = made!(by_place(calls));
     without_places(alloc, placed)
-}
-
-/// What is said of each row, column, site and flow point, and of each body.
-#[derive(Drop)]
-pub struct Tables {
-    pub rows: Vec<RowInfo>,
-    pub columns: Vec<ColumnInfo>,
-    pub sites: Vec<SiteInfo>,
-    pub points: Vec<RowId>,
-    pub bodies: Vec<BodyInfo>,
 }
 
 /// Says what each row, column, site and flow point is, and each body.
@@ -71,14 +60,6 @@ fn list_tables(alloc: Global, program: &Program, numbered: &Numbered) -> Result<
         points,
         bodies,
     })
-}
-
-/// The classes, and the names of the text.
-#[derive(Drop)]
-pub struct Texts {
-    pub classes: Vec<ClassInfo>,
-    pub words: Vec<Name>,
-    pub variables: Vec<Name>,
 }
 
 /// Lists the classes, and the names of the text.

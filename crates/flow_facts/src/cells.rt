@@ -11,13 +11,12 @@ ghost use Rattle.flow_facts.specs.Owned.{AreListed, own_of, own_at, upwards, cel
 ghost use Rattle.flow_facts.specs.Seen.{numbers_seen, field_cell_seen};
 
 use crate::infos::owner_of;
-use crate::lists::put;
 use crate::numbering::Numbering;
 use crate::ordered::by_place;
 use fact_model::CellInfo;
 use flow_rules::{Column, ColumnItem, RowItem, Site};
 use java_core::{Program, parent_of};
-use kaba_base::{ClassId, ColId, RowId, SiteId};
+use kaba_base::{ClassId, ColId, RowId, SiteId, put};
 use std::alloc::{AllocError, Global};
 
 /// A field that has a row: its column, its row and its class.
@@ -176,30 +175,7 @@ fn add_cells(i: u32, fields: &Vec<FieldCell>, cells: &mut Vec<CellInfo>) -> Resu
     Ok(())
 }
 
-/// Adds the cells of the objects of a site.
-fn add_object_cells(
-    alloc: Global,
-    program: &Program,
-    fields: &Vec<FieldCell>,
-    own: &Vec<Vec<FieldCell>>,
-    i: u32,
-    class: ClassId,
-    cells: &mut Vec<CellInfo>,
-) -> Result<(), AllocError>
-    requires formed { IsFormed (program_of no_place program.now) }
-    requires listed { AreListed (program_of no_place program.now) 0 (map field_cell_seen fields.now.items) }
-    requires own { (c : ℕ) → own_at own.now.items c ≡ own_of (map field_cell_seen fields.now.items) c }
-    ensures value { OnOk result (cells.new.items ≡ cells.old.items
-        ++ flat_map (field_cell (program_of no_place program.now) i class.0)
-        (map field_cell_seen fields.now.items)) }
-{
-    let _ = fields;
-    let above = made!(fields_above(alloc, program, own, class));
-    let sorted = made!(by_place(above));
-    add_cells(i, &sorted, cells)
-}
-
-/// Adds the cells of a site.
+/// Adds the cells of a site: those of its objects, or of the elements of its arrays.
 fn add_site_cells(
     alloc: Global,
     program: &Program,
@@ -215,17 +191,15 @@ fn add_site_cells(
     ensures value { OnOk result (cells.new.items ≡ cells.old.items ++ site_cells
         (program_of no_place program.now) (map field_cell_seen fields.now.items) i site.now) }
 {
-    if site.ty.dim == 0 {
-        return add_object_cells(alloc, program, fields, own, i, site.ty.class, cells);
+    let _ = fields;
+    if site.ty.dim != 0 {
+        let (site, row) = (SiteId(i), RowId(site.row));
+        let column = None;
+        return put(cells, CellInfo { site, column, row });
     }
-    put(
-        cells,
-        CellInfo {
-            site: SiteId(i),
-            column: None,
-            row: RowId(site.row),
-        },
-    )
+    let above = made!(fields_above(alloc, program, own, site.ty.class));
+    let sorted = made!(by_place(above));
+    add_cells(i, &sorted, cells)
 }
 
 /// The cells, or none where they are more than `most`.

@@ -13,27 +13,13 @@ use crate::lists::{
     add_supers, add_tests,
 };
 use crate::numbering::Numbering;
+use crate::stages::Unordered;
 use crate::ties::add_ties;
-use fact_model::{
-    AccessInfo, CastInfo, FlowInfo, LoadInfo, NewInfo, StoreInfo, SuperInfo, TestInfo, TieInfo,
-};
+use fact_model::TestInfo;
 use flow_rules::{Body, Part};
 use java_core::Program;
 use std::alloc::{AllocError, Global};
 use std::mem::drop;
-
-/// The lists that the parts of bodies give and that are read as sets.
-#[derive(Drop)]
-pub struct Unordered {
-    pub news: Vec<NewInfo>,
-    pub flows: Vec<FlowInfo>,
-    pub loads: Vec<LoadInfo>,
-    pub stores: Vec<StoreInfo>,
-    pub casts: Vec<CastInfo>,
-    pub accesses: Vec<AccessInfo>,
-    pub supers: Vec<SuperInfo>,
-    pub ties: Vec<TieInfo>,
-}
 
 /// The lists that the parts of bodies give.
 #[derive(Drop)]

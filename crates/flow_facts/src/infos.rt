@@ -11,12 +11,11 @@ ghost use Rattle.flow_facts.specs.Seen.{numbers_seen};
 
 use crate::by_number::{class_by_number, field_by_number, method_by_number};
 use crate::labels::{column_label, row_label};
-use crate::lists::put;
 use crate::numbering::Numbering;
 use fact_model::{BodyInfo, ColKind, ColumnInfo, RowInfo, SiteInfo};
 use flow_rules::{Column, ColumnItem, Point, PointItem, Row, RowItem, Site};
 use java_core::{Method, Program};
-use kaba_base::{ClassId, ColId, Name, RowId, SiteId};
+use kaba_base::{ClassId, ColId, Name, RowId, SiteId, put};
 use std::alloc::{AllocError, Global};
 use std::mem::drop;
 

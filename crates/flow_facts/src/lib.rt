@@ -45,6 +45,7 @@ mod names;
 mod numbering;
 mod ordered;
 mod points;
+mod stages;
 mod survey;
 mod ties;
 mod top;

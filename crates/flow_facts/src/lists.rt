@@ -15,9 +15,8 @@ use fact_model::{
     AccessInfo, CallInfo, CastInfo, FlowInfo, LoadInfo, NewInfo, StoreInfo, SuperInfo, TestInfo,
     TieInfo,
 };
-use flow_rules::{Body, ColumnItem, Operand, Part, PointItem, RowItem};
-use java_core::Program;
-use kaba_base::{ColId, Place, RowId, SiteId};
+use flow_rules::{ColumnItem, Operand, Part, PointItem, RowItem};
+use kaba_base::{ColId, Place, RowId, SiteId, put};
 use std::alloc::{AllocError, Global};
 
 /// A call at its place.
@@ -25,16 +24,6 @@ use std::alloc::{AllocError, Global};
 pub struct PlacedCall {
     pub place: Place,
     pub call: CallInfo,
-}
-
-/// Adds an item at the end.
-pub fn put<T: Drop>(list: &mut Vec<T>, item: T) -> Result<(), AllocError>
-    ensures value { OnOk result (list.new.items ≡ list.old.items ++ item ∷ []) }
-{
-    match list.push(item) {
-        Ok(_) => Ok(()),
-        Err(fault) => Err(AllocError::from(fault)),
-    }
 }
 
 /// The number of an operand's flow point.
