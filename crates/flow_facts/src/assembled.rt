@@ -15,6 +15,7 @@ ghost use Rattle.flow_facts.specs.Stages.{IsNumbered};
 ghost use Rattle.flow_facts.specs.Views.{body_seen};
 
 use crate::gathering::{Lists, gather};
+use crate::given::Given;
 use crate::infos::{body_infos, column_infos, point_rows, row_infos, site_infos};
 use crate::lists::PlacedCall;
 use crate::names::{class_infos, variables, words};
@@ -45,12 +46,17 @@ fn list_tables(alloc: Global, program: &Program, numbered: &Numbered) -> Result<
     requires { length numbered.now.columns.items < 4294967295 }
     ensures { IfOk result (λ t. AreTables (program_of at_place program.now) numbered.now t) }
 {
-    let rows = made!(row_infos(alloc, program, &numbered.numbering, &numbered.rows));
+    let given = Given {
+        alloc,
+        program,
+        numbering: &numbered.numbering,
+    };
+    let rows = made!(row_infos(&given, &numbered.rows));
     let columns = made!(column_infos(alloc, program, &numbered.columns); rows);
     let sites = made!(site_infos(alloc, &numbered.sites); rows, columns);
     let points = made!(point_rows(alloc, &numbered.points); rows, columns, sites);
     let bodies = made!(
-        body_infos(alloc, program, &numbered.numbering, &numbered.columns);
+        body_infos(&given, &numbered.columns);
         rows, columns, sites, points
     );
     Ok(Tables {
@@ -106,10 +112,12 @@ fn say(alloc: Global, program: &Program, numbered: &Numbered) -> Result<Said, Al
 {
     let tables = made!(list_tables(alloc, program, numbered));
     let texts = made!(list_texts(alloc, program); tables);
-    let mut lists = made!(
-        gather(alloc, program, &numbered.numbering, &numbered.bodies);
-        tables, texts
-    );
+    let given = Given {
+        alloc,
+        program,
+        numbering: &numbered.numbering,
+    };
+    let mut lists = made!(gather(&given, &numbered.bodies); tables, texts);
     let calls = made!(put_in_order(alloc, &mut lists); tables, texts, lists);
     Ok(Said {
         tables,

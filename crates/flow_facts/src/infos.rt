@@ -10,6 +10,7 @@ ghost use Rattle.flow_rules.specs.Facts.{row_info, site_of_row, this_of_row, col
 ghost use Rattle.flow_facts.specs.Seen.{numbers_seen};
 
 use crate::by_number::{class_by_number, field_by_number, method_by_number};
+use crate::given::Given;
 use crate::labels::{column_label, row_label};
 use crate::numbering::Numbering;
 use fact_model::{BodyInfo, ColKind, ColumnInfo, RowInfo, SiteInfo};
@@ -46,20 +47,16 @@ fn this_of_row(n: &Numbering, item: RowItem) -> Option<ColId>
 }
 
 /// The rows.
-pub fn row_infos(
-    alloc: Global,
-    program: &Program,
-    n: &Numbering,
-    rows: &Vec<Row>,
-) -> Result<Vec<RowInfo>, AllocError>
-    ensures value { IfOk result (λ v. v.items ≡ map (row_info (numbers_seen n.now) (program_of at_place program.now)) rows.now.items) }
+pub fn row_infos(given: &Given, rows: &Vec<Row>) -> Result<Vec<RowInfo>, AllocError>
+    ensures value { IfOk result (λ v. v.items
+        ≡ map (row_info (numbers_seen given.now.numbering.now) (program_of at_place given.now.program.now)) rows.now.items) }
 {
-    let mut list = Vec::new(alloc);
+    let mut list = Vec::new(given.alloc);
     for row in rows {
         let (class, dim) = (row.ty.class, row.ty.dim);
-        let site = site_of_row(n, row.item);
-        let this_of = this_of_row(n, row.item);
-        let label = made!(row_label(alloc, program, row); list);
+        let site = site_of_row(given.numbering, row.item);
+        let this_of = this_of_row(given.numbering, row.item);
+        let label = made!(row_label(given.alloc, given.program, row); list);
         let info = RowInfo {
             label,
             class,
@@ -202,38 +199,35 @@ pub fn point_rows(alloc: Global, points: &Vec<Point>) -> Result<Vec<RowId>, Allo
 }
 
 /// The points of the parameters of a method.
-fn param_points(
-    alloc: Global,
-    n: &Numbering,
-    m: u64,
-    method: &Method,
-) -> Result<Vec<Option<u32>>, AllocError>
-    ensures value { (Q : Plain) → IfOk result (λ v. v.items ≡ param_points (numbers_seen n.now) Q m (method_seen at_place method.now)) }
+fn param_points(given: &Given, m: u64, method: &Method) -> Result<Vec<Option<u32>>, AllocError>
+    ensures value { (Q : Plain) → IfOk result (λ v. v.items ≡ param_points (numbers_seen given.now.numbering.now) Q m (method_seen at_place method.now)) }
 {
-    let mut list = Vec::new(alloc);
+    let mut list = Vec::new(given.alloc);
     for (i, _param) in method.params.iter().enumerate() {
-        made!(put(&mut list, n.point(PointItem::Local(m, i as u64))));
+        made!(put(
+            &mut list,
+            given.numbering.point(PointItem::Local(m, i as u64))
+        ));
     }
     Ok(list)
 }
 
 /// Adds the body of a method, where its `this` is a flow point.
 fn add_method_body(
-    alloc: Global,
-    n: &Numbering,
+    given: &Given,
     c: u32,
     m: u64,
     method: &Method,
     bodies: &mut Vec<BodyInfo>,
 ) -> Result<(), AllocError>
     ensures value { (Q : Plain) → OnOk result (map body_seen bodies.new.items ≡ map body_seen bodies.old.items
-        ++ body_if (numbers_seen n.now) Q c m (method_seen at_place method.now)
-        ((numbers_seen n.now).point (PointItem.This m))) }
+        ++ body_if (numbers_seen given.now.numbering.now) Q c m (method_seen at_place method.now)
+        ((numbers_seen given.now.numbering.now).point (PointItem.This m))) }
 {
-    match n.point(PointItem::This(m)) {
+    match given.numbering.point(PointItem::This(m)) {
         Some(this) => {
-            let (column, result) = (ColId(c), n.point(PointItem::Result(m)));
-            let params = made!(param_points(alloc, n, m, method));
+            let (column, result) = (ColId(c), given.numbering.point(PointItem::Result(m)));
+            let params = made!(param_points(given, m, method));
             put(
                 bodies,
                 BodyInfo {
@@ -250,19 +244,17 @@ fn add_method_body(
 
 /// Adds the body of a column.
 fn add_body(
-    alloc: Global,
-    program: &Program,
-    n: &Numbering,
+    given: &Given,
     c: u32,
     item: ColumnItem,
     bodies: &mut Vec<BodyInfo>,
 ) -> Result<(), AllocError>
     ensures value { OnOk result (map body_seen bodies.new.items ≡ map body_seen bodies.old.items
-        ++ column_body (numbers_seen n.now) (program_of at_place program.now) c item) }
+        ++ column_body (numbers_seen given.now.numbering.now) (program_of at_place given.now.program.now) c item) }
 {
     match item {
-        ColumnItem::Def(m) => match method_by_number(program, m) {
-            Some(method) => add_method_body(alloc, n, c, m, method, bodies),
+        ColumnItem::Def(m) => match method_by_number(given.program, m) {
+            Some(method) => add_method_body(given, c, m, method, bodies),
             None => Ok(()),
         },
         _ => Ok(()),
@@ -270,20 +262,15 @@ fn add_body(
 }
 
 /// The bodies, in the order of their columns.
-pub fn body_infos(
-    alloc: Global,
-    program: &Program,
-    n: &Numbering,
-    columns: &Vec<Column>,
-) -> Result<Vec<BodyInfo>, AllocError>
+pub fn body_infos(given: &Given, columns: &Vec<Column>) -> Result<Vec<BodyInfo>, AllocError>
     requires { length columns.now.items < 4294967295 }
     ensures value { IfOk result (λ v. map body_seen v.items
-        ≡ each (λ c k. column_body (numbers_seen n.now) (program_of at_place program.now) c k.item) 0
+        ≡ each (λ c k. column_body (numbers_seen given.now.numbering.now) (program_of at_place given.now.program.now) c k.item) 0
         columns.now.items) }
 {
-    let mut bodies = Vec::new(alloc);
+    let mut bodies = Vec::new(given.alloc);
     for (c, column) in columns.iter().enumerate() {
-        made!(add_body(alloc, program, n, c as u32, column.item, &mut bodies));
+        made!(add_body(given, c as u32, column.item, &mut bodies));
     }
     Ok(bodies)
 }

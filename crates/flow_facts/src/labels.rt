@@ -1,10 +1,10 @@
 //! How rows and columns are printed.
 
-ghost use Rattle.std.specs.Prelude.{◌≡◌, ℕ, ◌++◌, [], List, Option, Some, None, IfOk, OnOk, codes, slice_get, string_bytes};
-ghost use Rattle.std.specs.Option.{option_map, option_map_or};
+ghost use Rattle.std.specs.Prelude.{◌≡◌, ℕ, ◌++◌, [], List, Option, Some, None, IfOk, OnOk, codes, string_bytes};
+ghost use Rattle.std.specs.Option.{option_map_or};
 ghost use Rattle.std.specs.Str.{chars};
 ghost use Rattle.java_core.specs.Trees.{at_place};
-ghost use Rattle.java_core.specs.Programs.{program_of, method_seen, local_seen};
+ghost use Rattle.java_core.specs.Programs.{program_of};
 ghost use Rattle.flow_rules.specs.Facts.{class_text, member_text, field_text, method_text, variable_name, variable_text, brackets, at_line, row_text, row_label, column_text, first_of};
 
 use crate::by_number::{class_by_number, field_by_number, method_by_number, slot_by_number};

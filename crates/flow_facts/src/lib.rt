@@ -38,6 +38,7 @@ mod cells;
 mod enclosing;
 mod expr_rows;
 mod gathering;
+mod given;
 mod infos;
 mod labels;
 mod lists;

@@ -10,6 +10,7 @@ ghost use Rattle.flow_rules.specs.Lists.{created, moved, tied, accessed, created
 ghost use Rattle.flow_facts.specs.Views.{part_seen, parts_seen, body_seen};
 ghost use Rattle.flow_facts.specs.Seen.{numbers_seen, calls_seen};
 
+use crate::given::Given;
 use crate::numbering::Numbering;
 use fact_model::{
     AccessInfo, CallInfo, CastInfo, FlowInfo, LoadInfo, NewInfo, StoreInfo, SuperInfo, TestInfo,
@@ -299,20 +300,17 @@ fn points_at(
 }
 
 /// Adds the calls of instance methods.
-pub fn add_calls(
-    alloc: Global,
-    n: &Numbering,
-    part: &Part,
-    calls: &mut Vec<PlacedCall>,
-) -> Result<(), AllocError>
-    ensures value { OnOk result (calls_seen calls.new.items ≡ calls_seen calls.old.items ++ calls_of (numbers_seen n.now) (part_seen part.now)) }
+pub fn add_calls(given: &Given, part: &Part, calls: &mut Vec<PlacedCall>) -> Result<(), AllocError>
+    ensures value { OnOk result (calls_seen calls.new.items
+        ≡ calls_seen calls.old.items ++ calls_of (numbers_seen given.now.numbering.now) (part_seen part.now)) }
 {
+    let n = given.numbering;
     match part {
         Part::Call(place, base, Some(slot), _, args, own) => {
             match point_at(n, base) {
                 Some(receiver) => {
                     let result = point_at(n, own);
-                    let args = made!(points_at(alloc, n, args));
+                    let args = made!(points_at(given.alloc, n, args));
                     let call = CallInfo {
                         receiver,
                         slot: *slot,

@@ -10,8 +10,8 @@ use Rattle.flow_facts.proofs.infos.add_body.Goals as goal
 
 pub returns-in-Some : goal.returns-in-Some
 returns-in-Some c =
-    let N = numbers_seen c.args.n.now in
-    let Q = program_of at_place c.args.program.now in
+    let N = numbers_seen c.args.given.now.numbering.now in
+    let Q = program_of at_place c.args.given.now.program.now in
     let old = map body_seen c.args.bodies.now.items in
     let e = ap (λ o. old ++ option_map_or (λ k. body_if N Q c.args.c c.in-Def.m k (N.point (point.This c.in-Def.m))) o []) c.in-Some.ensures.placed
     ∙ ap (λ i. old ++ column_body N Q c.args.c i) (sym c.in-Def.is) in

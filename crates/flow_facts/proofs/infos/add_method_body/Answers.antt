@@ -25,6 +25,6 @@ pushed old new b e = ap (map body_seen) e ∙ map-append body_seen old (b ∷ []
 pub returns-in-Ok : goal.returns-in-Ok
 returns-in-Ok c = record {
   value = λ Q. on_ok c.put.result (λ h. pushed c.args.bodies.now.items _ _ h
-      ∙ added (numbers_seen c.args.n.now) Q c.args.c c.args.m (method_seen at_place c.args.method.now) c.in-Some.this c.in-Ok.made.items c.point-result.result
+      ∙ added (numbers_seen c.args.given.now.numbering.now) Q c.args.c c.args.m (method_seen at_place c.args.method.now) c.in-Some.this c.in-Ok.made.items c.point-result.result
       (map body_seen c.args.bodies.now.items) c.in-Some.ensures.value (c.in-Ok.ensures.value Q) c.point-result.ensures.value) c.put.ensures.value;
 }

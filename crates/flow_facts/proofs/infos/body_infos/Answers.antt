@@ -9,5 +9,5 @@ use Rattle.flow_facts.proofs.infos.body_infos.Goals as goal
 
 pub loop-c-preserved : goal.loop-c-preserved
 loop-c-preserved c =
-    each_at {A = Column} (λ j k. column_body (numbers_seen c.args.n.now) (program_of at_place c.args.program.now) j k.item) c.args.columns.now.items _
+    each_at {A = Column} (λ j k. column_body (numbers_seen c.args.given.now.numbering.now) (program_of at_place c.args.given.now.program.now) j k.item) c.args.columns.now.items _
     c.loop-c.c _ _ _ _ c.deref-column-items.ensures.value c.loop-c-test.true c.loop-c.invariant c.in-Ok.ensures.value
