@@ -2,6 +2,7 @@
 
 ghost use Rattle.std.specs.Prelude.{◌≡◌, ℕ, suc, ◌==◌, ◌<◌, ◌≤◌, ◌++◌, ◌∷◌, [], Some, IfOk, IfSome, MatchOption, OnOk, length, map};
 ghost use Rattle.std.specs.List.{flat_map};
+ghost use Rattle.std.specs.Option.{option_map_or};
 ghost use Rattle.java_core.specs.Trees.{at_place, no_place};
 ghost use Rattle.java_core.specs.Programs.{program_of};
 ghost use Rattle.java_core.specs.Formed.{IsFormed};
@@ -10,8 +11,9 @@ ghost use Rattle.flow_rules.specs.Facts.{field_at, fields_of, field_cell, site_c
 ghost use Rattle.flow_facts.specs.Owned.{AreListed, own_of, own_at, upwards, cell_of};
 ghost use Rattle.flow_facts.specs.Seen.{numbers_seen, field_cell_seen};
 
+use crate::given::Given;
 use crate::infos::owner_of;
-use crate::numbering::Numbering;
+use crate::lists::put_if;
 use crate::ordered::by_place;
 use fact_model::CellInfo;
 use flow_rules::{Column, ColumnItem, RowItem, Site};
@@ -27,42 +29,32 @@ pub struct FieldCell {
     pub owner: ClassId,
 }
 
-/// Adds the field of a column, where it is one that has a row.
-fn add_field(
-    program: &Program,
-    n: &Numbering,
-    c: u32,
-    item: ColumnItem,
-    fields: &mut Vec<FieldCell>,
-) -> Result<(), AllocError>
-    ensures value { OnOk result (map field_cell_seen fields.new.items ≡ map field_cell_seen fields.old.items
-        ++ field_at (numbers_seen n.now) (program_of at_place program.now) c item) }
+/// The field of a column, where it is one that has a row.
+fn field_of(given: &Given, c: u32, item: ColumnItem) -> Option<FieldCell>
+    ensures value { option_map_or (λ f. field_cell_seen f ∷ []) result []
+        ≡ field_at (numbers_seen given.now.numbering.now) (program_of at_place given.now.program.now) c item }
 {
     match item {
-        ColumnItem::Fld(field) => match n.row(RowItem::Field(field)) {
+        ColumnItem::Fld(field) => match given.numbering.row(RowItem::Field(field)) {
             Some(row) => {
-                let (column, owner) = (c, owner_of(program, item));
-                put(fields, FieldCell { column, row, owner })
+                let (column, owner) = (c, owner_of(given.program, item));
+                Some(FieldCell { column, row, owner })
             }
-            None => Ok(()),
+            None => None,
         },
-        _ => Ok(()),
+        _ => None,
     }
 }
 
 /// The fields that have a row, in the order of their columns.
-pub fn fields_of(
-    alloc: Global,
-    program: &Program,
-    n: &Numbering,
-    columns: &Vec<Column>,
-) -> Result<Vec<FieldCell>, AllocError>
+pub fn fields_of(given: &Given, columns: &Vec<Column>) -> Result<Vec<FieldCell>, AllocError>
     requires { length columns.now.items < 4294967295 }
-    ensures value { IfOk result (λ v. map field_cell_seen v.items ≡ fields_of (numbers_seen n.now) (program_of at_place program.now) columns.now.items) }
+    ensures value { IfOk result (λ v. map field_cell_seen v.items
+        ≡ fields_of (numbers_seen given.now.numbering.now) (program_of at_place given.now.program.now) columns.now.items) }
 {
-    let mut fields = Vec::new(alloc);
+    let mut fields = Vec::new(given.alloc);
     for (c, column) in columns.iter().enumerate() {
-        made!(add_field(program, n, c as u32, column.item, &mut fields));
+        made!(put_if(&mut fields, field_of(given, c as u32, column.item)));
     }
     Ok(fields)
 }

@@ -12,6 +12,7 @@ ghost use Rattle.flow_facts.specs.Seen.{numbers_seen};
 use crate::by_number::{class_by_number, field_by_number, method_by_number};
 use crate::given::Given;
 use crate::labels::{column_label, row_label};
+use crate::lists::put_if;
 use crate::numbering::Numbering;
 use fact_model::{BodyInfo, ColKind, ColumnInfo, RowInfo, SiteInfo};
 use flow_rules::{Column, ColumnItem, Point, PointItem, Row, RowItem, Site};
@@ -212,52 +213,43 @@ fn param_points(given: &Given, m: u64, method: &Method) -> Result<Vec<Option<u32
     Ok(list)
 }
 
-/// Adds the body of a method, where its `this` is a flow point.
-fn add_method_body(
+/// The body of a method, where its `this` is a flow point.
+fn method_body(
     given: &Given,
     c: u32,
     m: u64,
     method: &Method,
-    bodies: &mut Vec<BodyInfo>,
-) -> Result<(), AllocError>
-    ensures value { (Q : Plain) → OnOk result (map body_seen bodies.new.items ≡ map body_seen bodies.old.items
-        ++ body_if (numbers_seen given.now.numbering.now) Q c m (method_seen at_place method.now)
+) -> Result<Option<BodyInfo>, AllocError>
+    ensures value { (Q : Plain) → IfOk result (λ o. option_map_or (λ b. body_seen b ∷ []) o []
+        ≡ body_if (numbers_seen given.now.numbering.now) Q c m (method_seen at_place method.now)
         ((numbers_seen given.now.numbering.now).point (PointItem.This m))) }
 {
     match given.numbering.point(PointItem::This(m)) {
         Some(this) => {
             let (column, result) = (ColId(c), given.numbering.point(PointItem::Result(m)));
             let params = made!(param_points(given, m, method));
-            put(
-                bodies,
-                BodyInfo {
-                    column,
-                    this,
-                    params,
-                    result,
-                },
-            )
+            Ok(Some(BodyInfo {
+                column,
+                this,
+                params,
+                result,
+            }))
         }
-        None => Ok(()),
+        None => Ok(None),
     }
 }
 
-/// Adds the body of a column.
-fn add_body(
-    given: &Given,
-    c: u32,
-    item: ColumnItem,
-    bodies: &mut Vec<BodyInfo>,
-) -> Result<(), AllocError>
-    ensures value { OnOk result (map body_seen bodies.new.items ≡ map body_seen bodies.old.items
-        ++ column_body (numbers_seen given.now.numbering.now) (program_of at_place given.now.program.now) c item) }
+/// The body of a column, where it has one that is run.
+fn body_of(given: &Given, c: u32, item: ColumnItem) -> Result<Option<BodyInfo>, AllocError>
+    ensures value { IfOk result (λ o. option_map_or (λ b. body_seen b ∷ []) o []
+        ≡ column_body (numbers_seen given.now.numbering.now) (program_of at_place given.now.program.now) c item) }
 {
     match item {
         ColumnItem::Def(m) => match method_by_number(given.program, m) {
-            Some(method) => add_method_body(given, c, m, method, bodies),
-            None => Ok(()),
+            Some(method) => method_body(given, c, m, method),
+            None => Ok(None),
         },
-        _ => Ok(()),
+        _ => Ok(None),
     }
 }
 
@@ -270,7 +262,8 @@ pub fn body_infos(given: &Given, columns: &Vec<Column>) -> Result<Vec<BodyInfo>,
 {
     let mut bodies = Vec::new(given.alloc);
     for (c, column) in columns.iter().enumerate() {
-        made!(add_body(given, c as u32, column.item, &mut bodies));
+        let body = made!(body_of(given, c as u32, column.item); bodies);
+        made!(put_if(&mut bodies, body); bodies);
     }
     Ok(bodies)
 }

@@ -1,7 +1,7 @@
 //! What each part of a body gives to each list of the facts.
 
 ghost use Rattle.std.specs.Prelude.{◌≡◌, ℕ, ◌+◌, ◌<◌, ◌++◌, ◌∷◌, [], List, Option, Some, None, IfOk, OnOk, length, map, position};
-ghost use Rattle.std.specs.List.{flat_map};
+ghost use Rattle.std.specs.Option.{option_map_or};
 ghost use Rattle.java_core.specs.Trees.{no_place};
 ghost use Rattle.java_core.specs.Programs.{program_of};
 ghost use Rattle.java_core.specs.Formed.{IsFormed};
@@ -25,6 +25,16 @@ use std::alloc::{AllocError, Global};
 pub struct PlacedCall {
     pub place: Place,
     pub call: CallInfo,
+}
+
+/// Adds an item at the end, where there is one.
+pub fn put_if<T: Drop>(list: &mut Vec<T>, item: Option<T>) -> Result<(), AllocError>
+    ensures value { OnOk result (list.new.items ≡ list.old.items ++ option_map_or (λ x. x ∷ []) item []) }
+{
+    match item {
+        Some(item) => put(list, item),
+        None => Ok(()),
+    }
 }
 
 /// The number of an operand's flow point.

@@ -14,6 +14,7 @@ ghost use Rattle.flow_facts.specs.Views.{body_seen, outline_seen};
 
 use crate::assembled::facts_over;
 use crate::cells::{cells_of, fields_of};
+use crate::given::Given;
 use crate::numbering::{Numbering, all_points, all_sites};
 use crate::ordered::{HasKey, HasPlace, Listed, by_place, once, once_by_place};
 use crate::stages::{Flow, Numbered, Table};
@@ -121,7 +122,12 @@ fn number_cells(
     ensures counts { IfOk result (λ v. too_many (program_of no_place program.now) (program_of at_place program.now) ≡ None) }
     ensures refused { IfErr result (λ e. IsOver (program_of no_place program.now) (program_of at_place program.now) e) }
 {
-    let fields = made!(fields_of(alloc, program, n, columns) => FactsFault;);
+    let given = Given {
+        alloc,
+        program,
+        numbering: n,
+    };
+    let fields = made!(fields_of(&given, columns) => FactsFault;);
     match made!(cells_of(alloc, program, &fields, sites, most) => FactsFault; fields) {
         None => Err(FactsFault::TooMany(Counted::Points, 65537)),
         Some(cells) => Ok(cells),

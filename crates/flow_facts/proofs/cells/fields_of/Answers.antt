@@ -1,13 +1,13 @@
 -- One more column.
 use Rattle.java_core.specs.Trees.{at_place}
 use Rattle.java_core.specs.Programs.{program_of}
-use Rattle.flow_rules.specs.declared.items.Column.{Column}
 use Rattle.flow_rules.specs.Facts.{field_at}
-use Rattle.flow_facts.specs.Seen.{numbers_seen}
-use Rattle.flow_facts.proofs.Steps.{each_at}
+use Rattle.flow_facts.specs.Seen.{numbers_seen, field_cell_seen}
+use Rattle.flow_facts.proofs.Steps.{column_step}
 use Rattle.flow_facts.proofs.cells.fields_of.Goals as goal
 
 pub loop-c-preserved : goal.loop-c-preserved
 loop-c-preserved c =
-    each_at {A = Column} (λ j k. field_at (numbers_seen c.args.n.now) (program_of at_place c.args.program.now) j k.item) c.args.columns.now.items _
-    c.loop-c.c _ _ _ _ c.deref-column-items.ensures.value c.loop-c-test.true c.loop-c.invariant c.in-Ok.ensures.value
+    let program = program_of at_place c.args.given.now.program.now in
+    column_step field_cell_seen (field_at (numbers_seen c.args.given.now.numbering.now) program) c.args.columns.now.items _ c.loop-c.c _ _ _ _ _
+    c.deref-column-items.ensures.value c.loop-c-test.true c.loop-c.invariant c.in-Ok.ensures.value c.field_of.ensures.value
