@@ -25,7 +25,8 @@ then_at old mid new X Y l n e h k = then old mid new X (Y n) e (k ∙ ap (λ m. 
 
 module _ (P : Plain) (m : ℕ) (k : PlainMethod) where
   -- what the arms of an `if` leave, where it is known whether an `else` follows
-  pub with_other : {o z : Option (Vec RStmt Global)} (new : List Part) (n : ℕ) {all : List Part} {last : ℕ} → o ≡ z → n + size_arms (else_seen at_place o) ≡ last
+  pub with_other : {o z : Option (Vec RStmt Global)} (new : List Part) (n : ℕ) {all : List Part} {last : ℕ} → o ≡ z
+      → n + size_arms (else_seen at_place o) ≡ last
       → new ++ parts_arms P (object_type P k) m k (label_arms n (else_seen at_place o)) ≡ all
       → (n + size_arms (else_seen at_place z) ≡ last) × (new ++ parts_arms P (object_type P k) m k (label_arms n (else_seen at_place z)) ≡ all)
   with_other new n e g p = (

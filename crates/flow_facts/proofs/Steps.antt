@@ -2,12 +2,12 @@
 use Rattle.std.proofs.Common.{◌≡◌, ℕ, ◌+◌, ◌<◌, Bool, true, false, cond, List, [], ◌∷◌, ◌++◌, length, get_or, drop, map, refl, sym, ap, ◌∙◌, subst, append_assoc, add-one, drop-cons}
 use Rattle.std.proofs.lemmas.List.{append-nil, map-append}
 use Rattle.std.specs.Prelude.{not, Option, Some, None}
-use Rattle.std.specs.Option.{option_map_or}
 use Rattle.std.specs.List.{list_any, flat_map}
 use Rattle.indexmap.specs.IndexSet.{insert_key}
 use Rattle.flow_rules.specs.declared.items.Column.{Column}
 use Rattle.flow_rules.specs.declared.items.ColumnItem.{ColumnItem}
 use Rattle.flow_rules.specs.Ordered.{each, once_after}
+use Rattle.flow_facts.specs.Seen.{if_there}
 
 pub front : {A : Type 0} (xs : List A) (i : ℕ) (d : A) → i < length xs → drop i xs ≡ get_or xs i d ∷ drop (i + 1) xs
 front xs i d h = drop-cons xs i d h ∙ ap (λ k. get_or xs i d ∷ drop k xs) (sym (add-one i))
@@ -53,17 +53,17 @@ module _ {A B C : Type 0} (v : A → B) where
   each_step f xs ys i = step_at (λ x. f i (v x)) (λ l. each f i (map v l)) (λ l. each f (i + 1) (map v l)) (λ _ _. refl) xs ys i
 
 -- one thing more of a column, where it has one
-listed_there : {A B : Type 0} (v : A → B) (o : Option A) → map v (option_map_or (λ x. x ∷ []) o []) ≡ option_map_or (λ x. v x ∷ []) o []
+listed_there : {A B : Type 0} (v : A → B) (o : Option A) → map v (if_there (λ x. x) o) ≡ if_there v o
 listed_there v None = refl
 listed_there v (Some x) = refl
 
 pub column_step : {A : Type 0} {B : Type 0} (v : A → B) (f : ℕ → ColumnItem → List B) (xs ys : List Column) (i : ℕ) (d : Column) (o : Option A)
     (old new : List A) (all : List B)
-    → ys ≡ xs → i < length ys → map v old ++ each (λ j k. f j k.item) i (drop i xs) ≡ all → new ≡ old ++ option_map_or (λ x. x ∷ []) o []
-    → option_map_or (λ x. v x ∷ []) o [] ≡ f i (get_or ys i d).item → map v new ++ each (λ j k. f j k.item) (i + 1) (drop (i + 1) xs) ≡ all
+    → ys ≡ xs → i < length ys → map v old ++ each (λ j k. f j k.item) i (drop i xs) ≡ all → new ≡ old ++ if_there (λ x. x) o
+    → if_there v o ≡ f i (get_or ys i d).item → map v new ++ each (λ j k. f j k.item) (i + 1) (drop (i + 1) xs) ≡ all
 column_step v f xs ys i d o old new all s h e n g =
     each_at (λ j k. f j k.item) xs ys i d (map v old) (map v new) all s h e
-    (ap (map v) n ∙ map-append v old (option_map_or (λ x. x ∷ []) o []) ∙ ap (λ l. map v old ++ l) (listed_there v o ∙ g))
+    (ap (map v) n ∙ map-append v old (if_there (λ x. x) o) ∙ ap (λ l. map v old ++ l) (listed_there v o ∙ g))
 
 kept : {A : Type 0} (b : Bool) (old rest : List A) (x : A) → (old ++ cond (not b) (x ∷ []) []) ++ rest ≡ old ++ cond b rest (x ∷ rest)
 kept true old rest x = ap (λ l. l ++ rest) (append-nil old)

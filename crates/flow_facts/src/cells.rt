@@ -2,14 +2,13 @@
 
 ghost use Rattle.std.specs.Prelude.{◌≡◌, ℕ, suc, ◌==◌, ◌<◌, ◌≤◌, ◌++◌, ◌∷◌, [], Some, IfOk, IfSome, MatchOption, OnOk, length, map};
 ghost use Rattle.std.specs.List.{flat_map};
-ghost use Rattle.std.specs.Option.{option_map_or};
 ghost use Rattle.java_core.specs.Trees.{at_place, no_place};
 ghost use Rattle.java_core.specs.Programs.{program_of};
 ghost use Rattle.java_core.specs.Formed.{IsFormed};
 ghost use Rattle.flow_rules.specs.Ordered.{each, when};
-ghost use Rattle.flow_rules.specs.Facts.{field_at, fields_of, field_cell, site_cells};
+ghost use Rattle.flow_rules.specs.Facts.{field_at, fields_of, site_cells};
 ghost use Rattle.flow_facts.specs.Owned.{AreListed, own_of, own_at, upwards, cell_of};
-ghost use Rattle.flow_facts.specs.Seen.{numbers_seen, field_cell_seen};
+ghost use Rattle.flow_facts.specs.Seen.{numbers_seen, field_cell_seen, if_there};
 
 use crate::given::Given;
 use crate::infos::owner_of;
@@ -31,7 +30,7 @@ pub struct FieldCell {
 
 /// The field of a column, where it is one that has a row.
 fn field_of(given: &Given, c: u32, item: ColumnItem) -> Option<FieldCell>
-    ensures value { option_map_or (λ f. field_cell_seen f ∷ []) result []
+    ensures value { if_there field_cell_seen result
         ≡ field_at (numbers_seen given.now.numbering.now) (program_of at_place given.now.program.now) c item }
 {
     match item {

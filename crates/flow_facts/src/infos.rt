@@ -7,7 +7,7 @@ ghost use Rattle.java_core.specs.Programs.{Plain, program_of, method_seen};
 ghost use Rattle.java_core.specs.Formed.{IsFormed};
 ghost use Rattle.flow_rules.specs.Ordered.{each};
 ghost use Rattle.flow_rules.specs.Facts.{row_info, site_of_row, this_of_row, column_info, kind_of, owner_of, slot_in, name_in, site_info, field_at, fields_of, field_cell, site_cells, param_points, body_if, column_body, body_seen, class_facts, class_seen, is_holder, variable_names, all_variables};
-ghost use Rattle.flow_facts.specs.Seen.{numbers_seen};
+ghost use Rattle.flow_facts.specs.Seen.{numbers_seen, if_there};
 
 use crate::by_number::{class_by_number, field_by_number, method_by_number};
 use crate::given::Given;
@@ -220,7 +220,7 @@ fn method_body(
     m: u64,
     method: &Method,
 ) -> Result<Option<BodyInfo>, AllocError>
-    ensures value { (Q : Plain) → IfOk result (λ o. option_map_or (λ b. body_seen b ∷ []) o []
+    ensures value { (Q : Plain) → IfOk result (λ o. if_there body_seen o
         ≡ body_if (numbers_seen given.now.numbering.now) Q c m (method_seen at_place method.now)
         ((numbers_seen given.now.numbering.now).point (PointItem.This m))) }
 {
@@ -241,7 +241,7 @@ fn method_body(
 
 /// The body of a column, where it has one that is run.
 fn body_of(given: &Given, c: u32, item: ColumnItem) -> Result<Option<BodyInfo>, AllocError>
-    ensures value { IfOk result (λ o. option_map_or (λ b. body_seen b ∷ []) o []
+    ensures value { IfOk result (λ o. if_there body_seen o
         ≡ column_body (numbers_seen given.now.numbering.now) (program_of at_place given.now.program.now) c item) }
 {
     match item {

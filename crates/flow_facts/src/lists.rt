@@ -1,14 +1,13 @@
 //! What each part of a body gives to each list of the facts.
 
 ghost use Rattle.std.specs.Prelude.{◌≡◌, ℕ, ◌+◌, ◌<◌, ◌++◌, ◌∷◌, [], List, Option, Some, None, IfOk, OnOk, length, map, position};
-ghost use Rattle.std.specs.Option.{option_map_or};
 ghost use Rattle.java_core.specs.Trees.{no_place};
 ghost use Rattle.java_core.specs.Programs.{program_of};
 ghost use Rattle.java_core.specs.Formed.{IsFormed};
 ghost use Rattle.flow_rules.specs.Ordered.{each};
 ghost use Rattle.flow_rules.specs.Lists.{created, moved, tied, accessed, created_args, moved_args, news_of, flows_of, loads_of, stores_of, calls_of, casts_of, tests_of, accesses_of, supers_of, ties_of, point_at, row_at, row_in};
 ghost use Rattle.flow_facts.specs.Views.{part_seen, parts_seen, body_seen};
-ghost use Rattle.flow_facts.specs.Seen.{numbers_seen, calls_seen};
+ghost use Rattle.flow_facts.specs.Seen.{numbers_seen, calls_seen, if_there};
 
 use crate::given::Given;
 use crate::numbering::Numbering;
@@ -29,7 +28,7 @@ pub struct PlacedCall {
 
 /// Adds an item at the end, where there is one.
 pub fn put_if<T: Drop>(list: &mut Vec<T>, item: Option<T>) -> Result<(), AllocError>
-    ensures value { OnOk result (list.new.items ≡ list.old.items ++ option_map_or (λ x. x ∷ []) item []) }
+    ensures value { OnOk result (list.new.items ≡ list.old.items ++ if_there (λ x. x) item) }
 {
     match item {
         Some(item) => put(list, item),
