@@ -1,5 +1,5 @@
 -- What is over its limit, and the numbers of a numbering.
-use Rattle.std.proofs.Common.{◌≡◌, ℕ, ◌+◌, ◌<◌, ◌≤◌, List, [], ◌∷◌, ◌++◌, length, refl, sym, ap, ◌∙◌, subst}
+use Rattle.std.proofs.Common.{◌≡◌, ℕ, ◌+◌, ◌<◌, ◌≤◌, List, [], ◌∷◌, ◌++◌, length, refl, ap, ◌∙◌}
 use Rattle.std.specs.List.{flat_map}
 use Rattle.std.specs.Prelude.{Bool, Option, Some, None, cond, nat_eq, map}
 use Rattle.std.proofs.lemmas.Bool.{lt-ltb, le-ltb}
@@ -25,7 +25,7 @@ use Rattle.flow_rules.specs.Lists.{Numbers}
 use Rattle.flow_facts.specs.Views.{outline_seen}
 use Rattle.flow_facts.proofs.Along.{map-by_place, once_as}
 use Rattle.flow_rules.specs.Numbered.{Body, Outline, bodies_of, field_rows, method_rows, field_columns, method_columns, form_sites, listed, static_points, outline_if, number_among, same_row, same_column, same_point, rows_of, columns_of, sites_of, points_of, row_number, column_number, site_number, point_number}
-use Rattle.flow_rules.specs.Facts.{TooMany, over, too_many, numbers, FieldCell, fields_of, site_cells, cells_of, IsOver, call_seen}
+use Rattle.flow_rules.specs.Facts.{TooMany, over, too_many, numbers, FieldCell, fields_of, site_cells, cells_of, first_interface, IsOver, IsRefused, call_seen}
 use Rattle.flow_facts.specs.Seen.{call_at, calls_seen}
 
 pub over_here : (limit n : ℕ) (what : Counted) (rest : Option TooMany) → limit < n → over limit n what rest ≡ Some (record { what = what; number = limit + 1 })
@@ -131,9 +131,10 @@ module _ (P Q : Plain) where
       → length (points_of P Q) + length (cells_of P Q) ≤ 65536 → too_many P Q ≡ None
   none_over r c s h = points_counted r c s ∙ over_not 65536 _ counted.Points _ h
 
-pub over_as : (P Q : Plain) (e : FactsFault) (what : Counted) (n : ℕ) → e ≡ fault.TooMany what n
-    → too_many P Q ≡ Some (record { what = what; number = n }) → IsOver P Q e
-over_as P Q e what n h o = subst (IsOver P Q) (sym h) o
+pub refused_from : (P Q : Plain) (e : FactsFault) → first_interface Q.classes ≡ None → IsOver P Q e → IsRefused P Q e
+refused_from P Q (fault.TooMany what n) h o = (h, o)
+refused_from P Q (fault.HasInterface x) h o = absurd o
+refused_from P Q fault.Memory h o = tt
 
 -- calls without their places
 pub calls_apart : (xs : List PlacedCall) → map call_seen (map (λ c. c.call) xs) ≡ map (λ c. c.item) (calls_seen xs)

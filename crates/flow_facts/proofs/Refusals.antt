@@ -10,7 +10,8 @@ use Rattle.flow_rules.specs.Numbered.{rows_of, columns_of, sites_of, points_of}
 use Rattle.flow_rules.specs.declared.faults.FactsFault.{FactsFault}
 use Rattle.flow_rules.specs.declared.faults.FactsFault.TheVariants as fault
 use Rattle.flow_rules.specs.Facts.{too_many, IsOver, cells_of}
-use Rattle.flow_facts.proofs.Counts.{over_as, over_points, none_over}
+use Rattle.flow_facts.specs.Stages.{IsAbove, IsListed}
+use Rattle.flow_facts.proofs.Counts.{over_points, none_over}
 
 module _ {A : Type 0} {n : ℕ} {xs ys : List A} where
   pub counted : n ≡ length xs → xs ≡ ys → n ≡ length ys
@@ -19,9 +20,28 @@ module _ {A : Type 0} {n : ℕ} {xs ys : List A} where
   pub at_most : {limit : ℕ} → n ≡ length xs → xs ≡ ys → n ≤ limit → length ys ≤ limit
   at_most {limit = limit} h e l = subst (λ k. k ≤ limit) (counted h e) l
 
-  pub refused : (P Q : Plain) (limit : ℕ) (what : Counted) (e : FactsFault) → n ≡ length xs → xs ≡ ys → (limit < n) × (e ≡ fault.TooMany what (limit + 1))
-      → (limit < length ys → too_many P Q ≡ Some (record { what = what; number = limit + 1 })) → IsOver P Q e
-  refused P Q limit what e h s o f = over_as P Q e what (limit + 1) o.1 (f (subst (λ k. limit < k) (counted h s) o.0))
+  pub above : (limit : ℕ) (what : Counted) (e : FactsFault) → n ≡ length xs → xs ≡ ys → IsAbove n limit what e → IsAbove (length ys) limit what e
+  above limit what e h s a = subst (λ k. IsAbove k limit what e) (counted h s) a
+
+-- more than a limit of what a program has
+pub refused : (P Q : Plain) (n limit : ℕ) (what : Counted) (e : FactsFault) → IsAbove n limit what e
+    → (limit < n → too_many P Q ≡ Some (record { what = what; number = limit + 1 })) → IsOver P Q e
+refused P Q n limit what (fault.HasInterface x) a f = a
+refused P Q n limit what (fault.TooMany kind k) a f =
+    let e = f a.0 in
+    let p = a.1 in
+    let q = a.2 in
+    cc
+refused P Q n limit what fault.Memory a f = tt
+
+-- the same count, and the same list, under another name
+pub above_as : {T : Type 0} {xs ys : List T} (limit : ℕ) (what : Counted) (e : FactsFault) → xs ≡ ys → IsAbove (length xs) limit what e
+    → IsAbove (length ys) limit what e
+above_as limit what e h a = subst (λ l. IsAbove (length l) limit what e) h a
+
+pub listed_as : {T K : Type 0} {key : T → K} {limit : ℕ} {xs ys items : List T} {keys : List K} → xs ≡ ys → IsListed key limit xs items keys
+    → IsListed key limit ys items keys
+listed_as {key = key} {limit = limit} {items = items} {keys = keys} e l = subst (λ zs. IsListed key limit zs items keys) e l
 
 pub too_many_points : (P Q : Plain) → length (rows_of P Q) ≤ 16384 → length (columns_of P Q) ≤ 8192 → length (sites_of P Q) ≤ 8192
     → 65536 < length (points_of P Q)

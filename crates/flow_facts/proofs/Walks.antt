@@ -3,6 +3,7 @@ use Rattle.std.proofs.Common.{◌≡◌, ℕ, ◌+◌, Bool, true, false, List, 
 use Rattle.std.proofs.lemmas.List.{length-map}
 use Rattle.std.proofs.lemmas.List.{append-nil}
 use Rattle.std.specs.Prelude.{Some, Result, Ok, Err, IfOk}
+use Rattle.kaba_base.specs.declared.Place.{Place}
 use Rattle.java_core.specs.declared.Ty.{Ty}
 use Rattle.java_core.specs.declared.UnOp.{UnOp}
 use Rattle.java_core.specs.declared.BinOp.{BinOp}
@@ -15,7 +16,7 @@ use Rattle.flow_rules.specs.declared.items.PointItem.TheVariants as point
 use Rattle.flow_rules.specs.Labels.{size, sizes, label}
 use Rattle.flow_rules.specs.Operands.{operand_of, this_operand, object_of, class_object, object_field}
 use Rattle.flow_rules.specs.Types.{object_type, field_object, element_object}
-use Rattle.flow_rules.specs.Parts.{is_accessed, nothing, parts, parts_all, a_load, an_element, a_creation, a_call, a_static_call, a_super_call, a_test, a_pair}
+use Rattle.flow_rules.specs.Parts.{is_accessed, nothing, parts, a_load, an_element, a_creation, a_test, a_pair}
 use Rattle.flow_rules.specs.Parts as plain
 use Rattle.flow_facts.specs.Views.{parts_seen, part_seen, labelled_operand, load_operand, call_operand}
 use Rattle.flow_facts.specs.Walked.{IsAdded, IsMade, IsWalked, AreWalked, parts_from, call_from}
@@ -27,6 +28,17 @@ if_ok (Err e) f h = tt
 
 seen-length : (xs : List Part) → length (parts_seen xs) ≡ length xs
 seen-length xs = length-map xs part_seen
+
+-- a creation, and then the parts of what stands in it
+begun : {p : Place} {u : Bool} {made : Operand} {old mid new : List Part} {o : Operand} (s : ℕ) (rest : ℕ → List plain.Part)
+    → IsAdded old mid 1 (a_creation p u o ∷ []) → o ≡ made → length new ≡ length mid + s → parts_seen new ≡ parts_seen mid ++ rest (length mid)
+    → IsMade old new (1 + s) (a_creation p u made ∷ rest (length old + 1)) o made
+begun {p} {u} {made} {old} {mid} {new} s rest a eo g h = record {
+  grown = omega (arith, a.grown, g);
+  value = eo;
+  parts = then_at (parts_seen old) (parts_seen mid) (parts_seen new) (a_creation p u made ∷ []) rest (length mid) (length old + 1)
+      (a.parts ∙ ap (λ q. parts_seen old ++ a_creation p u q ∷ []) eo) a.grown h;
+}
 
 module _ (P : Plain) (m : ℕ) (k : PlainMethod) where
   -- the operand of a form
@@ -112,31 +124,13 @@ module _ (P : Plain) (m : ℕ) (k : PlainMethod) {u : Bool} {E : Ex} where
       → IsAdded old mid 1 (a_creation t.place u o ∷ [])
       → o ≡ record { point = Some (point.Expr m (length old)); row = Some (row.New i); ty = class_object c; created = Some i }
       → AreWalked P m k false es mid new os → IsWalked P m k u E old new o
-  creation_walked {t} {i} {c} {es} {old} {mid} {new} {o} is a eo w =
-      let n = length old in
-      let made : Operand = record { point = Some (point.Expr m n); row = Some (row.New i); ty = class_object c; created = Some i } in
-      as_form is (record {
-        grown = omega (arith, a.grown, w.grown);
-        value = eo;
-        parts = then_at (parts_seen old) (parts_seen mid) (parts_seen new) (a_creation t.place u made ∷ []) (λ l. parts_from P m k false l es)
-            (length mid) (n + 1)
-            (a.parts ∙ ap (λ q. parts_seen old ++ a_creation t.place u q ∷ []) eo) a.grown w.parts;
-      })
+  creation_walked {es = es} is a eo w = made_walked is (begun _ (λ l. parts_from P m k false l es) a eo w.grown w.parts)
 
   pub array_walked : {t : Tag} {i : ℕ} {y : Ty} {S : Ex} {old mid new : List Part} {o s : Operand} → E ≡ create_array t i y S
       → IsAdded old mid 1 (a_creation t.place u o ∷ [])
       → o ≡ record { point = Some (point.Expr m (length old)); row = Some (row.New i); ty = object_of y; created = Some i }
       → IsWalked P m k false S mid new s → IsWalked P m k u E old new o
-  array_walked {t} {i} {y} {S} {old} {mid} {new} {o} is a eo w =
-      let n = length old in
-      let made : Operand = record { point = Some (point.Expr m n); row = Some (row.New i); ty = object_of y; created = Some i } in
-      as_form is (record {
-        grown = omega (arith, a.grown, w.grown);
-        value = eo;
-        parts = then_at (parts_seen old) (parts_seen mid) (parts_seen new) (a_creation t.place u made ∷ []) (λ l. parts P (object_type P k) m k false
-            (label l S)) (length mid) (n + 1)
-            (a.parts ∙ ap (λ q. parts_seen old ++ a_creation t.place u q ∷ []) eo) a.grown w.parts;
-      })
+  array_walked {S = S} is a eo w = made_walked is (begun _ (λ l. parts P (object_type P k) m k false (label l S)) a eo w.grown w.parts)
 
   pub cast_walked : {t : Tag} {i : ℕ} {y : Ty} {V : Ex} {old mid z new : List Part} {v o p : Operand} → E ≡ cast t i y V
       → IsAdded old mid 1 (a_test t.place p o ∷ []) → IsWalked P m k true V mid z v

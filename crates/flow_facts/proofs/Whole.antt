@@ -9,7 +9,7 @@ use Rattle.fact_model.specs.declared.facts.BodyInfo.{BodyInfo}
 use Rattle.fact_model.specs.declared.facts.TestInfo.{TestInfo}
 use Rattle.fact_model.specs.declared.facts.CallInfo.{CallInfo}
 use Rattle.kaba_base.specs.declared.RowId.{RowId}
-use Rattle.flow_facts.specs.declared.top.Numbered.{Numbered}
+use Rattle.flow_facts.specs.declared.stages.Numbered.{Numbered}
 use Rattle.flow_rules.specs.Ordered.{by_place, each}
 use Rattle.flow_rules.specs.Parts.{Part}
 use Rattle.flow_rules.specs.Numbered as numbered

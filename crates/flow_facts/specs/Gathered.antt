@@ -6,7 +6,7 @@ use Rattle.flow_rules.specs.Lists.{Numbers, news_of, flows_of, loads_of, stores_
 use Rattle.flow_rules.specs.Numbered.{Body}
 use Rattle.flow_rules.specs.Parts.{Part}
 use Rattle.flow_facts.specs.declared.gathering.Lists.{Lists}
-use Rattle.flow_facts.specs.declared.gathering.Unordered.{Unordered}
+use Rattle.flow_facts.specs.declared.stages.Unordered.{Unordered}
 use Rattle.flow_facts.specs.Seen.{calls_seen}
 
 module _ (N : Numbers) (P : Plain) where

@@ -10,10 +10,10 @@ use Rattle.flow_rules.specs.Facts.{row_info, column_info, site_info, column_body
 use Rattle.fact_model.specs.declared.facts.CallInfo.{CallInfo}
 use Rattle.flow_facts.specs.declared.gathering.Lists.{Lists}
 use Rattle.flow_facts.specs.Gathered.{AreUnordered}
-use Rattle.flow_facts.specs.declared.assembled.Tables.{Tables}
-use Rattle.flow_facts.specs.declared.assembled.Texts.{Texts}
+use Rattle.flow_facts.specs.declared.stages.Tables.{Tables}
+use Rattle.flow_facts.specs.declared.stages.Texts.{Texts}
 use Rattle.flow_facts.specs.declared.assembled.Said.{Said}
-use Rattle.flow_facts.specs.declared.top.Numbered.{Numbered}
+use Rattle.flow_facts.specs.declared.stages.Numbered.{Numbered}
 use Rattle.flow_facts.specs.Seen.{numbers_seen}
 use Rattle.flow_facts.specs.Views.{body_seen}
 

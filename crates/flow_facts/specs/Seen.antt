@@ -1,5 +1,6 @@
 -- What the numbers, the calls and the fields of the code are, as plain data.
-use Rattle.std.specs.Prelude.{nat_eq, List, map}
+use Rattle.std.specs.Prelude.{nat_eq, List, [], ◌∷◌, map, Option}
+use Rattle.std.specs.Option.{option_map_or}
 use Rattle.flow_facts.specs.declared.numbering.Numbering.{Numbering}
 use Rattle.flow_facts.specs.declared.lists.PlacedCall.{PlacedCall}
 use Rattle.flow_facts.specs.declared.cells.FieldCell.{FieldCell}
@@ -27,3 +28,7 @@ calls_seen cs = map call_at cs
 -- a field that has a row
 abbrev pub field_cell_seen : FieldCell → plain.FieldCell
 field_cell_seen f = record { column = f.column; row = f.row; owner = f.owner.0 }
+
+-- what may be there, as a list
+abbrev pub if_there : {A B : Type 0} → (A → B) → Option A → List B
+if_there seen o = option_map_or (λ x. seen x ∷ []) o []

@@ -1,31 +1,38 @@
 -- What the code numbers in a program, before the lists that stand on the numbers.
-use Rattle.std.specs.Prelude.{◌≡◌, ◌≤◌, length, map, None}
+use Rattle.std.specs.Prelude.{◌≡◌, ℕ, ◌+◌, ◌<◌, ◌≤◌, List, length, map, None}
 use Rattle.java_core.specs.Programs.{Plain}
-use Rattle.flow_facts.specs.declared.top.Numbered.{Numbered}
-use Rattle.flow_facts.specs.declared.top.Table.{Table}
-use Rattle.flow_facts.specs.declared.top.Flow.{Flow}
+use Rattle.flow_facts.specs.declared.stages.Numbered.{Numbered}
+use Rattle.flow_facts.specs.declared.stages.Table.{Table}
+use Rattle.flow_facts.specs.declared.stages.Flow.{Flow}
+use Rattle.flow_rules.specs.declared.faults.Counted.{Counted}
+use Rattle.flow_rules.specs.declared.faults.FactsFault.{FactsFault}
+use Rattle.flow_rules.specs.declared.faults.FactsFault.TheVariants as fault
 use Rattle.flow_rules.specs.Numbered.{rows_of, columns_of, sites_of, points_of, bodies_of}
 use Rattle.flow_rules.specs.Facts.{numbers, cells_of, too_many}
 use Rattle.flow_facts.specs.Views.{body_seen}
 use Rattle.flow_facts.specs.Seen.{numbers_seen}
 
+-- a list that is wanted and has no more items than a limit, and the keys of its items
+pub record IsListed {T K : Type 0} (key : T → K) (limit : ℕ) (wanted list : List T) (list_keys : List K) : Type 0 where
+  pub items : list ≡ wanted
+  pub keys : list_keys ≡ map key wanted
+  pub few : length wanted ≤ limit
+
+-- what a fault says of a count and its limit
+abbrev pub IsAbove : ℕ → ℕ → Counted → FactsFault → Type 0
+IsAbove n limit what (fault.HasInterface x) = ⊥
+IsAbove n limit what (fault.TooMany kind k) = (limit < n) × (kind ≡ what) × (k ≡ limit + 1)
+IsAbove n limit what fault.Memory = Unit {0}
+
 -- the rows and the columns, with their items
 pub record IsTable (P Q : Plain) (t : Table) : Type 0 where
-  pub rows : t.rows.items.items ≡ rows_of P Q
-  pub row_items : t.rows.keys.keys ≡ map (λ r. r.item) (rows_of P Q)
-  pub few_rows : length (rows_of P Q) ≤ 16384
-  pub columns : t.columns.items.items ≡ columns_of P Q
-  pub column_items : t.columns.keys.keys ≡ map (λ c. c.item) (columns_of P Q)
-  pub few_columns : length (columns_of P Q) ≤ 8192
+  pub rows : IsListed (λ r. r.item) 16384 (rows_of P Q) t.rows.items.items t.rows.keys.keys
+  pub columns : IsListed (λ c. c.item) 8192 (columns_of P Q) t.columns.items.items t.columns.keys.keys
 
 -- the sites and the flow points, with their numbers and items
 pub record IsFlow (P Q : Plain) (f : Flow) : Type 0 where
-  pub sites : f.sites.items.items ≡ sites_of P Q
-  pub site_items : f.sites.keys.keys ≡ map (λ s. s.number) (sites_of P Q)
-  pub few_sites : length (sites_of P Q) ≤ 8192
-  pub points : f.points.items.items ≡ points_of P Q
-  pub point_items : f.points.keys.keys ≡ map (λ p. p.item) (points_of P Q)
-  pub few_points : length (points_of P Q) ≤ 65536
+  pub sites : IsListed (λ s. s.number) 8192 (sites_of P Q) f.sites.items.items f.sites.keys.keys
+  pub points : IsListed (λ p. p.item) 65536 (points_of P Q) f.points.items.items f.points.keys.keys
 
 -- what is numbered, in order, the bodies, and the numbers; there is not too much of anything
 pub record IsNumbered (P Q : Plain) (d : Numbered) : Type 0 where

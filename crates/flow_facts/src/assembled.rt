@@ -15,14 +15,14 @@ ghost use Rattle.flow_facts.specs.Stages.{IsNumbered};
 ghost use Rattle.flow_facts.specs.Views.{body_seen};
 
 use crate::gathering::{Lists, gather};
+use crate::given::Given;
 use crate::infos::{body_infos, column_infos, point_rows, row_infos, site_infos};
 use crate::lists::PlacedCall;
 use crate::names::{class_infos, variables, words};
 use crate::ordered::by_place;
-use crate::top::Numbered;
-use fact_model::{BodyInfo, CallInfo, ClassInfo, ColumnInfo, Facts, RowInfo, SiteInfo};
+use crate::stages::{Numbered, Tables, Texts};
+use fact_model::{CallInfo, Facts};
 use java_core::Program;
-use kaba_base::{Name, RowId};
 use std::alloc::{AllocError, Global};
 use std::mem::{drop, replace};
 
@@ -41,27 +41,22 @@ fn calls_in_order(alloc: Global, calls: Vec<PlacedCall>) -> Result<Vec<CallInfo>
     without_places(alloc, placed)
 }
 
-/// What is said of each row, column, site and flow point, and of each body.
-#[derive(Drop)]
-pub struct Tables {
-    pub rows: Vec<RowInfo>,
-    pub columns: Vec<ColumnInfo>,
-    pub sites: Vec<SiteInfo>,
-    pub points: Vec<RowId>,
-    pub bodies: Vec<BodyInfo>,
-}
-
 /// Says what each row, column, site and flow point is, and each body.
 fn list_tables(alloc: Global, program: &Program, numbered: &Numbered) -> Result<Tables, AllocError>
     requires { length numbered.now.columns.items < 4294967295 }
     ensures { IfOk result (λ t. AreTables (program_of at_place program.now) numbered.now t) }
 {
-    let rows = made!(row_infos(alloc, program, &numbered.numbering, &numbered.rows));
+    let given = Given {
+        alloc,
+        program,
+        numbering: &numbered.numbering,
+    };
+    let rows = made!(row_infos(&given, &numbered.rows));
     let columns = made!(column_infos(alloc, program, &numbered.columns); rows);
     let sites = made!(site_infos(alloc, &numbered.sites); rows, columns);
     let points = made!(point_rows(alloc, &numbered.points); rows, columns, sites);
     let bodies = made!(
-        body_infos(alloc, program, &numbered.numbering, &numbered.columns);
+        body_infos(&given, &numbered.columns);
         rows, columns, sites, points
     );
     Ok(Tables {
@@ -71,14 +66,6 @@ fn list_tables(alloc: Global, program: &Program, numbered: &Numbered) -> Result<
         points,
         bodies,
     })
-}
-
-/// The classes, and the names of the text.
-#[derive(Drop)]
-pub struct Texts {
-    pub classes: Vec<ClassInfo>,
-    pub words: Vec<Name>,
-    pub variables: Vec<Name>,
 }
 
 /// Lists the classes, and the names of the text.
@@ -125,10 +112,12 @@ fn say(alloc: Global, program: &Program, numbered: &Numbered) -> Result<Said, Al
 {
     let tables = made!(list_tables(alloc, program, numbered));
     let texts = made!(list_texts(alloc, program); tables);
-    let mut lists = made!(
-        gather(alloc, program, &numbered.numbering, &numbered.bodies);
-        tables, texts
-    );
+    let given = Given {
+        alloc,
+        program,
+        numbering: &numbered.numbering,
+    };
+    let mut lists = made!(gather(&given, &numbered.bodies); tables, texts);
     let calls = made!(put_in_order(alloc, &mut lists); tables, texts, lists);
     Ok(Said {
         tables,

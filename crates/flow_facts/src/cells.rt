@@ -6,18 +6,18 @@ ghost use Rattle.java_core.specs.Trees.{at_place, no_place};
 ghost use Rattle.java_core.specs.Programs.{program_of};
 ghost use Rattle.java_core.specs.Formed.{IsFormed};
 ghost use Rattle.flow_rules.specs.Ordered.{each, when};
-ghost use Rattle.flow_rules.specs.Facts.{field_at, fields_of, field_cell, site_cells};
+ghost use Rattle.flow_rules.specs.Facts.{field_at, fields_of, site_cells};
 ghost use Rattle.flow_facts.specs.Owned.{AreListed, own_of, own_at, upwards, cell_of};
-ghost use Rattle.flow_facts.specs.Seen.{numbers_seen, field_cell_seen};
+ghost use Rattle.flow_facts.specs.Seen.{numbers_seen, field_cell_seen, if_there};
 
+use crate::given::Given;
 use crate::infos::owner_of;
-use crate::lists::put;
-use crate::numbering::Numbering;
+use crate::lists::put_if;
 use crate::ordered::by_place;
 use fact_model::CellInfo;
 use flow_rules::{Column, ColumnItem, RowItem, Site};
 use java_core::{Program, parent_of};
-use kaba_base::{ClassId, ColId, RowId, SiteId};
+use kaba_base::{ClassId, ColId, RowId, SiteId, put};
 use std::alloc::{AllocError, Global};
 
 /// A field that has a row: its column, its row and its class.
@@ -28,42 +28,32 @@ pub struct FieldCell {
     pub owner: ClassId,
 }
 
-/// Adds the field of a column, where it is one that has a row.
-fn add_field(
-    program: &Program,
-    n: &Numbering,
-    c: u32,
-    item: ColumnItem,
-    fields: &mut Vec<FieldCell>,
-) -> Result<(), AllocError>
-    ensures value { OnOk result (map field_cell_seen fields.new.items ≡ map field_cell_seen fields.old.items
-        ++ field_at (numbers_seen n.now) (program_of at_place program.now) c item) }
+/// The field of a column, where it is one that has a row.
+fn field_of(given: &Given, c: u32, item: ColumnItem) -> Option<FieldCell>
+    ensures value { if_there field_cell_seen result
+        ≡ field_at (numbers_seen given.now.numbering.now) (program_of at_place given.now.program.now) c item }
 {
     match item {
-        ColumnItem::Fld(field) => match n.row(RowItem::Field(field)) {
+        ColumnItem::Fld(field) => match given.numbering.row(RowItem::Field(field)) {
             Some(row) => {
-                let (column, owner) = (c, owner_of(program, item));
-                put(fields, FieldCell { column, row, owner })
+                let (column, owner) = (c, owner_of(given.program, item));
+                Some(FieldCell { column, row, owner })
             }
-            None => Ok(()),
+            None => None,
         },
-        _ => Ok(()),
+        _ => None,
     }
 }
 
 /// The fields that have a row, in the order of their columns.
-pub fn fields_of(
-    alloc: Global,
-    program: &Program,
-    n: &Numbering,
-    columns: &Vec<Column>,
-) -> Result<Vec<FieldCell>, AllocError>
+pub fn fields_of(given: &Given, columns: &Vec<Column>) -> Result<Vec<FieldCell>, AllocError>
     requires { length columns.now.items < 4294967295 }
-    ensures value { IfOk result (λ v. map field_cell_seen v.items ≡ fields_of (numbers_seen n.now) (program_of at_place program.now) columns.now.items) }
+    ensures value { IfOk result (λ v. map field_cell_seen v.items
+        ≡ fields_of (numbers_seen given.now.numbering.now) (program_of at_place given.now.program.now) columns.now.items) }
 {
-    let mut fields = Vec::new(alloc);
+    let mut fields = Vec::new(given.alloc);
     for (c, column) in columns.iter().enumerate() {
-        made!(add_field(program, n, c as u32, column.item, &mut fields));
+        made!(put_if(&mut fields, field_of(given, c as u32, column.item)));
     }
     Ok(fields)
 }
@@ -176,30 +166,7 @@ fn add_cells(i: u32, fields: &Vec<FieldCell>, cells: &mut Vec<CellInfo>) -> Resu
     Ok(())
 }
 
-/// Adds the cells of the objects of a site.
-fn add_object_cells(
-    alloc: Global,
-    program: &Program,
-    fields: &Vec<FieldCell>,
-    own: &Vec<Vec<FieldCell>>,
-    i: u32,
-    class: ClassId,
-    cells: &mut Vec<CellInfo>,
-) -> Result<(), AllocError>
-    requires formed { IsFormed (program_of no_place program.now) }
-    requires listed { AreListed (program_of no_place program.now) 0 (map field_cell_seen fields.now.items) }
-    requires own { (c : ℕ) → own_at own.now.items c ≡ own_of (map field_cell_seen fields.now.items) c }
-    ensures value { OnOk result (cells.new.items ≡ cells.old.items
-        ++ flat_map (field_cell (program_of no_place program.now) i class.0)
-        (map field_cell_seen fields.now.items)) }
-{
-    let _ = fields;
-    let above = made!(fields_above(alloc, program, own, class));
-    let sorted = made!(by_place(above));
-    add_cells(i, &sorted, cells)
-}
-
-/// Adds the cells of a site.
+/// Adds the cells of a site: those of its objects, or of the elements of its arrays.
 fn add_site_cells(
     alloc: Global,
     program: &Program,
@@ -215,17 +182,15 @@ fn add_site_cells(
     ensures value { OnOk result (cells.new.items ≡ cells.old.items ++ site_cells
         (program_of no_place program.now) (map field_cell_seen fields.now.items) i site.now) }
 {
-    if site.ty.dim == 0 {
-        return add_object_cells(alloc, program, fields, own, i, site.ty.class, cells);
+    let _ = fields;
+    if site.ty.dim != 0 {
+        let (site, row) = (SiteId(i), RowId(site.row));
+        let column = None;
+        return put(cells, CellInfo { site, column, row });
     }
-    put(
-        cells,
-        CellInfo {
-            site: SiteId(i),
-            column: None,
-            row: RowId(site.row),
-        },
-    )
+    let above = made!(fields_above(alloc, program, own, site.ty.class));
+    let sorted = made!(by_place(above));
+    add_cells(i, &sorted, cells)
 }
 
 /// The cells, or none where they are more than `most`.

@@ -119,13 +119,6 @@ pub fn row_of(program: &Program, m: u64, method: &Method, e: &RExpr) -> Option<R
         RExpr::New { number, .. } => Some(RowItem::New(*number as u64)),
         RExpr::NewArray { number, .. } => Some(RowItem::New(*number as u64)),
         RExpr::Cast { number, .. } => Some(RowItem::Cast(*number as u64)),
-        RExpr::Int { .. }
-        | RExpr::Char { .. }
-        | RExpr::Str { .. }
-        | RExpr::Bool { .. }
-        | RExpr::Null { .. }
-        | RExpr::InstanceOf { .. }
-        | RExpr::Unary { .. }
-        | RExpr::Binary { .. } => None,
+        _ => None,
     }
 }

@@ -8,32 +8,17 @@ ghost use Rattle.flow_facts.specs.Views.{part_seen, parts_seen, body_seen};
 ghost use Rattle.flow_facts.specs.Seen.{numbers_seen};
 ghost use Rattle.flow_facts.specs.Gathered.{IsPartAdded, ArePartsAdded, AreGathered};
 
+use crate::given::Given;
 use crate::lists::{
     PlacedCall, add_accesses, add_calls, add_casts, add_flows, add_loads, add_news, add_stores,
     add_supers, add_tests,
 };
-use crate::numbering::Numbering;
+use crate::stages::Unordered;
 use crate::ties::add_ties;
-use fact_model::{
-    AccessInfo, CastInfo, FlowInfo, LoadInfo, NewInfo, StoreInfo, SuperInfo, TestInfo, TieInfo,
-};
+use fact_model::TestInfo;
 use flow_rules::{Body, Part};
-use java_core::Program;
-use std::alloc::{AllocError, Global};
+use std::alloc::AllocError;
 use std::mem::drop;
-
-/// The lists that the parts of bodies give and that are read as sets.
-#[derive(Drop)]
-pub struct Unordered {
-    pub news: Vec<NewInfo>,
-    pub flows: Vec<FlowInfo>,
-    pub loads: Vec<LoadInfo>,
-    pub stores: Vec<StoreInfo>,
-    pub casts: Vec<CastInfo>,
-    pub accesses: Vec<AccessInfo>,
-    pub supers: Vec<SuperInfo>,
-    pub ties: Vec<TieInfo>,
-}
 
 /// The lists that the parts of bodies give.
 #[derive(Drop)]
@@ -45,58 +30,54 @@ pub struct Lists {
 
 /// Adds what a part of a method's body gives. The slot is the method's.
 fn add_part(
-    alloc: Global,
-    program: &Program,
-    n: &Numbering,
+    given: &Given,
     m: u64,
     slot: Option<u32>,
     part: &Part,
     lists: &mut Lists,
 ) -> Result<(), AllocError>
-    requires { IsFormed (program_of no_place program.now) }
-    ensures { OnOk result (IsPartAdded (numbers_seen n.now) (program_of no_place program.now) m slot (part_seen part.now) lists.old lists.new) }
+    requires { IsFormed (program_of no_place given.now.program.now) }
+    ensures { OnOk result (IsPartAdded (numbers_seen given.now.numbering.now) (program_of no_place given.now.program.now) m slot
+        (part_seen part.now) lists.old lists.new) }
 {
+    let n = given.numbering;
     made!(add_news(n, m, part, &mut lists.unordered.news));
     made!(add_flows(n, m, part, &mut lists.unordered.flows));
     made!(add_loads(n, part, &mut lists.unordered.loads));
     made!(add_stores(n, part, &mut lists.unordered.stores));
-    made!(add_calls(alloc, n, part, &mut lists.calls));
+    made!(add_calls(given, part, &mut lists.calls));
     made!(add_casts(n, part, &mut lists.unordered.casts));
     made!(add_tests(n, part, &mut lists.tests));
     made!(add_accesses(n, part, &mut lists.unordered.accesses));
     made!(add_supers(n, m, part, &mut lists.unordered.supers));
-    add_ties(program, n, m, slot, part, &mut lists.unordered.ties)
+    add_ties(given.program, n, m, slot, part, &mut lists.unordered.ties)
 }
 
 /// Adds what the parts of a method's body give. The slot is the method's.
 fn add_parts(
-    alloc: Global,
-    program: &Program,
-    n: &Numbering,
+    given: &Given,
     m: u64,
     slot: Option<u32>,
     parts: &Vec<Part>,
     lists: &mut Lists,
 ) -> Result<(), AllocError>
-    requires { IsFormed (program_of no_place program.now) }
-    ensures { OnOk result (ArePartsAdded (numbers_seen n.now) (program_of no_place program.now) m slot (parts_seen parts.now.items) lists.old lists.new) }
+    requires { IsFormed (program_of no_place given.now.program.now) }
+    ensures { OnOk result (ArePartsAdded (numbers_seen given.now.numbering.now) (program_of no_place given.now.program.now) m slot
+        (parts_seen parts.now.items) lists.old lists.new) }
 {
     for part in parts {
-        made!(add_part(alloc, program, n, m, slot, part, lists));
+        made!(add_part(given, m, slot, part, lists));
     }
     Ok(())
 }
 
 /// What the parts of all bodies give.
-pub fn gather(
-    alloc: Global,
-    program: &Program,
-    n: &Numbering,
-    bodies: &Vec<Body>,
-) -> Result<Lists, AllocError>
-    requires { IsFormed (program_of no_place program.now) }
-    ensures { IfOk result (λ l. AreGathered (numbers_seen n.now) (program_of no_place program.now) (map body_seen bodies.now.items) l) }
+pub fn gather(given: &Given, bodies: &Vec<Body>) -> Result<Lists, AllocError>
+    requires { IsFormed (program_of no_place given.now.program.now) }
+    ensures { IfOk result (λ l. AreGathered (numbers_seen given.now.numbering.now) (program_of no_place given.now.program.now)
+        (map body_seen bodies.now.items) l) }
 {
+    let alloc = given.alloc;
     let unordered = Unordered {
         news: Vec::new(alloc),
         flows: Vec::new(alloc),
@@ -114,15 +95,7 @@ pub fn gather(
     };
     for body in bodies {
         made!(
-            add_parts(
-                alloc,
-                program,
-                n,
-                body.number,
-                body.slot,
-                &body.parts,
-                &mut lists,
-            );
+            add_parts(given, body.number, body.slot, &body.parts, &mut lists);
             lists
         );
     }

@@ -7,16 +7,17 @@ ghost use Rattle.java_core.specs.Programs.{Plain, program_of, method_seen};
 ghost use Rattle.java_core.specs.Formed.{IsFormed};
 ghost use Rattle.flow_rules.specs.Ordered.{each};
 ghost use Rattle.flow_rules.specs.Facts.{row_info, site_of_row, this_of_row, column_info, kind_of, owner_of, slot_in, name_in, site_info, field_at, fields_of, field_cell, site_cells, param_points, body_if, column_body, body_seen, class_facts, class_seen, is_holder, variable_names, all_variables};
-ghost use Rattle.flow_facts.specs.Seen.{numbers_seen};
+ghost use Rattle.flow_facts.specs.Seen.{numbers_seen, if_there};
 
 use crate::by_number::{class_by_number, field_by_number, method_by_number};
+use crate::given::Given;
 use crate::labels::{column_label, row_label};
-use crate::lists::put;
+use crate::lists::put_if;
 use crate::numbering::Numbering;
 use fact_model::{BodyInfo, ColKind, ColumnInfo, RowInfo, SiteInfo};
 use flow_rules::{Column, ColumnItem, Point, PointItem, Row, RowItem, Site};
 use java_core::{Method, Program};
-use kaba_base::{ClassId, ColId, Name, RowId, SiteId};
+use kaba_base::{ClassId, ColId, Name, RowId, SiteId, put};
 use std::alloc::{AllocError, Global};
 use std::mem::drop;
 
@@ -47,20 +48,16 @@ fn this_of_row(n: &Numbering, item: RowItem) -> Option<ColId>
 }
 
 /// The rows.
-pub fn row_infos(
-    alloc: Global,
-    program: &Program,
-    n: &Numbering,
-    rows: &Vec<Row>,
-) -> Result<Vec<RowInfo>, AllocError>
-    ensures value { IfOk result (λ v. v.items ≡ map (row_info (numbers_seen n.now) (program_of at_place program.now)) rows.now.items) }
+pub fn row_infos(given: &Given, rows: &Vec<Row>) -> Result<Vec<RowInfo>, AllocError>
+    ensures value { IfOk result (λ v. v.items
+        ≡ map (row_info (numbers_seen given.now.numbering.now) (program_of at_place given.now.program.now)) rows.now.items) }
 {
-    let mut list = Vec::new(alloc);
+    let mut list = Vec::new(given.alloc);
     for row in rows {
         let (class, dim) = (row.ty.class, row.ty.dim);
-        let site = site_of_row(n, row.item);
-        let this_of = this_of_row(n, row.item);
-        let label = made!(row_label(alloc, program, row); list);
+        let site = site_of_row(given.numbering, row.item);
+        let this_of = this_of_row(given.numbering, row.item);
+        let label = made!(row_label(given.alloc, given.program, row); list);
         let info = RowInfo {
             label,
             class,
@@ -203,88 +200,70 @@ pub fn point_rows(alloc: Global, points: &Vec<Point>) -> Result<Vec<RowId>, Allo
 }
 
 /// The points of the parameters of a method.
-fn param_points(
-    alloc: Global,
-    n: &Numbering,
-    m: u64,
-    method: &Method,
-) -> Result<Vec<Option<u32>>, AllocError>
-    ensures value { (Q : Plain) → IfOk result (λ v. v.items ≡ param_points (numbers_seen n.now) Q m (method_seen at_place method.now)) }
+fn param_points(given: &Given, m: u64, method: &Method) -> Result<Vec<Option<u32>>, AllocError>
+    ensures value { (Q : Plain) → IfOk result (λ v. v.items ≡ param_points (numbers_seen given.now.numbering.now) Q m (method_seen at_place method.now)) }
 {
-    let mut list = Vec::new(alloc);
+    let mut list = Vec::new(given.alloc);
     for (i, _param) in method.params.iter().enumerate() {
-        made!(put(&mut list, n.point(PointItem::Local(m, i as u64))));
+        made!(put(
+            &mut list,
+            given.numbering.point(PointItem::Local(m, i as u64))
+        ));
     }
     Ok(list)
 }
 
-/// Adds the body of a method, where its `this` is a flow point.
-fn add_method_body(
-    alloc: Global,
-    n: &Numbering,
+/// The body of a method, where its `this` is a flow point.
+fn method_body(
+    given: &Given,
     c: u32,
     m: u64,
     method: &Method,
-    bodies: &mut Vec<BodyInfo>,
-) -> Result<(), AllocError>
-    ensures value { (Q : Plain) → OnOk result (map body_seen bodies.new.items ≡ map body_seen bodies.old.items
-        ++ body_if (numbers_seen n.now) Q c m (method_seen at_place method.now)
-        ((numbers_seen n.now).point (PointItem.This m))) }
+) -> Result<Option<BodyInfo>, AllocError>
+    ensures value { (Q : Plain) → IfOk result (λ o. if_there body_seen o
+        ≡ body_if (numbers_seen given.now.numbering.now) Q c m (method_seen at_place method.now)
+        ((numbers_seen given.now.numbering.now).point (PointItem.This m))) }
 {
-    match n.point(PointItem::This(m)) {
+    match given.numbering.point(PointItem::This(m)) {
         Some(this) => {
-            let (column, result) = (ColId(c), n.point(PointItem::Result(m)));
-            let params = made!(param_points(alloc, n, m, method));
-            put(
-                bodies,
-                BodyInfo {
-                    column,
-                    this,
-                    params,
-                    result,
-                },
-            )
+            let (column, result) = (ColId(c), given.numbering.point(PointItem::Result(m)));
+            let params = made!(param_points(given, m, method));
+            Ok(Some(BodyInfo {
+                column,
+                this,
+                params,
+                result,
+            }))
         }
-        None => Ok(()),
+        None => Ok(None),
     }
 }
 
-/// Adds the body of a column.
-fn add_body(
-    alloc: Global,
-    program: &Program,
-    n: &Numbering,
-    c: u32,
-    item: ColumnItem,
-    bodies: &mut Vec<BodyInfo>,
-) -> Result<(), AllocError>
-    ensures value { OnOk result (map body_seen bodies.new.items ≡ map body_seen bodies.old.items
-        ++ column_body (numbers_seen n.now) (program_of at_place program.now) c item) }
+/// The body of a column, where it has one that is run.
+fn body_of(given: &Given, c: u32, item: ColumnItem) -> Result<Option<BodyInfo>, AllocError>
+    ensures value { IfOk result (λ o. if_there body_seen o
+        ≡ column_body (numbers_seen given.now.numbering.now) (program_of at_place given.now.program.now) c item) }
 {
     match item {
-        ColumnItem::Def(m) => match method_by_number(program, m) {
-            Some(method) => add_method_body(alloc, n, c, m, method, bodies),
-            None => Ok(()),
+        ColumnItem::Def(m) => match method_by_number(given.program, m) {
+            Some(method) => method_body(given, c, m, method),
+            None => Ok(None),
         },
-        _ => Ok(()),
+        _ => Ok(None),
     }
 }
 
 /// The bodies, in the order of their columns.
-pub fn body_infos(
-    alloc: Global,
-    program: &Program,
-    n: &Numbering,
-    columns: &Vec<Column>,
-) -> Result<Vec<BodyInfo>, AllocError>
+pub fn body_infos(given: &Given, columns: &Vec<Column>) -> Result<Vec<BodyInfo>, AllocError>
     requires { length columns.now.items < 4294967295 }
     ensures value { IfOk result (λ v. map body_seen v.items
-        ≡ each (λ c k. column_body (numbers_seen n.now) (program_of at_place program.now) c k.item) 0
+        ≡ each (λ c k. column_body (numbers_seen given.now.numbering.now) (program_of at_place given.now.program.now) c k.item) 0
         columns.now.items) }
 {
-    let mut bodies = Vec::new(alloc);
+    let mut bodies = Vec::new(given.alloc);
     for (c, column) in columns.iter().enumerate() {
-        made!(add_body(alloc, program, n, c as u32, column.item, &mut bodies));
+        let body = made!(body_of(given, c as u32, column.item); bodies);
+        made!(put_if(&mut bodies, body); bodies);
     }
     Ok(bodies)
 }

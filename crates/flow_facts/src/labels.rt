@@ -1,31 +1,17 @@
 //! How rows and columns are printed.
 
-ghost use Rattle.std.specs.Prelude.{◌≡◌, ℕ, ◌++◌, [], List, Option, Some, None, IfOk, OnOk, codes, slice_get, string_bytes};
-ghost use Rattle.std.specs.Option.{option_map, option_map_or};
+ghost use Rattle.std.specs.Prelude.{◌≡◌, ℕ, ◌++◌, [], List, Option, Some, None, IfOk, OnOk, codes, string_bytes};
+ghost use Rattle.std.specs.Option.{option_map_or};
 ghost use Rattle.std.specs.Str.{chars};
 ghost use Rattle.java_core.specs.Trees.{at_place};
-ghost use Rattle.java_core.specs.Programs.{program_of, method_seen, local_seen};
+ghost use Rattle.java_core.specs.Programs.{program_of};
 ghost use Rattle.flow_rules.specs.Facts.{class_text, member_text, field_text, method_text, variable_name, variable_text, brackets, at_line, row_text, row_label, column_text, first_of};
 
 use crate::by_number::{class_by_number, field_by_number, method_by_number, slot_by_number};
-use flow_rules::{ColumnItem, Row, RowItem};
-use java_core::{Local, Method, Program};
+use flow_rules::{ColumnItem, Row, RowItem, variable_at};
+use java_core::Program;
 use kaba_base::{Name, Place};
 use std::alloc::{AllocError, Global};
-
-/// The parameter or local of a method by its number.
-fn variable_at(method: &Method, i: u64) -> Option<&Local>
-    ensures value { option_map (λ v. local_seen at_place v.now) result
-        ≡ slice_get ((method_seen at_place method.now).params ++ (method_seen at_place method.now).locals) i }
-{
-    let at = i as usize;
-    let count = method.params.len();
-    if at < count {
-        method.params.get(at)
-    } else {
-        method.locals.get(at - count)
-    }
-}
 
 /// The name of a parameter or local of a method.
 fn variable_name(program: &Program, method: u64, i: u64) -> Option<&Name>

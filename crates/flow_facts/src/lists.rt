@@ -1,23 +1,22 @@
 //! What each part of a body gives to each list of the facts.
 
 ghost use Rattle.std.specs.Prelude.{◌≡◌, ℕ, ◌+◌, ◌<◌, ◌++◌, ◌∷◌, [], List, Option, Some, None, IfOk, OnOk, length, map, position};
-ghost use Rattle.std.specs.List.{flat_map};
 ghost use Rattle.java_core.specs.Trees.{no_place};
 ghost use Rattle.java_core.specs.Programs.{program_of};
 ghost use Rattle.java_core.specs.Formed.{IsFormed};
 ghost use Rattle.flow_rules.specs.Ordered.{each};
 ghost use Rattle.flow_rules.specs.Lists.{created, moved, tied, accessed, created_args, moved_args, news_of, flows_of, loads_of, stores_of, calls_of, casts_of, tests_of, accesses_of, supers_of, ties_of, point_at, row_at, row_in};
 ghost use Rattle.flow_facts.specs.Views.{part_seen, parts_seen, body_seen};
-ghost use Rattle.flow_facts.specs.Seen.{numbers_seen, calls_seen};
+ghost use Rattle.flow_facts.specs.Seen.{numbers_seen, calls_seen, if_there};
 
+use crate::given::Given;
 use crate::numbering::Numbering;
 use fact_model::{
     AccessInfo, CallInfo, CastInfo, FlowInfo, LoadInfo, NewInfo, StoreInfo, SuperInfo, TestInfo,
     TieInfo,
 };
-use flow_rules::{Body, ColumnItem, Operand, Part, PointItem, RowItem};
-use java_core::Program;
-use kaba_base::{ColId, Place, RowId, SiteId};
+use flow_rules::{ColumnItem, Operand, Part, PointItem, RowItem};
+use kaba_base::{ColId, Place, RowId, SiteId, put};
 use std::alloc::{AllocError, Global};
 
 /// A call at its place.
@@ -27,13 +26,13 @@ pub struct PlacedCall {
     pub call: CallInfo,
 }
 
-/// Adds an item at the end.
-pub fn put<T: Drop>(list: &mut Vec<T>, item: T) -> Result<(), AllocError>
-    ensures value { OnOk result (list.new.items ≡ list.old.items ++ item ∷ []) }
+/// Adds an item at the end, where there is one.
+pub fn put_if<T: Drop>(list: &mut Vec<T>, item: Option<T>) -> Result<(), AllocError>
+    ensures value { OnOk result (list.new.items ≡ list.old.items ++ if_there (λ x. x) item) }
 {
-    match list.push(item) {
-        Ok(_) => Ok(()),
-        Err(fault) => Err(AllocError::from(fault)),
+    match item {
+        Some(item) => put(list, item),
+        None => Ok(()),
     }
 }
 
@@ -310,20 +309,17 @@ fn points_at(
 }
 
 /// Adds the calls of instance methods.
-pub fn add_calls(
-    alloc: Global,
-    n: &Numbering,
-    part: &Part,
-    calls: &mut Vec<PlacedCall>,
-) -> Result<(), AllocError>
-    ensures value { OnOk result (calls_seen calls.new.items ≡ calls_seen calls.old.items ++ calls_of (numbers_seen n.now) (part_seen part.now)) }
+pub fn add_calls(given: &Given, part: &Part, calls: &mut Vec<PlacedCall>) -> Result<(), AllocError>
+    ensures value { OnOk result (calls_seen calls.new.items
+        ≡ calls_seen calls.old.items ++ calls_of (numbers_seen given.now.numbering.now) (part_seen part.now)) }
 {
+    let n = given.numbering;
     match part {
         Part::Call(place, base, Some(slot), _, args, own) => {
             match point_at(n, base) {
                 Some(receiver) => {
                     let result = point_at(n, own);
-                    let args = made!(points_at(alloc, n, args));
+                    let args = made!(points_at(given.alloc, n, args));
                     let call = CallInfo {
                         receiver,
                         slot: *slot,

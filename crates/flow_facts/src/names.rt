@@ -1,6 +1,6 @@
 //! The classes, and the names of the text.
 
-ghost use Rattle.std.specs.Prelude.{◌≡◌, ℕ, ◌<◌, List, ◌++◌, ◌∷◌, [], ◌&&◌, ◌||◌, ◌==◌, false, not, IfOk, OnOk, length, get_or, map, drop, string_bytes};
+ghost use Rattle.std.specs.Prelude.{◌≡◌, ℕ, ◌<◌, Bool, List, ◌++◌, ◌∷◌, [], ◌&&◌, ◌||◌, ◌==◌, false, not, IfOk, OnOk, length, get_or, map, drop, string_bytes};
 ghost use Rattle.indexmap.specs.IndexSet.{insert_key};
 ghost use Rattle.std.specs.List.{flat_map, list_any};
 ghost use Rattle.std.specs.Str.{bytes_eq, encode_utf8_all};
@@ -10,11 +10,10 @@ ghost use Rattle.flow_rules.specs.Ordered.{each, once, once_after};
 ghost use Rattle.flow_rules.specs.Facts.{class_seen, class_facts, is_holder, all_names, all_variables, variable_names};
 ghost use Rattle.flow_facts.specs.Holders.{AreHolders};
 
-use crate::lists::put;
 use fact_model::ClassInfo;
 use indexmap::IndexSet;
-use java_core::{Class, Local, Program};
-use kaba_base::{ClassId, Name};
+use java_core::{Class, Field, Local, Method, Program};
+use kaba_base::{ClassId, Name, put};
 use std::alloc::{AllocError, Global};
 use std::mem::drop;
 
@@ -32,26 +31,51 @@ fn mark(holders: &mut [bool], is_static: bool, owner: ClassId)
     }
 }
 
-/// Marks the classes that have a static field.
-fn mark_fields(program: &Program, holders: &mut [bool])
-    ensures count { length holders.new ≡ length holders.old }
-    ensures value { (c : ℕ) → c < length holders.old → get_or holders.new c false ≡ (get_or holders.old c false
-        || list_any (λ f. f.is_static && (f.owner == c)) (program_of at_place program.now).fields) }
-{
-    for field in &program.fields {
-        mark(holders, field.is_static, field.owner);
+/// A field or a method.
+trait Member {
+    ghost holds: { Self → ℕ → Bool };
+
+    /// Marks its class, where it is static.
+    fn mark_class(&self, holders: &mut [bool])
+        ensures count { length holders.new ≡ length holders.old }
+        ensures value { (c : ℕ) → c < length holders.old → get_or holders.new c false ≡ (get_or holders.old c false || holds self.now c) };
+}
+
+impl Member for Field {
+    ghost holds = { λ f c. f.is_static && (f.owner.0 == c) };
+
+    fn mark_class(&self, holders: &mut [bool]) {
+        mark(holders, self.is_static, self.owner)
     }
 }
 
-/// Marks the classes that have a static method.
-fn mark_methods(program: &Program, holders: &mut [bool])
+impl Member for Method {
+    ghost holds = { λ m c. m.is_static && (m.owner.0 == c) };
+
+    fn mark_class(&self, holders: &mut [bool]) {
+        mark(holders, self.is_static, self.owner)
+    }
+}
+
+/// Marks the classes that have one of these as a static member.
+fn mark_all<T: Member>(members: &Vec<T>, holders: &mut [bool])
     ensures count { length holders.new ≡ length holders.old }
     ensures value { (c : ℕ) → c < length holders.old → get_or holders.new c false ≡ (get_or holders.old c false
-        || list_any (λ m. m.is_static && (m.owner == c)) (program_of at_place program.now).methods) }
+        || list_any (λ m. T.holds m c) members.now.items) }
 {
-    for method in &program.methods {
-        mark(holders, method.is_static, method.owner);
+    for member in members {
+        member.mark_class(holders);
     }
+}
+
+/// Marks the classes that have static members.
+fn mark_members(program: &Program, holders: &mut [bool])
+    ensures count { length holders.new ≡ length holders.old }
+    ensures value { (c : ℕ) → c < length holders.old → get_or holders.new c false ≡ (get_or holders.old c false
+        || is_holder (program_of at_place program.now) c) }
+{
+    mark_all(&program.fields, holders);
+    mark_all(&program.methods, holders);
 }
 
 /// For each class, whether it has static members.
@@ -59,8 +83,7 @@ fn holders(alloc: Global, program: &Program) -> Result<Vec<bool>, AllocError>
     ensures { IfOk result (λ v. AreHolders (program_of at_place program.now) v.items) }
 {
     let mut holders = vec![in alloc; false; program.classes.len()]?;
-    mark_fields(program, &mut holders);
-    mark_methods(program, &mut holders);
+    mark_members(program, &mut holders);
     Ok(holders)
 }
 

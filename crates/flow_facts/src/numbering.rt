@@ -6,25 +6,13 @@ ghost use Rattle.flow_rules.specs.Numbered.{number_among, same_row, same_column,
 ghost use Rattle.flow_rules.specs.Parts as plain;
 ghost use Rattle.flow_facts.specs.Views.{part_seen, parts_seen, body_seen, outline_seen};
 
-use crate::lists::put;
 use flow_rules::{
     Body, ColumnItem, Operand, Outline, Part, Point, PointAt, PointItem, RowItem, Site,
+    number_among, number_of_column, number_of_row,
 };
 use indexmap::IndexSet;
-use kaba_base::Place;
+use kaba_base::{Place, put};
 use std::alloc::{AllocError, Global};
-use std::hash::Hash;
-
-/// The number of an item among others.
-fn number_of<K: Eq + Hash + Copy>(keys: &IndexSet<K>, item: K) -> Option<u32>
-    requires { length keys.now.keys < 4294967295 }
-    ensures value { result ≡ number_among K.eq keys.now.keys item }
-{
-    match keys.get_index_of(&item) {
-        Some(number) => Some(number as u32),
-        None => None,
-    }
-}
 
 /// The items of the rows, the columns and the flow points, and the numbers of the creations that are sites, each in their order.
 #[derive(Drop)]
@@ -51,30 +39,22 @@ impl Numbering {
     pub fn column(&self, item: ColumnItem) -> Option<u32>
         ensures value { result ≡ number_among same_column self.now.columns.keys item }
     {
-        number_of(&self.columns, item)
+        number_of_column(&self.columns, item)
     }
 
     /// The number of the site of a creation.
     pub fn site(&self, creation: u64) -> Option<u32>
         ensures value { result ≡ number_among nat_eq self.now.sites.keys creation }
     {
-        number_of(&self.sites, creation)
+        number_among(&self.sites, creation)
     }
 
     /// The number of a flow point.
     pub fn point(&self, item: PointItem) -> Option<u32>
         ensures value { result ≡ number_among same_point self.now.points.keys item }
     {
-        number_of(&self.points, item)
+        number_among(&self.points, item)
     }
-}
-
-/// The number of a row.
-pub fn number_of_row(rows: &IndexSet<RowItem>, item: RowItem) -> Option<u32>
-    requires { length rows.now.keys < 4294967295 }
-    ensures value { result ≡ number_among same_row rows.now.keys item }
-{
-    number_of(rows, item)
 }
 
 /// Adds the site of a creation.

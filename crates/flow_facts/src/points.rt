@@ -9,13 +9,12 @@ ghost use Rattle.flow_rules.specs.Parts as plain;
 ghost use Rattle.flow_rules.specs.Numbered.{own_point, form_points, variable_points, method_points};
 ghost use Rattle.flow_facts.specs.Views.{part_seen, parts_seen};
 
-use crate::lists::put;
 use crate::ordered::by_place;
 use crate::survey::result_row;
 use crate::walk::variable_row;
 use flow_rules::{Operand, Part, PointAt, PointItem, RowItem};
 use java_core::{Local, Method};
-use kaba_base::Place;
+use kaba_base::{Place, put};
 use std::alloc::{AllocError, Global};
 use std::mem::drop;
 

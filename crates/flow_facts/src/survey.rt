@@ -13,15 +13,15 @@ ghost use Rattle.flow_facts.specs.Views.{part_seen, parts_seen, outline_seen, bo
 
 use crate::bodies::parts_of;
 use crate::by_number::slot_by_number;
-use crate::lists::put;
 use crate::points::method_points;
+use crate::stages::Surveyed;
 use crate::types::{object_if, object_of};
 use crate::walk::{class_object, variable_row};
 use flow_rules::{
     Body, Column, ColumnItem, ObjectType, Operand, Outline, Part, PointAt, PointItem, Row, RowItem,
 };
 use java_core::{Field, Local, Method, Program};
-use kaba_base::Place;
+use kaba_base::{Place, put};
 use std::alloc::{AllocError, Global};
 use std::mem::drop;
 
@@ -209,17 +209,6 @@ fn add_method_columns(
         }
     }
     add_form_columns(columns, parts)
-}
-
-/// What is numbered, in the order of the program.
-#[derive(Drop)]
-pub struct Surveyed {
-    pub rows: Vec<Row>,
-    pub columns: Vec<Column>,
-    /// What may be flow points among the static fields.
-    pub statics: Vec<PointAt>,
-    pub outlines: Vec<Outline>,
-    pub bodies: Vec<Body>,
 }
 
 /// Adds the rows, the columns and the points of the fields.

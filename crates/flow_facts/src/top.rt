@@ -7,25 +7,26 @@ ghost use Rattle.java_core.specs.Programs.{program_of};
 ghost use Rattle.java_core.specs.Formed.{IsFormed};
 ghost use Rattle.flow_rules.specs.Numbered.{rows_of, columns_of, sites_of, points_of, bodies_of, field_rows, method_rows, field_columns, method_columns, static_points, outline_if};
 ghost use Rattle.flow_rules.specs.Facts.{AreNamesOf, IsFactsOf, IsRefused, IsWithin, first_interface, numbers, cells_of, too_many, IsOver};
-ghost use Rattle.flow_rules.specs.Ordered.{each};
-ghost use Rattle.flow_facts.specs.Stages.{IsTable, IsFlow, IsNumbered};
+ghost use Rattle.flow_rules.specs.Ordered.{by_place, each, once};
+ghost use Rattle.flow_facts.specs.Stages.{IsAbove, IsListed, IsTable, IsFlow, IsNumbered};
 ghost use Rattle.flow_facts.specs.Seen.{numbers_seen};
 ghost use Rattle.flow_facts.specs.Views.{body_seen, outline_seen};
 
 use crate::assembled::facts_over;
 use crate::cells::{cells_of, fields_of};
+use crate::given::Given;
 use crate::numbering::{Numbering, all_points, all_sites};
-use crate::ordered::{Listed, by_place, once, once_by_place};
+use crate::ordered::{HasKey, HasPlace, Listed, by_place, once, once_by_place};
+use crate::stages::{Flow, Numbered, Table};
 use crate::survey::survey;
 use fact_model::{CellInfo, Facts};
 use flow_rules::{
-    Body, Column, ColumnItem, Counted, FactsFault, Outline, Point, PointAt, PointItem, Row,
-    RowItem, Site,
+    Body, Column, Counted, FactsFault, Outline, Point, PointAt, PointItem, Row, Site,
 };
-use indexmap::IndexSet;
 use java_core::Program;
 use kaba_base::Name;
 use std::alloc::Global;
+use std::hash::Hash;
 use std::mem::drop;
 
 /// The first interface that is declared.
@@ -44,7 +45,7 @@ fn first_interface(program: &Program) -> Option<&Name>
 fn within(count: usize, limit: u32, what: Counted) -> Result<(), FactsFault>
     requires { limit < 65537 }
     ensures ok { OnOk result (count ≤ limit) }
-    ensures refused { IfErr result (λ e. (limit < count) × (e ≡ FactsFault.TooMany what (limit + 1))) }
+    ensures refused { IfErr result (IsAbove count limit what) }
 {
     if count > limit as usize {
         return Err(FactsFault::TooMany(what, limit + 1));
@@ -52,64 +53,19 @@ fn within(count: usize, limit: u32, what: Counted) -> Result<(), FactsFault>
     Ok(())
 }
 
-/// The rows by their place.
-fn number_rows(
+/// The first of each key by their places, which are no more than the limit.
+fn number_by_place<K: Eq + Hash + Copy + Drop, T: HasPlace + HasKey<K> + Copy + Drop>(
     alloc: Global,
-    program: &Program,
-    rows: Vec<Row>,
-) -> Result<Listed<Row, RowItem>, FactsFault>
-    requires { rows.items ≡ each field_rows 0 (program_of at_place program.now).fields
-        ++ each (method_rows (program_of no_place program.now) (program_of at_place program.now)) 0
-        (program_of at_place program.now).methods }
-    ensures items { IfOk result (λ l. l.items.items ≡ rows_of (program_of no_place program.now) (program_of at_place program.now)) }
-    ensures keys { IfOk result (λ l. l.keys.keys ≡ map (λ r. r.item) (rows_of (program_of no_place program.now) (program_of at_place program.now))) }
-    ensures most { IfOk result (λ l. length (rows_of (program_of no_place program.now) (program_of at_place program.now)) ≤ 16384) }
-    ensures refused { IfErr result (λ e. IsOver (program_of no_place program.now) (program_of at_place program.now) e) }
+    all: Vec<T>,
+    limit: u32,
+    what: Counted,
+) -> Result<Listed<T, K>, FactsFault>
+    requires { limit < 65537 }
+    ensures ok { IfOk result (λ l. IsListed T.key limit (once K.eq T.key (by_place T.at all.items)) l.items.items l.keys.keys) }
+    ensures refused { IfErr result (IsAbove (length (once K.eq T.key (by_place T.at all.items))) limit what) }
 {
-    let listed = made!(once_by_place(alloc, rows) => FactsFault;);
-    made!(within(listed.items.len(), 16384, Counted::Rows); listed);
-    Ok(listed)
-}
-
-/// The columns by their place.
-fn number_columns(
-    alloc: Global,
-    program: &Program,
-    columns: Vec<Column>,
-) -> Result<Listed<Column, ColumnItem>, FactsFault>
-    requires columns { columns.items ≡ each field_columns 0 (program_of at_place program.now).fields
-        ++ each (method_columns (program_of no_place program.now) (program_of at_place program.now)) 0
-        (program_of at_place program.now).methods }
-    requires rows { length (rows_of (program_of no_place program.now) (program_of at_place program.now)) ≤ 16384 }
-    ensures items { IfOk result (λ l. l.items.items ≡ columns_of (program_of no_place program.now) (program_of at_place program.now)) }
-    ensures keys { IfOk result (λ l. l.keys.keys ≡ map (λ c. c.item) (columns_of (program_of no_place program.now) (program_of at_place program.now))) }
-    ensures most { IfOk result (λ l. length (columns_of (program_of no_place program.now) (program_of at_place program.now)) ≤ 8192) }
-    ensures refused { IfErr result (λ e. IsOver (program_of no_place program.now) (program_of at_place program.now) e) }
-{
-    let listed = made!(once_by_place(alloc, columns) => FactsFault;);
-    made!(within(listed.items.len(), 8192, Counted::Columns); listed);
-    Ok(listed)
-}
-
-/// The sites by their place.
-fn number_sites(
-    alloc: Global,
-    program: &Program,
-    rows: &IndexSet<RowItem>,
-    bodies: &Vec<Body>,
-) -> Result<Listed<Site, u64>, FactsFault>
-    requires keys { rows.now.keys ≡ map (λ r. r.item) (rows_of (program_of no_place program.now) (program_of at_place program.now)) }
-    requires bodies { map body_seen bodies.now.items ≡ bodies_of (program_of no_place program.now) (program_of at_place program.now) }
-    requires rows { length (rows_of (program_of no_place program.now) (program_of at_place program.now)) ≤ 16384 }
-    requires columns { length (columns_of (program_of no_place program.now) (program_of at_place program.now)) ≤ 8192 }
-    ensures items { IfOk result (λ l. l.items.items ≡ sites_of (program_of no_place program.now) (program_of at_place program.now)) }
-    ensures keys { IfOk result (λ l. l.keys.keys ≡ map (λ s. s.number) (sites_of (program_of no_place program.now) (program_of at_place program.now))) }
-    ensures most { IfOk result (λ l. length (sites_of (program_of no_place program.now) (program_of at_place program.now)) ≤ 8192) }
-    ensures refused { IfErr result (λ e. IsOver (program_of no_place program.now) (program_of at_place program.now) e) }
-{
-    let sites = made!(all_sites(alloc, rows, bodies) => FactsFault;);
-    let listed = made!(once_by_place(alloc, sites) => FactsFault;);
-    made!(within(listed.items.len(), 8192, Counted::Sites); listed);
+    let listed = made!(once_by_place(alloc, all) => FactsFault;);
+    made!(within(listed.items.len(), limit, what); listed);
     Ok(listed)
 }
 
@@ -117,23 +73,21 @@ fn number_sites(
 fn number_points(
     alloc: Global,
     program: &Program,
-    rows: &IndexSet<RowItem>,
+    table: &Table,
     statics: Vec<PointAt>,
     outlines: Vec<Outline>,
 ) -> Result<Listed<Point, PointItem>, FactsFault>
-    requires keys { rows.now.keys ≡ map (λ r. r.item) (rows_of (program_of no_place program.now) (program_of at_place program.now)) }
+    requires table { IsTable (program_of no_place program.now) (program_of at_place program.now) table.now }
     requires statics { statics.items ≡ each static_points 0 (program_of at_place program.now).fields }
     requires outlines { map outline_seen outlines.items
         ≡ each (outline_if (program_of no_place program.now) (program_of at_place program.now)) 0
         (program_of at_place program.now).methods }
-    requires rows { length (rows_of (program_of no_place program.now) (program_of at_place program.now)) ≤ 16384 }
-    requires columns { length (columns_of (program_of no_place program.now) (program_of at_place program.now)) ≤ 8192 }
     requires sites { length (sites_of (program_of no_place program.now) (program_of at_place program.now)) ≤ 8192 }
-    ensures items { IfOk result (λ l. l.items.items ≡ points_of (program_of no_place program.now) (program_of at_place program.now)) }
-    ensures keys { IfOk result (λ l. l.keys.keys ≡ map (λ p. p.item) (points_of (program_of no_place program.now) (program_of at_place program.now))) }
-    ensures most { IfOk result (λ l. length (points_of (program_of no_place program.now) (program_of at_place program.now)) ≤ 65536) }
+    ensures ok { IfOk result (λ l. IsListed (λ p. p.item) 65536
+        (points_of (program_of no_place program.now) (program_of at_place program.now)) l.items.items l.keys.keys) }
     ensures refused { IfErr result (λ e. IsOver (program_of no_place program.now) (program_of at_place program.now) e) }
 {
+    let rows = &table.rows.keys;
     let statics = made!(by_place(statics) => FactsFault; outlines);
     let outlines = made!(by_place(outlines) => FactsFault; statics);
     let points = made!(
@@ -168,37 +122,16 @@ fn number_cells(
     ensures counts { IfOk result (λ v. too_many (program_of no_place program.now) (program_of at_place program.now) ≡ None) }
     ensures refused { IfErr result (λ e. IsOver (program_of no_place program.now) (program_of at_place program.now) e) }
 {
-    let fields = made!(fields_of(alloc, program, n, columns) => FactsFault;);
+    let given = Given {
+        alloc,
+        program,
+        numbering: n,
+    };
+    let fields = made!(fields_of(&given, columns) => FactsFault;);
     match made!(cells_of(alloc, program, &fields, sites, most) => FactsFault; fields) {
         None => Err(FactsFault::TooMany(Counted::Points, 65537)),
         Some(cells) => Ok(cells),
     }
-}
-
-/// What is numbered, in order, and the numbers.
-#[derive(Drop)]
-pub struct Numbered {
-    pub rows: Vec<Row>,
-    pub columns: Vec<Column>,
-    pub sites: Vec<Site>,
-    pub points: Vec<Point>,
-    pub cells: Vec<CellInfo>,
-    pub bodies: Vec<Body>,
-    pub numbering: Numbering,
-}
-
-/// The rows and the columns by their place, and their numbers.
-#[derive(Drop)]
-pub struct Table {
-    pub rows: Listed<Row, RowItem>,
-    pub columns: Listed<Column, ColumnItem>,
-}
-
-/// The sites by their place and the flow points in their order, and their numbers.
-#[derive(Drop)]
-pub struct Flow {
-    pub sites: Listed<Site, u64>,
-    pub points: Listed<Point, PointItem>,
 }
 
 /// Numbers the rows and the columns.
@@ -217,8 +150,8 @@ fn number_table(
     ensures ok { IfOk result (λ t. IsTable (program_of no_place program.now) (program_of at_place program.now) t) }
     ensures refused { IfErr result (λ e. IsOver (program_of no_place program.now) (program_of at_place program.now) e) }
 {
-    let rows = made!(number_rows(alloc, program, rows); columns);
-    let columns = made!(number_columns(alloc, program, columns); rows);
+    let rows = made!(number_by_place(alloc, rows, 16384, Counted::Rows); columns);
+    let columns = made!(number_by_place(alloc, columns, 8192, Counted::Columns); rows);
     Ok(Table { rows, columns })
 }
 
@@ -241,13 +174,14 @@ fn number_flow(
     ensures refused { IfErr result (λ e. IsOver (program_of no_place program.now) (program_of at_place program.now) e) }
 {
     let sites = made!(
-        number_sites(alloc, program, &table.rows.keys, bodies);
+        all_sites(alloc, &table.rows.keys, bodies) => FactsFault;
         statics, outlines
     );
-    let points = made!(
-        number_points(alloc, program, &table.rows.keys, statics, outlines);
-        sites
+    let sites = made!(
+        number_by_place(alloc, sites, 8192, Counted::Sites);
+        statics, outlines
     );
+    let points = made!(number_points(alloc, program, table, statics, outlines); sites);
     Ok(Flow { sites, points })
 }
 

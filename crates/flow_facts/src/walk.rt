@@ -14,14 +14,13 @@ ghost use Rattle.flow_rules.specs.Parts as plain;
 
 use crate::by_number::method_by_number;
 use crate::enclosing::Enclosing;
-use crate::lists::put;
 use crate::types::{
     call_declaration, element_object, field_object, method_object, number_of, object_field,
     object_of, slot_object, variable_object,
 };
 use flow_rules::{ObjectType, Operand, Part, PointItem, RowItem};
 use java_core::{BinOp, Method, Program, RExpr, super_method};
-use kaba_base::{ClassId, Name, Place};
+use kaba_base::{ClassId, Name, Place, put};
 use std::alloc::AllocError;
 
 /// No flow point, no row and no type that a row can have.

@@ -1,15 +1,12 @@
-use Rattle.std.proofs.Common.{arith, false, ◌++◌, length, sym, ap, ◌∙◌}
+use Rattle.std.proofs.Common.{arith, false, length, sym, ap, ◌∙◌}
 use Rattle.std.proofs.lemmas.List.{append-nil}
-use Rattle.java_core.specs.Trees.{at_place, no_place, expr_of, stmt_of, stmts, else_seen, step_seen, value_of}
+use Rattle.java_core.specs.Trees.{at_place, no_place, expr_of, stmt_of, stmts, step_seen, value_of}
 use Rattle.java_core.specs.Programs.{program_of, method_seen}
 use Rattle.java_core.proofs.Rows.{if_as, for_as}
-use Rattle.flow_rules.specs.Labels.{label_arms, size_arms}
-use Rattle.flow_rules.specs.Parts.{parts_arms}
-use Rattle.flow_rules.specs.Types.{object_type}
 use Rattle.flow_facts.specs.Views.{parts_seen}
 use Rattle.flow_facts.proofs.Passed.{on_ok, on_both}
 use Rattle.flow_facts.proofs.Forms.{block_form, while_form}
-use Rattle.flow_facts.proofs.Composed.{loop_parts, while_parts}
+use Rattle.flow_facts.proofs.Composed.{loop_parts, while_parts, with_other}
 use Rattle.flow_facts.proofs.bodies.+statements.Goals as goal
 
 pub walk_stmt-returns-in-Local : goal.walk_stmt-returns-in-Local
@@ -50,28 +47,15 @@ walk_stmt-returns-in-Ok-walk_step-2 t c =
 
 pub walk_stmt-returns-in-Some : goal.walk_stmt-returns-in-Some
 walk_stmt-returns-in-Some t c =
-    let P = program_of no_place c.args.within.now.program.now in
-    let K = method_seen at_place c.args.within.now.method.now in
     let form = ap (stmt_of at_place) c.in-If.is ∙ if_as at_place c.in-If.arms c.in-If.other c.in-If.place in
-    let same = ap (λ o. size_arms (else_seen at_place o)) c.in-Some.is in
-    let all = ap (λ o. parts_seen c.walk_arms.new.parts.items ++ parts_arms P (object_type P K) c.args.within.now.number K
-    (label_arms (length c.walk_arms.new.parts.items)
-    (else_seen at_place o))) (sym c.in-Some.is)
-    ∙ c.in-Ok-walk_arms.ensures.parts in
-    rw form (on_ok c.walk_stmts-in-Some.result (λ h. record {
-      grown = omega (arith, same, c.in-Ok-walk_arms.ensures.grown, h.grown);
-      parts = h.parts ∙ all;
-    }) c.walk_stmts-in-Some.ensures)
+    let arms = with_other (program_of no_place c.args.within.now.program.now) c.args.within.now.number (method_seen at_place c.args.within.now.method.now)
+    _ _ c.in-Some.is c.in-Ok-walk_arms.ensures.grown c.in-Ok-walk_arms.ensures.parts in
+    rw form (on_ok c.walk_stmts-in-Some.result (λ h. record { grown = omega (arith, arms.0, h.grown); parts = h.parts ∙ arms.1 })
+    c.walk_stmts-in-Some.ensures)
 
 pub walk_stmt-returns-in-None : goal.walk_stmt-returns-in-None
 walk_stmt-returns-in-None t c =
-    let P = program_of no_place c.args.within.now.program.now in
-    let K = method_seen at_place c.args.within.now.method.now in
     let form = ap (stmt_of at_place) c.in-If.is ∙ if_as at_place c.in-If.arms c.in-If.other c.in-If.place in
-    let same = ap (λ o. size_arms (else_seen at_place o)) c.in-None.is in
-    let all = sym (append-nil (parts_seen c.walk_arms.new.parts.items))
-    ∙ ap (λ o. parts_seen c.walk_arms.new.parts.items ++ parts_arms P (object_type P K) c.args.within.now.number K
-    (label_arms (length c.walk_arms.new.parts.items)
-    (else_seen at_place o))) (sym c.in-None.is)
-    ∙ c.in-Ok-walk_arms.ensures.parts in
-    rw form (record { grown = omega (arith, same, c.in-Ok-walk_arms.ensures.grown); parts = all })
+    let arms = with_other (program_of no_place c.args.within.now.program.now) c.args.within.now.number (method_seen at_place c.args.within.now.method.now)
+    _ _ c.in-None.is c.in-Ok-walk_arms.ensures.grown c.in-Ok-walk_arms.ensures.parts in
+    rw form (record { grown = omega (arith, arms.0); parts = sym (append-nil (parts_seen c.walk_arms.new.parts.items)) ∙ arms.1 })

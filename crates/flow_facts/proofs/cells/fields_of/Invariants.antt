@@ -7,5 +7,6 @@ use Rattle.flow_rules.specs.Facts.{field_at}
 use Rattle.flow_facts.proofs.cells.fields_of.Given as goal
 
 abbrev pub invariant-loop-c : goal.invariant-loop-c
-invariant-loop-c l = map field_cell_seen l.fields.items ++ each (λ c k. field_at (numbers_seen l.n) (program_of at_place l.program) c k.item) l.c
-    (drop l.c l.columns.items) ≡ each (λ c k. field_at (numbers_seen l.n) (program_of at_place l.program) c k.item) 0 l.columns.items
+invariant-loop-c l =
+    let given = field_at (numbers_seen l.given.numbering.now) (program_of at_place l.given.program.now) in
+    map field_cell_seen l.fields.items ++ each (λ c k. given c k.item) l.c (drop l.c l.columns.items) ≡ each (λ c k. given c k.item) 0 l.columns.items

@@ -8,5 +8,6 @@ use Rattle.flow_facts.specs.Gathered.{ArePartsAdded}
 use Rattle.flow_facts.proofs.gathering.add_parts.Given as goal
 
 abbrev pub invariant-loop-part : goal.invariant-loop-part
-invariant-loop-part l = ArePartsAdded (numbers_seen l.n) (program_of no_place l.program) l.m l.slot (parts_seen (take l.part-index l.parts.items))
+invariant-loop-part l = ArePartsAdded (numbers_seen l.given.numbering.now) (program_of no_place l.given.program.now) l.m l.slot
+    (parts_seen (take l.part-index l.parts.items))
     l.fn.lists l.lists

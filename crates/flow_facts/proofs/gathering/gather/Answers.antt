@@ -1,5 +1,5 @@
 -- One body more.
-use Rattle.std.proofs.Common.{◌≡◌, ◌<◌, length, get_or, ap, subst}
+use Rattle.std.proofs.Common.{ap}
 use Rattle.java_core.specs.Trees.{no_place}
 use Rattle.java_core.specs.Programs.{program_of}
 use Rattle.flow_facts.specs.Views.{body_seen}
@@ -25,11 +25,7 @@ loop-body-init c = record {
 
 pub loop-body-preserved : goal.loop-body-preserved
 loop-body-preserved c =
-    let bs = c.args.bodies.now.items in
-    let i = c.loop-body.body-index in
-    let b = c.body-item.result in
-    let lt : i < length bs = subst (λ l. i < length l) c.deref-body-items.ensures.value c.loop-body-test.true in
-    let is : b ≡ get_or bs i b = subst (λ l. b ≡ get_or l i b) c.deref-body-items.ensures.value c.body-item.is in
-    let all = body_more (numbers_seen c.args.n.now) (program_of no_place c.args.program.now) {b = body_seen b} c.loop-body.invariant
+    let all = body_more (numbers_seen c.args.given.now.numbering.now) (program_of no_place c.args.given.now.program.now)
+    {b = body_seen c.body-item.result} c.loop-body.invariant
     c.in-Ok.ensures in
-    rw (so_far body_seen bs i b lt is) all
+    rw (so_far body_seen c.args.bodies.now.items _ c.loop-body.body-index _ c.deref-body-items.ensures.value c.loop-body-test.true c.body-item.is) all

@@ -8,4 +8,5 @@ use Rattle.flow_facts.specs.Gathered.{AreGathered}
 use Rattle.flow_facts.proofs.gathering.gather.Given as goal
 
 abbrev pub invariant-loop-body : goal.invariant-loop-body
-invariant-loop-body l = AreGathered (numbers_seen l.n) (program_of no_place l.program) (map body_seen (take l.body-index l.bodies.items)) l.lists
+invariant-loop-body l = AreGathered (numbers_seen l.given.numbering.now) (program_of no_place l.given.program.now)
+    (map body_seen (take l.body-index l.bodies.items)) l.lists

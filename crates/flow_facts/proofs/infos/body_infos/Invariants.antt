@@ -7,5 +7,6 @@ use Rattle.flow_rules.specs.Facts.{body_seen, column_body}
 use Rattle.flow_facts.proofs.infos.body_infos.Given as goal
 
 abbrev pub invariant-loop-c : goal.invariant-loop-c
-invariant-loop-c l = map body_seen l.bodies.items ++ each (λ c k. column_body (numbers_seen l.n) (program_of at_place l.program) c k.item) l.c
-    (drop l.c l.columns.items) ≡ each (λ c k. column_body (numbers_seen l.n) (program_of at_place l.program) c k.item) 0 l.columns.items
+invariant-loop-c l =
+    let given = column_body (numbers_seen l.given.numbering.now) (program_of at_place l.given.program.now) in
+    map body_seen l.bodies.items ++ each (λ c k. given c k.item) l.c (drop l.c l.columns.items) ≡ each (λ c k. given c k.item) 0 l.columns.items

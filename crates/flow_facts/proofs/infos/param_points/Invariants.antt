@@ -7,6 +7,6 @@ use Rattle.flow_rules.specs.declared.items.PointItem.TheVariants as point
 use Rattle.flow_facts.proofs.infos.param_points.Given as goal
 
 abbrev pub invariant-loop-i : goal.invariant-loop-i
-invariant-loop-i l = l.list.items ++ each (λ i v. (numbers_seen l.n).point (point.Local l.m i) ∷ []) l.i
-    (map (local_seen at_place) (drop l.i l.method.params.items)) ≡ each (λ i v. (numbers_seen l.n).point (point.Local l.m i) ∷ []) 0
+invariant-loop-i l = l.list.items ++ each (λ i v. (numbers_seen l.given.numbering.now).point (point.Local l.m i) ∷ []) l.i
+    (map (local_seen at_place) (drop l.i l.method.params.items)) ≡ each (λ i v. (numbers_seen l.given.numbering.now).point (point.Local l.m i) ∷ []) 0
     (map (local_seen at_place) l.method.params.items)

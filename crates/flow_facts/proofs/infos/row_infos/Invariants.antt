@@ -6,5 +6,6 @@ use Rattle.flow_rules.specs.Facts.{row_info}
 use Rattle.flow_facts.proofs.infos.row_infos.Given as goal
 
 abbrev pub invariant-loop-row : goal.invariant-loop-row
-invariant-loop-row l = l.list.items ++ map (row_info (numbers_seen l.n) (program_of at_place l.program)) (drop l.row-index l.rows.items)
-    ≡ map (row_info (numbers_seen l.n) (program_of at_place l.program)) l.rows.items
+invariant-loop-row l = l.list.items ++ map (row_info (numbers_seen l.given.numbering.now) (program_of at_place l.given.program.now))
+    (drop l.row-index l.rows.items)
+    ≡ map (row_info (numbers_seen l.given.numbering.now) (program_of at_place l.given.program.now)) l.rows.items

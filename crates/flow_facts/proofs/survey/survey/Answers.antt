@@ -10,17 +10,14 @@ pub loop-m-preserved : goal.loop-m-preserved
 loop-m-preserved c =
     let P = program_of no_place c.args.program.now in
     let Q = program_of at_place c.args.program.now in
-    let all = c.args.program.now.methods.items in
-    let x = c.method-item.result in
     let s = c.deref-method-items.ensures.value in
     let h = c.loop-m-test.true in
     let at = c.method-item.is in
-    let before = c.loop-m.invariant in
     let now = c.in-Ok-survey_method.ensures in
     record {
-      rows = each_step (method_seen at_place) (method_rows P Q) all _ _ x _ _ _ s h at before.rows now.rows;
-      columns = each_step (method_seen at_place) (method_columns P Q) all _ _ x _ _ _ s h at before.columns now.columns;
-      statics = ap (λ v. v.items) now.statics ∙ before.statics;
-      outlines = each_step (method_seen at_place) (outline_if P Q) all _ _ x _ _ _ s h at before.outlines now.outlines;
-      bodies = each_step (method_seen at_place) (body_at P Q) all _ _ x _ _ _ s h at before.bodies now.bodies;
+      rows = each_step (method_seen at_place) (method_rows P Q) _ _ _ _ _ _ _ s h at c.loop-m.invariant.rows now.rows;
+      columns = each_step (method_seen at_place) (method_columns P Q) _ _ _ _ _ _ _ s h at c.loop-m.invariant.columns now.columns;
+      statics = ap (λ v. v.items) now.statics ∙ c.loop-m.invariant.statics;
+      outlines = each_step (method_seen at_place) (outline_if P Q) _ _ _ _ _ _ _ s h at c.loop-m.invariant.outlines now.outlines;
+      bodies = each_step (method_seen at_place) (body_at P Q) _ _ _ _ _ _ _ s h at c.loop-m.invariant.bodies now.bodies;
     }

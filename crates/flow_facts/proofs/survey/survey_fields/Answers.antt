@@ -8,17 +8,14 @@ use Rattle.flow_facts.proofs.survey.survey_fields.Goals as goal
 
 pub loop-f-preserved : goal.loop-f-preserved
 loop-f-preserved c =
-    let all = c.args.program.now.fields.items in
-    let x = c.field-item.result in
     let s = c.deref-field-items.ensures.value in
     let h = c.loop-f-test.true in
     let at = c.field-item.is in
-    let before = c.loop-f.invariant in
     let now = c.in-Ok.ensures in
     record {
-      rows = each_step (field_seen at_place) field_rows all _ _ x _ _ _ s h at before.rows now.rows;
-      columns = each_step (field_seen at_place) field_columns all _ _ x _ _ _ s h at before.columns now.columns;
-      statics = each_step (field_seen at_place) static_points all _ _ x _ _ _ s h at before.statics now.statics;
-      outlines = now.outlines ∙ before.outlines;
-      bodies = now.bodies ∙ before.bodies;
+      rows = each_step (field_seen at_place) field_rows _ _ _ _ _ _ _ s h at c.loop-f.invariant.rows now.rows;
+      columns = each_step (field_seen at_place) field_columns _ _ _ _ _ _ _ s h at c.loop-f.invariant.columns now.columns;
+      statics = each_step (field_seen at_place) static_points _ _ _ _ _ _ _ s h at c.loop-f.invariant.statics now.statics;
+      outlines = now.outlines ∙ c.loop-f.invariant.outlines;
+      bodies = now.bodies ∙ c.loop-f.invariant.bodies;
     }

@@ -1,22 +1,16 @@
 -- One more argument.
-use Rattle.std.proofs.Common.{ℕ, ◌+◌, List, ◌++◌, refl, ap, ◌∙◌}
+use Rattle.std.proofs.Common.{ap, ◌∙◌}
 use Rattle.java_core.specs.Trees.{no_place}
 use Rattle.java_core.specs.Programs.{program_of}
-use Rattle.fact_model.specs.declared.facts.TieInfo.{TieInfo}
-use Rattle.flow_rules.specs.Ordered.{each}
 use Rattle.flow_rules.specs.Lists.{tied, row_at, row_in, param_row}
-use Rattle.flow_rules.specs.declared.items.Operand.{Operand}
 use Rattle.flow_facts.specs.Seen.{numbers_seen}
-use Rattle.flow_facts.proofs.Steps.{step}
+use Rattle.flow_facts.proofs.Steps.{each_joined}
 use Rattle.flow_facts.proofs.ties.add_method_args.Goals as goal
 
 pub loop-i-preserved : goal.loop-i-preserved
 loop-i-preserved c =
     let N = numbers_seen c.args.n.now in
     let P = program_of no_place c.args.program.now in
-    let i = c.loop-i.i in
-    let f : ℕ → Operand → List TieInfo = λ j o. tied (row_at N o) (row_in N (param_row P c.args.callee j)) in
-    step (f i) (each f i) (each f (i + 1)) (λ _ _. refl) c.args.args.now.items _ i _ _ _ _ c.deref-arg-items.ensures.value c.loop-i-test.true
-    c.loop-i.invariant (c.in-Ok.ensures.value
-    ∙ ap (λ u. c.loop-i.ties.items ++ tied c.row_at.result u) (c.row_in-parameter.ensures.value ∙ ap (row_in N) c.param_row.ensures.value)
-    ∙ ap (λ l. c.loop-i.ties.items ++ tied l (row_in N (param_row P c.args.callee i))) c.row_at.ensures.value)
+    each_joined tied (row_at N) (λ j. row_in N (param_row P c.args.callee j)) c.args.args.now.items _ c.loop-i.i _ _ _ _ _ _
+    c.deref-arg-items.ensures.value c.loop-i-test.true c.loop-i.invariant c.in-Ok.ensures.value c.row_at.ensures.value
+    (c.row_in-parameter.ensures.value ∙ ap (row_in N) c.param_row.ensures.value)
