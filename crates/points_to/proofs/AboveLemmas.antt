@@ -20,9 +20,6 @@ no-member x c = let lt = c.1 in absurd (omega (arith, lt))
 pub one-member : {X : Type 0} (y x : X) → Contains (y ∷ []) x → y ≡ x
 one-member y x c = ⊎_elim (λ h. no-member x h) (λ e. e) (Contains-push_cases [] y x c)
 
-pub one-is : {X : Type 0} (x : X) → Contains (x ∷ []) x
-one-is x = Contains-push [] x
-
 -- ---- what a row gains
 
 pub gained-none : (r : List Bool) (w : List ClassId) → Gained [] r r w w
@@ -63,7 +60,7 @@ pub gained-wait : (x : ClassId) (r : List Bool) (w : List ClassId) → x.0 < len
 gained-wait x r w lt more = record {
   len = length-set r x.0 true;
   kept = λ y h. set-kept r x.0 y lt h;
-  news = λ y h. ⊎_elim (λ k. inl k) (λ e. inr (subst (λ z. Contains (x ∷ []) (class_id z)) (sym e) (one-is x))) (set-bits r x.0 y h);
+  news = λ y h. ⊎_elim (λ k. inl k) (λ e. inr (subst (λ z. Contains (x ∷ []) (class_id z)) (sym e) (Contains-push [] x))) (set-bits r x.0 y h);
   settled = λ y h. ⊎_elim (λ k. inl k) (λ e. inr (subst (λ z. Contains (w ++ x ∷ []) (class_id z)) (sym e) (Contains-push w x))) (set-bits r x.0 y h);
   told = λ y c. subst (λ (z : ClassId). bit (set r x.0 true) z.0 ≡ true) (one-member x y c) (get_or-set_same r x.0 true false lt);
   waits = λ y c. Contains-append_left w (x ∷ []) y c;
@@ -112,7 +109,7 @@ module _ (F : Facts) where
       → Gained (a ∷ []) r s [] w → Walked F a.0 s w
   walked-start a r s w len none in_range g = record {
     len = g.len ∙ len;
-    start = g.told a (one-is a);
+    start = g.told a (Contains-push [] a);
     sound = λ y h. ⊎_elim (λ k. absurd (none y k))
         (λ c. subst (λ z. IsBelow F a.0 z) (ap (λ (z : ClassId). z.0) (one-member a (class_id y) c)) same) (g.news y h);
     settled = λ y h. ⊎_elim (λ k. absurd (none y k)) (λ c. inl c) (g.settled y h);

@@ -23,7 +23,7 @@ pub struct Union {
 }
 
 /// That of no sites. An error comes only for want of memory.
-fn no_union(alloc: Global, facts: &Facts) -> Result<Union, AllocError>
+pub fn no_union(alloc: Global, facts: &Facts) -> Result<Union, AllocError>
     requires { InRange facts.now }
     ensures gathered { IfOk result (IsGathered facts.now) }
     ensures whole { IfOk result (λ u. (sets : List (List Bool)) → IsWhole facts.now sets u) }
@@ -143,7 +143,7 @@ fn gather(
 }
 
 /// One read, and whether anything was new. An error comes only for want of memory.
-fn close_read(
+pub fn close_read(
     given: &Given,
     bases: &[BitRow],
     sets: &mut [BitRow],
@@ -166,30 +166,4 @@ fn close_read(
     turn_to(given.facts, union, x.member, set);
     gather(given, sets, union, list, set)?;
     Ok(include_row(given.facts, sets, grown, &union.held, x.into as usize))
-}
-
-/// Each read, and whether anything was new. An error comes only for want of memory.
-pub fn close_reads(
-    given: &Given,
-    bases: &[BitRow],
-    sets: &mut [BitRow],
-    grown: &mut Queue,
-    reads: &[Read],
-) -> Result<bool, AllocError>
-    requires given { IsGiven given.now }
-    requires bases { AreSound given.now.facts.now bases.now }
-    requires sets { AreSound given.now.facts.now sets.old }
-    requires reads { All (IsRead given.now.facts.now) reads.now }
-    ensures sets { OnOk result (AreSound given.now.facts.now sets.new) }
-    ensures step { IfOk result (IsStep sets.old sets.new) }
-    ensures closed { IfOk result (λ grew. OnFalse grew (All (IsReadClosed given.now.facts.now bases.now sets.new) reads.now)) }
-{
-    let mut union = no_union(given.alloc, given.facts)?;
-    let mut list = Vec::new(given.alloc);
-    let mut grew = false;
-    for x in reads {
-        let more = close_read(given, bases, sets, grown, &mut union, &mut list, *x)?;
-        grew |= more;
-    }
-    Ok(grew)
 }
