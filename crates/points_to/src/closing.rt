@@ -7,13 +7,13 @@ ghost use Rattle.points_to.specs.Words.{OnFalse, IsStep, AreSound, IsGiven};
 
 use crate::found::Given;
 use crate::queue::Queue;
-use crate::reads::{close_read, no_union};
+use crate::reads::{gather, no_union, turn_to};
 use crate::runs::{close_run, none_begun};
-use crate::work::{Edge, Read, Run, Told, Write, pass, show};
+use crate::work::{Edge, Read, Run, Told, Write, include_row, pass, show};
 use crate::writes::{flush, nothing_pending, take_write};
 use fact_model::Facts;
-use kaba_bits::{BitRow, copy_rows};
-use std::alloc::{AllocError, Global};
+use kaba_bits::{BitRow, copy_rows, row_at};
+use std::alloc::AllocError;
 
 /// Each inclusion of a list. An error comes only for want of memory.
 fn close_edges(
@@ -79,8 +79,10 @@ pub fn close_reads(
     let mut list = Vec::new(given.alloc);
     let mut grew = false;
     for x in reads {
-        let more = close_read(given, bases, sets, grown, &mut union, &mut list, *x)?;
-        grew |= more;
+        let set = row_at(bases, x.base as usize);
+        turn_to(given.facts, &mut union, x.member, set);
+        gather(given, sets, &mut union, &mut list, set)?;
+        grew |= include_row(given.facts, sets, grown, &union.held, x.into as usize);
     }
     Ok(grew)
 }

@@ -1,9 +1,9 @@
 //! Runs: each site in a base is in the `this` of its body. A site is gone over once for the bases of one slot.
 
-ghost use Rattle.std.specs.Prelude.{◌≡◌, ℕ, ◌<◌, Bool, true, List, length, All, IfOk, OnOk};
+ghost use Rattle.std.specs.Prelude.{◌≡◌, ◌<◌, Bool, List, length, All, IfOk, OnOk};
 ghost use Rattle.points_to.specs.Work.{IsRun, IsRunClosed};
 ghost use Rattle.points_to.specs.Rounds.{HasSite, IsRunAt, AreBegun};
-ghost use Rattle.points_to.specs.Words.{OnFalse, bit, row, IsStep, InRange, node_count, AreSound, InNode, IsGiven};
+ghost use Rattle.points_to.specs.Words.{OnFalse, IsStep, InRange, node_count, AreSound, InNode, IsGiven};
 
 use crate::found::Given;
 use crate::queue::Queue;

@@ -189,31 +189,7 @@ fn turn(
     Ok(())
 }
 
-/// Turns, until nothing has to be gone over. An error comes only for want of memory.
-fn run(
-    given: &Given,
-    uses: &Uses,
-    bases: &mut Bases,
-    sets: &mut [BitRow],
-    grown: &mut Queue,
-    due: &mut Due,
-) -> Result<(), AllocError>
-    requires now { AreSound given.now.facts.now bases.old.now.items }
-    requires given { IsGiven given.now }
-    requires sets { AreSound given.now.facts.now sets.old }
-    ensures { OnOk result (AreSound given.now.facts.now sets.new) }
-{
-    for _turn in 0..u64::MAX {
-        flow(given, uses, sets, grown, due)?;
-        if is_nothing(due) {
-            return Ok(());
-        }
-        turn(given, bases, sets, grown, due)?;
-    }
-    Ok(())
-}
-
-/// The sets, as far as the worklist finds them. An error comes only for want of memory.
+/// The sets, as far as the worklist finds them: turns, until nothing has to be gone over. An error comes only for want of memory.
 pub fn grow(given: &Given, sets: &mut [BitRow], grown: &mut Queue) -> Result<(), AllocError>
     requires given { IsGiven given.now }
     requires sets { AreSound given.now.facts.now sets.old }
@@ -223,6 +199,12 @@ pub fn grow(given: &Given, sets: &mut [BitRow], grown: &mut Queue) -> Result<(),
     let uses = uses_of(given.alloc, given.facts, given.found)?;
     let mut due = nothing_due(given.alloc, given.facts, given.found, &uses)?;
     let mut bases = no_bases(given.alloc, given.facts)?;
-    run(given, &uses, &mut bases, sets, grown, &mut due)?;
+    for _turn in 0..u64::MAX {
+        flow(given, &uses, sets, grown, &mut due)?;
+        if is_nothing(&due) {
+            return Ok(());
+        }
+        turn(given, &mut bases, sets, grown, &mut due)?;
+    }
     Ok(())
 }

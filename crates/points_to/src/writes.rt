@@ -2,14 +2,14 @@
 
 ghost use Rattle.std.specs.Prelude.{◌≡◌, ℕ, ◌<◌, true, length, All, Some, IfOk, OnOk};
 ghost use Rattle.std.specs.Bool.{OnTrue};
-ghost use Rattle.points_to.specs.Work.{IsWrite, IsWriteClosed, AreTargets, wanted};
+ghost use Rattle.points_to.specs.Work.{IsWrite, AreTargets, wanted};
 ghost use Rattle.points_to.specs.declared.work.Write.{Write};
 ghost use Rattle.points_to.specs.Rounds.{IsPending, IsFlushedAt, IsFlushed, IsPended, IsDone, HasRow};
 ghost use Rattle.points_to.specs.Words.{OnFalse, bit, row, IsStep, InRange, node_count, AreSound, InNode, IsGiven};
 
 use crate::found::Given;
 use crate::queue::Queue;
-use crate::reads::{is_same_member, next_site};
+use crate::reads::is_same_member;
 use crate::targets::list_targets;
 use crate::work::{Member, Write, fit, include_row, site_at};
 use fact_model::Facts;
