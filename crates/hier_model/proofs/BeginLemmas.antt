@@ -34,7 +34,7 @@ use Rattle.fact_model.specs.declared.facts.ColKind.{ColKind}
 use Rattle.fact_model.specs.declared.facts.ColKind.TheVariants.{Fld, Dcl, Def, Is}
 use Rattle.fact_model.specs.declared.sets.Concept.{Concept}
 use Rattle.fact_model.specs.declared.sets.Table.{Table}
-use Rattle.hier_model.specs.Hierarchies.{Hierarchy, node, is_method, KeepsTable, IsHierarchyOf}
+use Rattle.hier_model.specs.Hierarchies.{Hierarchy, hierarchy_of, node, is_method, KeepsTable, IsHierarchyOf}
 use Rattle.hier_model.specs.Names.{is_field, named_member, member_names, named_type, type_names}
 use Rattle.hier_model.specs.Start.{is_filled, is_subset, is_same_set, order_of, concept_at, rows_with, column_place, row_place, is_below_all, lowest, owners, start_origin, origins_of, start_of}
 use Rattle.hier_model.specs.Listed.{extent_of, intent_of, is_above_concept, lists_column, lists_row, listed_column, row_node}
@@ -125,14 +125,18 @@ module _ (T : List (List Bool)) (w : ℕ) (cs : List Concept) (lattice : IsLatti
   placed : (k : ℕ) (x : Concept) → k < length cs → get_or cs k x ≡ x → IsPlaced T w (map (λ y. y.extent) cs) k x
   placed k x lt e = subst (IsPlaced T w (map (λ y. y.extent) cs) k) e (lattice.placed k x lt)
 
+  lists-column : (k c : ℕ) (lt : k < length cs) → lists_column cs k c ≡ list_any (λ (d : ColId). d.0 == c) (concept-is cs k lt).0.columns.items
+  lists-column k c lt = ap (λ o. option_map_or (λ (y : Concept). list_any (λ (d : ColId). d.0 == c) y.columns.items) o false) (concept-is cs k lt).1
+
+  lists-row : (k r : ℕ) (lt : k < length cs) → lists_row cs k r ≡ list_any (λ (q : RowId). q.0 == r) (concept-is cs k lt).0.rows.items
+  lists-row k r lt = ap (λ o. option_map_or (λ (y : Concept). list_any (λ (q : RowId). q.0 == r) y.rows.items) o false) (concept-is cs k lt).1
+
   column-test : (k c : ℕ) → k < length cs → c < w → lists_column cs k c ≡ (is_filled (rows_with T c) && is_same_set (concept_at (map pair_of cs) k).0
       (rows_with T c))
   column-test k c lt cw =
       let x = concept-is cs k lt in
       let at = placed k x.0 lt x.2 in
       let ext : (concept_at (map pair_of cs) k).0 ≡ x.0.extent = ap (λ (p : Pair). p.0) (pair-is cs k x.0 lt x.2) in
-      let listed : lists_column cs k c ≡ list_any (λ (d : ColId). d.0 == c) x.0.columns.items = ap
-      (λ o. option_map_or (λ (y : Concept). list_any (λ (d : ColId). d.0 == c) y.columns.items) o false) x.1 in
       let filled = is_filled (rows_with T c) in
       let same = is_same_set x.0.extent (rows_with T c) in
       let whole : list_any (λ (d : ColId). d.0 == c) x.0.columns.items ≡ (filled && same) =
@@ -155,7 +159,7 @@ module _ (T : List (List Bool)) (w : ℕ) (cs : List Concept) (lattice : IsLatti
           rows = λ r rt. ((λ e. sym (rows_with-bit T c r) ∙ sets.0 r e), (λ e. sets.1 r (rows_with-bit T c r ∙ e)));
         },
       ))) in
-      listed ∙ whole ∙ ap (λ s. filled && is_same_set s (rows_with T c)) (sym ext)
+      lists-column k c lt ∙ whole ∙ ap (λ s. filled && is_same_set s (rows_with T c)) (sym ext)
     where
       with-below : (c r : ℕ) → bit (rows_with T c) r ≡ true → r < length T
       with-below c r e = let lt = bit-below (rows_with T c) r e in omega (arith, lt, length-map T (λ s. bit s c))
@@ -174,8 +178,6 @@ module _ (T : List (List Bool)) (w : ℕ) (cs : List Concept) (lattice : IsLatti
       let x = concept-is cs k lt in
       let at = placed k x.0 lt x.2 in
       let int : (concept_at (map pair_of cs) k).1 ≡ x.0.intent = ap (λ (p : Pair). p.1) (pair-is cs k x.0 lt x.2) in
-      let listed : lists_row cs k r ≡ list_any (λ (q : RowId). q.0 == r) x.0.rows.items = ap
-      (λ o. option_map_or (λ (y : Concept). list_any (λ (q : RowId). q.0 == r) y.rows.items) o false) x.1 in
       let same = is_same_set x.0.intent (row T r) in
       let whole : list_any (λ (q : RowId). q.0 == r) x.0.rows.items ≡ same =
       same_truth (list_any (λ (q : RowId). q.0 == r) x.0.rows.items) same
@@ -183,7 +185,7 @@ module _ (T : List (List Bool)) (w : ℕ) (cs : List Concept) (lattice : IsLatti
       x.0.intent (row T r) s.1 s.0)
       (λ h. let sets = same_set-sound x.0.intent (row T r) h in contains_any (λ (q : RowId). q.0) x.0.rows.items r
       ((at.rows.each r).1 (rt, (sets.1, sets.0)))) in
-      listed ∙ whole ∙ ap (λ s. is_same_set s (row T r)) (sym int)
+      lists-row k r lt ∙ whole ∙ ap (λ s. is_same_set s (row T r)) (sym int)
 
   column_listed : (c : ℕ) → c < w → listed_column cs c ≡ column_place T (map pair_of cs) c
   column_listed c cw =
@@ -232,22 +234,18 @@ module _ (T : List (List Bool)) (w : ℕ) (cs : List Concept) (lattice : IsLatti
     pub order_orders : IsPartialOrder (order_of (map pair_of cs))
     order_orders = order_partial T w widths (map pair_of cs) lattice.all
 
--- a hierarchy of its parts
-abbrev of_parts : Ordered → List (Option NodeId) → List NodeId → List (List ℕ) → List (List ℕ) → List (Option ClassId) → List (List Bool) → Hierarchy
-of_parts o cs rs ts ms os T = record { order = o; columns = cs; rows = rs; types = ts; members = ms; origins = os; table = T }
-
 -- two hierarchies with the same parts are one
 pub same_parts : (o o2 : Ordered) (cs cs2 : List (Option NodeId)) (rs rs2 : List NodeId) (ts ts2 ms ms2 : List (List ℕ))
     (os os2 : List (Option ClassId)) (T T2 : List (List Bool)) → o ≡ o2 → cs ≡ cs2 → rs ≡ rs2 → ts ≡ ts2 → ms ≡ ms2 → os ≡ os2 → T ≡ T2
-    → of_parts o cs rs ts ms os T ≡ of_parts o2 cs2 rs2 ts2 ms2 os2 T2
+    → hierarchy_of o cs rs ts ms os T ≡ hierarchy_of o2 cs2 rs2 ts2 ms2 os2 T2
 same_parts o o2 cs cs2 rs rs2 ts ts2 ms ms2 os os2 T T2 e1 e2 e3 e4 e5 e6 e7 =
-    ap (λ x. of_parts x cs rs ts ms os T) e1
-    ∙ ap (λ x. of_parts o2 x rs ts ms os T) e2
-    ∙ ap (λ x. of_parts o2 cs2 x ts ms os T) e3
-    ∙ ap (λ x. of_parts o2 cs2 rs2 x ms os T) e4
-    ∙ ap (λ x. of_parts o2 cs2 rs2 ts2 x os T) e5
-    ∙ ap (λ x. of_parts o2 cs2 rs2 ts2 ms2 x T) e6
-    ∙ ap (λ x. of_parts o2 cs2 rs2 ts2 ms2 os2 x) e7
+    ap (λ x. hierarchy_of x cs rs ts ms os T) e1
+    ∙ ap (λ x. hierarchy_of o2 x rs ts ms os T) e2
+    ∙ ap (λ x. hierarchy_of o2 cs2 x ts ms os T) e3
+    ∙ ap (λ x. hierarchy_of o2 cs2 rs2 x ms os T) e4
+    ∙ ap (λ x. hierarchy_of o2 cs2 rs2 ts2 x os T) e5
+    ∙ ap (λ x. hierarchy_of o2 cs2 rs2 ts2 ms2 x T) e6
+    ∙ ap (λ x. hierarchy_of o2 cs2 rs2 ts2 ms2 os2 x) e7
 
 -- the names of members and types
 member_names-length : (F : Facts) (n : ℕ) → length (member_names F n) ≡ n

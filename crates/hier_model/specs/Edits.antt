@@ -12,7 +12,7 @@ use Rattle.kaba_order.specs.declared.OrderFault.TheVariants as fault
 use Rattle.fact_model.specs.Items.{row_this, column_kind, column_slot}
 use Rattle.fact_model.specs.declared.facts.Facts.{Facts}
 use Rattle.fact_model.specs.declared.facts.ColKind.{ColKind}
-use Rattle.fact_model.specs.declared.facts.ColKind.TheVariants.{Fld, Dcl, Def, Is}
+use Rattle.fact_model.specs.declared.facts.ColKind.TheVariants.{Is}
 use Rattle.hier_model.specs.declared.edits.Edit.{Edit}
 use Rattle.hier_model.specs.declared.edits.Edit.TheVariants as edit
 use Rattle.hier_model.specs.declared.edits.ChangeFault.{ChangeFault}
@@ -122,9 +122,7 @@ is_placed H c = is_some (place_of_column H c.0)
 
 abbrev pub is_mark : ColKind → Bool
 is_mark Is = true
-is_mark Fld = false
-is_mark Dcl = false
-is_mark Def = false
+is_mark kind = false
 
 -- whether a column or a row stands at a node
 abbrev pub is_used : Hierarchy → NodeId → Bool

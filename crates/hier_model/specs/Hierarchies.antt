@@ -23,6 +23,11 @@ pub record Hierarchy : Type 0 where
   pub origins : List (Option ClassId)
   pub table : List (List Bool)
 
+-- the hierarchy of these parts
+abbrev pub hierarchy_of : Ordered → List (Option NodeId) → List NodeId → List (List ℕ) → List (List ℕ) → List (Option ClassId) → List (List Bool) → Hierarchy
+hierarchy_of order columns rows types members origins table =
+    record { order = order; columns = columns; rows = rows; types = types; members = members; origins = origins; table = table }
+
 abbrev pub node : ℕ → NodeId
 node n = record { 0 = n }
 

@@ -11,7 +11,7 @@ use Rattle.fact_model.specs.Classes.{below}
 use Rattle.fact_model.specs.InOrder.{name_of}
 use Rattle.fact_model.specs.declared.facts.Facts.{Facts}
 use Rattle.fact_model.specs.declared.facts.ColKind.{ColKind}
-use Rattle.fact_model.specs.declared.facts.ColKind.TheVariants.{Fld, Dcl, Def, Is}
+use Rattle.fact_model.specs.declared.facts.ColKind.TheVariants.{Fld}
 use Rattle.hier_model.specs.Hierarchies.{any_below}
 
 -- whether a name is one of a list
@@ -37,9 +37,7 @@ free_name taken name = lengthened name (underscores taken name)
 
 abbrev pub is_field : ColKind → Bool
 is_field Fld = true
-is_field Dcl = false
-is_field Def = false
-is_field Is = false
+is_field kind = false
 
 -- whether b is a class or interface strictly above a
 abbrev pub is_strictly_above : Facts → ℕ → ℕ → Bool

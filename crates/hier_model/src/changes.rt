@@ -14,7 +14,7 @@ use crate::moves::{
 };
 use crate::orders::{Merged, dropped_order, first_unknown, merged_order, under_order};
 use crate::origins::merged_origins;
-use crate::{ChangeFault, Edit, Hier, column_at};
+use crate::{ChangeFault, Edit, Hier, column_at, hier_of};
 use fact_model::Facts;
 use kaba_base::{ColId, Name, NodeId};
 use kaba_bits::copy_rows;
@@ -81,15 +81,7 @@ impl Hier {
         let members = copy_names(alloc, &self.members)?;
         let origins = merged_origins(alloc, facts, &self.origins, set, least)?;
         let table = copy_rows(alloc, &self.table)?;
-        Ok(Hier {
-            order: made.order,
-            columns,
-            rows,
-            types,
-            members,
-            origins,
-            table,
-        })
+        Ok(hier_of(made.order, columns, rows, types, members, origins, table))
     }
 
     /// The same hierarchy once more.
@@ -103,15 +95,7 @@ impl Hier {
         let members = copy_names(alloc, &self.members)?;
         let origins = self.origins.as_slice().to_vec(alloc)?;
         let table = copy_rows(alloc, &self.table)?;
-        Ok(Hier {
-            order,
-            columns,
-            rows,
-            types,
-            members,
-            origins,
-            table,
-        })
+        Ok(hier_of(order, columns, rows, types, members, origins, table))
     }
 
     /// One node below another.

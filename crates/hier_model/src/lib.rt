@@ -6,7 +6,7 @@ ghost use Rattle.std.specs.Prelude.{◌≡◌, ℕ, ◌<◌, ◌^◌, true, leng
 ghost use Rattle.kaba_bits.specs.Sets.{bit, row};
 ghost use Rattle.kaba_order.specs.Orders.{is_live};
 ghost use Rattle.fact_model.specs.InRange.{InRange};
-ghost use Rattle.hier_model.specs.Hierarchies.{Hierarchy, IsHierarchyOf, place_of_column, place_of_row, type_name, member_name, origin_of, is_above, is_offered, has_class_member, has_object, is_class_node};
+ghost use Rattle.hier_model.specs.Hierarchies.{Hierarchy, IsHierarchyOf, hierarchy_of, place_of_column, place_of_row, type_name, member_name, origin_of, is_above, is_offered, has_class_member, has_object, is_class_node};
 
 use fact_model::Facts;
 use kaba_base::{ClassId, ColId, Name, NodeId, RowId, SiteId};
@@ -48,6 +48,29 @@ impl Model for Hier {
     ghost Value = { Hierarchy };
 
     ghost view = { λ h. record { order = h.order; columns = h.columns.items; rows = h.rows.items; types = h.types.items; members = h.members.items; origins = h.origins.items; table = h.table.items } };
+}
+
+/// The hierarchy of these parts.
+fn hier_of(
+    order: Order,
+    columns: Vec<Option<NodeId>>,
+    rows: Vec<NodeId>,
+    types: Vec<Name>,
+    members: Vec<Name>,
+    origins: Vec<Option<ClassId>>,
+    table: Vec<BitRow>,
+) -> Hier
+    ensures { result ≡ hierarchy_of order columns.items rows.items types.items members.items origins.items table.items }
+{
+    Hier {
+        order,
+        columns,
+        rows,
+        types,
+        members,
+        origins,
+        table,
+    }
 }
 
 impl Hier {

@@ -8,8 +8,11 @@ pub use Rattle.fact_model.specs.Items.{row_class}
 pub use Rattle.fact_model.specs.InRange.{InRange}
 pub use Rattle.fact_model.specs.InOrder.{InOrder}
 pub use Rattle.fact_model.specs.Entries.{IsTable}
+pub use Rattle.fact_model.specs.Concepts.{IsLatticeOf}
 pub use Rattle.fact_model.specs.Flowing.{AreSets}
 pub use Rattle.hier_model.specs.Hierarchies.{IsHierarchyOf, is_offered}
+pub use Rattle.hier_model.specs.Start.{start_from}
 pub use Rattle.hier_model.specs.Edits.{NamesSome}
 pub use Rattle.hier_rules.specs.First.{MeetsEdit, first_broken}
 pub use Rattle.hier_rules.specs.Given.{IsAsked}
+pub use Rattle.hier_rules.specs.Takens.{AreTaken}

@@ -90,12 +90,7 @@ fn has_nearer(asked: &Asked, n: NodeId, d: u32) -> bool
     requires body { d < length asked.now.facts.now.columns.items }
     ensures { result ≡ has_nearer asked.now.facts.now asked.now.hier.now n.0 d }
 {
-    for e in 0..asked.facts.columns.len() as u32 {
-        if is_nearer(asked, n, d, e) {
-            return true;
-        }
-    }
-    false
+    any_below!(e < asked.facts.columns.len() as u32; is_nearer(asked, n, d, e))
 }
 
 /// Adds the slot of a call, if its receiver has a site.
@@ -224,12 +219,7 @@ fn has_between(asked: &Asked, r: u32, d: u32) -> bool
     requires body { d < length asked.now.facts.now.columns.items }
     ensures { result ≡ has_between asked.now.facts.now asked.now.hier.now r d }
 {
-    for e in 0..asked.facts.columns.len() as u32 {
-        if is_between(asked, r, d, e) {
-            return true;
-        }
-    }
-    false
+    any_below!(e < asked.facts.columns.len() as u32; is_between(asked, r, d, e))
 }
 
 /// The first instance against B5. An error comes only for want of memory.
@@ -271,12 +261,7 @@ pub fn first_two_bodies(asked: &Asked) -> Option<Broken>
     requires { IsAsked asked.now }
     ensures { result ≡ first_two_bodies asked.now.facts.now asked.now.hier.now }
 {
-    for n in 0..node_count(asked.hier) {
-        if let Some(found) = first_two_bodies_at(asked, n) {
-            return Some(found);
-        }
-    }
-    None
+    first_below!(n < node_count(asked.hier); first_two_bodies_at(asked, n))
 }
 
 /// The first two bodies of one slot at a node.
@@ -286,12 +271,7 @@ fn first_two_bodies_at(asked: &Asked, n: u32) -> Option<Broken>
     ensures { result ≡ first_below (length asked.now.facts.now.columns.items)
         (λ c. first_below (length asked.now.facts.now.columns.items) (two_bodies asked.now.facts.now asked.now.hier.now n c)) }
 {
-    for c in 0..asked.facts.columns.len() as u32 {
-        if let Some(found) = first_second_body(asked, n, c) {
-            return Some(found);
-        }
-    }
-    None
+    first_below!(c < asked.facts.columns.len() as u32; first_second_body(asked, n, c))
 }
 
 /// Whether a body stands at a node.

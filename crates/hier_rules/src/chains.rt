@@ -157,12 +157,7 @@ fn has_next(facts: &Facts, hier: &Hier, classes: &BitRow, counts: &[u32], n: u32
     requires node { n < length hier.now.order.live }
     ensures { result ≡ any_below (length hier.now.order.live) (is_next facts.now hier.now n) }
 {
-    for z in 0..node_count(hier) {
-        if is_next(facts, hier, classes, counts, n, z) {
-            return true;
-        }
-    }
-    false
+    any_below!(z < node_count(hier); is_next(facts, hier, classes, counts, n, z))
 }
 
 /// Whether class nodes are above a node, and none of them has one fewer above it.
@@ -245,12 +240,7 @@ fn has_loose(facts: &Facts, hier: &Hier, classes: &BitRow, loose: &BitRow, n: u3
     requires node { n < length hier.now.order.live }
     ensures { result ≡ any_below (length hier.now.order.live) (is_loose_above facts.now hier.now n) }
 {
-    for m in 0..node_count(hier) {
-        if is_loose_above(facts, hier, classes, loose, n, m) {
-            return true;
-        }
-    }
-    false
+    any_below!(m < node_count(hier); is_loose_above(facts, hier, classes, loose, n, m))
 }
 
 /// The first instance against B9. The time is in proportion to the square of the number of nodes. An error comes
@@ -303,12 +293,7 @@ fn first_unchained_at(facts: &Facts, hier: &Hier, classes: &BitRow, n: u32) -> O
     requires node { n < length hier.now.order.live }
     ensures { result ≡ first_below (length hier.now.order.live) (λ x. first_below (length hier.now.order.live) (unchained facts.now hier.now n x)) }
 {
-    for x in 0..node_count(hier) {
-        if let Some(found) = first_unchained_with(facts, hier, classes, n, x) {
-            return Some(found);
-        }
-    }
-    None
+    first_below!(x < node_count(hier); first_unchained_with(facts, hier, classes, n, x))
 }
 
 /// The first class node at or above a node that is not ordered with one before it.

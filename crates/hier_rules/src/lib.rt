@@ -6,6 +6,30 @@ ghost use Rattle.std.specs.Prelude.{◌≡◌, IfOk};
 ghost use Rattle.hier_rules.specs.Words.{InRange, AreSets, IsHierarchyOf, IsAsked};
 ghost use Rattle.hier_rules.specs.First.{first_changed_run, first_of_edit, first_broken};
 
+/// Whether one of the numbers below a count passes a test.
+macro_rules! any_below {
+    ($number:ident < $count:expr; $test:expr) => {{
+        for $number in 0..$count {
+            if $test {
+                return true;
+            }
+        }
+        false
+    }};
+}
+
+/// What is found at the first of the numbers below a count at which something is.
+macro_rules! first_below {
+    ($number:ident < $count:expr; $found:expr) => {{
+        for $number in 0..$count {
+            if let Some(found) = $found {
+                return Some(found);
+            }
+        }
+        None
+    }};
+}
+
 mod bodies;
 mod broken;
 mod chains;

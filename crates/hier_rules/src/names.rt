@@ -1,13 +1,12 @@
 //! B8, parts 1 to 3: names are identifiers, and apart from each other.
 
 ghost use Rattle.std.specs.Prelude.{◌≡◌, ℕ, ◌<◌, ◌&&◌, ◌∷◌, ◌++◌, [], Bool, true, cond, length, All, IfOk, OnOk};
-ghost use Rattle.hier_rules.specs.Words.{bytes_eq, or_else, first_below, is_live, IsAsked};
+ghost use Rattle.hier_rules.specs.Words.{bytes_eq, or_else, first_below, is_live, AreTaken, IsAsked};
 ghost use Rattle.kaba_base.specs.Words.{is_name};
 ghost use Rattle.hier_model.specs.Names.{is_field};
 ghost use Rattle.hier_rules.specs.Instances.{of_node};
 ghost use Rattle.hier_rules.specs.Names.{is_member, unwritable_type, unwritable, first_unwritable, is_taken_type, first_taken_type, is_taken_name, taken_field, first_taken_field, first_confused, first_misnamed};
 ghost use Rattle.hier_rules.specs.Namesakes.{ListsColumns, is_unwritable_member, is_taken_field, first_standing};
-ghost use Rattle.hier_rules.specs.Takens.{AreTaken};
 
 use crate::bodies::of_column;
 use crate::broken::{Broken, Nodes, Rule};
@@ -112,12 +111,7 @@ fn first_unwritable(asked: &Asked, list: &[u32]) -> Option<Broken>
     requires list { ListsColumns asked.now.facts.now (is_unwritable_member asked.now.facts.now asked.now.hier.now) list.now }
     ensures { result ≡ first_unwritable asked.now.facts.now asked.now.hier.now }
 {
-    for n in 0..node_count(asked.hier) {
-        if let Some(found) = first_unwritable_at(asked, list, n) {
-            return Some(found);
-        }
-    }
-    None
+    first_below!(n < node_count(asked.hier); first_unwritable_at(asked, list, n))
 }
 
 /// The same at one node.
@@ -204,12 +198,7 @@ fn first_taken_field(asked: &Asked, list: &[u32]) -> Option<Broken>
     requires list { ListsColumns asked.now.facts.now (is_taken_field asked.now.facts.now asked.now.hier.now) list.now }
     ensures { result ≡ first_taken_field asked.now.facts.now asked.now.hier.now }
 {
-    for n in 0..node_count(asked.hier) {
-        if let Some(found) = first_taken_field_at(asked, list, n) {
-            return Some(found);
-        }
-    }
-    None
+    first_below!(n < node_count(asked.hier); first_taken_field_at(asked, list, n))
 }
 
 /// The same at one node.
@@ -230,20 +219,6 @@ fn first_unwritable_of(alloc: Global, asked: &Asked) -> Result<Option<Broken>, A
     Ok(first_unwritable(asked, &list))
 }
 
-/// The first field whose name is taken. An error comes only for want of memory.
-fn first_taken_field_of(
-    alloc: Global,
-    asked: &Asked,
-    taken: &TakenNames,
-) -> Result<Option<Broken>, AllocError>
-    requires asked { IsAsked asked.now }
-    requires taken { AreTaken asked.now.facts.now asked.now.hier.now taken.now }
-    ensures { IfOk result (λ b. b ≡ first_taken_field asked.now.facts.now asked.now.hier.now) }
-{
-    let list = taken_fields(alloc, asked, taken)?;
-    Ok(first_taken_field(asked, &list))
-}
-
 /// The first instance against the parts of B8 after the first, by the names that are taken.
 fn first_taken(
     alloc: Global,
@@ -258,7 +233,8 @@ fn first_taken(
     if let Some(found) = first_taken_type(asked, taken) {
         return Ok(Some(found));
     }
-    match first_taken_field_of(alloc, asked, taken)? {
+    let fields = taken_fields(alloc, asked, taken)?;
+    match first_taken_field(asked, &fields) {
         Some(found) => Ok(Some(found)),
         None => first_confused(alloc, asked),
     }

@@ -81,12 +81,7 @@ fn has_array(asked: &Asked, base: u32, t: u32) -> bool
     requires base { base < length asked.now.facts.now.points.items }
     ensures { result ≡ has_array asked.now.facts.now asked.now.pt.now base t }
 {
-    for a in 0..asked.facts.sites.len() as u32 {
-        if is_array_at(asked, base, t, a) {
-            return true;
-        }
-    }
-    false
+    any_below!(a < asked.facts.sites.len() as u32; is_array_at(asked, base, t, a))
 }
 
 /// Adds the row of a site, if it is an array site in the set of a point.

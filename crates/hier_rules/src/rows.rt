@@ -44,12 +44,7 @@ pub fn first_unoffered(asked: &Asked) -> Option<Broken>
     requires { IsAsked asked.now }
     ensures { result ≡ first_unoffered asked.now.facts.now asked.now.hier.now }
 {
-    for r in 0..asked.facts.rows.len() as u32 {
-        if let Some(found) = first_unoffered_of(asked, r) {
-            return Some(found);
-        }
-    }
-    None
+    first_below!(r < asked.facts.rows.len() as u32; first_unoffered_of(asked, r))
 }
 
 /// The first column that a row has and is not offered.
@@ -91,12 +86,7 @@ fn first_tie(asked: &Asked, ties: &[BitRow]) -> Option<Broken>
     ensures { result ≡ first_below (length asked.now.facts.now.rows.items) (λ l. first_below (length asked.now.facts.now.rows.items)
         (untied asked.now.facts.now asked.now.hier.now l)) }
 {
-    for l in 0..asked.facts.rows.len() as u32 {
-        if let Some(found) = first_tie_of(asked, row_at(ties, l as usize), l) {
-            return Some(found);
-        }
-    }
-    None
+    first_below!(l < asked.facts.rows.len() as u32; first_tie_of(asked, row_at(ties, l as usize), l))
 }
 
 /// The first such tie of a lower row.
@@ -124,12 +114,7 @@ fn first_unheld(asked: &Asked) -> Option<Broken>
     ensures { result ≡ first_below (length asked.now.facts.now.sites.items) (λ o. first_below (length asked.now.facts.now.rows.items)
         (unheld asked.now.facts.now asked.now.pt.now asked.now.hier.now o)) }
 {
-    for o in 0..asked.facts.sites.len() as u32 {
-        if let Some(found) = first_unheld_of(asked, o) {
-            return Some(found);
-        }
-    }
-    None
+    first_below!(o < asked.facts.sites.len() as u32; first_unheld_of(asked, o))
 }
 
 /// The first row in whose set a site is and at or below which it does not stand.

@@ -10,87 +10,55 @@ use Rattle.kaba_words.specs.Commands.{Cmd, run, table, lattice, edit, regen, mak
 apart : (a b : List ℕ) → bytes_eq a b ≡ false → a ≡ b → ⊥
 apart a b f e = false≢true (sym f ∙ (bytes_eq-Decides a b).1 e)
 
+-- the name of a command
+abbrev pub name_of : Cmd → List ℕ
+name_of (run file steps after) = codes "run"
+name_of (table file) = codes "table"
+name_of (lattice json bound file) = codes "lattice"
+name_of (edit bound file script) = codes "edit"
+name_of (regen bound file script) = codes "regen"
+name_of (make prints n) = codes "make"
+name_of help = codes "--help"
+name_of version = codes "--version"
+
+-- words with another name than that of a command do not say it
+other : (name : List ℕ) (more : List (List ℕ)) (command : Cmd) → bytes_eq name (name_of command) ≡ false → Fits (name ∷ more) command → ⊥
+other name more (run file steps after) f h = apart name (codes "run") f h.0
+other name more command f h = apart name (name_of command) f h.0
+
 at_run : (more : List (List ℕ)) → ((file : List ℕ) (steps : ℕ) (after : List (List ℕ)) → FitsRun more file steps after → ⊥) → (command : Cmd)
     → Fits (codes "run" ∷ more) command → ⊥
 at_run more none (run file steps after) h = none file steps after h.1
-at_run more none (table file) h = apart (codes "run") (codes "table") refl h.0
-at_run more none (lattice json bound file) h = apart (codes "run") (codes "lattice") refl h.0
-at_run more none (edit bound file script) h = apart (codes "run") (codes "edit") refl h.0
-at_run more none (regen bound file script) h = apart (codes "run") (codes "regen") refl h.0
-at_run more none (make prints n) h = apart (codes "run") (codes "make") refl h.0
-at_run more none help h = apart (codes "run") (codes "--help") refl h.0
-at_run more none version h = apart (codes "run") (codes "--version") refl h.0
+at_run more none command h = other (codes "run") more command refl h
 
 at_table : (more : List (List ℕ)) → ((file : List ℕ) → more ≡ file ∷ [] → ⊥) → (command : Cmd) → Fits (codes "table" ∷ more) command → ⊥
-at_table more none (run file steps after) h = apart (codes "table") (codes "run") refl h.0
 at_table more none (table file) h = none file h.1
-at_table more none (lattice json bound file) h = apart (codes "table") (codes "lattice") refl h.0
-at_table more none (edit bound file script) h = apart (codes "table") (codes "edit") refl h.0
-at_table more none (regen bound file script) h = apart (codes "table") (codes "regen") refl h.0
-at_table more none (make prints n) h = apart (codes "table") (codes "make") refl h.0
-at_table more none help h = apart (codes "table") (codes "--help") refl h.0
-at_table more none version h = apart (codes "table") (codes "--version") refl h.0
+at_table more none command h = other (codes "table") more command refl h
 
 at_lattice : (more : List (List ℕ)) → ((json : Bool) (bound : ℕ) (file : List ℕ) → FitsLattice more json bound file → ⊥) → (command : Cmd)
     → Fits (codes "lattice" ∷ more) command → ⊥
-at_lattice more none (run file steps after) h = apart (codes "lattice") (codes "run") refl h.0
-at_lattice more none (table file) h = apart (codes "lattice") (codes "table") refl h.0
 at_lattice more none (lattice json bound file) h = none json bound file h.1
-at_lattice more none (edit bound file script) h = apart (codes "lattice") (codes "edit") refl h.0
-at_lattice more none (regen bound file script) h = apart (codes "lattice") (codes "regen") refl h.0
-at_lattice more none (make prints n) h = apart (codes "lattice") (codes "make") refl h.0
-at_lattice more none help h = apart (codes "lattice") (codes "--help") refl h.0
-at_lattice more none version h = apart (codes "lattice") (codes "--version") refl h.0
+at_lattice more none command h = other (codes "lattice") more command refl h
 
 at_edit : (more : List (List ℕ)) → NoEdit more → (command : Cmd) → Fits (codes "edit" ∷ more) command → ⊥
-at_edit more none (run file steps after) h = apart (codes "edit") (codes "run") refl h.0
-at_edit more none (table file) h = apart (codes "edit") (codes "table") refl h.0
-at_edit more none (lattice json bound file) h = apart (codes "edit") (codes "lattice") refl h.0
 at_edit more none (edit bound file script) h = none bound file script h.1
-at_edit more none (regen bound file script) h = apart (codes "edit") (codes "regen") refl h.0
-at_edit more none (make prints n) h = apart (codes "edit") (codes "make") refl h.0
-at_edit more none help h = apart (codes "edit") (codes "--help") refl h.0
-at_edit more none version h = apart (codes "edit") (codes "--version") refl h.0
+at_edit more none command h = other (codes "edit") more command refl h
 
 at_regen : (more : List (List ℕ)) → NoEdit more → (command : Cmd) → Fits (codes "regen" ∷ more) command → ⊥
-at_regen more none (run file steps after) h = apart (codes "regen") (codes "run") refl h.0
-at_regen more none (table file) h = apart (codes "regen") (codes "table") refl h.0
-at_regen more none (lattice json bound file) h = apart (codes "regen") (codes "lattice") refl h.0
-at_regen more none (edit bound file script) h = apart (codes "regen") (codes "edit") refl h.0
 at_regen more none (regen bound file script) h = none bound file script h.1
-at_regen more none (make prints n) h = apart (codes "regen") (codes "make") refl h.0
-at_regen more none help h = apart (codes "regen") (codes "--help") refl h.0
-at_regen more none version h = apart (codes "regen") (codes "--version") refl h.0
+at_regen more none command h = other (codes "regen") more command refl h
 
 at_make : (more : List (List ℕ)) → NoMake more → (command : Cmd) → Fits (codes "make" ∷ more) command → ⊥
-at_make more none (run file steps after) h = apart (codes "make") (codes "run") refl h.0
-at_make more none (table file) h = apart (codes "make") (codes "table") refl h.0
-at_make more none (lattice json bound file) h = apart (codes "make") (codes "lattice") refl h.0
-at_make more none (edit bound file script) h = apart (codes "make") (codes "edit") refl h.0
-at_make more none (regen bound file script) h = apart (codes "make") (codes "regen") refl h.0
 at_make more none (make prints n) h = none prints n h.1
-at_make more none help h = apart (codes "make") (codes "--help") refl h.0
-at_make more none version h = apart (codes "make") (codes "--version") refl h.0
+at_make more none command h = other (codes "make") more command refl h
 
 at_help : (more : List (List ℕ)) → (more ≡ [] → ⊥) → (command : Cmd) → Fits (codes "--help" ∷ more) command → ⊥
-at_help more none (run file steps after) h = apart (codes "--help") (codes "run") refl h.0
-at_help more none (table file) h = apart (codes "--help") (codes "table") refl h.0
-at_help more none (lattice json bound file) h = apart (codes "--help") (codes "lattice") refl h.0
-at_help more none (edit bound file script) h = apart (codes "--help") (codes "edit") refl h.0
-at_help more none (regen bound file script) h = apart (codes "--help") (codes "regen") refl h.0
-at_help more none (make prints n) h = apart (codes "--help") (codes "make") refl h.0
 at_help more none help h = none h.1
-at_help more none version h = apart (codes "--help") (codes "--version") refl h.0
+at_help more none command h = other (codes "--help") more command refl h
 
 at_version : (more : List (List ℕ)) → (more ≡ [] → ⊥) → (command : Cmd) → Fits (codes "--version" ∷ more) command → ⊥
-at_version more none (run file steps after) h = apart (codes "--version") (codes "run") refl h.0
-at_version more none (table file) h = apart (codes "--version") (codes "table") refl h.0
-at_version more none (lattice json bound file) h = apart (codes "--version") (codes "lattice") refl h.0
-at_version more none (edit bound file script) h = apart (codes "--version") (codes "edit") refl h.0
-at_version more none (regen bound file script) h = apart (codes "--version") (codes "regen") refl h.0
-at_version more none (make prints n) h = apart (codes "--version") (codes "make") refl h.0
-at_version more none help h = apart (codes "--version") (codes "--help") refl h.0
 at_version more none version h = none h.1
+at_version more none command h = other (codes "--version") more command refl h
 
 -- the name is that of the command, and the words after it do not fit
 pub none_of_run : (words : List (List ℕ)) (more : List (List ℕ)) → words ≡ codes "run" ∷ more → ((file : List ℕ) (steps : ℕ) (after : List (List ℕ))

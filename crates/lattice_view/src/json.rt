@@ -1,6 +1,6 @@
 //! The line of JSON.
 
-ghost use Rattle.std.specs.Prelude.{◌≡◌, ◌++◌, false, map, codes, IfOk, OnOk, OnErr, string_bytes};
+ghost use Rattle.std.specs.Prelude.{◌≡◌, ◌++◌, false, map, codes, IfOk, string_bytes};
 ghost use Rattle.serde_json.specs.Data.{array};
 ghost use Rattle.serde_json.specs.View.{view, items_of};
 ghost use Rattle.serde_json.specs.Written.{has_float, compact_text};
@@ -11,26 +11,16 @@ use fact_model::{ColumnInfo, Concept, Facts, Lattice, RowInfo};
 use serde_json::{Value, json};
 use std::alloc::{AllocError, Global};
 
-/// Appends the lattice as one line of JSON: the labels of the columns and of the rows, and for each
-/// concept the numbers of its upper covers, the columns and rows that stand there, and the size of
-/// its extent. An error comes only for want of memory, and then nothing was appended.
-pub fn show_json(
-    alloc: Global,
-    facts: &Facts,
-    lattice: &Lattice,
-    into: &mut Vec<u8>,
-) -> Result<(), AllocError>
-    ensures text { OnOk result (into.new.items ≡ into.old.items ++ lattice_json facts.now lattice.now) }
-    ensures same { OnErr result (into.new.items ≡ into.old.items) }
+/// The line.
+pub fn line_of(alloc: Global, facts: &Facts, lattice: &Lattice) -> Result<String, AllocError>
+    ensures { IfOk result (λ s. string_bytes s ≡ lattice_json facts.now lattice.now) }
 {
     let value = lattice_value(alloc, facts, lattice)?;
-    let text = line_of(alloc, &value)?;
-    into.extend_from_slice(text.as_bytes())?;
-    Ok(())
+    in_one_line(alloc, &value)
 }
 
 /// A value in one line.
-fn line_of(alloc: Global, value: &Value) -> Result<String, AllocError>
+fn in_one_line(alloc: Global, value: &Value) -> Result<String, AllocError>
     requires { has_float (view value.now) ≡ false }
     ensures { IfOk result (λ s. string_bytes s ≡ compact_text (view value.now) ++ codes "\n") }
 {

@@ -1,6 +1,6 @@
 //! The lines of a table.
 
-ghost use Rattle.std.specs.Prelude.{◌≡◌, ◌++◌, ◌<◌, IfOk, OnOk, OnErr, length, string_bytes};
+ghost use Rattle.std.specs.Prelude.{◌≡◌, ◌++◌, ◌<◌, IfOk, OnOk, length, string_bytes};
 ghost use Rattle.std.specs.Str.{encode_utf8_all};
 ghost use Rattle.lattice_view.specs.Table.{marks_text, row_text, rows_text, column_text, columns_text, table_text};
 
@@ -8,26 +8,8 @@ use fact_model::{ColumnInfo, Facts, RowInfo, Table};
 use kaba_bits::BitRow;
 use std::alloc::{AllocError, Global};
 
-/// Appends the table: the count of rows and for each a line `rI LABEL:` with ` cJ` for each of its
-/// columns, and then the count of columns and for each a line `cI LABEL`.
-/// An error comes only for want of memory, and then nothing was appended.
-pub fn show_table(
-    alloc: Global,
-    facts: &Facts,
-    table: &Table,
-    into: &mut Vec<u8>,
-) -> Result<(), AllocError>
-    requires rows { length table.now.rows.items ≡ length facts.now.rows.items }
-    ensures text { OnOk result (into.new.items ≡ into.old.items ++ table_text facts.now table.now) }
-    ensures same { OnErr result (into.new.items ≡ into.old.items) }
-{
-    let text = text_of(alloc, facts, table)?;
-    into.extend_from_slice(text.as_bytes())?;
-    Ok(())
-}
-
-/// The whole text.
-fn text_of(alloc: Global, facts: &Facts, table: &Table) -> Result<String, AllocError>
+/// The lines.
+pub fn table_text(alloc: Global, facts: &Facts, table: &Table) -> Result<String, AllocError>
     requires rows { length table.now.rows.items ≡ length facts.now.rows.items }
     ensures { IfOk result (λ s. string_bytes s ≡ table_text facts.now table.now) }
 {

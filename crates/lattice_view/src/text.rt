@@ -1,6 +1,6 @@
 //! The lines.
 
-ghost use Rattle.std.specs.Prelude.{◌≡◌, ◌++◌, map, IfOk, OnOk, OnErr, string_bytes};
+ghost use Rattle.std.specs.Prelude.{◌≡◌, ◌++◌, map, IfOk, OnOk, string_bytes};
 ghost use Rattle.lattice_view.specs.Text.{concept_text, concepts_text, lattice_text};
 
 use crate::lists::add_part;
@@ -8,20 +8,8 @@ use fact_model::{Concept, Lattice};
 use kaba_base::{ColId, RowId};
 use std::alloc::{AllocError, Global};
 
-/// Appends the count of the concepts, and for each a line: `kI SIZE WIDTH columns: .. rows: .. above: ..`
-/// with the sizes of extent and intent, the columns and rows that stand there, and the upper covers.
-/// An error comes only for want of memory, and then nothing was appended.
-pub fn show_text(alloc: Global, lattice: &Lattice, into: &mut Vec<u8>) -> Result<(), AllocError>
-    ensures text { OnOk result (into.new.items ≡ into.old.items ++ lattice_text lattice.now) }
-    ensures same { OnErr result (into.new.items ≡ into.old.items) }
-{
-    let text = text_of(alloc, lattice)?;
-    into.extend_from_slice(text.as_bytes())?;
-    Ok(())
-}
-
-/// The whole text.
-fn text_of(alloc: Global, lattice: &Lattice) -> Result<String, AllocError>
+/// The lines.
+pub fn lattice_text(alloc: Global, lattice: &Lattice) -> Result<String, AllocError>
     ensures { IfOk result (λ s. string_bytes s ≡ lattice_text lattice.now) }
 {
     let count = lattice.concepts.len();

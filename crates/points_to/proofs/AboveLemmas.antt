@@ -57,7 +57,7 @@ module _ (F : Facts) where
       → Gained (a ∷ []) r s [] w → Walked F a.0 s w
   walked-start a r s w len none in_range g = record {
     len = g.len ∙ len;
-    start = g.told a (one-is a);
+    start = g.told a (Contains-push [] a);
     sound = λ y h. ⊎_elim (λ k. absurd (none y k))
         (λ c. subst (λ z. IsBelow F a.0 z) (ap (λ (z : ClassId). z.0) (one_from a (class_id y) c)) same) (g.news y h);
     settled = λ y h. ⊎_elim (λ k. absurd (none y k)) (λ c. inl c) (g.settled y h);

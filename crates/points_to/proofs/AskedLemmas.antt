@@ -59,22 +59,22 @@ module _ (F : Facts) (R : InRange F) where
   }
 
   -- it was found, in another order
-  pub found_asked : (x : Found) → x.told.items ≡ asked_told F → x.edges.items ≡ asked_edges F → IsPermutation (asked_reads F) x.reads.items
-      → IsPermutation (asked_writes F) x.writes.items → IsPermutation (asked_runs F) x.runs.items → AreFound F x × AreAsked F x
+  pub found_asked : (x : Found) → x.told.items ≡ asked_told F → x.edges.items ≡ asked_edges F → IsPermutation (asked_reads F) x.members.reads.items
+      → IsPermutation (asked_writes F) x.members.writes.items → IsPermutation (asked_runs F) x.members.runs.items → AreFound F x × AreAsked F x
   found_asked x told edges reads writes runs = (
     record {
       told = subst (All (IsTold F)) (sym told) asked_holds.told;
       edges = subst (All (IsEdge F)) (sym edges) asked_holds.edges;
-      reads = All-permutation (IsRead F) (asked_reads F) x.reads.items reads asked_holds.reads;
-      writes = All-permutation (IsWrite F) (asked_writes F) x.writes.items writes asked_holds.writes;
-      runs = All-permutation (IsRun F) (asked_runs F) x.runs.items runs asked_holds.runs;
+      reads = All-permutation (IsRead F) (asked_reads F) x.members.reads.items reads asked_holds.reads;
+      writes = All-permutation (IsWrite F) (asked_writes F) x.members.writes.items writes asked_holds.writes;
+      runs = All-permutation (IsRun F) (asked_runs F) x.members.runs.items runs asked_holds.runs;
     },
     record {
       told = subst (λ xs. All (Contains xs) (asked_told F)) (sym told) (All-contains_itself (asked_told F));
       edges = subst (λ xs. All (Contains xs) (asked_edges F)) (sym edges) (All-contains_itself (asked_edges F));
-      reads = kept (asked_reads F) x.reads.items reads;
-      writes = kept (asked_writes F) x.writes.items writes;
-      runs = kept (asked_runs F) x.runs.items runs;
+      reads = kept (asked_reads F) x.members.reads.items reads;
+      writes = kept (asked_writes F) x.members.writes.items writes;
+      runs = kept (asked_runs F) x.members.runs.items runs;
     },
   )
     where
@@ -113,21 +113,22 @@ module _ {F : Facts} {E : Edge → Type 0} {S : Told → Type 0} {R : Read → T
 
 -- where all that was found is closed, the sets are
 pub asked_closed : (F : Facts) (x : Found) (sets : List (List Bool)) → AreAsked F x → All (IsEdgeClosed F sets) x.edges.items → All (IsShown sets) x.told.items
-    → All (IsReadClosed F sets sets) x.reads.items → All (IsWriteClosed F sets sets) x.writes.items → All (IsRunClosed F sets sets) x.runs.items
+    → All (IsReadClosed F sets sets) x.members.reads.items → All (IsWriteClosed F sets sets) x.members.writes.items
+    → All (IsRunClosed F sets sets) x.members.runs.items
     → AreClosed F sets
 asked_closed F x sets a edges told reads writes runs = record {
   told = all_among (IsShown sets) x.told.items _ told a.told;
   edges = all_among (IsEdgeClosed F sets) x.edges.items _ edges a.edges;
-  reads = all_among (IsReadClosed F sets sets) x.reads.items _ reads a.reads;
-  writes = all_among (IsWriteClosed F sets sets) x.writes.items _ writes a.writes;
-  runs = all_among (IsRunClosed F sets sets) x.runs.items _ runs a.runs;
+  reads = all_among (IsReadClosed F sets sets) x.members.reads.items _ reads a.reads;
+  writes = all_among (IsWriteClosed F sets sets) x.members.writes.items _ writes a.writes;
+  runs = all_among (IsRunClosed F sets sets) x.members.runs.items _ runs a.runs;
 }
 
 -- a turn over all that was found
 module _ (F : Facts) (x : Found) (s1 s2 s3 s4 s5 : List (List Bool)) (asked : AreAsked F x) where
   pub turn_closed : (a b c d e : Bool) → IsStep s1 s2 b → IsStep s2 s3 c → IsStep s3 s4 d → IsStep s4 s5 e → OnFalse a (All (IsShown s1) x.told.items)
-      → OnFalse b (All (IsEdgeClosed F s2) x.edges.items) → OnFalse c (All (IsReadClosed F s2 s3) x.reads.items)
-      → OnFalse d (All (IsWriteClosed F s2 s4) x.writes.items) → OnFalse e (All (IsRunClosed F s2 s5) x.runs.items)
+      → OnFalse b (All (IsEdgeClosed F s2) x.edges.items) → OnFalse c (All (IsReadClosed F s2 s3) x.members.reads.items)
+      → OnFalse d (All (IsWriteClosed F s2 s4) x.members.writes.items) → OnFalse e (All (IsRunClosed F s2 s5) x.members.runs.items)
       → OnFalse ((((a || b) || c) || d) || e) (AreClosed F s5)
   turn_closed true b c d e p2 p3 p4 p5 told edges reads writes runs = tt
   turn_closed false true c d e p2 p3 p4 p5 told edges reads writes runs = tt
@@ -139,9 +140,10 @@ module _ (F : Facts) (x : Found) (s1 s2 s3 s4 s5 : List (List Bool)) (asked : Ar
       asked_closed F x s5 asked
       (subst (λ s. All (IsEdgeClosed F s) x.edges.items) (sym r) edges)
       (subst (λ s. All (IsShown s) x.told.items) (sym (r ∙ p2)) told)
-      (subst (λ s. All (IsReadClosed F s s5) x.reads.items) (sym r) (subst (λ s. All (IsReadClosed F s2 s) x.reads.items) (sym (p5 ∙ p4)) reads))
-      (subst (λ s. All (IsWriteClosed F s s5) x.writes.items) (sym r) (subst (λ s. All (IsWriteClosed F s2 s) x.writes.items) (sym p5) writes))
-      (subst (λ s. All (IsRunClosed F s s5) x.runs.items) (sym r) runs)
+      (subst (λ s. All (IsReadClosed F s s5) x.members.reads.items) (sym r) (subst (λ s. All (IsReadClosed F s2 s) x.members.reads.items)
+      (sym (p5 ∙ p4)) reads))
+      (subst (λ s. All (IsWriteClosed F s s5) x.members.writes.items) (sym r) (subst (λ s. All (IsWriteClosed F s2 s) x.members.writes.items) (sym p5) writes))
+      (subst (λ s. All (IsRunClosed F s s5) x.members.runs.items) (sym r) runs)
 
 -- the members of a body that was found
 pub found_targets : (F : Facts) (index : Index) → IsIndex F index → (m : Member) (slot o d : ℕ) (list : List ℕ) → slot_of m ≡ Some slot

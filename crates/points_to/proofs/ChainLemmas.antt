@@ -2,6 +2,7 @@
 use Rattle.std.proofs.Common.{◌≡◌, ℕ, ◌+◌, ◌-◌, ◌<◌, ◌≤◌, Bool, true, false, ◌&&◌, eqb, nat_lt, cond, List, length, get_or, set, Option, Some, None, refl, sym, ap, ◌∙◌, subst, arith, ⊎_elim}
 use Rattle.std.specs.List.{position, position_or_len}
 use Rattle.std.specs.Option.{unwrap_or}
+use Rattle.std.proofs.Math.Nat.{mod-lt}
 use Rattle.std.proofs.lemmas.Bool.{cases_lt, cases_eq, cases_Bool, false≢true, and_parts, eqb-true}
 use Rattle.std.proofs.lemmas.Bool.Decides.{nat_tests}
 use Rattle.std.proofs.lemmas.List.{get_or-set_same, get_or-set_other, length-set}
@@ -53,8 +54,10 @@ module _ (F : Facts) where
     none = λ e. absurd (cc (e));
   }
 
-  module _ (first next : List (Option ℕ)) (c : ℕ) (lt : c < length F.columns.items) (in_range : column_bucket F c < length F.columns.items + 1)
-      (old : AreChained F first next (c + 1)) where
+  module _ (first next : List (Option ℕ)) (c : ℕ) (lt : c < length F.columns.items) (old : AreChained F first next (c + 1)) where
+    in_range : column_bucket F c < length F.columns.items + 1
+    in_range = mod-lt _ (omega arith)
+
     next_more : (k : ℕ) → c ≤ k → k < length F.columns.items
         → IsFirst F (column_bucket F k) (k + 1) (get_or (set next c (get_or first (column_bucket F c) None)) k None)
     next_more k le high =

@@ -91,12 +91,9 @@ module _ (F : Facts) where
     pub load_read : (x : LoadInfo) → Contains F.loads.items x → IsRead F (record { base = x.base; member = Field x.column; into = x.into })
     load_read x is =
         let p = All-contains (λ x. IsPoint F x.base × IfSome x.column (IsCol F) × IsPoint F x.into) F.loads.items x R.loads is in
-        record {
-          base = omega (arith, p.0);
-          into = omega (arith, p.2);
-          flows = λ o n s base t h. point_node F x.into s p.2
-              (load_holds F x t.cell o s is t.is (node_point F x.base o p.0 base) (node_cell F t.cell s (subst (λ k. InNode F k s) t.node h)));
-        }
+        let flows = λ (o n s : ℕ) (base : InNode F x.base o) (t : IsTarget F (Field x.column) o n) (h : InNode F n s). point_node F x.into s p.2
+        (load_holds F x t.cell o s is t.is (node_point F x.base o p.0 base) (node_cell F t.cell s (subst (λ k. InNode F k s) t.node h))) in
+        record { base = omega (arith, p.0); into = omega (arith, p.2); flows = flows }
 
     pub store_write : (x : StoreInfo) → Contains F.stores.items x → IsWrite F (record { base = x.base; member = Field x.column; value = x.value })
     store_write x is =

@@ -9,7 +9,7 @@ use Rattle.kaba_base.specs.declared.ClassId.{ClassId}
 use Rattle.kaba_bits.specs.Sets.{bit, row, IsSubset, IsStep}
 use Rattle.kaba_bits.proofs.SetLemmas.{bit-below}
 use Rattle.kaba_bits.proofs.RowLemmas.{bit-row-below, set-kept}
-use Rattle.kaba_bits.proofs.StepLemmas.{closed_more}
+use Rattle.kaba_bits.proofs.StepLemmas.{IsStep-then, closed_more, closed-both}
 use Rattle.fact_model.specs.InRange.{InRange, IsClass}
 use Rattle.fact_model.specs.declared.facts.Facts.{Facts}
 use Rattle.points_to.specs.Sound.{node_count, InNode, AreSound}
@@ -17,6 +17,7 @@ use Rattle.points_to.specs.Work.{Passes, IsTarget, AreTargets, wanted, IsRead, I
 use Rattle.points_to.specs.Rounds.{IsIn, IsGathered, IsWhole, IsPending, IsFlushedAt, IsFlushed, IsDone, HasRow, HasSite, IsRunAt, AreBegun}
 use Rattle.points_to.specs.declared.work.Member.{Member}
 use Rattle.points_to.specs.declared.work.Member.TheVariants.{Field, This, Parameter, Returned}
+use Rattle.points_to.specs.declared.work.Edge.{Edge}
 use Rattle.points_to.specs.declared.work.Read.{Read}
 use Rattle.points_to.specs.declared.work.Write.{Write}
 use Rattle.points_to.specs.declared.work.Run.{Run}
@@ -25,7 +26,10 @@ use Rattle.points_to.specs.declared.writes.Pending.{Pending}
 use Rattle.points_to.specs.declared.runs.Begun.{Begun}
 use Rattle.points_to.proofs.AboveLemmas.{set-bits}
 use Rattle.points_to.proofs.EdgeLemmas.{target_below}
-use Rattle.points_to.proofs.LoopLemmas.{within_more}
+use Rattle.points_to.proofs.LoopLemmas.{within_more, all_end}
+
+abbrev pub no_edge : Edge
+no_edge = record { from = 0; to = 0; class = None }
 
 abbrev pub no_read : Read
 no_read = record { base = 0; member = Field None; into = 0 }
@@ -44,18 +48,33 @@ pub on_true_of : {P : Type 0} (g : Bool) → (g ≡ true → P) → OnTrue g P
 on_true_of true p = p refl
 on_true_of false p = tt
 
+use Rattle.kaba_bits.proofs.RowLemmas.{bit-row-below, set-kept}
+use Rattle.kaba_bits.proofs.StepLemmas.{IsStep-then, closed_more, closed-both}
 -- what a turn keeps from one element to the next, and what it gives for each
-pub round_first : (W V Q : Type 0) (g h : Bool) → OnFalse g W → OnFalse h (W → V × Q) → OnFalse (g || h) V
+round_first : (W V Q : Type 0) (g h : Bool) → OnFalse g W → OnFalse h (W → V × Q) → OnFalse (g || h) V
 round_first W V Q true h w f = tt
 round_first W V Q false true w f = tt
 round_first W V Q false false w f = (f w).0
 
-pub round_more : {X : Type 0} (P : List (List Bool) → X → Type 0) (W V : Type 0) (old new : List (List Bool)) (xs : List X) (k : ℕ) (d : X) (g h : Bool)
+round_more : {X : Type 0} (P : List (List Bool) → X → Type 0) (W V : Type 0) (old new : List (List Bool)) (xs : List X) (k : ℕ) (d : X) (g h : Bool)
     → k < length xs → IsStep old new h → OnFalse g W → OnFalse h (W → V × P new (get_or xs k d)) → OnFalse g (AllWithin (P old) xs 0 k)
     → OnFalse (g || h) (AllWithin (P new) xs 0 (k + 1))
 round_more P W V old new xs k d true h lt step w f before = tt
 round_more P W V old new xs k d false true lt step w f before = tt
 round_more P W V old new xs k d false false lt step w f before = closed_more P old new xs k d false false lt (step, (f w).1) before
+
+-- so for a turn that keeps something beside the sets
+pub kept_more : {X : Type 0} {F : Facts} {P : List (List Bool) → X → Type 0} {xs : List X} {k : ℕ} {first old new : List (List Bool)} {g : Bool}
+    {W V : Type 0} (h : Bool) (d : X) → IsKeeping F P xs first old g k W → k < length xs → AreSound F new → IsStep old new h
+    → OnFalse h (W → V × P new (get_or xs k d)) → IsKeeping F P xs first new (g || h) (k + 1) V
+kept_more {X} {F} {P} {xs} {k} {first} {old} {new} {g} {W} {V} h d before lt sets step here = record {
+  kept = round_first W V (P new (get_or xs k d)) g h before.kept here;
+  turn = record {
+    sets = sets;
+    step = IsStep-then first old new g h before.turn.step step;
+    closed = round_more P W V old new xs k d g h lt step before.kept here before.turn.closed;
+  };
+}
 
 -- the sites of a set below a number, one on
 module _ (from old new : List Bool) (o at : ℕ) (is : new ≡ set old o true) (lt : o < length old) where
@@ -152,9 +171,9 @@ module _ (F : Facts) where
     into_holds is site f = λ k d lt s h. let x = f s h in is.sound o s (get_or list k d) site x.0 (t.sound k d lt) x.1
 
     pub into_flushed : (new : List (List Bool)) (g : Bool) → ((s : ℕ) → bit p.values s ≡ true → Passes F (wanted F p.member o) s → bit extra s ≡ true)
-        → OnFalse g (All (HasRow new extra) list) → OnFalse g (IsFlushedAt F new p o)
+        → OnFalse g (All (HasRow extra new) list) → OnFalse g (IsFlushedAt F new p o)
     into_flushed new true f all = tt
-    into_flushed new false f all = λ n s target b h. All-contains (HasRow new extra) list n all (t.whole n target) s (f s h b)
+    into_flushed new false f all = λ n s target b h. All-contains (HasRow extra new) list n all (t.whole n target) s (f s h b)
 
   module _ (bases : List (List Bool)) where
     pub pending_more : (sets : List (List Bool)) (p q : Pending) (x : Write) → AreSound F bases → AreSound F sets → IsPending F p → IsWrite F x
@@ -198,10 +217,10 @@ module _ (F : Facts) where
     done_flushed old new p q false step all = λ y d. inl (flush_closes old new p false step all y d)
 
   -- a run
-  pub run_at : (new : List (List Bool)) (slot o : ℕ) (list : List ℕ) (g : Bool) → AreTargets F (This slot) o list → OnFalse g (All (HasSite new o) list)
+  pub run_at : (new : List (List Bool)) (slot o : ℕ) (list : List ℕ) (g : Bool) → AreTargets F (This slot) o list → OnFalse g (All (HasSite o new) list)
       → OnFalse g (IsRunAt F new slot o)
   run_at new slot o list true t all = tt
-  run_at new slot o list false t all = λ n target. All-contains (HasSite new o) list n all (t.whole n target)
+  run_at new slot o list false t all = λ n target. All-contains (HasSite o new) list n all (t.whole n target)
 
   pub begun_more : (first old new : List (List Bool)) (b0 b c : Begun) (o : ℕ) (g h : Bool) → IsStep old new h → o < length b.sites
       → c.slot ≡ b.slot → c.sites ≡ set b.sites o true → OnFalse h (IsRunAt F new b.slot o) → OnFalse g (AreBegun F first b0 → AreBegun F old b)

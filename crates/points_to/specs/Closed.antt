@@ -78,7 +78,8 @@ pub record AreFixed (F : Facts) (E : Edge → Type 0) (S : Told → Type 0) (R :
 
 -- what the facts ask for was found
 abbrev pub AreAsked : Facts → Found → Type 0
-AreAsked F x = AreFixed F (Contains x.edges.items) (Contains x.told.items) (Contains x.reads.items) (Contains x.writes.items) (Contains x.runs.items)
+AreAsked F x = AreFixed F (Contains x.edges.items) (Contains x.told.items) (Contains x.members.reads.items) (Contains x.members.writes.items)
+    (Contains x.members.runs.items)
 
 -- the sets are closed under the inclusions
 abbrev pub AreClosed : Facts → List (List Bool) → Type 0

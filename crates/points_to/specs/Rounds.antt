@@ -63,11 +63,11 @@ abbrev pub IsDone : Facts → List (List Bool) → List (List Bool) → Pending 
 IsDone F bases sets p x = IsWriteClosed F bases sets x ⊎ IsPended bases sets p x
 
 -- a set has a row, or a site
-abbrev pub HasRow : List (List Bool) → List Bool → ℕ → Type 0
-HasRow sets extra n = IsSubset extra (row sets n)
+abbrev pub HasRow : List Bool → List (List Bool) → ℕ → Type 0
+HasRow extra sets n = IsSubset extra (row sets n)
 
-abbrev pub HasSite : List (List Bool) → ℕ → ℕ → Type 0
-HasSite sets o n = bit (row sets n) o ≡ true
+abbrev pub HasSite : ℕ → List (List Bool) → ℕ → Type 0
+HasSite o sets n = bit (row sets n) o ≡ true
 
 -- a site is in the `this` of its body for the slot
 abbrev pub IsRunAt : Facts → List (List Bool) → ℕ → ℕ → Type 0

@@ -123,9 +123,9 @@ IsRunClosed F bases sets x = (o n : ℕ) → bit (row bases x.base) o ≡ true �
 pub record AreFound (F : Facts) (found : Found) : Type 0 where
   pub edges : All (IsEdge F) found.edges.items
   pub told : All (IsTold F) found.told.items
-  pub reads : All (IsRead F) found.reads.items
-  pub writes : All (IsWrite F) found.writes.items
-  pub runs : All (IsRun F) found.runs.items
+  pub reads : All (IsRead F) found.members.reads.items
+  pub writes : All (IsWrite F) found.members.writes.items
+  pub runs : All (IsRun F) found.members.runs.items
 
 -- from one point into another
 abbrev pub between : ℕ → ℕ → Edge

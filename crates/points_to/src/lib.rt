@@ -18,6 +18,7 @@ mod bodies;
 mod closing;
 mod found;
 mod index;
+mod members;
 mod news;
 mod order;
 mod queue;

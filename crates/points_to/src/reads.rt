@@ -2,14 +2,12 @@
 //! the same member whose base has all of these sites.
 
 ghost use Rattle.std.specs.Prelude.{◌≡◌, ℕ, ◌<◌, ◌⊎◌, ◌↔◌, Bool, true, List, length, slice_set, All, IsTrue, IfOk, OnOk};
-ghost use Rattle.points_to.specs.Work.{IsRead, IsReadClosed};
 ghost use Rattle.points_to.specs.Rounds.{IsIn, IsNextBeyond, IsGathered, IsWhole};
-ghost use Rattle.points_to.specs.Words.{OnFalse, bit, row, IsSubset, IsStep, InRange, node_count, AreSound, IsGiven};
+ghost use Rattle.points_to.specs.Words.{bit, row, IsSubset, InRange, node_count, AreSound, IsGiven};
 
 use crate::found::Given;
-use crate::queue::Queue;
 use crate::targets::list_targets;
-use crate::work::{Member, Read, include_row};
+use crate::work::Member;
 use fact_model::Facts;
 use kaba_bits::{BitRow, row_at};
 use std::alloc::{AllocError, Global};
@@ -17,13 +15,13 @@ use std::alloc::{AllocError, Global};
 /// What is in a member of these sites.
 #[derive(Drop)]
 pub struct Union {
-    member: Member,
-    sites: BitRow,
-    held: BitRow,
+    pub member: Member,
+    pub sites: BitRow,
+    pub held: BitRow,
 }
 
 /// That of no sites. An error comes only for want of memory.
-fn no_union(alloc: Global, facts: &Facts) -> Result<Union, AllocError>
+pub fn no_union(alloc: Global, facts: &Facts) -> Result<Union, AllocError>
     requires { InRange facts.now }
     ensures gathered { IfOk result (IsGathered facts.now) }
     ensures whole { IfOk result (λ u. (sets : List (List Bool)) → IsWhole facts.now sets u) }
@@ -44,7 +42,7 @@ pub fn is_same_member(a: Member, b: Member) -> bool
 }
 
 /// Begins anew, where the union is of another member or of sites beside those of a set.
-fn turn_to(facts: &Facts, union: &mut Union, member: Member, set: &BitRow)
+pub fn turn_to(facts: &Facts, union: &mut Union, member: Member, set: &BitRow)
     requires gathered { IsGathered facts.now union.old }
     requires width { length set.now ≡ length facts.now.sites.items }
     ensures gathered { IsGathered facts.now union.new }
@@ -110,7 +108,7 @@ pub fn next_site(facts: &Facts, set: &BitRow, sites: &BitRow, at: u32) -> Option
 }
 
 /// The sites of a set too. An error comes only for want of memory.
-fn gather(
+pub fn gather(
     given: &Given,
     sets: &[BitRow],
     union: &mut Union,
@@ -140,56 +138,4 @@ fn gather(
         }
     }
     Ok(())
-}
-
-/// One read, and whether anything was new. An error comes only for want of memory.
-fn close_read(
-    given: &Given,
-    bases: &[BitRow],
-    sets: &mut [BitRow],
-    grown: &mut Queue,
-    union: &mut Union,
-    list: &mut Vec<usize>,
-    x: Read,
-) -> Result<bool, AllocError>
-    requires given { IsGiven given.now }
-    requires bases { AreSound given.now.facts.now bases.now }
-    requires sets { AreSound given.now.facts.now sets.old }
-    requires gathered { IsGathered given.now.facts.now union.old }
-    requires read { IsRead given.now.facts.now x }
-    ensures sets { OnOk result (AreSound given.now.facts.now sets.new) }
-    ensures gathered { OnOk result (IsGathered given.now.facts.now union.new) }
-    ensures step { IfOk result (IsStep sets.old sets.new) }
-    ensures closed { IfOk result (λ grew. OnFalse grew (IsWhole given.now.facts.now sets.old union.old → IsWhole given.now.facts.now sets.new union.new × IsReadClosed given.now.facts.now bases.now sets.new x)) }
-{
-    let set = row_at(bases, x.base as usize);
-    turn_to(given.facts, union, x.member, set);
-    gather(given, sets, union, list, set)?;
-    Ok(include_row(given.facts, sets, grown, &union.held, x.into as usize))
-}
-
-/// Each read, and whether anything was new. An error comes only for want of memory.
-pub fn close_reads(
-    given: &Given,
-    bases: &[BitRow],
-    sets: &mut [BitRow],
-    grown: &mut Queue,
-    reads: &[Read],
-) -> Result<bool, AllocError>
-    requires given { IsGiven given.now }
-    requires bases { AreSound given.now.facts.now bases.now }
-    requires sets { AreSound given.now.facts.now sets.old }
-    requires reads { All (IsRead given.now.facts.now) reads.now }
-    ensures sets { OnOk result (AreSound given.now.facts.now sets.new) }
-    ensures step { IfOk result (IsStep sets.old sets.new) }
-    ensures closed { IfOk result (λ grew. OnFalse grew (All (IsReadClosed given.now.facts.now bases.now sets.new) reads.now)) }
-{
-    let mut union = no_union(given.alloc, given.facts)?;
-    let mut list = Vec::new(given.alloc);
-    let mut grew = false;
-    for x in reads {
-        let more = close_read(given, bases, sets, grown, &mut union, &mut list, *x)?;
-        grew |= more;
-    }
-    Ok(grew)
 }

@@ -1,9 +1,9 @@
 //! Runs: each site in a base is in the `this` of its body. A site is gone over once for the bases of one slot.
 
-ghost use Rattle.std.specs.Prelude.{◌≡◌, ℕ, ◌<◌, Bool, true, List, length, All, IfOk, OnOk};
+ghost use Rattle.std.specs.Prelude.{◌≡◌, ◌<◌, Bool, List, length, All, IfOk, OnOk};
 ghost use Rattle.points_to.specs.Work.{IsRun, IsRunClosed};
 ghost use Rattle.points_to.specs.Rounds.{HasSite, IsRunAt, AreBegun};
-ghost use Rattle.points_to.specs.Words.{OnFalse, bit, row, IsStep, InRange, node_count, AreSound, InNode, IsGiven};
+ghost use Rattle.points_to.specs.Words.{OnFalse, IsStep, InRange, node_count, AreSound, InNode, IsGiven};
 
 use crate::found::Given;
 use crate::queue::Queue;
@@ -21,6 +21,18 @@ pub struct Begun {
     sites: BitRow,
 }
 
+/// None, for the first slot. An error comes only for want of memory.
+pub fn none_begun(alloc: Global, facts: &Facts) -> Result<Begun, AllocError>
+    requires { InRange facts.now }
+    ensures width { IfOk result (λ b. length b.sites ≡ length facts.now.sites.items) }
+    ensures begun { IfOk result (λ b. (sets : List (List Bool)) → AreBegun facts.now sets b) }
+{
+    Ok(Begun {
+        slot: 0,
+        sites: BitRow::new(alloc, facts.sites.len() as u32)?,
+    })
+}
+
 /// One site into each of these sets, and whether it is new in one.
 fn put_all(facts: &Facts, sets: &mut [BitRow], grown: &mut Queue, list: &[usize], o: u32) -> bool
     requires sets { AreSound facts.now sets.old }
@@ -29,7 +41,7 @@ fn put_all(facts: &Facts, sets: &mut [BitRow], grown: &mut Queue, list: &[usize]
     requires holds { All (λ n. InNode facts.now n o) list.now }
     ensures sets { AreSound facts.now sets.new }
     ensures step { IsStep sets.old sets.new result }
-    ensures closed { OnFalse result (All (HasSite sets.new o) list.now) }
+    ensures closed { OnFalse result (All (HasSite o sets.new) list.now) }
 {
     let mut grew = false;
     for n in list {
@@ -75,7 +87,7 @@ fn turn_to(facts: &Facts, begun: &mut Begun, slot: u32)
 }
 
 /// Each site of a base that was not gone over, and whether anything was new. An error comes only for want of memory.
-fn close_run(
+pub fn close_run(
     given: &Given,
     bases: &[BitRow],
     sets: &mut [BitRow],
@@ -109,35 +121,6 @@ fn close_run(
             }
             None => return Ok(grew),
         }
-    }
-    Ok(grew)
-}
-
-/// Each run, and whether anything was new. An error comes only for want of memory.
-pub fn close_runs(
-    given: &Given,
-    bases: &[BitRow],
-    sets: &mut [BitRow],
-    grown: &mut Queue,
-    runs: &[Run],
-) -> Result<bool, AllocError>
-    requires given { IsGiven given.now }
-    requires bases { AreSound given.now.facts.now bases.now }
-    requires sets { AreSound given.now.facts.now sets.old }
-    requires runs { All (IsRun given.now.facts.now) runs.now }
-    ensures sets { OnOk result (AreSound given.now.facts.now sets.new) }
-    ensures step { IfOk result (IsStep sets.old sets.new) }
-    ensures closed { IfOk result (λ grew. OnFalse grew (All (IsRunClosed given.now.facts.now bases.now sets.new) runs.now)) }
-{
-    let mut begun = Begun {
-        slot: 0,
-        sites: BitRow::new(given.alloc, given.facts.sites.len() as u32)?,
-    };
-    let mut list = Vec::new(given.alloc);
-    let mut grew = false;
-    for x in runs {
-        let more = close_run(given, bases, sets, grown, &mut begun, &mut list, *x)?;
-        grew |= more;
     }
     Ok(grew)
 }

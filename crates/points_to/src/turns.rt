@@ -4,16 +4,13 @@
 ghost use Rattle.std.specs.Prelude.{All, Contains, IfOk, IfSome, OnOk};
 ghost use Rattle.points_to.specs.Words.{InRange, AreSound, IsGiven};
 
-use crate::closing::close_told;
+use crate::closing::{close_reads, close_runs, close_told, close_writes};
 use crate::found::Given;
 use crate::index::numbers_at;
 use crate::news::{Bases, load_news, load_whole, no_bases};
 use crate::queue::{Queue, take};
-use crate::reads::close_reads;
-use crate::runs::close_runs;
 use crate::uses::{Due, Uses, clear, concerns, is_nothing, nothing_due, uses_of, wake};
 use crate::work::{Read, Write, pass};
-use crate::writes::close_writes;
 use fact_model::Facts;
 use kaba_bits::BitRow;
 use std::alloc::{AllocError, Global};
@@ -175,15 +172,15 @@ fn turn(
 {
     let (alloc, facts, found) = (given.alloc, given.facts, given.found);
     load_bases(alloc, facts, sets, bases, &due.bases)?;
-    let reads = items_of(alloc, &found.reads, &due.reads)?;
-    let writes = items_of(alloc, &found.writes, &due.writes)?;
-    let runs = items_of(alloc, &found.runs, &due.runs)?;
+    let reads = items_of(alloc, &found.members.reads, &due.reads)?;
+    let writes = items_of(alloc, &found.members.writes, &due.writes)?;
+    let runs = items_of(alloc, &found.members.runs, &due.runs)?;
     close_reads(given, &bases.now, sets, grown, &reads)?;
     close_writes(given, &bases.now, sets, grown, &writes)?;
     close_runs(given, &bases.now, sets, grown, &runs)?;
-    let listed = items_of(alloc, &found.reads, &due.whole_reads)?;
+    let listed = items_of(alloc, &found.members.reads, &due.whole_reads)?;
     let grown_reads = concerned(alloc, sets, due, &listed)?;
-    let grown_writes = items_of(alloc, &found.writes, &due.whole_writes)?;
+    let grown_writes = items_of(alloc, &found.members.writes, &due.whole_writes)?;
     load_all(facts, sets, bases, &grown_reads);
     load_all(facts, sets, bases, &grown_writes);
     close_reads(given, &bases.now, sets, grown, &grown_reads)?;
@@ -192,31 +189,7 @@ fn turn(
     Ok(())
 }
 
-/// Turns, until nothing has to be gone over. An error comes only for want of memory.
-fn run(
-    given: &Given,
-    uses: &Uses,
-    bases: &mut Bases,
-    sets: &mut [BitRow],
-    grown: &mut Queue,
-    due: &mut Due,
-) -> Result<(), AllocError>
-    requires now { AreSound given.now.facts.now bases.old.now.items }
-    requires given { IsGiven given.now }
-    requires sets { AreSound given.now.facts.now sets.old }
-    ensures { OnOk result (AreSound given.now.facts.now sets.new) }
-{
-    for _turn in 0..u64::MAX {
-        flow(given, uses, sets, grown, due)?;
-        if is_nothing(due) {
-            return Ok(());
-        }
-        turn(given, bases, sets, grown, due)?;
-    }
-    Ok(())
-}
-
-/// The sets, as far as the worklist finds them. An error comes only for want of memory.
+/// The sets, as far as the worklist finds them: turns, until nothing has to be gone over. An error comes only for want of memory.
 pub fn grow(given: &Given, sets: &mut [BitRow], grown: &mut Queue) -> Result<(), AllocError>
     requires given { IsGiven given.now }
     requires sets { AreSound given.now.facts.now sets.old }
@@ -226,6 +199,12 @@ pub fn grow(given: &Given, sets: &mut [BitRow], grown: &mut Queue) -> Result<(),
     let uses = uses_of(given.alloc, given.facts, given.found)?;
     let mut due = nothing_due(given.alloc, given.facts, given.found, &uses)?;
     let mut bases = no_bases(given.alloc, given.facts)?;
-    run(given, &uses, &mut bases, sets, grown, &mut due)?;
+    for _turn in 0..u64::MAX {
+        flow(given, &uses, sets, grown, &mut due)?;
+        if is_nothing(&due) {
+            return Ok(());
+        }
+        turn(given, &mut bases, sets, grown, &mut due)?;
+    }
     Ok(())
 }

@@ -28,22 +28,9 @@ pub fn unions(
     ensures cells { IfOk result (λ v. CellsJoined facts.now cells.now v.items (length facts.now.cells.items)) }
 {
     let mut rows = empty_rows(alloc, facts.rows.len(), facts.sites.len() as u32)?;
-    join_all(facts, points, cells, &mut rows);
+    join_points(facts, points, &mut rows);
+    join_cells(facts, cells, &mut rows);
     Ok(rows)
-}
-
-/// Every point and every cell into its row.
-fn join_all(facts: &Facts, points: &[BitRow], cells: &[BitRow], rows: &mut [BitRow])
-    requires facts { InRange facts.now }
-    requires points { ArePoints facts.now points.now }
-    requires cells { AreCells facts.now cells.now }
-    requires unions { AreUnions facts.now rows.old }
-    ensures unions { AreUnions facts.now rows.new }
-    ensures points { PointsJoined facts.now points.now rows.new (length facts.now.points.items) }
-    ensures cells { CellsJoined facts.now cells.now rows.new (length facts.now.cells.items) }
-{
-    join_points(facts, points, rows);
-    join_cells(facts, cells, rows);
 }
 
 /// Every point into its row.
@@ -55,7 +42,7 @@ fn join_points(facts: &Facts, points: &[BitRow], rows: &mut [BitRow])
     ensures joined { PointsJoined facts.now points.now rows.new (length facts.now.points.items) }
 {
     for p in 0..facts.points.len() {
-        join_point(facts, points, rows, p);
+        join_set(facts, rows, point_row(facts, p), row_at(points, p));
     }
 }
 
@@ -69,39 +56,9 @@ fn join_cells(facts: &Facts, cells: &[BitRow], rows: &mut [BitRow])
     ensures joined { CellsJoined facts.now cells.now rows.new (length facts.now.cells.items) }
 {
     for c in 0..facts.cells.len() {
-        join_cell(facts, cells, rows, c);
+        let row = cell_at(facts, c).row;
+        join_set(facts, rows, row.0 as usize, row_at(cells, c));
     }
-}
-
-/// One point into its row.
-fn join_point(facts: &Facts, points: &[BitRow], rows: &mut [BitRow], p: usize)
-    requires facts { InRange facts.now }
-    requires points { ArePoints facts.now points.now }
-    requires unions { AreUnions facts.now rows.old }
-    requires point { p < length facts.now.points.items }
-    ensures unions { AreUnions facts.now rows.new }
-    ensures grows { Grow rows.old rows.new }
-    ensures here { IsSubset (row points.now p) (row rows.new (point_row facts.now p)) }
-{
-    join_set(facts, rows, point_row(facts, p), row_at(points, p));
-}
-
-/// One cell into its row.
-fn join_cell(facts: &Facts, cells: &[BitRow], rows: &mut [BitRow], c: usize)
-    requires facts { InRange facts.now }
-    requires cells { AreCells facts.now cells.now }
-    requires unions { AreUnions facts.now rows.old }
-    requires cell { c < length facts.now.cells.items }
-    ensures unions { AreUnions facts.now rows.new }
-    ensures grows { Grow rows.old rows.new }
-    ensures here { IsSubset (row cells.now c) (row rows.new (cell_at facts.now c).row.0) }
-{
-    join_set(
-        facts,
-        rows,
-        cell_at(facts, c).row.0 as usize,
-        row_at(cells, c),
-    );
 }
 
 /// A set of sites into a row.

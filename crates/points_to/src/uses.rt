@@ -123,8 +123,8 @@ fn note_edges(found: &Found, uses: &mut Uses) -> Result<(), AllocError> {
 
 /// Reads by their base and by their member. An error comes only for want of memory.
 fn note_reads(facts: &Facts, found: &Found, uses: &mut Uses) -> Result<(), AllocError> {
-    for k in 0..found.reads.len() {
-        let read = found.reads[k];
+    for k in 0..found.members.reads.len() {
+        let read = found.members.reads[k];
         note(&mut uses.reads, read.base as usize, k)?;
         let member = number_of(facts, read.member);
         note(&mut uses.alike, member, k)?;
@@ -135,8 +135,8 @@ fn note_reads(facts: &Facts, found: &Found, uses: &mut Uses) -> Result<(), Alloc
 
 /// Writes by their base and by their value. An error comes only for want of memory.
 fn note_writes(found: &Found, uses: &mut Uses) -> Result<(), AllocError> {
-    for k in 0..found.writes.len() {
-        let write = found.writes[k];
+    for k in 0..found.members.writes.len() {
+        let write = found.members.writes[k];
         note(&mut uses.writes, write.base as usize, k)?;
         note(&mut uses.values, write.value as usize, k)?;
     }
@@ -145,8 +145,8 @@ fn note_writes(found: &Found, uses: &mut Uses) -> Result<(), AllocError> {
 
 /// Runs by their base. An error comes only for want of memory.
 fn note_runs(found: &Found, uses: &mut Uses) -> Result<(), AllocError> {
-    for k in 0..found.runs.len() {
-        note(&mut uses.runs, found.runs[k].base as usize, k)?;
+    for k in 0..found.members.runs.len() {
+        note(&mut uses.runs, found.members.runs[k].base as usize, k)?;
     }
     Ok(())
 }
@@ -193,13 +193,13 @@ pub fn nothing_due(
 ) -> Result<Due, AllocError> {
     Ok(Due {
         bases: row_of(alloc, uses.reads.len())?,
-        reads: row_of(alloc, found.reads.len())?,
-        writes: row_of(alloc, found.writes.len())?,
-        runs: row_of(alloc, found.runs.len())?,
+        reads: row_of(alloc, found.members.reads.len())?,
+        writes: row_of(alloc, found.members.writes.len())?,
+        runs: row_of(alloc, found.members.runs.len())?,
         members: row_of(alloc, uses.alike.len())?,
         sites: row_of(alloc, facts.sites.len())?,
-        whole_reads: row_of(alloc, found.reads.len())?,
-        whole_writes: row_of(alloc, found.writes.len())?,
+        whole_reads: row_of(alloc, found.members.reads.len())?,
+        whole_writes: row_of(alloc, found.members.writes.len())?,
         readers: Readers {
             by_site: empty(alloc, facts.sites.len())?,
             listed: empty(alloc, uses.reads.len())?,

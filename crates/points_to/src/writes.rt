@@ -2,14 +2,14 @@
 
 ghost use Rattle.std.specs.Prelude.{◌≡◌, ℕ, ◌<◌, true, length, All, Some, IfOk, OnOk};
 ghost use Rattle.std.specs.Bool.{OnTrue};
-ghost use Rattle.points_to.specs.Work.{IsWrite, IsWriteClosed, AreTargets, wanted};
+ghost use Rattle.points_to.specs.Work.{IsWrite, AreTargets, wanted};
 ghost use Rattle.points_to.specs.declared.work.Write.{Write};
 ghost use Rattle.points_to.specs.Rounds.{IsPending, IsFlushedAt, IsFlushed, IsPended, IsDone, HasRow};
 ghost use Rattle.points_to.specs.Words.{OnFalse, bit, row, IsStep, InRange, node_count, AreSound, InNode, IsGiven};
 
 use crate::found::Given;
 use crate::queue::Queue;
-use crate::reads::{is_same_member, next_site};
+use crate::reads::is_same_member;
 use crate::targets::list_targets;
 use crate::work::{Member, Write, fit, include_row, site_at};
 use fact_model::Facts;
@@ -26,7 +26,7 @@ pub struct Pending {
 }
 
 /// Nothing to be written. An error comes only for want of memory.
-fn nothing_pending(alloc: Global, facts: &Facts) -> Result<Pending, AllocError>
+pub fn nothing_pending(alloc: Global, facts: &Facts) -> Result<Pending, AllocError>
     requires { InRange facts.now }
     ensures { IfOk result (IsPending facts.now) }
 {
@@ -63,7 +63,7 @@ fn include_all(
     requires holds { All (λ n. (s : ℕ) → bit extra.now s ≡ true → InNode facts.now n s) list.now }
     ensures sets { AreSound facts.now sets.new }
     ensures step { IsStep sets.old sets.new result }
-    ensures closed { OnFalse result (All (HasRow sets.new extra.now) list.now) }
+    ensures closed { OnFalse result (All (HasRow extra.now sets.new) list.now) }
 {
     let mut grew = false;
     for n in list {
@@ -149,7 +149,7 @@ fn flush_site(
 }
 
 /// The values into the member of each site, and whether anything was new. An error comes only for want of memory.
-fn flush(
+pub fn flush(
     given: &Given,
     sets: &mut [BitRow],
     grown: &mut Queue,
@@ -248,7 +248,7 @@ fn put_beside(facts: &Facts, bases: &[BitRow], sets: &[BitRow], pending: &mut Pe
 }
 
 /// A write is pending too, or else what was pending is written first; and whether anything was new. An error comes only for want of memory.
-fn take_write(
+pub fn take_write(
     given: &Given,
     bases: &[BitRow],
     sets: &mut [BitRow],
@@ -277,31 +277,4 @@ fn take_write(
     let next = begin_write(given.alloc, given.facts, bases, sets, x)?;
     *pending = next;
     Ok(grew)
-}
-
-/// Each write, and whether anything was new. An error comes only for want of memory.
-pub fn close_writes(
-    given: &Given,
-    bases: &[BitRow],
-    sets: &mut [BitRow],
-    grown: &mut Queue,
-    writes: &[Write],
-) -> Result<bool, AllocError>
-    requires given { IsGiven given.now }
-    requires bases { AreSound given.now.facts.now bases.now }
-    requires sets { AreSound given.now.facts.now sets.old }
-    requires writes { All (IsWrite given.now.facts.now) writes.now }
-    ensures sets { OnOk result (AreSound given.now.facts.now sets.new) }
-    ensures step { IfOk result (IsStep sets.old sets.new) }
-    ensures closed { IfOk result (λ grew. OnFalse grew (All (IsWriteClosed given.now.facts.now bases.now sets.new) writes.now)) }
-{
-    let mut pending = nothing_pending(given.alloc, given.facts)?;
-    let mut list = Vec::new(given.alloc);
-    let mut grew = false;
-    for x in writes {
-        let more = take_write(given, bases, sets, grown, &mut pending, &mut list, *x)?;
-        grew |= more;
-    }
-    let last = flush(given, sets, grown, &pending, &mut list)?;
-    Ok(grew | last)
 }

@@ -1,13 +1,13 @@
 use Rattle.std.proofs.Common.{◌≡◌, length, map, sym, ap, ◌∙◌, subst}
 use Rattle.std.specs.List.{range_with_len}
 use Rattle.fact_model.specs.Concepts.{pair_of, AreAllConcepts, IsLattice}
-use Rattle.hier_model.specs.Hierarchies.{Hierarchy, IsHierarchyOf}
+use Rattle.hier_model.specs.Hierarchies.{IsHierarchyOf}
 use Rattle.hier_model.specs.Listed.{listed_column, row_node}
 use Rattle.hier_model.specs.Names.{member_names, type_names}
 use Rattle.hier_model.specs.Start.{order_of, origins_of, column_place, row_place, start_from}
 use Rattle.hier_model.proofs.BeginLemmas.{extents_alike, intents_wide, order_orders, columns_start, rows_start, same_parts, keeps_table, start_fits}
 use Rattle.hier_model.proofs.begin.start.Goals as goal
-use Rattle.hier_model.proofs.begin.start.Goals.{In_ok-table}
+use Rattle.hier_model.proofs.begin.start.Goals.{After-hier_of}
 
 pub order_of-requires-clause-widths : goal.order_of-requires-clause-widths
 order_of-requires-clause-widths c =
@@ -26,15 +26,7 @@ origins_of-requires-clause-intents c =
     let all = intents_wide t.rows.items t.width c.args.lattice.now.concepts.items c.requires.lattice c.requires.table.sized.widths in
     rw c.deref-4.ensures.value (λ k lt. all k lt ∙ c.requires.table.sized.columns)
 
-value : (c : In_ok-table) → (let h : Hierarchy = record {
-  order = c.in_ok-order.order;
-  columns = c.in_ok-columns.columns.items;
-  rows = c.in_ok-rows.rows.items;
-  types = c.in_ok-types.types.items;
-  members = c.in_ok-members.members.items;
-  origins = c.in_ok-origins.origins.items;
-  table = c.in_ok-table.table.items;
-} in h) ≡ start_from c.args.facts.now c.args.table.now c.args.lattice.now
+value : (c : After-hier_of) → c.hier_of.result ≡ start_from c.args.facts.now c.args.table.now c.args.lattice.now
 value c =
     let F = c.args.facts.now in
     let T = c.args.table.now.rows.items in
@@ -57,7 +49,8 @@ value c =
     c.in_ok-types.ensures ∙ ap (λ l. type_names F l c.deref-6.result.now (length c.deref-6.result.now)) (c.deref-5.ensures.value ∙ members)
     ∙ ap (λ l. type_names F (member_names F n) l (length l)) (c.deref-6.ensures.value ∙ origins) in
     let table : c.in_ok-table.table.items ≡ T = c.in_ok-table.ensures ∙ c.deref-7.ensures.value in
-    same_parts c.in_ok-order.order (order_of xs) c.in_ok-columns.columns.items (map (column_place T xs) (range_with_len 0 n)) c.in_ok-rows.rows.items
+    c.hier_of.ensures ∙ same_parts c.in_ok-order.order (order_of xs) c.in_ok-columns.columns.items (map (column_place T xs) (range_with_len 0 n))
+    c.in_ok-rows.rows.items
     (map (row_place xs) T) c.in_ok-types.types.items
     (type_names F (member_names F n) (origins_of F xs) (length (origins_of F xs))) c.in_ok-members.members.items (member_names F n)
     c.in_ok-origins.origins.items (origins_of F xs) c.in_ok-table.table.items T

@@ -5,7 +5,4 @@ use Rattle.hier_model.specs.Hierarchies.{is_class_node}
 use Rattle.hier_rules.proofs.chains.class_nodes.Given as goal
 
 abbrev pub invariant-loop-n : goal.invariant-loop-n
-invariant-loop-n l = record {
-  width : length l.classes ≡ length l.hier.order.live;
-  exact : (x : ℕ) → bit l.classes x ≡ (nat_lt x l.n && is_class_node l.facts l.hier x);
-}
+invariant-loop-n l = (length l.classes ≡ length l.hier.order.live) × ((x : ℕ) → bit l.classes x ≡ (nat_lt x l.n && is_class_node l.facts l.hier x))

@@ -13,7 +13,7 @@ returns-clause-closed c =
     c.close_writes.new.sets c.close_runs.new.sets
     c.requires.given.asked told.result edges.edges reads.reads writes.writes runs.runs edges.ensures.step reads.ensures.step writes.ensures.step
     runs.ensures.step
-    (rw c.deref.ensures.value at told.ensures.closed) (rw c.deref-3.ensures.value at edges.ensures.closed)
-    (rw (c.deref-4.ensures.value, same, c.deref-5.ensures.value) at reads.ensures.closed)
-    (rw (c.deref-6.ensures.value, same, c.deref-7.ensures.value) at writes.ensures.closed)
-    (rw (c.deref-8.ensures.value, same, c.deref-9.ensures.value) at runs.ensures.closed)
+    (rw c.deref.ensures.value at told.ensures.closed) (rw c.deref-2.ensures.value at edges.ensures.closed)
+    (rw (c.deref-3.ensures.value, same, c.deref-4.ensures.value) at reads.ensures.closed)
+    (rw (c.deref-5.ensures.value, same, c.deref-6.ensures.value) at writes.ensures.closed)
+    (rw (c.deref-7.ensures.value, same, c.deref-8.ensures.value) at runs.ensures.closed)

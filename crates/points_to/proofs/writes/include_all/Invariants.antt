@@ -1,13 +1,6 @@
-use Rattle.std.specs.Bool.{OnFalse}
-use Rattle.std.specs.List.{AllWithin}
-use Rattle.kaba_bits.specs.Sets.{IsStep}
-use Rattle.points_to.specs.Sound.{AreSound}
 use Rattle.points_to.specs.Rounds.{HasRow}
+use Rattle.points_to.proofs.RoundLemmas.{IsTurn}
 use Rattle.points_to.proofs.writes.include_all.Given as goal
 
 abbrev pub invariant-loop-n : goal.invariant-loop-n
-invariant-loop-n l = record {
-  sets : AreSound l.facts l.sets;
-  step : IsStep l.fn.sets l.sets l.grew;
-  closed : OnFalse l.grew (AllWithin (HasRow l.sets l.extra) l.list 0 l.n-index);
-}
+invariant-loop-n l = IsTurn l.facts (HasRow l.extra) l.list l.fn.sets l.sets l.grew l.n-index

@@ -1,5 +1,5 @@
 use Rattle.points_to.specs.Sound.{AreSound}
-use Rattle.points_to.proofs.turns.run.Given as goal
+use Rattle.points_to.proofs.turns.grow.Given as goal
 
 abbrev pub invariant-loop-turn : goal.invariant-loop-turn
 invariant-loop-turn l = record {

@@ -4,7 +4,7 @@ use Rattle.kaba_bits.proofs.StepLemmas.{IsStep-then}
 use Rattle.points_to.specs.Work.{IsWriteClosed}
 use Rattle.points_to.specs.Rounds.{IsDone}
 use Rattle.points_to.proofs.RoundLemmas.{done_step, done_all, flush_closes, no_write}
-use Rattle.points_to.proofs.writes.close_writes.Goals as goal
+use Rattle.points_to.proofs.closing.close_writes.Goals as goal
 
 pub loop-x-preserved : goal.loop-x-preserved
 loop-x-preserved c =

@@ -3,7 +3,7 @@ use Rattle.std.specs.List.{AllWithin}
 use Rattle.kaba_bits.specs.Sets.{IsStep}
 use Rattle.points_to.specs.Sound.{AreSound}
 use Rattle.points_to.specs.Rounds.{IsPending, IsDone}
-use Rattle.points_to.proofs.writes.close_writes.Given as goal
+use Rattle.points_to.proofs.closing.close_writes.Given as goal
 
 abbrev pub invariant-loop-x : goal.invariant-loop-x
 invariant-loop-x l = record {

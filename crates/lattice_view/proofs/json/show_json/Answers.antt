@@ -1,7 +1,0 @@
-use Rattle.std.proofs.Common.{◌≡◌, false, subst, sym}
-use Rattle.serde_json.specs.Written.{has_float}
-use Rattle.lattice_view.proofs.FloatLemmas.{lattice_whole}
-use Rattle.lattice_view.proofs.json.show_json.Goals as goal
-
-pub line_of-requires : goal.line_of-requires
-line_of-requires c = subst (λ d. has_float d ≡ false) (sym c.in_ok-value.ensures) (lattice_whole c.args.facts.now c.args.lattice.now)

@@ -1,5 +1,0 @@
-use Rattle.fact_model.specs.Flowing.{by_cell}
-use Rattle.points_to.proofs.unions.join_cell.Goals as goal
-
-pub join_set-requires-clause-holds : goal.join_set-requires-clause-holds
-join_set-requires-clause-holds c = rw (c.cell_at.ensures, c.row_at.ensures) (λ s h. by_cell c.args.c s c.requires.cell (c.requires.cells.sound c.args.c s h))
