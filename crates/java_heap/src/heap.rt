@@ -1,11 +1,12 @@
 //! The heap: strings and cells.
 
-ghost use Rattle.std.specs.Prelude.{◌≡◌, ◌+◌, ◌≤◌, ◌<◌, ◌++◌, ◌∷◌, [], if◌then◌else◌, is_ok, length, map, Some, IfOk, slice_get};
+ghost use Rattle.std.specs.Prelude.{◌≡◌, ◌+◌, ◌≤◌, ◌<◌, length, map, Some, IfOk, slice_get};
 ghost use Rattle.std.specs.Option.{option_map};
 ghost use Rattle.java_heap.specs.Seen.{value_of};
 ghost use Rattle.java_heap.specs.Cells.{values_in};
 
 use crate::packed::Packed;
+use crate::pairs::push_both;
 use crate::values::{Value, default_of};
 use java_core::{Fault, Ty};
 use kaba_base::{ClassId, SiteId};
@@ -117,7 +118,7 @@ impl Heap {
             site,
             kind: CellKind::Array(ty),
         };
-        push_cell(
+        push_both(
             &mut self.labels,
             &mut self.spans,
             label,
@@ -153,7 +154,7 @@ impl Heap {
         let start = place(self.values.len())?;
         let len = place(values.len())?;
         self.values.extend(values)?;
-        push_cell(
+        push_both(
             &mut self.labels,
             &mut self.spans,
             Label { site, kind },
@@ -226,27 +227,6 @@ fn place(count: usize) -> Result<u32, AllocError>
     match u32::try_from(count) {
         Ok(at) => Ok(at),
         Err(_) => Err(AllocError),
-    }
-}
-
-/// One more cell, unless there is no room for it.
-fn push_cell(
-    labels: &mut Vec<Label>,
-    spans: &mut Vec<Span>,
-    label: Label,
-    span: Span,
-) -> Result<(), AllocError>
-    ensures labels { labels.new.items ≡ (if is_ok result then labels.old.items ++ label ∷ [] else labels.old.items) }
-    ensures spans { spans.new.items ≡ (if is_ok result then spans.old.items ++ span ∷ [] else spans.old.items) }
-{
-    let count = labels.len();
-    labels.push(label)?;
-    match spans.push(span) {
-        Ok(()) => Ok(()),
-        Err(_) => {
-            labels.truncate(count);
-            Err(AllocError)
-        }
     }
 }
 

@@ -5,6 +5,7 @@
 mod heap;
 mod numbers;
 mod packed;
+mod pairs;
 mod printing;
 mod values;
 

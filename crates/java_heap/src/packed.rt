@@ -3,6 +3,7 @@
 ghost use Rattle.std.specs.Prelude.{◌≡◌};
 ghost use Rattle.java_heap.specs.Packing.{tag_of, value_at};
 
+use crate::pairs::push_both;
 use crate::values::Value;
 use std::alloc::{AllocError, Global};
 use std::marker::Model;
@@ -149,29 +150,6 @@ impl Packed {
     {
         self.tags.truncate(count);
         self.words.truncate(count);
-    }
-}
-
-ghost use Rattle.std.specs.Prelude.{◌++◌, ◌∷◌, [], is_ok, if◌then◌else◌};
-
-/// One more tag and word, unless there is no room for both.
-fn push_both(
-    tags: &mut Vec<Tag>,
-    words: &mut Vec<u32>,
-    tag: Tag,
-    word: u32,
-) -> Result<(), AllocError>
-    ensures tags { tags.new.items ≡ (if is_ok result then tags.old.items ++ tag ∷ [] else tags.old.items) }
-    ensures words { words.new.items ≡ (if is_ok result then words.old.items ++ word ∷ [] else words.old.items) }
-{
-    let count = words.len();
-    words.push(word)?;
-    match tags.push(tag) {
-        Ok(()) => Ok(()),
-        Err(_) => {
-            words.truncate(count);
-            Err(AllocError)
-        }
     }
 }
 

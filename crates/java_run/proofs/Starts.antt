@@ -59,18 +59,15 @@ module _ (P : Plain) (formed : IsFormed P) where
           sym (g k) ∙ ap (λ j. comes P T j (first_config P e words n)) (let z : m + k ≡ k + m = omega arith in z) ∙ ap (comes P T (k + m)) (sym is) ∙ h m
       by (is_wrong w) = absurd (right w)
 
--- what comes in a program comes in the same
-pub same_program : (P Q : Plain) (T : Tables) (c : Config) (o : meaning.Outcome) → Q ≡ P → ((k : ℕ) × ((m : ℕ) → comes Q T (k + m) c ≡ o))
-    → ((k : ℕ) × ((m : ℕ) → comes P T (k + m) c ≡ o))
-same_program P Q T c o q h = subst (λ z. (k : ℕ) × ((m : ℕ) → comes z T (k + m) c ≡ o)) q h
-
 module _ (P : Plain) (words : List (String Global)) (bound : ℕ) (last : Machine) (e : Ending) where
   -- where the machine stops, the meaning does
-  pub meant_so : IsFormed P → IsTyped P → (T : Tables) → Fits P T → (n : Entry) (c : Config) → T.entry P.main ≡ Some n
+  pub meant_so : IsFormed P → IsTyped P → (Q : Plain) (T : Tables) → Fits P T → (n : Entry) (c : Config) → T.entry P.main ≡ Some n
       → c ≡ first_config P n (map (λ w. units_of (string_bytes w)) words) bound
-      → ((k : ℕ) × ((m : ℕ) → comes P T (k + m) c ≡ stop (end_of e) (state_of last))) → meant P (map string_bytes words) bound ≡ stop (end_of e) (state_of last)
+      → Q ≡ P → ((k : ℕ) × ((m : ℕ) → comes Q T (k + m) c ≡ stop (end_of e) (state_of last))) → meant P (map string_bytes words) bound ≡ stop (end_of e) (state_of last)
   unfolding meant
-  meant_so formed typed T fits n c at is h =
+  meant_so formed typed Q T fits n c at is q g =
+      let h : (k : ℕ) × ((m : ℕ) → comes P T (k + m) c ≡ stop (end_of e) (state_of last)) =
+      subst (λ z. (k : ℕ) × ((m : ℕ) → comes z T (k + m) c ≡ stop (end_of e) (state_of last))) q g in
       ap (λ l. run P l bound) (map_map units_of string_bytes words)
       ∙ runs_so P formed T fits (map (λ w. units_of (string_bytes w)) words) bound n c h.0 _ at is h.1 (never_wrong P formed typed (map (λ w. units_of
       (string_bytes w)) words) bound)

@@ -14,11 +14,11 @@ ghost use Rattle.java_run.specs.Outcomes as outcomes;
 
 use class_tables::Classes;
 use java_core::{Checked, Fault, Program};
-use linear_code::{Entry, Image};
+use linear_code::{Entry, Image, Tried};
 use linear_compile::compile;
 use linear_machine::go;
 use linear_state::{Ending, start};
-use std::alloc::{AllocError, Global};
+use std::alloc::Global;
 
 /// How a run of a program ends.
 #[derive(Clone, Copy)]
@@ -79,12 +79,7 @@ fn end_seen(ending: Ending) -> End
 }
 
 /// Runs a program that is formed and typed.
-fn run_program(
-    alloc: Global,
-    p: &Program,
-    words: &Vec<String>,
-    bound: u32,
-) -> Result<Outcome, AllocError>
+fn run_program(alloc: Global, p: &Program, words: &Vec<String>, bound: u32) -> Tried<Outcome>
     requires formed { IsFormed (program_of no_place p.now) }
     requires typed { IsTyped (program_of no_place p.now) }
     ensures outcome { IfOk result (λ o. IsOutcomeOf (program_of no_place p.now) (map string_bytes words.now.items) bound o) }
@@ -106,12 +101,7 @@ fn run_program(
 /// of the program, or a creation. It gives what was printed, how the run ended, and its steps: all of
 /// the bound where it goes on. The bodies are compiled once, before the first step. It gives an error
 /// where there is no memory left.
-pub fn run(
-    alloc: Global,
-    program: &Checked,
-    words: &Vec<String>,
-    bound: u32,
-) -> Result<Outcome, AllocError>
+pub fn run(alloc: Global, program: &Checked, words: &Vec<String>, bound: u32) -> Tried<Outcome>
     ensures outcome { IfOk result (λ o. IsOutcomeOf (program_of no_place program.now) (map string_bytes words.now.items) bound o) }
     ensures going { IfOk result (λ o. o.end ≡ End.Going → o.used ≡ bound) }
 {

@@ -8,7 +8,11 @@ mod image;
 mod ops;
 
 pub use image::{Entry, Image};
-pub use ops::{Calc, Effect, Instr, Operand, Test};
+pub use ops::{Calc, Destination, Effect, Frame, Instr, Jump, Operand, Test};
+use std::alloc::AllocError;
+
+/// What a call gives, where there is memory for it.
+pub type Tried<T> = Result<T, AllocError>;
 
 /// Where the code of all bodies of a formed program stands, the machine comes to what the meaning of the
 /// program says: for all words and every bound on the steps it ends the same way, with the same output and

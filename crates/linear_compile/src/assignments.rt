@@ -9,31 +9,28 @@ ghost use Rattle.java_meaning.specs.Values.{default_of};
 ghost use Rattle.linear_code.specs.Ops.{slot, constant};
 ghost use Rattle.linear_code.specs.Seen.{operand_of};
 ghost use Rattle.linear_code.specs.Code.{operand, code_local, code_initial, code_assign, default_op, store_op};
-ghost use Rattle.linear_compile.specs.Scopes.{plain, env, IsReady};
-ghost use Rattle.java_core.specs.Untagged.{bare_tag};
+ghost use Rattle.linear_compile.specs.Scopes.{plain, env, IsReady, bare};
 
 use crate::code::{Code, further};
 use crate::expressions::{compile, compile_to};
 use crate::operands::operand;
-use crate::scope::{Scope, field_of, is_int_field, is_int_local, local_type, place_of};
+use crate::scope::{Scope, Site, field_of, is_int_field, is_int_local, local_type, place_of};
 use java_core::{RExpr, Ty, TyBase};
 use kaba_base::{MemberId, Name};
-use linear_code::{Calc, Effect, Instr, Operand};
+use linear_code::{Calc, Destination, Effect, Instr, Operand};
 use std::alloc::AllocError;
 
 /// A local is set.
-fn compile_local(
-    code: &mut Code,
-    scope: &Scope,
-    local: u32,
-    value: &RExpr,
-    at: u32,
-) -> Result<(), AllocError>
-    requires { IsReady scope.now }
-    ensures { OnOk result (code.new ≡ code_local (plain scope.now) (env scope.now) local (expr_of no_place value.now) at ++ code.old) }
+fn compile_local(code: &mut Code, site: Site, local: u32, value: &RExpr) -> Result<(), AllocError>
+    requires { IsReady site.scope.now }
+    ensures { OnOk result (code.new ≡ code_local (plain site.entry.scope.now) (env site.entry.scope.now) local
+        (expr_of no_place value.now) site.entry.at ++ code.old) }
 {
-    let slot = further(1, local)?;
-    compile_to(code, scope, value, is_int_local(scope, local), slot, at)
+    let to = Destination {
+        is_int: is_int_local(site.scope, local),
+        slot: further(1, local)?,
+    };
+    compile_to(code, site, value, to)
 }
 
 /// The value that something of a type has by itself.
@@ -62,71 +59,65 @@ fn default_in(ty: Ty) -> Operand
     }
 }
 
+/// A local has the value that something of its type has by itself.
+fn set_default(code: &mut Code, scope: &Scope, local: u32) -> Result<(), AllocError>
+    requires { IsReady scope.now }
+    ensures { OnOk result (code.new ≡ default_op (plain scope.now) (env scope.now) local ∷ code.old) }
+{
+    let slot = further(1, local)?;
+    let value = default_operand(local_type(scope, local));
+    code.set(plainly!(slot), Calc::Copy(value))
+}
+
 /// The declaration of a local.
 pub fn compile_declaration(
     code: &mut Code,
-    scope: &Scope,
+    site: Site,
     local: u32,
     value: &Option<RExpr>,
-    at: u32,
 ) -> Result<(), AllocError>
-    requires { IsReady scope.now }
-    ensures { OnOk result (code.new ≡ default_op (plain scope.now) (env scope.now) local ∷ (code_initial (plain scope.now) (env scope.now) local
-        (value_of no_place value.now) at ++ code.old)) }
-{
-    compile_initial(code, scope, local, value, at)?;
-    let slot = further(1, local)?;
-    let value = default_operand(local_type(scope, local));
-    code.set(false, slot, Calc::Copy(value))
-}
-
-/// The value that a local begins with, where it has one.
-fn compile_initial(
-    code: &mut Code,
-    scope: &Scope,
-    local: u32,
-    value: &Option<RExpr>,
-    at: u32,
-) -> Result<(), AllocError>
-    requires { IsReady scope.now }
-    ensures { OnOk result (code.new ≡ code_initial (plain scope.now) (env scope.now) local (value_of no_place value.now) at ++ code.old) }
+    requires { IsReady site.scope.now }
+    ensures { OnOk result (code.new ≡ default_op (plain site.entry.scope.now) (env site.entry.scope.now) local ∷ (code_initial (plain site.entry.scope.now)
+        (env site.entry.scope.now) local (value_of no_place value.now) site.entry.at ++ code.old)) }
 {
     match value {
-        Some(value) => compile_local(code, scope, local, value, at),
-        None => Ok(()),
+        Some(value) => {
+            compile_local(code, site, local, value)?;
+            set_default(code, site.scope, local)
+        }
+        None => set_default(code, site.scope, local),
     }
 }
 
 /// An assignment.
 pub fn compile_assignment(
     code: &mut Code,
-    scope: &Scope,
+    site: Site,
     target: &RExpr,
     value: &RExpr,
-    at: u32,
 ) -> Result<(), AllocError>
-    requires { IsReady scope.now }
-    ensures { OnOk result (code.new ≡ code_assign (plain scope.now) (env scope.now) (target_of no_place target.now) (expr_of no_place value.now) at ++
-        code.old) }
+    requires { IsReady site.scope.now }
+    ensures { OnOk result (code.new ≡ code_assign (plain site.entry.scope.now) (env site.entry.scope.now) (target_of no_place target.now)
+        (expr_of no_place value.now) site.entry.at ++ code.old) }
 {
     match target {
-        RExpr::Local { local, .. } => compile_local(code, scope, *local, value, at),
+        RExpr::Local { local, .. } => compile_local(code, site, *local, value),
         RExpr::Static { field, .. } => {
-            let effect = Effect::KeepStatic(field.0, operand(value, at)?);
+            let effect = Effect::KeepStatic(field.0, operand(value, site.at)?);
             code.put(Instr::Act(effect))?;
-            compile(code, scope, value, at)
+            compile(code, site, value)
         }
         RExpr::Own { field, .. } => {
-            let value_at = operand(value, at)?;
-            store(code, scope, Some(*field), Operand::Slot(0), value_at)?;
-            compile(code, scope, value, at)
+            let value_at = operand(value, site.at)?;
+            store(code, site.scope, Some(*field), Operand::Slot(0), value_at)?;
+            compile(code, site, value)
         }
-        RExpr::Field { base, name, .. } => { store_field(code, scope, base, name, value, at) }
+        RExpr::Field { base, name, .. } => { store_field(code, site, base, name, value) }
         RExpr::Index {
             base,
             at: index,
             ..
-        } => { store_element(code, scope, base, index, value, at) }
+        } => { store_element(code, site, base, index, value) }
         _ => Ok(()),
     }
 }
@@ -146,8 +137,8 @@ fn store(
     match field {
         Some(field) => {
             let place = place_of(scope, field);
-            let widens = is_int_field(scope, field);
-            code.put(Instr::Save(object, place, widens, value))
+            let is_int = is_int_field(scope, field);
+            code.put(Instr::Save(object, place, is_int, value))
         }
         None => code.put(Instr::Act(Effect::Lacks(object))),
     }
@@ -156,48 +147,46 @@ fn store(
 /// A field of what an expression gives is set.
 fn store_field(
     code: &mut Code,
-    scope: &Scope,
+    site: Site,
     base: &RExpr,
     name: &Name,
     value: &RExpr,
-    at: u32,
 ) -> Result<(), AllocError>
-    requires { IsReady scope.now }
-    ensures { OnOk result (code.new ≡ code_assign (plain scope.now) (env scope.now) (to_field bare_tag (expr_of no_place base.now) name.now)
-        (expr_of no_place value.now) at ++ code.old) }
+    requires { IsReady site.scope.now }
+    ensures { OnOk result (code.new ≡ code_assign (plain site.entry.scope.now) (env site.entry.scope.now) (to_field bare (expr_of no_place base.now) name.now)
+        (expr_of no_place value.now) site.entry.at ++ code.old) }
 {
-    let next = further(at, 1)?;
-    let field = field_of(scope, base, name);
+    let next = further(site.at, 1)?;
+    let field = field_of(site.scope, base, name);
     store(
         code,
-        scope,
+        site.scope,
         field,
-        operand(base, at)?,
+        operand(base, site.at)?,
         operand(value, next)?,
     )?;
-    compile(code, scope, value, next)?;
-    compile(code, scope, base, at)
+    compile(code, above!(site, next), value)?;
+    compile(code, site, base)
 }
 
 /// An element of an array is set.
 fn store_element(
     code: &mut Code,
-    scope: &Scope,
+    site: Site,
     base: &RExpr,
     index: &RExpr,
     value: &RExpr,
-    at: u32,
 ) -> Result<(), AllocError>
-    requires { IsReady scope.now }
-    ensures { OnOk result (code.new ≡ code_assign (plain scope.now) (env scope.now) (to_element bare_tag (expr_of no_place base.now) (expr_of no_place index.now))
-        (expr_of no_place value.now) at ++ code.old) }
+    requires { IsReady site.scope.now }
+    ensures { OnOk result (code.new ≡ code_assign (plain site.entry.scope.now) (env site.entry.scope.now) (to_element bare (expr_of no_place base.now)
+        (expr_of no_place index.now)) (expr_of no_place value.now) site.entry.at ++ code.old) }
 {
-    let next = further(at, 1)?;
-    let last = further(at, 2)?;
-    let array = operand(base, at)?;
+    let next = further(site.at, 1)?;
+    let last = further(site.at, 2)?;
+    let array = operand(base, site.at)?;
     let place = operand(index, next)?;
     code.put(Instr::KeepElement(array, place, operand(value, last)?))?;
-    compile(code, scope, value, last)?;
-    compile(code, scope, index, next)?;
-    compile(code, scope, base, at)
+    compile(code, above!(site, last), value)?;
+    compile(code, above!(site, next), index)?;
+    compile(code, site, base)
 }

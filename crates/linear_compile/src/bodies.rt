@@ -17,7 +17,7 @@ ghost use Rattle.linear_compile.specs.Bodies.{IsBody, IsMethod};
 
 use crate::assignments::default_operand;
 use crate::code::{Code, further, small};
-use crate::scope::{Scope, is_int};
+use crate::scope::{Scope, Site, is_int};
 use crate::statements::{Exits, compile_stmts};
 use java_core::{Local, Method, RStmt};
 use java_heap::{Value, default_of};
@@ -46,7 +46,11 @@ fn compile_body(code: &mut Code, scope: &Scope, body: &Vec<RStmt>) -> Result<(),
         broke: end,
         next: end,
     };
-    compile_stmts(code, scope, body, slots(scope.method)?, exits)?;
+    let site = Site {
+        scope,
+        at: slots(scope.method)?,
+    };
+    compile_stmts(code, site, body, exits)?;
     Ok(())
 }
 

@@ -7,7 +7,7 @@ ghost use Rattle.linear_code.specs.Seen.{op_of, calc_of};
 ghost use Rattle.linear_code.specs.Code.{moved};
 
 use crate::special::special;
-use linear_code::{Calc, Instr, Operand};
+use linear_code::{Calc, Destination, Instr, Operand};
 use std::alloc::{AllocError, Global};
 use std::marker::Model;
 
@@ -47,21 +47,21 @@ impl Code {
         }
     }
 
-    /// A slot is set, to an `int` where so it is said.
-    pub fn set(&mut self, widens: bool, slot: u32, calc: Calc) -> Result<(), AllocError>
-        ensures { OnOk result (self.new ≡ ops.set widens slot (calc_of calc) ∷ self.old) }
+    /// A slot is set.
+    pub fn set(&mut self, to: Destination, calc: Calc) -> Result<(), AllocError>
+        ensures { OnOk result (self.new ≡ ops.set to.is_int to.slot (calc_of calc) ∷ self.old) }
     {
-        self.put(Instr::Set(widens, slot, calc))
+        self.put(Instr::Set(to, calc))
     }
 
     /// The value of a call, which stands in its slot, is brought to another.
-    pub fn bring(&mut self, widens: bool, slot: u32, from: u32) -> Result<(), AllocError>
-        ensures { OnOk result (self.new ≡ moved widens slot from ++ self.old) }
+    pub fn bring(&mut self, to: Destination, from: u32) -> Result<(), AllocError>
+        ensures { OnOk result (self.new ≡ moved to.is_int to.slot from ++ self.old) }
     {
-        if slot == from && !widens {
+        if to.slot == from && !to.is_int {
             return Ok(());
         }
-        self.set(widens, slot, Calc::Copy(Operand::Slot(from)))
+        self.set(to, Calc::Copy(Operand::Slot(from)))
     }
 
     /// The first thing, taken off.

@@ -9,6 +9,26 @@ ghost use Rattle.linear_code.specs.Seen.{op_of, tables_of};
 ghost use Rattle.linear_code.specs.Fits.{Fits};
 ghost use Rattle.linear_compile.specs.Scopes.{IsReady};
 
+/// A slot, which holds a result as it is.
+macro_rules! plainly {
+    ($slot:expr) => {
+        Destination {
+            is_int: false,
+            slot: $slot,
+        }
+    };
+}
+
+/// The same scope, where the values that wait stand from this slot on.
+macro_rules! above {
+    ($site:ident, $at:expr) => {
+        Site {
+            scope: $site.scope,
+            at: $at,
+        }
+    };
+}
+
 mod assignments;
 mod bodies;
 mod code;

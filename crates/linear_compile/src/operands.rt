@@ -21,20 +21,7 @@ pub fn operand(e: &RExpr, at: u32) -> Result<Operand, AllocError>
         RExpr::Null { .. } => Ok(Operand::Null),
         RExpr::This { .. } => Ok(Operand::Slot(0)),
         RExpr::Local { local, .. } => Ok(Operand::Slot(further(1, *local)?)),
-        RExpr::Str { .. }
-        | RExpr::Static { .. }
-        | RExpr::Own { .. }
-        | RExpr::Field { .. }
-        | RExpr::Index { .. }
-        | RExpr::Call { .. }
-        | RExpr::StaticCall { .. }
-        | RExpr::SuperCall { .. }
-        | RExpr::New { .. }
-        | RExpr::NewArray { .. }
-        | RExpr::Cast { .. }
-        | RExpr::InstanceOf { .. }
-        | RExpr::Unary { .. }
-        | RExpr::Binary { .. } => Ok(Operand::Slot(at)),
+        _ => Ok(Operand::Slot(at)),
     }
 }
 

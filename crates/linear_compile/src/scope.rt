@@ -26,6 +26,13 @@ pub struct Scope<'a> {
     pub method: &'a Method,
 }
 
+/// Where code is made: what it is made for, and the first slot for values that wait.
+#[derive(Clone, Copy)]
+pub struct Site<'a> {
+    pub scope: &'a Scope<'a>,
+    pub at: u32,
+}
+
 /// Whether a char that flows in becomes an `int`.
 pub fn is_int(ty: Option<Ty>) -> bool
     ensures { result ≡ is_int ty }

@@ -11,11 +11,11 @@ use crate::assignments::{compile_assignment, compile_declaration};
 use crate::code::Code;
 use crate::conditions::{compile_test, test_of};
 use crate::expressions::compile;
-use crate::jumps::{close_for, close_while, leave, open_for, open_while, pass_over};
+use crate::jumps::{Ends, close_for, close_while, leave, open_for, open_while, pass_over};
 use crate::operands::operand;
-use crate::scope::{Scope, gives_int};
+use crate::scope::{Site, gives_int};
 use java_core::{RArm, RExpr, RStmt};
-use linear_code::{Effect, Instr, Operand};
+use linear_code::{Effect, Instr, Jump, Operand};
 use std::alloc::AllocError;
 
 /// How much code stands behind the places that a `break` and a `continue` go to.
@@ -25,40 +25,46 @@ pub struct Exits {
     pub next: usize,
 }
 
+/// A `break` and a `continue` go to places with so much code behind them.
+macro_rules! exits {
+    ($broke:ident, $next:ident) => {
+        Exits {
+            broke: $broke,
+            next: $next,
+        }
+    };
+}
+
 /// The code of a `System.out.println` or a `System.out.print`.
 fn compile_print(
     code: &mut Code,
-    scope: &Scope,
+    site: Site,
     newline: bool,
     value: &Option<RExpr>,
-    at: u32,
 ) -> Result<(), AllocError>
-    requires { IsReady scope.now }
-    ensures { OnOk result (code.new ≡ code_print (plain scope.now) (env scope.now) newline (value_of no_place value.now) at ++ code.old) }
+    requires { IsReady site.scope.now }
+    ensures { OnOk result (code.new ≡ code_print (plain site.entry.scope.now) (env site.entry.scope.now) newline
+        (value_of no_place value.now) site.entry.at ++ code.old) }
 {
     match value {
         Some(value) => {
-            code.put(Instr::Act(Effect::Show(newline, operand(value, at)?)))?;
-            compile(code, scope, value, at)
+            code.put(Instr::Act(Effect::Show(newline, operand(value, site.at)?)))?;
+            compile(code, site, value)
         }
         None => code.put(Instr::Act(Effect::ShowEnd(newline))),
     }
 }
 
 /// The code of a `return`.
-fn compile_return(
-    code: &mut Code,
-    scope: &Scope,
-    value: &Option<RExpr>,
-    at: u32,
-) -> Result<(), AllocError>
-    requires { IsReady scope.now }
-    ensures { OnOk result (code.new ≡ code_return (plain scope.now) (env scope.now) (value_of no_place value.now) at ++ code.old) }
+fn compile_return(code: &mut Code, site: Site, value: &Option<RExpr>) -> Result<(), AllocError>
+    requires { IsReady site.scope.now }
+    ensures { OnOk result (code.new ≡ code_return (plain site.entry.scope.now) (env site.entry.scope.now)
+        (value_of no_place value.now) site.entry.at ++ code.old) }
 {
     match value {
         Some(value) => {
-            code.put(Instr::Give(gives_int(scope), operand(value, at)?))?;
-            compile(code, scope, value, at)
+            code.put(Instr::Give(gives_int(site.scope), operand(value, site.at)?))?;
+            compile(code, site, value)
         }
         None => code.put(Instr::Give(false, Operand::Null)),
     }
@@ -66,63 +72,38 @@ fn compile_return(
 
 /// The code of a statement: a `break` and a `continue` go to its exits.
 #[cycle(statements)]
-fn compile_stmt(
-    code: &mut Code,
-    scope: &Scope,
-    s: &RStmt,
-    at: u32,
-    exits: Exits,
-) -> Result<(), AllocError>
-    requires ready { IsReady scope.now }
+fn compile_stmt(code: &mut Code, site: Site, s: &RStmt, exits: Exits) -> Result<(), AllocError>
+    requires ready { IsReady site.scope.now }
     requires within { IsWithin exits (length code.old) }
-    ensures { OnOk result (code.new ≡ code_st (plain scope.now) (env scope.now) (stmt_of no_place s.now) at (length code.old - exits.broke)
-        (length code.old - exits.next) ++ code.old) }
+    ensures { OnOk result (code.new ≡ code_st (plain site.entry.scope.now) (env site.entry.scope.now) (stmt_of no_place s.now) site.entry.at
+        (length code.old - exits.broke) (length code.old - exits.next) ++ code.old) }
 {
     match s {
-        RStmt::Local { local, value, .. } => {
-            compile_declaration(code, scope, *local, value, at)?;
-            Ok(())
-        }
-        RStmt::Block { items, .. } => {
-            compile_stmts(code, scope, items, at, exits)?;
-            Ok(())
-        }
-        RStmt::Assign { target, value, .. } => {
-            compile_assignment(code, scope, target, value, at)?;
-            Ok(())
-        }
-        RStmt::Do { call, .. } => {
-            compile(code, scope, call, at)?;
-            Ok(())
-        }
-        RStmt::Print { newline, value, .. } => {
-            compile_print(code, scope, *newline, value, at)?;
-            Ok(())
-        }
+        RStmt::Local { local, value, .. } => compile_declaration(code, site, *local, value),
+        RStmt::Block { items, .. } => compile_stmts(code, site, items, exits),
+        RStmt::Assign { target, value, .. } => compile_assignment(code, site, target, value),
+        RStmt::Do { call, .. } => compile(code, site, call),
+        RStmt::Print { newline, value, .. } => compile_print(code, site, *newline, value),
         RStmt::If { arms, other, .. } => {
             let end = code.len();
             match other {
                 Some(body) => {
-                    compile_stmts(code, scope, body, at, exits)?;
-                    compile_arms(code, scope, arms, at, end, exits)?;
+                    compile_stmts(code, site, body, exits)?;
+                    compile_arms(code, site, arms, end, exits)?;
                     Ok(())
                 }
                 None => {
-                    compile_arms(code, scope, arms, at, end, exits)?;
+                    compile_arms(code, site, arms, end, exits)?;
                     Ok(())
                 }
             }
         }
         RStmt::While { test, body, .. } => {
             let end = code.len();
-            open_while(code, scope, test, at)?;
+            open_while(code, site, test)?;
             let tested = code.len();
-            let inner = Exits {
-                broke: end,
-                next: tested,
-            };
-            compile_stmts(code, scope, body, at, inner)?;
-            close_while(code, test, at, end, tested)?;
+            compile_stmts(code, site, body, exits!(end, tested))?;
+            close_while(code, test, site.at, Ends { end, tested })?;
             Ok(())
         }
         RStmt::For {
@@ -133,31 +114,18 @@ fn compile_stmt(
             ..
         } => {
             let end = code.len();
-            open_for(code, scope, test, at)?;
+            open_for(code, site, test)?;
             let tested = code.len();
-            compile_step(code, scope, step, at, exits)?;
+            compile_step(code, site, step, exits)?;
             let stepped = code.len();
-            let inner = Exits {
-                broke: end,
-                next: stepped,
-            };
-            compile_stmts(code, scope, body, at, inner)?;
-            close_for(code, test, at, end, tested)?;
-            compile_step(code, scope, first, at, exits)?;
+            compile_stmts(code, site, body, exits!(end, stepped))?;
+            close_for(code, test, site.at, Ends { end, tested })?;
+            compile_step(code, site, first, exits)?;
             Ok(())
         }
-        RStmt::Return { value, .. } => {
-            compile_return(code, scope, value, at)?;
-            Ok(())
-        }
-        RStmt::Break { .. } => {
-            leave(code, exits.broke)?;
-            Ok(())
-        }
-        RStmt::Continue { .. } => {
-            leave(code, exits.next)?;
-            Ok(())
-        }
+        RStmt::Return { value, .. } => compile_return(code, site, value),
+        RStmt::Break { .. } => leave(code, exits.broke),
+        RStmt::Continue { .. } => leave(code, exits.next),
     }
 }
 
@@ -165,18 +133,17 @@ fn compile_stmt(
 #[cycle(statements)]
 pub fn compile_stmts(
     code: &mut Code,
-    scope: &Scope,
+    site: Site,
     list: &Vec<RStmt>,
-    at: u32,
     exits: Exits,
 ) -> Result<(), AllocError>
-    requires ready { IsReady scope.now }
+    requires ready { IsReady site.scope.now }
     requires within { IsWithin exits (length code.old) }
-    ensures { OnOk result (code.new ≡ code_sts (plain scope.now) (env scope.now) (stmts no_place list.now.items) at (length code.old - exits.broke)
-        (length code.old - exits.next) ++ code.old) }
+    ensures { OnOk result (code.new ≡ code_sts (plain site.entry.scope.now) (env site.entry.scope.now) (stmts no_place list.now.items) site.entry.at
+        (length code.old - exits.broke) (length code.old - exits.next) ++ code.old) }
 {
     for i in (0..list.len()).rev() {
-        compile_stmt(code, scope, &list[i], at, exits)?;
+        compile_stmt(code, site, &list[i], exits)?;
     }
     Ok(())
 }
@@ -185,21 +152,17 @@ pub fn compile_stmts(
 #[cycle(statements)]
 fn compile_step(
     code: &mut Code,
-    scope: &Scope,
+    site: Site,
     step: &Option<Box<RStmt>>,
-    at: u32,
     exits: Exits,
 ) -> Result<(), AllocError>
-    requires ready { IsReady scope.now }
+    requires ready { IsReady site.scope.now }
     requires within { IsWithin exits (length code.old) }
-    ensures { OnOk result (code.new ≡ code_sts (plain scope.now) (env scope.now) (step_seen no_place step.now) at (length code.old - exits.broke)
-        (length code.old - exits.next) ++ code.old) }
+    ensures { OnOk result (code.new ≡ code_sts (plain site.entry.scope.now) (env site.entry.scope.now) (step_seen no_place step.now) site.entry.at
+        (length code.old - exits.broke) (length code.old - exits.next) ++ code.old) }
 {
     match step {
-        Some(step) => {
-            compile_stmt(code, scope, step, at, exits)?;
-            Ok(())
-        }
+        Some(step) => compile_stmt(code, site, step, exits),
         None => Ok(()),
     }
 }
@@ -208,21 +171,21 @@ fn compile_step(
 #[cycle(statements)]
 fn compile_arms(
     code: &mut Code,
-    scope: &Scope,
+    site: Site,
     arms: &Vec<RArm>,
-    at: u32,
     end: usize,
     exits: Exits,
 ) -> Result<(), AllocError>
-    requires ready { IsReady scope.now }
+    requires ready { IsReady site.scope.now }
     requires within { IsWithin exits end }
     requires placed { end ≤ length code.old }
     ensures { OnOk result ((other : Arms) (rest : List Op) → length rest ≡ end
-        → code.old ≡ code_arms (plain scope.now) (env scope.now) other at (end - exits.broke) (end - exits.next) ++ rest
-        → code.new ≡ code_arms (plain scope.now) (env scope.now) (arms_seen no_place arms.now.items other) at (end - exits.broke) (end - exits.next) ++ rest) }
+        → code.old ≡ code_arms (plain site.entry.scope.now) (env site.entry.scope.now) other site.entry.at (end - exits.broke) (end - exits.next) ++ rest
+        → code.new ≡ code_arms (plain site.entry.scope.now) (env site.entry.scope.now) (arms_seen no_place arms.now.items other) site.entry.at
+        (end - exits.broke) (end - exits.next) ++ rest) }
 {
     for i in (0..arms.len()).rev() {
-        compile_arm(code, scope, &arms[i], at, end, exits)?;
+        compile_arm(code, site, &arms[i], end, exits)?;
     }
     Ok(())
 }
@@ -231,25 +194,24 @@ fn compile_arms(
 #[cycle(statements)]
 fn compile_arm(
     code: &mut Code,
-    scope: &Scope,
+    site: Site,
     arm: &RArm,
-    at: u32,
     end: usize,
     exits: Exits,
 ) -> Result<(), AllocError>
-    requires ready { IsReady scope.now }
+    requires ready { IsReady site.scope.now }
     requires within { IsWithin exits end }
     requires placed { end ≤ length code.old }
     ensures placed { OnOk result (end ≤ length code.new) }
     ensures code { OnOk result ((more rest : List Op) → length rest ≡ end → code.old ≡ more ++ rest
-        → code.new ≡ arm_code (plain scope.now) (env scope.now) (expr_of no_place arm.now.test) (stmts no_place arm.now.body.items) at (end - exits.broke)
-        (end - exits.next) more ++ rest) }
+        → code.new ≡ arm_code (plain site.entry.scope.now) (env site.entry.scope.now) (expr_of no_place arm.now.test)
+        (stmts no_place arm.now.body.items) site.entry.at (end - exits.broke) (end - exits.next) more ++ rest) }
 {
     let start = code.len();
     pass_over(code, end)?;
-    compile_stmts(code, scope, &arm.body, at, exits)?;
+    compile_stmts(code, site, &arm.body, exits)?;
     let passed = code.before(start)?;
-    code.put(Instr::SkipUnless(test_of(&arm.test, at)?, passed))?;
-    compile_test(code, scope, &arm.test, at)?;
+    code.put(Instr::Ask(test_of(&arm.test, site.at)?, Jump::SkipUnless(passed)))?;
+    compile_test(code, site, &arm.test)?;
     Ok(())
 }

@@ -13,12 +13,11 @@ ghost use Rattle.linear_state.specs.Turns.{to_next, Turns, Does};
 
 use java_core::Fault;
 use java_heap::{Value, convert, print, text_of};
-use linear_code::{Effect, Operand};
+use linear_code::{Effect, Operand, Tried};
 use linear_state::{Ending, Kept, Machine, Turn, as_int, next, saved, write_element};
-use std::alloc::AllocError;
 
 /// What changes no slot is done.
-pub fn act<'a>(m: &mut Machine<'a>, effect: &Effect) -> Result<Turn, AllocError>
+pub fn act<'a>(m: &mut Machine<'a>, effect: &Effect) -> Tried<Turn>
     requires { m.old.pc < 2 ^ 63 }
     ensures { Does (act (effect_of effect.now)) m.old result m.new }
 {
@@ -32,7 +31,7 @@ pub fn act<'a>(m: &mut Machine<'a>, effect: &Effect) -> Result<Turn, AllocError>
 
 /// The next comes once a write is done.
 #[inline(always)]
-fn done<'a>(m: &mut Machine<'a>, kept: Kept) -> Result<Turn, AllocError>
+fn done<'a>(m: &mut Machine<'a>, kept: Kept) -> Tried<Turn>
     requires { m.old.pc < 2 ^ 63 }
     ensures { Turns (λ go. keeps kept (state_of m.old) (go (goes (config_of m.old) (m.old.pc + 1) (state_of m.old)))) m.old result m.new }
 {
@@ -53,7 +52,7 @@ pub fn save<'a>(
     place: u32,
     is_int: bool,
     value: &Operand,
-) -> Result<Turn, AllocError>
+) -> Tried<Turn>
     requires { m.old.pc < 2 ^ 63 }
     ensures { Does (act (save (operand_of o.now) place is_int (operand_of value.now))) m.old result m.new }
 {
@@ -70,7 +69,7 @@ pub fn save<'a>(
 }
 
 /// A static field is set.
-fn keep_static<'a>(m: &mut Machine<'a>, field: u32, value: &Operand) -> Result<Turn, AllocError>
+fn keep_static<'a>(m: &mut Machine<'a>, field: u32, value: &Operand) -> Tried<Turn>
     requires { m.old.pc < 2 ^ 63 }
     ensures { Does (act (keep_static field (operand_of value.now))) m.old result m.new }
 {
@@ -81,7 +80,7 @@ fn keep_static<'a>(m: &mut Machine<'a>, field: u32, value: &Operand) -> Result<T
 }
 
 /// A static field is set to a value.
-fn write_static<'a>(m: &mut Machine<'a>, field: u32, value: Value) -> Result<Turn, AllocError>
+fn write_static<'a>(m: &mut Machine<'a>, field: u32, value: Value) -> Tried<Turn>
     requires { m.old.pc < 2 ^ 63 }
     ensures { Turns (λ go. write_static (language_of (plain_of m.old)) field (value_of value) (state_of m.old) (to_next m.old go)) m.old result m.new }
 {
@@ -105,7 +104,7 @@ pub fn keep_element<'a>(
     o: &Operand,
     at: &Operand,
     value: &Operand,
-) -> Result<Turn, AllocError>
+) -> Tried<Turn>
     requires { m.old.pc < 2 ^ 63 }
     ensures { Does (act (keep_element (operand_of o.now) (operand_of at.now) (operand_of value.now))) m.old result m.new }
 {
@@ -127,12 +126,7 @@ ghost use Rattle.java_meaning.specs.Meaning.{write_element};
 
 /// An element of an array is set to a value.
 #[inline(always)]
-fn put_element<'a>(
-    m: &mut Machine<'a>,
-    array: Value,
-    index: Value,
-    value: Value,
-) -> Result<Turn, AllocError>
+fn put_element<'a>(m: &mut Machine<'a>, array: Value, index: Value, value: Value) -> Tried<Turn>
     requires { m.old.pc < 2 ^ 63 }
     ensures { Turns (λ go. with_some (number_of (value_of index)) (state_of m.old)
         (λ n. write_element (language_of (plain_of m.old)) (value_of array) n (value_of value) (state_of m.old) (to_next m.old go))) m.old result m.new }
@@ -147,7 +141,7 @@ fn put_element<'a>(
 }
 
 /// A value is printed.
-fn show<'a>(m: &mut Machine<'a>, newline: bool, value: &Operand) -> Result<Turn, AllocError>
+fn show<'a>(m: &mut Machine<'a>, newline: bool, value: &Operand) -> Tried<Turn>
     requires { m.old.pc < 2 ^ 63 }
     ensures { Does (act (show newline (operand_of value.now))) m.old result m.new }
 {
@@ -164,7 +158,7 @@ fn show<'a>(m: &mut Machine<'a>, newline: bool, value: &Operand) -> Result<Turn,
 }
 
 /// A text is printed.
-fn print_all<'a>(m: &mut Machine<'a>, units: &[u16], newline: bool) -> Result<Turn, AllocError>
+fn print_all<'a>(m: &mut Machine<'a>, units: &[u16], newline: bool) -> Tried<Turn>
     requires { m.old.pc < 2 ^ 63 }
     ensures { Turns (λ go. print_units newline units.now (state_of m.old) (to_next m.old go)) m.old result m.new }
 {
@@ -173,7 +167,7 @@ fn print_all<'a>(m: &mut Machine<'a>, units: &[u16], newline: bool) -> Result<Tu
 }
 
 /// An object is asked for what its static type does not offer.
-fn lacks<'a>(m: &mut Machine<'a>, o: &Operand) -> Result<Turn, AllocError>
+fn lacks<'a>(m: &mut Machine<'a>, o: &Operand) -> Tried<Turn>
     requires { m.old.pc < 2 ^ 63 }
     ensures { Does (act (lacks (operand_of o.now))) m.old result m.new }
 {

@@ -11,12 +11,38 @@ macro_rules! stop {
     }};
 }
 
+/// An operator of ints.
+macro_rules! int {
+    ($op:ident) => {
+        BinOp::Int(Op::$op)
+    };
+}
+
+/// The place of the next thing.
+macro_rules! behind {
+    ($from:ident) => {
+        Place {
+            pc: $from.pc + 1,
+            left: $from.left,
+        }
+    };
+}
+
+/// The place once a step has been taken.
+macro_rules! paid {
+    ($from:ident) => {
+        Place {
+            pc: $from.pc,
+            left: $from.left - 1,
+        }
+    };
+}
+
 mod asking;
 mod bodies;
 mod calcs;
 mod calls;
 mod effects;
-mod gives;
 mod jumps;
 mod moves;
 mod quick;

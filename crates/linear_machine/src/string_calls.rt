@@ -16,8 +16,8 @@ ghost use Rattle.linear_state.specs.Turns.{to_slot, Does};
 use crate::calls::class_at;
 use java_core::{Fault, StringMethod};
 use java_heap::{Heap, Value, equals};
+use linear_code::{Destination, Frame, Tried};
 use linear_state::{Ending, Found, Machine, Turn, answer, int_of};
-use std::alloc::AllocError;
 
 /// The unit at an index.
 fn unit_at(units: &Vec<u16>, index: i32) -> Found
@@ -76,17 +76,12 @@ fn call_with(heap: &Heap, method: StringMethod, units: &Vec<u16>, argument: Valu
 }
 
 /// A call of a method of a string on what stands in a slot, if it is one.
-pub fn text_call<'a>(
-    m: &mut Machine<'a>,
-    slot: u32,
-    method: Option<StringMethod>,
-    many: u32,
-) -> Result<Turn, AllocError>
+pub fn text_call<'a>(m: &mut Machine<'a>, frame: Frame, method: Option<StringMethod>) -> Tried<Turn>
     requires { m.old.pc < 2 ^ 63 }
-    ensures { Does (text_call slot (option_map string_seen method) many) m.old result m.new }
+    ensures { Does (text_call frame.slot (option_map string_seen method) frame.many) m.old result m.new }
 {
-    match m.slots.get(m.base as usize + slot as usize) {
-        Some(Value::Str(at)) => text_call_at(m, at, slot, method, many),
+    match m.slots.get(m.base as usize + frame.slot as usize) {
+        Some(Value::Str(at)) => text_call_at(m, at, frame, method),
         Some(Value::Ref(at)) => match class_at(&m.heap, at) {
             None => stop!(m, Ending::Stuck),
             Some(_) => step_and_stop(m),
@@ -104,7 +99,7 @@ ghost use Rattle.linear_state.specs.Turns.{Turns};
 ghost use Rattle.std.specs.Prelude.{ℕ, ◌+◌, List, Bool, false, IfOk};
 
 /// A step, after which no rule says how it goes on.
-fn step_and_stop<'a>(m: &mut Machine<'a>) -> Result<Turn, AllocError>
+fn step_and_stop<'a>(m: &mut Machine<'a>) -> Tried<Turn>
     ensures { Turns (λ go. step (state_of m.old) (λ s. stop Wrong s)) m.old result m.new }
 {
     if m.left == 0 {
@@ -118,39 +113,43 @@ fn step_and_stop<'a>(m: &mut Machine<'a>) -> Result<Turn, AllocError>
 fn text_call_at<'a>(
     m: &mut Machine<'a>,
     at: u32,
-    slot: u32,
+    frame: Frame,
     method: Option<StringMethod>,
-    many: u32,
-) -> Result<Turn, AllocError>
+) -> Tried<Turn>
     requires { m.old.pc < 2 ^ 63 }
     ensures { Turns (λ go. with_some (slice_get m.old.heap.strings at) (state_of m.old)
         (λ u. with_some (option_map string_seen method) (state_of m.old)
-        (λ q. with_some (taken m.old.slots (m.old.base + slot + 1) many) (state_of m.old)
-        (λ vs. string_call q u vs (state_of m.old) (to_slot m.old false slot go))))) m.old result m.new }
+        (λ q. with_some (taken m.old.slots (m.old.base + frame.slot + 1) frame.many) (state_of m.old)
+        (λ vs. string_call q u vs (state_of m.old) (to_slot m.old (record { is_int = false; slot = frame.slot }) go))))) m.old result m.new }
 {
     match method {
         None => stop!(m, Ending::Stuck),
         Some(method) => {
-            let found = called(m, at, slot, method, many);
-            answer(m, false, slot, found)
+            let found = called(m, at, frame, method);
+            let to = Destination {
+                is_int: false,
+                slot: frame.slot,
+            };
+            answer(m, to, found)
         }
     }
 }
 
 /// What a method of the string at a place gives, with so many arguments behind a slot.
-fn called<'a>(m: &Machine<'a>, at: u32, slot: u32, method: StringMethod, many: u32) -> Found
+fn called<'a>(m: &Machine<'a>, at: u32, frame: Frame, method: StringMethod) -> Found
     ensures { (k : ToValue) → with_some (slice_get m.now.heap.strings at) (state_of m.now)
-        (λ u. with_some (taken m.now.slots (m.now.base + slot + 1) many) (state_of m.now) (λ vs. string_call (string_seen method) u vs (state_of m.now) k))
+        (λ u. with_some (taken m.now.slots (m.now.base + frame.slot + 1) frame.many) (state_of m.now)
+        (λ vs. string_call (string_seen method) u vs (state_of m.now) k))
         ≡ gives result (state_of m.now) k }
 {
     match m.heap.text(at) {
         None => Found::Stuck,
         Some(units) => {
-            if many == 0 {
+            if frame.many == 0 {
                 return call_bare(method, units);
             }
-            if many == 1 {
-                return match m.slots.get(m.base as usize + slot as usize + 1) {
+            if frame.many == 1 {
+                return match m.slots.get(m.base as usize + frame.slot as usize + 1) {
                     None => Found::Stuck,
                     Some(argument) => call_with(&m.heap, method, units, argument),
                 };

@@ -26,26 +26,20 @@ use class_tables::Classes;
 use java_core::{Fault, Ty, element_in};
 use java_heap::{CellKind, Heap, Value, convert};
 use kaba_base::SiteId;
-use std::alloc::AllocError;
+use linear_code::{Destination, Tried};
 
 /// A step, and a new object.
-pub fn make<'a>(
-    m: &mut Machine<'a>,
-    is_int: bool,
-    slot: u32,
-    number: u32,
-    class: u32,
-) -> Result<Turn, AllocError>
+pub fn make<'a>(m: &mut Machine<'a>, to: Destination, number: u32, class: u32) -> Tried<Turn>
     requires { m.old.pc < 2 ^ 63 }
     ensures { Turns (λ go. make_object (language_of (plain_of m.old)) nowhere nothing number class [] (state_of m.old)
-        (to_slot m.old is_int slot go)) m.old result m.new }
+        (to_slot m.old to go)) m.old result m.new }
 {
     if m.left == 0 {
         return stop!(m, Ending::Unfinished);
     }
     m.left -= 1;
     let at = m.classes.make(&mut m.heap, SiteId(number), class)?;
-    keep(m, is_int, slot, Value::Ref(at))
+    keep(m, to, Value::Ref(at))
 }
 
 ghost use Rattle.std.specs.Prelude.{[]};
@@ -53,21 +47,20 @@ ghost use Rattle.std.specs.Prelude.{[]};
 /// A new array.
 pub fn new_array<'a>(
     m: &mut Machine<'a>,
-    is_int: bool,
-    slot: u32,
+    to: Destination,
     number: u32,
     ty: Ty,
     size: i32,
-) -> Result<Turn, AllocError>
+) -> Tried<Turn>
     requires { m.old.pc < 2 ^ 63 }
     ensures { Turns (λ go. make_array (language_of (plain_of m.old)) nowhere nothing number ty size (state_of m.old)
-        (to_slot m.old is_int slot go)) m.old result m.new }
+        (to_slot m.old to go)) m.old result m.new }
 {
     match element_in(ty) {
         None => stop!(m, Ending::Stuck),
         Some(_) => match natural(size) {
             None => stop!(m, Ending::Faulty(Fault::NegativeSize)),
-            Some(count) => add_array(m, is_int, slot, number, ty, count),
+            Some(count) => add_array(m, to, number, ty, count),
         },
     }
 }
@@ -75,24 +68,23 @@ pub fn new_array<'a>(
 /// A step, and a new array of so many elements.
 fn add_array<'a>(
     m: &mut Machine<'a>,
-    is_int: bool,
-    slot: u32,
+    to: Destination,
     number: u32,
     ty: Ty,
     count: u32,
-) -> Result<Turn, AllocError>
+) -> Tried<Turn>
     requires low { m.old.pc < 2 ^ 63 }
     requires array { 0 < ty.dim }
     ensures { (u : Ty) → element_in ty.base ty.dim ≡ Some u → Turns
         (λ go. step (state_of m.old) (λ s. make_cell (language_of (plain_of m.old)) nowhere.body nothing
-        (record { site = Some number; kind = an_array ty; values = defaults u count }) s (to_slot m.old is_int slot go))) m.old result m.new }
+        (record { site = Some number; kind = an_array ty; values = defaults u count }) s (to_slot m.old to go))) m.old result m.new }
 {
     if m.left == 0 {
         return stop!(m, Ending::Unfinished);
     }
     m.left -= 1;
     let at = m.heap.array(Some(SiteId(number)), ty, count as usize)?;
-    keep(m, is_int, slot, Value::Ref(at))
+    keep(m, to, Value::Ref(at))
 }
 
 /// An element is set, where the array is one: null, bounds and the store's type are tested in this order.
@@ -103,7 +95,7 @@ pub fn write_element<'a>(
     array: Value,
     index: i32,
     value: Value,
-) -> Result<Kept, AllocError>
+) -> Tried<Kept>
     ensures same { classes.new ≡ classes.old }
     ensures kept { IfOk result (λ r. Keeps heap.old heap.new r
         (λ s k. write_element (language_of (program_of no_place classes.old)) (value_of array) index (value_of value) s k)) }
@@ -131,7 +123,7 @@ fn write_at<'a>(
     index: i32,
     element: Ty,
     value: Value,
-) -> Result<Kept, AllocError>
+) -> Tried<Kept>
     ensures same { classes.new ≡ classes.old }
     ensures kept { IfOk result (λ r. (c : Cell) → slice_get heap.old.cells at ≡ Some c
         → Keeps heap.old heap.new r (λ s k. or_fault fault.Bounds (place_in c index) s
@@ -148,7 +140,7 @@ fn write_at<'a>(
 }
 
 /// A value is put into a place of an array with elements of a type, where it fits, as a number and a `boolean` always do.
-#[inline(always)]
+#[inline(never)]
 fn store<'a>(
     classes: &mut Classes<'a>,
     heap: &mut Heap,
@@ -156,7 +148,7 @@ fn store<'a>(
     place: u32,
     element: Ty,
     value: Value,
-) -> Result<Kept, AllocError>
+) -> Tried<Kept>
     ensures same { classes.new ≡ classes.old }
     ensures kept { IfOk result (λ r. (c : Cell) (u : moment.Value) → slice_get heap.old.cells at ≡ Some c → slice_get c.values place ≡ Some u
         → Keeps heap.old heap.new r (λ s k. on_fitting (language_of (program_of no_place classes.old)) (value_of value) element s
@@ -165,34 +157,16 @@ fn store<'a>(
     match value {
         Value::Int(number) => Ok(put(heap, at, place, Value::Int(number))),
         Value::Bool(truth) => Ok(put(heap, at, place, Value::Bool(truth))),
-        _ => store_tested(classes, heap, at, place, element, value),
-    }
-}
-
-/// A value is put into a place of an array with elements of a type, where a test says that it fits.
-#[inline(never)]
-fn store_tested<'a>(
-    classes: &mut Classes<'a>,
-    heap: &mut Heap,
-    at: u32,
-    place: u32,
-    element: Ty,
-    value: Value,
-) -> Result<Kept, AllocError>
-    ensures same { classes.new ≡ classes.old }
-    ensures kept { IfOk result (λ r. (c : Cell) (u : moment.Value) → slice_get heap.old.cells at ≡ Some c → slice_get c.values place ≡ Some u
-        → Keeps heap.old heap.new r (λ s k. on_fitting (language_of (program_of no_place classes.old)) (value_of value) element s
-        (λ s1. k (set_value at c place (convert element (value_of value)) s1)))) }
-{
-    match fits(classes, heap, element, value)? {
-        None => Ok(Kept::Stuck),
-        Some(passes) => {
-            if passes {
-                Ok(put(heap, at, place, convert(element, value)))
-            } else {
-                Ok(Kept::Fault(Fault::ArrayStore))
+        _ => match fits(classes, heap, element, value)? {
+            None => Ok(Kept::Stuck),
+            Some(passes) => {
+                if passes {
+                    Ok(put(heap, at, place, convert(element, value)))
+                } else {
+                    Ok(Kept::Fault(Fault::ArrayStore))
+                }
             }
-        }
+        },
     }
 }
 
@@ -203,7 +177,7 @@ fn fits<'a>(
     heap: &Heap,
     element: Ty,
     value: Value,
-) -> Result<Option<bool>, AllocError>
+) -> Tried<Option<bool>>
     ensures same { classes.new ≡ classes.old }
     ensures fits { IfOk result (λ r. (s : State) (go : State → Outcome)
         → on_fitting (language_of (program_of no_place classes.old)) (value_of value) element (at_heap heap.now s) go

@@ -17,7 +17,7 @@ use class_tables::Classes;
 use java_core::{Fault, Ty, TyBase};
 use java_heap::{CellKind, Heap, Value, cast_number};
 use kaba_base::ClassId;
-use std::alloc::AllocError;
+use linear_code::Tried;
 
 /// Whether a type is `int` or `char`.
 fn is_number_type(ty: Ty) -> bool
@@ -27,12 +27,7 @@ fn is_number_type(ty: Ty) -> bool
 }
 
 /// What a cast gives.
-pub fn cast_value<'a>(
-    classes: &mut Classes<'a>,
-    heap: &Heap,
-    ty: Ty,
-    value: Value,
-) -> Result<Found, AllocError>
+pub fn cast_value<'a>(classes: &mut Classes<'a>, heap: &Heap, ty: Ty, value: Value) -> Tried<Found>
     ensures same { classes.new ≡ classes.old }
     ensures found { IfOk result (λ r. Finds heap.now r (λ s k. cast_to (language_of (program_of no_place classes.old)) 0 nothing ty (value_of value) s k)) }
 {
@@ -47,12 +42,7 @@ pub fn cast_value<'a>(
 }
 
 /// What a cast to a type that is not a number's gives.
-fn cast_object<'a>(
-    classes: &mut Classes<'a>,
-    heap: &Heap,
-    ty: Ty,
-    value: Value,
-) -> Result<Found, AllocError>
+fn cast_object<'a>(classes: &mut Classes<'a>, heap: &Heap, ty: Ty, value: Value) -> Tried<Found>
     ensures same { classes.new ≡ classes.old }
     ensures found { IfOk result (λ r. Finds heap.now r (λ s k. cast_object (language_of (program_of no_place classes.old)) 0 nothing ty (value_of value) s k)) }
 {
@@ -73,12 +63,7 @@ fn cast_object<'a>(
 }
 
 /// Whether what stands in a cell is of a type; `None` where there is no such cell.
-pub fn is_of<'a>(
-    classes: &mut Classes<'a>,
-    heap: &Heap,
-    at: u32,
-    ty: Ty,
-) -> Result<Option<bool>, AllocError>
+pub fn is_of<'a>(classes: &mut Classes<'a>, heap: &Heap, at: u32, ty: Ty) -> Tried<Option<bool>>
     ensures same { classes.new ≡ classes.old }
     ensures value { IfOk result (λ r. r ≡ option_map (λ c. is_subtype (program_of no_place classes.old) (own_type c.kind) ty) (slice_get heap.now.cells at)) }
 {
@@ -107,7 +92,7 @@ pub fn has_class<'a>(
     heap: &Heap,
     class: u32,
     value: Value,
-) -> Result<Found, AllocError>
+) -> Tried<Found>
     ensures same { classes.new ≡ classes.old }
     ensures found { IfOk result (λ r. Finds heap.now r (λ s k. test_class (language_of (program_of no_place classes.old)) 0 nothing class
         (value_of value) s k)) }

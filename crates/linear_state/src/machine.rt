@@ -14,7 +14,8 @@ use crate::stack::Stack;
 use class_tables::Classes;
 use java_core::Fault;
 use java_heap::{Heap, Value};
-use std::alloc::{AllocError, Global};
+use linear_code::{Destination, Tried};
+use std::alloc::Global;
 
 /// Where a call goes back to.
 #[derive(Clone, Copy)]
@@ -120,66 +121,45 @@ pub fn as_int(is_int: bool, value: Value) -> Value
 
 /// A slot is set, as an `int` where so it is said, and the next comes.
 #[inline(always)]
-pub fn keep<'a>(
-    m: &mut Machine<'a>,
-    is_int: bool,
-    slot: u32,
-    value: Value,
-) -> Result<Turn, AllocError>
+pub fn keep<'a>(m: &mut Machine<'a>, to: Destination, value: Value) -> Tried<Turn>
     requires { m.old.pc < 2 ^ 63 }
-    ensures { Turns (λ go. go (sets (config_of m.old) is_int slot (value_of value) (state_of m.old))) m.old result m.new }
+    ensures { Turns (λ go. go (sets (config_of m.old) to.is_int to.slot (value_of value) (state_of m.old))) m.old result m.new }
 {
-    m.slots
-        .put(m.base as usize + slot as usize, as_int(is_int, value))?;
+    m.slots.put(m.base as usize + to.slot as usize, as_int(to.is_int, value))?;
     m.pc += 1;
     Ok(Turn::On)
 }
 
 /// A slot is set to what is found, or the run stops.
 #[inline(always)]
-pub fn answer<'a>(
-    m: &mut Machine<'a>,
-    is_int: bool,
-    slot: u32,
-    found: Found,
-) -> Result<Turn, AllocError>
+pub fn answer<'a>(m: &mut Machine<'a>, to: Destination, found: Found) -> Tried<Turn>
     requires { m.old.pc < 2 ^ 63 }
-    ensures { Turns (λ go. gives found (state_of m.old) (to_slot m.old is_int slot go)) m.old result m.new }
+    ensures { Turns (λ go. gives found (state_of m.old) (to_slot m.old to go)) m.old result m.new }
 {
     match found {
-        Found::Value(value) => keep(m, is_int, slot, value),
+        Found::Value(value) => keep(m, to, value),
         Found::Fault(fault) => stop!(m, Ending::Faulty(fault)),
         Found::Stuck => stop!(m, Ending::Stuck),
     }
 }
 
 /// A slot is set to a new string.
-pub fn new_string<'a>(
-    m: &mut Machine<'a>,
-    is_int: bool,
-    slot: u32,
-    units: Vec<u16>,
-) -> Result<Turn, AllocError>
+pub fn new_string<'a>(m: &mut Machine<'a>, to: Destination, units: Vec<u16>) -> Tried<Turn>
     requires { m.old.pc < 2 ^ 63 }
-    ensures { Turns (λ go. give_string units.items (state_of m.old) (to_slot m.old is_int slot go)) m.old result m.new }
+    ensures { Turns (λ go. give_string units.items (state_of m.old) (to_slot m.old to go)) m.old result m.new }
 {
     let at = m.heap.string(units)?;
-    keep(m, is_int, slot, Value::Str(at))
+    keep(m, to, Value::Str(at))
 }
 
 /// A slot is set to what is made, or the run stops.
-pub fn settle<'a>(
-    m: &mut Machine<'a>,
-    is_int: bool,
-    slot: u32,
-    made: Made,
-) -> Result<Turn, AllocError>
+pub fn settle<'a>(m: &mut Machine<'a>, to: Destination, made: Made) -> Tried<Turn>
     requires { m.old.pc < 2 ^ 63 }
-    ensures { Turns (λ go. makes made (state_of m.old) (to_slot m.old is_int slot go)) m.old result m.new }
+    ensures { Turns (λ go. makes made (state_of m.old) (to_slot m.old to go)) m.old result m.new }
 {
     match made {
-        Made::Value(value) => keep(m, is_int, slot, value),
-        Made::Text(units) => new_string(m, is_int, slot, units),
+        Made::Value(value) => keep(m, to, value),
+        Made::Text(units) => new_string(m, to, units),
         Made::Fault(fault) => stop!(m, Ending::Faulty(fault)),
         Made::Stuck => stop!(m, Ending::Stuck),
     }
@@ -187,7 +167,7 @@ pub fn settle<'a>(
 
 /// So many are passed.
 #[inline(always)]
-pub fn pass<'a>(m: &mut Machine<'a>, many: u32) -> Result<Turn, AllocError>
+pub fn pass<'a>(m: &mut Machine<'a>, many: u32) -> Tried<Turn>
     requires { m.old.pc < 2 ^ 63 }
     ensures { Turns (λ go. go (goes (config_of m.old) (m.old.pc + 1 + many) (state_of m.old))) m.old result m.new }
 {
@@ -197,7 +177,7 @@ pub fn pass<'a>(m: &mut Machine<'a>, many: u32) -> Result<Turn, AllocError>
 
 /// The next comes.
 #[inline(always)]
-pub fn next<'a>(m: &mut Machine<'a>) -> Result<Turn, AllocError>
+pub fn next<'a>(m: &mut Machine<'a>) -> Tried<Turn>
     requires { m.old.pc < 2 ^ 63 }
     ensures { Turns (λ go. go (goes (config_of m.old) (m.old.pc + 1) (state_of m.old))) m.old result m.new }
 {
@@ -207,7 +187,7 @@ pub fn next<'a>(m: &mut Machine<'a>) -> Result<Turn, AllocError>
 
 /// A step, and back over so many.
 #[inline(always)]
-pub fn go_back<'a>(m: &mut Machine<'a>, many: u32) -> Result<Turn, AllocError>
+pub fn go_back<'a>(m: &mut Machine<'a>, many: u32) -> Tried<Turn>
     requires { m.old.pc < 2 ^ 63 }
     ensures { Turns (λ go. step (state_of m.old) (λ s. go (goes (config_of m.old) (m.old.pc - many) s))) m.old result m.new }
 {

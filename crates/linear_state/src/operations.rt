@@ -13,7 +13,8 @@ ghost use Rattle.linear_state.specs.Founds.{gives, makes, Makes};
 use crate::machine::{Found, Made};
 use java_core::{BinOp, Op, UnOp};
 use java_heap::{Heap, Value, arith, compare, join, negate, same_value, text_of};
-use std::alloc::{AllocError, Global};
+use linear_code::Tried;
+use std::alloc::Global;
 
 /// What a prefix operator makes of a value.
 pub fn unary_value(op: UnOp, value: Value) -> Option<Value>
@@ -74,13 +75,7 @@ fn computed(op: Op, a: i32, b: i32) -> Found
 
 /// What a binary operator makes of two values.
 #[inline(always)]
-pub fn operate(
-    alloc: Global,
-    heap: &Heap,
-    op: BinOp,
-    left: Value,
-    right: Value,
-) -> Result<Made, AllocError>
+pub fn operate(alloc: Global, heap: &Heap, op: BinOp, left: Value, right: Value) -> Tried<Made>
     ensures { IfOk result (λ r. Makes heap.now r (λ s k. operate op (value_of left) (value_of right) s k)) }
 {
     match op {
@@ -143,13 +138,7 @@ fn compared(op: BinOp, left: Value, right: Value) -> Found
 
 /// An operator that gives an `int`, or `+` on strings.
 #[inline(never)]
-fn compute(
-    alloc: Global,
-    heap: &Heap,
-    op: Op,
-    left: Value,
-    right: Value,
-) -> Result<Made, AllocError>
+fn compute(alloc: Global, heap: &Heap, op: Op, left: Value, right: Value) -> Tried<Made>
     ensures { IfOk result (λ r. Makes heap.now r (λ s k. compute (is_plus op && (is_text (value_of left) || is_text (value_of right)))
         (number_of (value_of left)) (number_of (value_of right)) (value_of left) (value_of right) op s k)) }
 {
@@ -163,13 +152,7 @@ fn compute(
 }
 
 /// An operator on values that are not two numbers.
-fn join_or_stop(
-    alloc: Global,
-    heap: &Heap,
-    op: Op,
-    left: Value,
-    right: Value,
-) -> Result<Made, AllocError>
+fn join_or_stop(alloc: Global, heap: &Heap, op: Op, left: Value, right: Value) -> Tried<Made>
     ensures { IfOk result (λ r. Makes heap.now r (λ s k. on_bool (is_plus op && (is_text (value_of left) || is_text (value_of right))) s
         (λ s1. join_values (value_of left) (value_of right) s1 k) (stop Wrong))) }
 {
@@ -205,7 +188,7 @@ fn is_text(value: Value) -> bool
 }
 
 /// Two texts as a new string.
-fn join_values(alloc: Global, heap: &Heap, left: Value, right: Value) -> Result<Made, AllocError>
+fn join_values(alloc: Global, heap: &Heap, left: Value, right: Value) -> Tried<Made>
     ensures { IfOk result (λ r. Makes heap.now r (λ s k. join_values (value_of left) (value_of right) s k)) }
 {
     match text_of(alloc, heap, left)? {

@@ -3,27 +3,25 @@ use Rattle.java_core.specs.Trees.{no_place}
 use Rattle.java_core.specs.Programs.{program_of}
 use Rattle.linear_code.specs.Seen.{entry_of, tables_of}
 use Rattle.linear_state.specs.Run.{config_of}
-use Rattle.java_run.proofs.Starts.{same_program, meant_so, never_stuck, outcome_so, going_used}
+use Rattle.java_run.proofs.Starts.{meant_so, never_stuck, outcome_so, going_used}
 use Rattle.java_run.proofs.runs.run_program.Goals as goal
 
 pub end_seen-requires : goal.end_seen-requires
 end_seen-requires c =
     let P = program_of no_place c.args.p.now in
     let same = ap (program_of no_place) (c.in_ok-first.ensures.same ∙ c.in_ok-classes.ensures.value) in
-    let is = meant_so P c.args.words.now.items c.args.bound c.in_ok-ending.last c.in_ok-ending.ending c.requires.formed c.requires.typed (tables_of
-    c.in_ok-image.image)
-    c.in_ok-image.ensures.fits (entry_of c.main_entry-entry.result.now) (config_of c.in_ok-first.first) c.main_entry-entry.ensures c.in_ok-first.ensures.config
-    (same_program P _ _ _ _ same c.in_ok-ending.ensures.run) in
+    let is = meant_so P c.args.words.now.items c.args.bound c.in_ok-ending.last c.in_ok-ending.ending c.requires.formed c.requires.typed _
+    (tables_of c.in_ok-image.image) c.in_ok-image.ensures.fits (entry_of c.main_entry-entry.result.now) (config_of c.in_ok-first.first)
+    c.main_entry-entry.ensures c.in_ok-first.ensures.config same c.in_ok-ending.ensures.run in
     never_stuck P c.args.words.now.items c.args.bound c.in_ok-ending.last c.in_ok-ending.ending c.requires.formed c.requires.typed is
 
 pub returns-clause-outcome : goal.returns-clause-outcome
 returns-clause-outcome c =
     let P = program_of no_place c.args.p.now in
     let same = ap (program_of no_place) (c.in_ok-first.ensures.same ∙ c.in_ok-classes.ensures.value) in
-    let is = meant_so P c.args.words.now.items c.args.bound c.in_ok-ending.last c.in_ok-ending.ending c.requires.formed c.requires.typed (tables_of
-    c.in_ok-image.image)
-    c.in_ok-image.ensures.fits (entry_of c.main_entry-entry.result.now) (config_of c.in_ok-first.first) c.main_entry-entry.ensures c.in_ok-first.ensures.config
-    (same_program P _ _ _ _ same c.in_ok-ending.ensures.run) in
+    let is = meant_so P c.args.words.now.items c.args.bound c.in_ok-ending.last c.in_ok-ending.ending c.requires.formed c.requires.typed _
+    (tables_of c.in_ok-image.image) c.in_ok-image.ensures.fits (entry_of c.main_entry-entry.result.now) (config_of c.in_ok-first.first)
+    c.main_entry-entry.ensures c.in_ok-first.ensures.config same c.in_ok-ending.ensures.run in
     let begun = ap (λ k. k.state.left) c.in_ok-first.ensures.config in
     let fewer = c.in_ok-ending.ensures.left in
     let low : c.in_ok-ending.last.left ≤ c.args.bound = omega (arith, begun, fewer) in

@@ -11,64 +11,65 @@ use Rattle.linear_compile.proofs.Forms.{block_form, if_form, while_form, for_for
 use Rattle.linear_compile.proofs.Built.{arm_made, loop_made, if_made}
 use Rattle.linear_compile.proofs.statements.+statements.Goals as goal
 
-pub compile_stmt-returns-in_ok-compile_stmts-in-Block : goal.compile_stmt-returns-in_ok-compile_stmts-in-Block
-compile_stmt-returns-in_ok-compile_stmts-in-Block t c = let form = block_form _ _ _ c.in-Block.is in rw form c.in_ok-compile_stmts-in-Block.ensures
+pub compile_stmt-returns-in-Block : goal.compile_stmt-returns-in-Block
+compile_stmt-returns-in-Block t c = let form = block_form _ _ _ c.in-Block.is in rw form c.compile_stmts.ensures
 
 pub compile_stmt-returns-in_ok-compile_arms-in-Some : goal.compile_stmt-returns-in_ok-compile_arms-in-Some
 compile_stmt-returns-in_ok-compile_arms-in-Some t c =
-    let P = plain c.args.scope.now in
-    let g = env c.args.scope.now in
+    let P = plain c.args.site.scope.now in
+    let g = env c.args.site.scope.now in
     let k = c.in-If in
     let x = c.args.exits in
     let old = c.args.code.now in
     let form = if_form _ _ _ _ k.is in
-    let all = if_made P g c.args.at k.arms.items (else_seen no_place (Some c.in-Some.body)) old _ _ x.broke x.next c.len-end.result c.len-end.ensures
+    let all = if_made P g c.args.site.at k.arms.items (else_seen no_place (Some c.in-Some.body)) old _ _ x.broke x.next c.len-end.result c.len-end.ensures
     c.in_ok-compile_stmts-in-Some.ensures
     (λ o rest l e. c.in_ok-compile_arms-in-Some.ensures o rest l e) in
-    rw form (all ∙ ap (λ (o : Option (Vec RStmt Global)). code_arms P g (arms_seen no_place k.arms.items (else_seen no_place o)) c.args.at
+    rw form (all ∙ ap (λ (o : Option (Vec RStmt Global)). code_arms P g (arms_seen no_place k.arms.items (else_seen no_place o)) c.args.site.at
     (length old - x.broke) (length old - x.next) ++ old) (sym c.in-Some.is))
 
 pub compile_stmt-returns-in_ok-compile_arms-in-None : goal.compile_stmt-returns-in_ok-compile_arms-in-None
 compile_stmt-returns-in_ok-compile_arms-in-None t c =
-    let P = plain c.args.scope.now in
-    let g = env c.args.scope.now in
+    let P = plain c.args.site.scope.now in
+    let g = env c.args.site.scope.now in
     let k = c.in-If in
     let x = c.args.exits in
     let old = c.args.code.now in
     let form = if_form _ _ _ _ k.is in
-    let all = if_made P g c.args.at k.arms.items (else_seen no_place None) old old _ x.broke x.next c.len-end.result c.len-end.ensures refl
+    let all = if_made P g c.args.site.at k.arms.items (else_seen no_place None) old old _ x.broke x.next c.len-end.result c.len-end.ensures refl
     (λ o rest l e. c.in_ok-compile_arms-in-None.ensures o rest l e) in
-    rw form (all ∙ ap (λ (o : Option (Vec RStmt Global)). code_arms P g (arms_seen no_place k.arms.items (else_seen no_place o)) c.args.at
+    rw form (all ∙ ap (λ (o : Option (Vec RStmt Global)). code_arms P g (arms_seen no_place k.arms.items (else_seen no_place o)) c.args.site.at
     (length old - x.broke) (length old - x.next) ++ old) (sym c.in-None.is))
 
 pub compile_stmt-returns-in_ok-close_while-in-While : goal.compile_stmt-returns-in_ok-close_while-in-While
 compile_stmt-returns-in_ok-close_while-in-While t c =
-    let P = plain c.args.scope.now in
-    let g = env c.args.scope.now in
+    let P = plain c.args.site.scope.now in
+    let g = env c.args.site.scope.now in
     let k = c.in-While in
     let x = c.args.exits in
     let none : ℕ → ℕ → List Op = λ b d. [] in
     let form = while_form _ _ _ _ k.is in
-    rw form (loop_made none (λ b d. code_sts P g (stmts no_place k.body.items) c.args.at b d) none (code_turn P g (expr_of no_place k.test) c.args.at)
+    rw form (loop_made none (λ b d. code_sts P g (stmts no_place k.body.items) c.args.site.at b d) none (code_turn P g (expr_of no_place k.test) c.args.site.at)
     c.args.code.now
     c.open_while.new.code c.open_while.new.code c.compile_stmts-in-While.new.code c.close_while.new.code c.close_while.new.code (turn 0)
-    (λ n. turn_op P g (Some (expr_of no_place k.test)) c.args.at n)
+    (λ n. turn_op P g (Some (expr_of no_place k.test)) c.args.site.at n)
     x.broke x.next c.len-end-in-While.result c.len-tested.result c.len-tested.result c.requires.within.broke c.requires.within.next c.len-end-in-While.ensures
     c.in_ok-open_while-in-While.ensures c.len-tested.ensures refl c.len-tested.ensures c.in_ok-compile_stmts-in-While.ensures
     (λ bs ts rest y l m e. c.in_ok-close_while-in-While.ensures.code P g bs ts rest y l m e) refl)
 
 pub compile_stmt-returns-in_ok-compile_step-in-For-2 : goal.compile_stmt-returns-in_ok-compile_step-in-For-2
 compile_stmt-returns-in_ok-compile_step-in-For-2 t c =
-    let P = plain c.args.scope.now in
-    let g = env c.args.scope.now in
+    let P = plain c.args.site.scope.now in
+    let g = env c.args.site.scope.now in
     let k = c.in-For in
     let x = c.args.exits in
     let form = for_form _ _ _ _ _ _ k.is in
-    rw form (loop_made (λ b d. code_sts P g (step_seen no_place k.first) c.args.at b d) (λ b d. code_sts P g (stmts no_place k.body.items) c.args.at b d)
-    (λ b d. code_sts P g (step_seen no_place k.step) c.args.at b d)
-    (code_loop_test P g (value_of no_place k.test) c.args.at) c.args.code.now
+    rw form (loop_made (λ b d. code_sts P g (step_seen no_place k.first) c.args.site.at b d)
+    (λ b d. code_sts P g (stmts no_place k.body.items) c.args.site.at b d)
+    (λ b d. code_sts P g (step_seen no_place k.step) c.args.site.at b d)
+    (code_loop_test P g (value_of no_place k.test) c.args.site.at) c.args.code.now
     c.open_for.new.code c.compile_step.new.code c.compile_stmts-in-For.new.code c.close_for.new.code c.compile_step-in-For.new.code (turn 0)
-    (λ n. turn_op P g (value_of no_place k.test) c.args.at n)
+    (λ n. turn_op P g (value_of no_place k.test) c.args.site.at n)
     x.broke x.next c.len-end-in-For.result c.len-tested-in-For.result c.len-stepped.result c.requires.within.broke c.requires.within.next
     c.len-end-in-For.ensures
     c.in_ok-open_for-in-For.ensures c.len-tested-in-For.ensures c.in_ok-compile_step-in-For.ensures c.len-stepped.ensures c.in_ok-compile_stmts-in-For.ensures
@@ -76,16 +77,16 @@ compile_stmt-returns-in_ok-compile_step-in-For-2 t c =
 
 pub compile_arm-returns-clause-code : goal.compile_arm-returns-clause-code
 compile_arm-returns-clause-code t c = λ more rest l e.
-    let P = plain c.args.scope.now in
-    let g = env c.args.scope.now in
+    let P = plain c.args.site.scope.now in
+    let g = env c.args.site.scope.now in
     let a = c.args.arm.now in
     let x = c.args.exits in
     let n = c.in_ok-passed.passed in
-    arm_made (code_test P g (expr_of no_place a.test) c.args.at) (test_of P g (expr_of no_place a.test) c.args.at)
-    (λ b d. code_sts P g (stmts no_place a.body.items) c.args.at b d) more rest c.args.code.now
-    c.pass_over.new.code c.compile_stmts.new.code (skip_unless (test_of P g (expr_of no_place a.test) c.args.at) n ∷ c.compile_stmts.new.code)
+    arm_made (code_test P g (expr_of no_place a.test) c.args.site.at) (test_of P g (expr_of no_place a.test) c.args.site.at)
+    (λ b d. code_sts P g (stmts no_place a.body.items) c.args.site.at b d) more rest c.args.code.now
+    c.pass_over.new.code c.compile_stmts.new.code (skip_unless (test_of P g (expr_of no_place a.test) c.args.site.at) n ∷ c.compile_stmts.new.code)
     c.compile_test.new.code x.broke x.next c.args.end c.len-start.result n
     c.requires.within.broke c.requires.within.next l e c.len-start.ensures (c.in_ok-pass_over.ensures.code more rest l e) c.in_ok-compile_stmts.ensures
     c.in_ok-passed.ensures refl
-    (c.in_ok-compile_test.ensures ∙ ap (λ (q : List Op). code_test P g (expr_of no_place a.test) c.args.at ++ q) (c.in_ok-put.ensures
+    (c.in_ok-compile_test.ensures ∙ ap (λ (q : List Op). code_test P g (expr_of no_place a.test) c.args.site.at ++ q) (c.in_ok-put.ensures
     ∙ ap (λ (q : Test). skip_unless q n ∷ c.compile_stmts.new.code) (c.in_ok-test_of.ensures P g)))

@@ -9,7 +9,7 @@ use Rattle.linear_compile.proofs.statements.+statements.Given as goal
 abbrev pub invariant-compile_stmts-loop-i : goal.invariant-compile_stmts-loop-i
 invariant-compile_stmts-loop-i l = record {
   grown : length l.fn.code ≤ length l.code;
-  code : l.code ≡ code_sts (plain l.scope) (env l.scope) (stmts no_place (drop l.i l.list.items)) l.at (length l.fn.code - l.exits.broke)
+  code : l.code ≡ code_sts (plain l.site.scope.now) (env l.site.scope.now) (stmts no_place (drop l.i l.list.items)) l.site.at (length l.fn.code - l.exits.broke)
       (length l.fn.code - l.exits.next) ++ l.fn.code;
 }
 
@@ -17,7 +17,7 @@ abbrev pub invariant-compile_arms-loop-i : goal.invariant-compile_arms-loop-i
 invariant-compile_arms-loop-i l = record {
   placed : l.end ≤ length l.code;
   code : (other : Arms) (rest : List Op) → length rest ≡ l.end
-      → l.fn.code ≡ code_arms (plain l.scope) (env l.scope) other l.at (l.end - l.exits.broke) (l.end - l.exits.next) ++ rest
-      → l.code ≡ code_arms (plain l.scope) (env l.scope) (arms_seen no_place (drop l.i l.arms.items) other) l.at (l.end - l.exits.broke)
+      → l.fn.code ≡ code_arms (plain l.site.scope.now) (env l.site.scope.now) other l.site.at (l.end - l.exits.broke) (l.end - l.exits.next) ++ rest
+      → l.code ≡ code_arms (plain l.site.scope.now) (env l.site.scope.now) (arms_seen no_place (drop l.i l.arms.items) other) l.site.at (l.end - l.exits.broke)
       (l.end - l.exits.next) ++ rest;
 }

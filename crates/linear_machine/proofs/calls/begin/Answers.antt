@@ -7,6 +7,7 @@ use Rattle.linear_machine.proofs.calls.begin.Goals as goal
 
 pub returns : goal.returns
 returns c =
-    began c.args.m.now c.args.slot c.args.many (entry_of c.args.entry.now) c.in-Some.base c.put_all.new.self c.push.new.self (omega (arith, c.in-Some.ensures))
-    (c.in_ok-put_all.ensures ∙ ap (λ l. put_all l (c.in-Some.base + 1 + c.args.many)
+    began c.args.m.now c.args.frame.slot c.args.frame.many (entry_of c.args.entry.now) c.in-Some.base c.put_all.new.self c.push.new.self
+    (omega (arith, c.in-Some.ensures))
+    (c.in_ok-put_all.ensures ∙ ap (λ l. put_all l (c.in-Some.base + 1 + c.args.frame.many)
     (map value_of c.args.entry.now.rest.items)) c.in_ok-fit.ensures) c.in_ok-push.ensures

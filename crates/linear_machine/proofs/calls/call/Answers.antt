@@ -16,6 +16,7 @@ returns-in-Some-class_at c =
     let T = tables_of c.args.image.now in
     turned _ _ _ _ _ _ _ _ c.call_object.ensures (λ go. some_is _ _ _ _ (sym c.in-Some-Ref.ensures ∙ ap (λ v. Some (value_of v)) c.in-Some-Ref.field-0-is)
     ∙ within (slice_get m.heap.cells c.in-Some-Ref.at) (λ (k : Cell). own_class k.kind) (state_of m)
-    (λ t. step (state_of m) (λ s. begins (plain_of m) T (config_of m) m.slots c.args.slot (lookup (plain_of m) t c.args.method) c.args.many s go))
+    (λ t. step (state_of m) (λ s. begins (plain_of m) T (config_of m) m.slots c.args.frame.slot (lookup (plain_of m) t c.args.method) c.args.frame.many s go))
     ∙ some_is _ _ (state_of m) (λ t. step (state_of m)
-    (λ s. begins (plain_of m) T (config_of m) m.slots c.args.slot (lookup (plain_of m) t c.args.method) c.args.many s go)) (sym c.in-Some-class_at.ensures))
+    (λ s. begins (plain_of m) T (config_of m) m.slots c.args.frame.slot (lookup (plain_of m) t c.args.method) c.args.frame.many s go))
+    (sym c.in-Some-class_at.ensures))

@@ -15,7 +15,7 @@ returns c =
     let T = tables_of c.args.image.now in
     paid _ _ _ _ _ _ _ (m.left - 1) _ c.begin_some.new.m c.begin_some.ensures (omega (arith, c.if-m-eq0.false)) (ap (program_of no_place) c.body.ensures.same)
     (λ go. one_step (m.left - 1) (state_of m)
-    (λ s. begins (plain_of m) T (config_of m) m.slots c.args.slot (lookup (plain_of m) c.args.class c.args.method) c.args.many s go)
+    (λ s. begins (plain_of m) T (config_of m) m.slots c.args.frame.slot (lookup (plain_of m) c.args.class c.args.method) c.args.frame.many s go)
     (omega (arith, c.if-m-eq0.false))
-    ∙ ap (λ o. begins (plain_of m) T (config_of m) m.slots c.args.slot o c.args.many (record (state_of m) { left = m.left - 1 }) go)
+    ∙ ap (λ o. begins (plain_of m) T (config_of m) m.slots c.args.frame.slot o c.args.frame.many (record (state_of m) { left = m.left - 1 }) go)
     (sym c.in_ok-found.ensures.body))

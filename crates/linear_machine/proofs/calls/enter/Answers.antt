@@ -14,7 +14,8 @@ returns-in_ok-put-in-Some c =
     paid _ _ _ _ _ _ _ (m.left - 1) _ c.begin_some.new.m c.begin_some.ensures (omega (arith, c.if-m-eq0.false)) refl
     (λ go. some_is _ _ _ _ (sym c.in-Some.ensures)
     ∙ one_step (m.left - 1) (state_of m)
-    (λ s. begins (plain_of m) T (config_of m) (put m.slots (m.base + c.args.slot) (value_of c.in-Some.this)) c.args.slot c.args.method c.args.many s go)
+    (λ s. begins (plain_of m) T (config_of m) (put m.slots (m.base + c.args.frame.slot) (value_of c.in-Some.this)) c.args.frame.slot c.args.method
+    c.args.frame.many s go)
     (omega (arith, c.if-m-eq0.false))
-    ∙ ap (λ l. begins (plain_of m) T (config_of m) l c.args.slot c.args.method c.args.many (record (state_of m) { left = m.left - 1 }) go)
+    ∙ ap (λ l. begins (plain_of m) T (config_of m) l c.args.frame.slot c.args.method c.args.frame.many (record (state_of m) { left = m.left - 1 }) go)
     (sym c.in_ok-put-in-Some.ensures))

@@ -10,12 +10,13 @@ pub returns-in-Some-get : goal.returns-in-Some-get
 returns-in-Some-get c =
     let m = c.args.m.now in
     λ k. some_is _ _ _ _ (sym c.in-Some.ensures.value)
-    ∙ some_is _ _ _ _ (taken_one m.slots (m.base + c.args.slot + 1) c.args.many (value_of c.in-Some-get.argument) c.if-many-eq1.true c.in-Some-get.ensures)
+    ∙ some_is _ _ _ _ (taken_one m.slots (m.base + c.args.frame.slot + 1) c.args.frame.many (value_of c.in-Some-get.argument) c.if-frame-eq1.true
+    c.in-Some-get.ensures)
     ∙ c.call_with.ensures (state_of m) k
 
-pub returns-else-many-eq1 : goal.returns-else-many-eq1
-returns-else-many-eq1 c =
+pub returns-else-frame-eq1 : goal.returns-else-frame-eq1
+returns-else-frame-eq1 c =
     let m = c.args.m.now in
     λ k. some_is _ _ _ _ (sym c.in-Some.ensures.value)
-    ∙ too_many (string_seen c.args.method) c.in-Some.units.now.items m.slots (m.base + c.args.slot + 1) c.args.many
-    (state_of m) k c.if-many-eq0.false c.if-many-eq1.false
+    ∙ too_many (string_seen c.args.method) c.in-Some.units.now.items m.slots (m.base + c.args.frame.slot + 1) c.args.frame.many
+    (state_of m) k c.if-frame-eq0.false c.if-frame-eq1.false

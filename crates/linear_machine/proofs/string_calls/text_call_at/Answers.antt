@@ -17,5 +17,6 @@ returns-in-Some c =
     turned _ _ _ _ _ _ _ _ c.answer.ensures
     (λ go. ap (λ o. with_some (slice_get m.heap.strings c.args.at) s
     (λ u. with_some (option_map string_seen o) s
-    (λ q. with_some (taken m.slots (m.base + c.args.slot + 1) c.args.many) s (λ vs. string_call q u vs s (to_slot m false c.args.slot go))))) c.in-Some.is
-    ∙ c.called-found.ensures (to_slot m false c.args.slot go))
+    (λ q. with_some (taken m.slots (m.base + c.args.frame.slot + 1) c.args.frame.many) s
+    (λ vs. string_call q u vs s (to_slot m (record { is_int = false; slot = c.args.frame.slot }) go))))) c.in-Some.is
+    ∙ c.called-found.ensures (to_slot m (record { is_int = false; slot = c.args.frame.slot }) go))

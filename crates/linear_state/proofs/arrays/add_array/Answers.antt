@@ -9,5 +9,5 @@ pub returns : goal.returns
 returns c =
     let m = c.args.m.now in
     λ u h. stepped _ _ _ _ _ _ _ (m.left - 1) _ _ c.keep.ensures (omega (arith, c.if-m-eq0.false)) refl
-    (λ go. array_made (plain_of m) (state_of m) (to_slot m c.args.is_int c.args.slot go) (m.left - 1) c.args.number c.in_ok-at.at c.array.new.self
+    (λ go. array_made (plain_of m) (state_of m) (to_slot m c.args.to go) (m.left - 1) c.args.number c.in_ok-at.at c.array.new.self
     (omega (arith, c.if-m-eq0.false)) c.in_ok-at.ensures.place c.args.ty u c.args.count h c.in_ok-at.ensures.cells)

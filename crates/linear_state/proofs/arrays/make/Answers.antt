@@ -11,5 +11,5 @@ pub returns : goal.returns
 returns c =
     let m = c.args.m.now in
     stepped _ _ _ _ _ _ _ (m.left - 1) _ _ c.keep.ensures (omega (arith, c.if-m-eq0.false)) (ap (program_of no_place) c.make.ensures.same)
-    (λ go. object_made (plain_of m) (state_of m) (to_slot m c.args.is_int c.args.slot go) (m.left - 1) c.args.number c.in_ok-at.at c.make.new.heap
+    (λ go. object_made (plain_of m) (state_of m) (to_slot m c.args.to go) (m.left - 1) c.args.number c.in_ok-at.at c.make.new.heap
     (omega (arith, c.if-m-eq0.false)) c.in_ok-at.ensures.place c.args.class _ refl c.in_ok-at.ensures.cells)

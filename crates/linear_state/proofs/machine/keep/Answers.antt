@@ -7,4 +7,5 @@ use Rattle.linear_state.proofs.machine.keep.Goals as goal
 pub returns : goal.returns
 returns c =
     let m = c.args.m.now in
-    kept_on m c.args.is_int c.args.slot (value_of c.args.value) c.put.new.self (c.in_ok-put.ensures ∙ ap (put m.slots (m.base + c.args.slot)) c.as_int.ensures)
+    kept_on m c.args.to.is_int c.args.to.slot (value_of c.args.value) c.put.new.self (c.in_ok-put.ensures
+    ∙ ap (put m.slots (m.base + c.args.to.slot)) c.as_int.ensures)

@@ -9,4 +9,4 @@ returns c =
     let m = c.args.m.now in
     turned _ _ _ _ _ _ _ _ c.keep.ensures
     (λ go. string_is c.args.units.items (state_of m)
-    (to_slot m c.args.is_int c.args.slot go) c.in_ok-at.at c.string.new.self c.in_ok-at.ensures.place c.in_ok-at.ensures.strings)
+    (to_slot m c.args.to go) c.in_ok-at.at c.string.new.self c.in_ok-at.ensures.place c.in_ok-at.ensures.strings)

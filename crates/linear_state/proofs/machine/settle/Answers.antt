@@ -8,9 +8,9 @@ use Rattle.linear_state.proofs.machine.settle.Goals as goal
 pub returns-in-Value : goal.returns-in-Value
 returns-in-Value c =
     let m = c.args.m.now in
-    turned _ _ _ _ _ _ _ _ c.keep.ensures (λ go. ap (λ f. makes f (state_of m) (to_slot m c.args.is_int c.args.slot go)) c.in-Value.is)
+    turned _ _ _ _ _ _ _ _ c.keep.ensures (λ go. ap (λ f. makes f (state_of m) (to_slot m c.args.to go)) c.in-Value.is)
 
 pub returns-in-Text : goal.returns-in-Text
 returns-in-Text c =
     let m = c.args.m.now in
-    turned _ _ _ _ _ _ _ _ c.new_string.ensures (λ go. ap (λ f. makes f (state_of m) (to_slot m c.args.is_int c.args.slot go)) c.in-Text.is)
+    turned _ _ _ _ _ _ _ _ c.new_string.ensures (λ go. ap (λ f. makes f (state_of m) (to_slot m c.args.to go)) c.in-Text.is)

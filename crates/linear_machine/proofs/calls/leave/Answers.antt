@@ -1,6 +1,6 @@
 use Rattle.java_heap.specs.Seen.{value_of}
 use Rattle.linear_state.proofs.Moves.{left_on}
-use Rattle.linear_machine.proofs.gives.leave.Goals as goal
+use Rattle.linear_machine.proofs.calls.leave.Goals as goal
 
 pub returns-in_ok-put-in-Some : goal.returns-in_ok-put-in-Some
 returns-in_ok-put-in-Some c =

@@ -3,7 +3,7 @@ use Rattle.linear_code.specs.Machine.{returns}
 use Rattle.linear_state.specs.Run.{config_of}
 use Rattle.linear_state.proofs.Turned.{turned}
 use Rattle.linear_state.proofs.Branches.{some_is}
-use Rattle.linear_machine.proofs.gives.give.Goals as goal
+use Rattle.linear_machine.proofs.calls.give.Goals as goal
 
 pub returns-in-Some : goal.returns-in-Some
 returns-in-Some c =
