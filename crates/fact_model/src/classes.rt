@@ -119,15 +119,15 @@ fn is_body(column: &ColumnInfo, class: ClassId, slot: u32) -> bool
     is_def(column.kind) && column.class == class && is_slot(column.slot, slot)
 }
 
-/// Whether a column is a body.
-fn is_def(kind: ColKind) -> bool
+/// Whether a column is the body of a method.
+pub fn is_def(kind: ColKind) -> bool
     ensures { result ≡ is_def kind }
 {
     matches!(kind, ColKind::Def)
 }
 
-/// Whether a slot is the one that is asked for.
-fn is_slot(slot: Option<u32>, wanted: u32) -> bool
+/// Whether a slot is there and is the one that is asked for.
+pub fn is_slot(slot: Option<u32>, wanted: u32) -> bool
     ensures { result ≡ is_slot slot wanted }
 {
     match slot {

@@ -6,7 +6,7 @@ mod facts;
 mod laws;
 mod sets;
 
-pub use classes::{below, class_at, finds};
+pub use classes::{below, class_at, finds, is_def, is_slot};
 pub use facts::{
     AccessInfo, BodyInfo, CallInfo, CastInfo, CellInfo, ClassInfo, ColKind, ColumnInfo, Facts,
     FlowInfo, LoadInfo, MakeInfo, MakerNames, NewInfo, RowInfo, SiteInfo, Spot, SpotKind,

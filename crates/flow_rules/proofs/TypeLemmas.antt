@@ -12,7 +12,7 @@ use Rattle.java_core.specs.declared.UnOp.TheVariants as un
 use Rattle.java_core.specs.declared.BinOp.TheVariants as bin
 use Rattle.java_core.specs.declared.UnOp.{UnOp}
 use Rattle.java_core.specs.declared.BinOp.{BinOp}
-use Rattle.java_core.specs.Trees.{Ex, Sts, number, character, text, truth, null, this, local, static_field, own_field, field, index, call, static_call, super_call, create, create_array, cast, instance_of, unary, binary}
+use Rattle.java_core.specs.Trees.{Ex, Sts, local, static_field, own_field, field, index, call, static_call, super_call, unary, binary}
 use Rattle.java_core.specs.Programs.{Plain, PlainMethod, PlainSlot}
 use Rattle.java_core.specs.Classes.{super_method, member_field, slot_of}
 use Rattle.java_core.specs.Types.{Static, a_value, null_value, no_value, env_of, class_in, class_of, element_in, element_of, or_nothing, field_type, field_in, access_type, length_or, is_length, is_string, string_method, StringMethod, LengthOf, CharAt, Equals, signature_of_string, signature_of_slot, signature_of_method, object_signature, call_signature, super_signature, result_of, plain_type, sum_type, types_of, binary_type, unary_type, static}
@@ -162,12 +162,6 @@ module _ (P : Plain) where
     local_is i = ap object_if (sym (slice_get-map (λ v. v.ty) (k.params ++ k.locals) i)) ∙ sym (object_or _)
 
     pub type_is : (e : Ex) → object_type P k e ≡ object_static (static P (env_of m k) e)
-    type_is (number t n) = refl
-    type_is (character t c) = refl
-    type_is (text t u) = refl
-    type_is (truth t b) = refl
-    type_is (null t) = refl
-    type_is (this t) = refl
     type_is (local t i) = local_is i
     type_is (static_field t f) = sym (object_or (field_type P f))
     type_is (own_field t f) = sym (object_or (field_type P f))
@@ -176,12 +170,9 @@ module _ (P : Plain) where
     type_is (call t e x es) = ap (λ u. option_and_then (slot_object P) (call_slot P u x)) (type_is e) ∙ call_is (static P (env_of m k) e) x
     type_is (static_call t d es) = method_is d
     type_is (super_call t x es) = super_of k.owner x
-    type_is (create t n c es) = refl
-    type_is (create_array t n u e) = refl
-    type_is (cast t n u e) = refl
-    type_is (instance_of t n e c) = refl
     type_is (unary t o e) = sym (unary_none o)
     type_is (binary t o e d) = sym (binary_none o _ _)
+    type_is e = refl
 
     -- the same of the two functions
     pub types_are : object_type P k ≡ type_in P m k

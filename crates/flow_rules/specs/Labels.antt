@@ -1,19 +1,11 @@
 -- Labels: each part of a body that facts come from takes the next number, in the order of the text. A call stands before its arguments, a cast before
 -- its operand, an `instanceof` and an index after their left sides.
 use Rattle.std.specs.Prelude.{ℕ, ◌+◌, Option, Some, None}
-use Rattle.java_core.specs.Trees.{Tag, Ex, Exs, no_ex, ex_then, number, character, text, truth, null, this, local, static_field, own_field, field, index, call, static_call, super_call, create, create_array, cast, instance_of, unary, binary, Target, to_local, to_static, to_own, to_field, to_element, no_target, St, Sts, Arms, declare, block, assign, act, print, choose, loop, return, break, continue, no_st, st_then, no_other, otherwise, arm}
+use Rattle.java_core.specs.Trees.{Tag, Ex, Exs, no_ex, ex_then, own_field, field, index, call, static_call, super_call, create, create_array, cast, instance_of, unary, binary, Target, to_local, to_static, to_own, to_field, to_element, no_target, St, Sts, Arms, declare, block, assign, act, print, choose, loop, return, no_st, st_then, no_other, otherwise, arm}
 
--- how many labels an expression takes
+-- how many labels an expression takes: a literal, `null`, `this`, a variable and a static field take none
 abbrev mutual
   pub size : Ex → ℕ
-  size (number t n) = 0
-  size (character t c) = 0
-  size (text t u) = 0
-  size (truth t b) = 0
-  size (null t) = 0
-  size (this t) = 0
-  size (local t i) = 0
-  size (static_field t f) = 0
   size (own_field t f) = 1
   size (field t e x) = size e + 1
   size (index t e i) = size e + 1 + size i
@@ -26,6 +18,7 @@ abbrev mutual
   size (instance_of t n e c) = size e + 1
   size (unary t o e) = size e
   size (binary t o e d) = size e + size d + 1
+  size _ = 0
 
   pub sizes : Exs → ℕ
   sizes no_ex = 0
@@ -34,17 +27,9 @@ abbrev mutual
 abbrev pub labelled : ℕ → Tag → Tag
 labelled n t = record { label = n; place = t.place }
 
--- an expression with its labels from a number on
+-- an expression with its labels from a number on: what takes none is as it was
 abbrev mutual
   pub label : ℕ → Ex → Ex
-  label n (number t i) = number t i
-  label n (character t c) = character t c
-  label n (text t u) = text t u
-  label n (truth t b) = truth t b
-  label n (null t) = null t
-  label n (this t) = this t
-  label n (local t i) = local t i
-  label n (static_field t f) = static_field t f
   label n (own_field t f) = own_field (labelled n t) f
   label n (field t e x) = field (labelled (n + size e) t) (label n e) x
   label n (index t e i) = index (labelled (n + size e) t) (label n e) (label (n + size e + 1) i)
@@ -57,6 +42,7 @@ abbrev mutual
   label n (instance_of t i e c) = instance_of (labelled (n + size e) t) i (label n e) c
   label n (unary t o e) = unary t o (label n e)
   label n (binary t o e d) = binary t o (label n e) (label (n + size e) d)
+  label n e = e
 
   pub label_all : ℕ → Exs → Exs
   label_all n no_ex = no_ex
@@ -91,6 +77,7 @@ label_target n (to_field t e x) = to_field t (label n e) x
 label_target n (to_element t e i) = to_element t (label n e) (label (n + size e) i)
 label_target n no_target = no_target
 
+-- how many labels statements take: a `break` and a `continue` take none
 abbrev mutual
   pub size_st : St → ℕ
   size_st (declare t i e) = size_put e
@@ -101,8 +88,7 @@ abbrev mutual
   size_st (choose t xs) = size_arms xs
   size_st (loop t is_while first test step body) = size_sts first + size_if test + size_sts step + size_sts body
   size_st (return t e) = size_put e
-  size_st (break t) = 0
-  size_st (continue t) = 0
+  size_st _ = 0
 
   pub size_sts : Sts → ℕ
   size_sts no_st = 0
@@ -113,6 +99,7 @@ abbrev mutual
   size_arms (otherwise xs) = size_sts xs
   size_arms (arm e xs more) = size e + size_sts xs + size_arms more
 
+-- statements with their labels from a number on
 abbrev mutual
   pub label_st : ℕ → St → St
   label_st n (declare t i e) = declare t i (label_if n e)
@@ -125,8 +112,7 @@ abbrev mutual
       loop t is_while (label_sts n first) (label_if (n + size_sts first) test) (label_sts (n + size_sts first + size_if test) step)
       (label_sts (n + size_sts first + size_if test + size_sts step) body)
   label_st n (return t e) = return t (label_if n e)
-  label_st n (break t) = break t
-  label_st n (continue t) = continue t
+  label_st n x = x
 
   pub label_sts : ℕ → Sts → Sts
   label_sts n no_st = no_st

@@ -4,7 +4,7 @@ use Rattle.std.specs.Option.{option_map}
 use Rattle.java_core.specs.declared.Ty.{Ty}
 use Rattle.java_core.specs.declared.TyBase.{TyBase}
 use Rattle.java_core.specs.declared.TyBase.TheVariants.{Int, Boolean, Char, Str, Class}
-use Rattle.java_core.specs.Trees.{Tag, Ex, Exs, no_ex, ex_then, number, character, text, truth, null, this, local, static_field, own_field, field, index, call, static_call, super_call, create, create_array, cast, instance_of, unary, binary}
+use Rattle.java_core.specs.Trees.{Tag, Ex, Exs, no_ex, ex_then, this, local, static_field, own_field, field, index, call, static_call, super_call, create, create_array, cast}
 use Rattle.java_core.specs.Programs.{Plain, PlainMethod}
 use Rattle.java_core.specs.Classes.{member_field, slot_of, slot_of_method, declaration_of, super_method}
 use Rattle.java_core.specs.Types.{Static, a_value, null_value, no_value, env_of, static}
@@ -86,13 +86,8 @@ test_operand m t n c = record { point = Some (point.Expr m t.label); row = Some 
 -- in the body of a method, where each expression has a type that a row can have, or none
 module _ (P : Plain) (type : Ex → Option ObjectType) (m : ℕ) (k : PlainMethod) where
   -- the row that types an expression: a variable's, for an access the field's, for a call the return's, for an element the array's, for a creation or
-  -- a cast its own
+  -- a cast its own; a literal, `null`, an `instanceof` and an operator have none
   abbrev pub row_of : Ex → Option RowItem
-  row_of (number t n) = None
-  row_of (character t c) = None
-  row_of (text t u) = None
-  row_of (truth t b) = None
-  row_of (null t) = None
   row_of (this t) = Some (row.This m)
   row_of (local t i) = Some (variable_row m k i)
   row_of (static_field t f) = Some (row.Field f)
@@ -105,17 +100,10 @@ module _ (P : Plain) (type : Ex → Option ObjectType) (m : ℕ) (k : PlainMetho
   row_of (create t n c es) = Some (row.New n)
   row_of (create_array t n u e) = Some (row.New n)
   row_of (cast t n u e) = Some (row.Cast n)
-  row_of (instance_of t n e c) = None
-  row_of (unary t o e) = None
-  row_of (binary t o e d) = None
+  row_of _ = None
 
-  -- the flow point that an expression would be
+  -- the flow point that an expression would be; a literal, `null`, an `instanceof` and an operator are none
   abbrev pub point_of : Ex → Option PointItem
-  point_of (number t n) = None
-  point_of (character t c) = None
-  point_of (text t u) = None
-  point_of (truth t b) = None
-  point_of (null t) = None
   point_of (this t) = Some (point.This m)
   point_of (local t i) = Some (point.Local m i)
   point_of (static_field t f) = Some (point.Static f)
@@ -128,9 +116,7 @@ module _ (P : Plain) (type : Ex → Option ObjectType) (m : ℕ) (k : PlainMetho
   point_of (create t n c es) = Some (point.Expr m t.label)
   point_of (create_array t n u e) = Some (point.Expr m t.label)
   point_of (cast t n u e) = Some (point.Expr m t.label)
-  point_of (instance_of t n e c) = None
-  point_of (unary t o e) = None
-  point_of (binary t o e d) = None
+  point_of _ = None
 
   -- the number of a creation
   abbrev pub created_by : Ex → Option ℕ

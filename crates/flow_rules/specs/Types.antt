@@ -1,7 +1,7 @@
 -- The type of an expression, where a row can have it, step by step: the same as the static type, where a row can have that.
 use Rattle.std.specs.Prelude.{ℕ, ◌==◌, ◌-◌, ◌++◌, if◌then◌else◌, Option, Some, None, slice_get, option_and_then}
 use Rattle.std.specs.Option.{option_map}
-use Rattle.java_core.specs.Trees.{Ex, number, character, text, truth, null, this, local, static_field, own_field, field, index, call, static_call, super_call, create, create_array, cast, instance_of, unary, binary}
+use Rattle.java_core.specs.Trees.{Ex, this, local, static_field, own_field, field, index, call, static_call, super_call, create, create_array, cast}
 use Rattle.java_core.specs.Programs.{Plain, PlainMethod}
 use Rattle.java_core.specs.Classes.{super_method}
 use Rattle.flow_rules.specs.declared.items.ObjectType.{ObjectType}
@@ -27,12 +27,8 @@ element_object None = None
 element_object (Some t) = element_in t
 
 module _ (P : Plain) (k : PlainMethod) where
+  -- a literal, `null`, an `instanceof` and an operator have none
   abbrev pub object_type : Ex → Option ObjectType
-  object_type (number t n) = None
-  object_type (character t c) = None
-  object_type (text t u) = None
-  object_type (truth t b) = None
-  object_type (null t) = None
   object_type (this t) = Some (record { class = record { 0 = k.owner }; dim = 0 })
   object_type (local t i) = variable_object k i
   object_type (static_field t f) = field_object P f
@@ -45,6 +41,4 @@ module _ (P : Plain) (k : PlainMethod) where
   object_type (create t n c es) = Some (record { class = record { 0 = c }; dim = 0 })
   object_type (create_array t n u e) = object_of u
   object_type (cast t n u e) = object_of u
-  object_type (instance_of t n e c) = None
-  object_type (unary t o e) = None
-  object_type (binary t o e d) = None
+  object_type _ = None

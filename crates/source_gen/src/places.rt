@@ -10,7 +10,7 @@ ghost use Rattle.written_tree.specs.Members.{is_declaration, is_first_there};
 ghost use Rattle.source_gen.specs.Seen.{is_offered_as};
 
 use crate::parts::Nodes;
-use fact_model::ColKind;
+use fact_model::{ColKind, is_def, is_slot};
 use hier_model::{column_at, site_at};
 use kaba_base::{ColId, NodeId, SiteId};
 
@@ -19,23 +19,6 @@ pub fn is_declaration(kind: ColKind) -> bool
     ensures { result ≡ is_declaration kind }
 {
     matches!(kind, ColKind::Dcl)
-}
-
-/// Whether a column is a body.
-fn is_def(kind: ColKind) -> bool
-    ensures { result ≡ is_def kind }
-{
-    matches!(kind, ColKind::Def)
-}
-
-/// Whether a slot is there and is this one.
-fn is_slot(slot: Option<u32>, x: u32) -> bool
-    ensures { result ≡ is_slot slot x }
-{
-    match slot {
-        Some(y) => y == x,
-        None => false,
-    }
 }
 
 /// Whether a column stands at a node.
