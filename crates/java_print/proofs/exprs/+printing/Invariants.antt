@@ -43,6 +43,9 @@ decreases-put_new_array l = 4 * expr_size (expr_of l.size.now) + 2
 abbrev pub decreases-put_operand : goal.decreases-put_operand
 decreases-put_operand l = 4 * expr_size (expr_of l.e.now) + 1
 
+abbrev pub decreases-put_square : goal.decreases-put_square
+decreases-put_square l = 4 * expr_size (expr_of l.e.now) + 1
+
 abbrev pub decreases-put_super_call : goal.decreases-put_super_call
 decreases-put_super_call l = 4 * exprs_size (exprs l.args.now) + 3
 
