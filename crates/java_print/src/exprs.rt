@@ -5,7 +5,7 @@ ghost use Rattle.std.specs.Prelude.{◌≡◌, OnOk, List, ◌∷◌, Bool, suc,
 ghost use Rattle.java_tree.specs.Syntax.{expr_of, exprs};
 ghost use Rattle.java_print.specs.Items.{Item, Space};
 ghost use Rattle.java_print.specs.Layout.{rank, sign_of, same_sign, is_plus_or_minus, is_named, fits, fits_sign, fits_cast, mark_then, key_then, word_then, comma, bool_items, base_items, dims_items, more_dims_items, in_round, expr_items, args_items, type_items, called_items, field_items, index_items, new_array_items, cast_items, test_items, binary_items};
-ghost use Rattle.java_print.specs.Adds.{Adds, Puts, space_then, key_space_then, square_then};
+ghost use Rattle.java_print.specs.Adds.{Adds, Puts, space_then, key_space_then, square_then, dot_call};
 
 use crate::put::{
     put_char_literal, put_int, put_key, put_margin, put_mark, put_name, put_string_literal,
@@ -277,6 +277,15 @@ fn put_call(into: &mut Vec<u8>, name: &Name, args: &[Expr]) -> Result<(), AllocE
     put_args(into, args)
 }
 
+/// Adds a dot and a call of a name.
+#[cycle(printing)]
+fn put_dot_call(into: &mut Vec<u8>, name: &Name, args: &[Expr]) -> Result<(), AllocError>
+    ensures value { OnOk result (Puts into.old.items into.new.items (dot_call name.now (exprs args.now))) }
+{
+    put_mark(into, Mark::Dot)?;
+    put_call(into, name, args)
+}
+
 /// Adds a call upon an object.
 #[cycle(printing)]
 fn put_call_on(
@@ -288,8 +297,7 @@ fn put_call_on(
     ensures value { OnOk result ((r : List Item) → Adds into.old.items into.new.items (in_round (fits 12 (expr_of base.now)) (expr_items (expr_of base.now)) (mark_then Mark.Dot (called_items name.now (exprs args.now) r))) r) }
 {
     put_operand(into, base, fits(12, base))?;
-    put_mark(into, Mark::Dot)?;
-    put_call(into, name, args)
+    put_dot_call(into, name, args)
 }
 
 /// Adds a call of the method above.
@@ -298,8 +306,7 @@ fn put_super_call(into: &mut Vec<u8>, name: &Name, args: &[Expr]) -> Result<(), 
     ensures value { OnOk result ((r : List Item) → Adds into.old.items into.new.items (key_then Keyword.Super (mark_then Mark.Dot (called_items name.now (exprs args.now) r))) r) }
 {
     put_key(into, Keyword::Super)?;
-    put_mark(into, Mark::Dot)?;
-    put_call(into, name, args)
+    put_dot_call(into, name, args)
 }
 
 /// Adds the creation of an object.

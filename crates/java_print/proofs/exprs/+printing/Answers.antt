@@ -90,16 +90,17 @@ put_call-returns t c = record {
   value = on_ok c.put_args.result c.put_args.ensures.value (both_put (both_put c.in_ok-put_name.ensures.value c.in_ok-put_mark.ensures.value));
 }
 
+pub put_dot_call-returns : goal.put_dot_call-returns
+put_dot_call-returns t c = record { value = on_ok c.put_call.result c.put_call.ensures.value (both_put c.in_ok-put_mark.ensures.value) }
+
 pub put_call_on-returns : goal.put_call_on-returns
 put_call_on-returns t c = record {
-  value = on_ok c.put_call.result c.put_call.ensures.value
-      (both_put (both_put (round_as _ _ _ c.fits.ensures.value c.in_ok-put_operand.ensures.value) c.in_ok-put_mark.ensures.value));
+  value = on_ok c.put_dot_call.result c.put_dot_call.ensures.value
+      (both_put (round_as _ _ _ c.fits.ensures.value c.in_ok-put_operand.ensures.value));
 }
 
 pub put_super_call-returns : goal.put_super_call-returns
-put_super_call-returns t c = record {
-  value = on_ok c.put_call.result c.put_call.ensures.value (both_put (both_put c.in_ok-put_key.ensures.value c.in_ok-put_mark.ensures.value));
-}
+put_super_call-returns t c = record { value = on_ok c.put_dot_call.result c.put_dot_call.ensures.value (both_put c.in_ok-put_key.ensures.value) }
 
 pub put_new-returns : goal.put_new-returns
 put_new-returns t c = record { value = on_ok c.put_call.result c.put_call.ensures.value (both_put c.in_ok-put_key_space.ensures.value) }

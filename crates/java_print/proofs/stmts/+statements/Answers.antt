@@ -8,22 +8,13 @@ use Rattle.java_tree.specs.Size.{stmt_size, stmts_size, arms_size, else_size}
 use Rattle.java_print.proofs.stmts.+statements.Goals as goal
 
 pub put_while-returns : goal.put_while-returns
-put_while-returns t c = record {
-  value = on_ok c.put_whole_body.result c.put_whole_body.ensures.value (both_put (both_put c.in_ok-put_key.ensures.value c.in_ok-put_condition.ensures.value));
-}
+put_while-returns t c = record { value = on_ok c.put_whole_body.result c.put_whole_body.ensures.value (both_put c.in_ok-put_tested.ensures.value) }
 
 pub put_for-returns : goal.put_for-returns
 put_for-returns t c = record { value = on_ok c.put_whole_body.result c.put_whole_body.ensures.value (both_put c.in_ok-put_for_head.ensures.value) }
 
 pub put_arm-returns : goal.put_arm-returns
-put_arm-returns t c = record {
-  value = on_ok c.put_body.result c.put_body.ensures.value (both_put (both_put c.in_ok-put_key.ensures.value c.in_ok-put_condition.ensures.value));
-}
-
-pub put_last-returns : goal.put_last-returns
-put_last-returns t c = record {
-  value = on_ok c.put_whole_body.result c.put_whole_body.ensures.value (both_put (both_put c.in_ok-put_space.ensures.value c.in_ok-put_key.ensures.value));
-}
+put_arm-returns t c = record { value = on_ok c.put_body.result c.put_body.ensures.value (both_put c.in_ok-put_tested.ensures.value) }
 
 pub put_if-returns : goal.put_if-returns
 put_if-returns t c = record { value = on_ok c.put_other.result c.put_other.ensures.value (both_put c.in_ok-put_arms.ensures.value) }
@@ -131,13 +122,13 @@ put_block-returns t c = record {
       c.in_ok-put_close_body.ensures.value))));
 }
 
-pub put_other-put_last-requires : goal.put_other-put_last-requires
-put_other-put_last-requires t c =
+pub put_other-put_whole_body-requires : goal.put_other-put_whole_body-requires
+put_other-put_whole_body-requires t c =
     (omega (arith, c.decreases, ap (λ o. else_size (else_seen o)) c.in-Some.is, ap (λ xs. stmts_size (stmts xs)) c.as_slice.ensures.value), tt)
 
-pub put_other-returns-in-Some : goal.put_other-returns-in-Some
-put_other-returns-in-Some t c =
-    record {
-      value = on_ok c.put_last.result c.put_last.ensures.value (λ h. other_along c.args.margin c.args.other.now c.in-Some.body
-          c.as_slice.result.now c.in-Some.is c.as_slice.ensures.value h);
-    }
+pub put_other-returns-in_ok-put_key-in-Some : goal.put_other-returns-in_ok-put_key-in-Some
+put_other-returns-in_ok-put_key-in-Some t c = record {
+  value = on_ok c.put_whole_body.result c.put_whole_body.ensures.value (λ h. other_along c.args.margin c.args.other.now c.in-Some.body
+      c.as_slice.result.now c.in-Some.is c.as_slice.ensures.value (both_put
+      (both_put c.in_ok-put_space-in-Some.ensures.value c.in_ok-put_key-in-Some.ensures.value) h));
+}

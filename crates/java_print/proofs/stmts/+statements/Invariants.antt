@@ -40,9 +40,6 @@ decreases-put_arm l = 8 * stmts_size (stmts l.body.now) + 5
 abbrev pub decreases-put_other : goal.decreases-put_other
 decreases-put_other l = 8 * else_size (else_seen l.other.now) + 7
 
-abbrev pub decreases-put_last : goal.decreases-put_last
-decreases-put_last l = 8 * stmts_size (stmts l.body.now) + 6
-
 -- the statements that are left are still to add
 abbrev pub invariant-put_stmts-loop-s : goal.invariant-put_stmts-loop-s
 invariant-put_stmts-loop-s l = (r : List Item) → Adds l.fn.into.items l.into.items (stmts_items l.margin (stmts l.body) r)
