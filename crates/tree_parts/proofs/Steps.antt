@@ -1,11 +1,12 @@
 -- One item more of a list that is written.
-use Rattle.std.proofs.Common.{◌≡◌, ℕ, ◌+◌, ◌<◌, ◌≤◌, List, [], ◌∷◌, ◌++◌, length, drop, get_or, sym, ap, ◌∙◌}
+use Rattle.std.proofs.Common.{◌≡◌, ℕ, ◌+◌, ◌<◌, ◌≤◌, List, [], ◌∷◌, ◌++◌, length, drop, get_or, suc, drop-cons, add-one, sym, ap, ◌∙◌}
 use Rattle.std.proofs.lemmas.List.{drop_all}
 use Rattle.java_tree.specs.declared.Expr.{Expr}
 use Rattle.java_tree.specs.declared.Stmt.{Stmt}
 use Rattle.java_tree.specs.declared.Arm.{Arm}
 use Rattle.java_tree.specs.Syntax as tree
 use Rattle.java_tree.specs.Syntax.{Expressions, and_more, Statements, and_then, and_arm}
+use Rattle.java_tree.proofs.Appended.{append_exprs, append_stmts, append_arms, exprs_push, stmts_push, arms_push}
 use Rattle.java_core.specs.declared.RExpr.{RExpr}
 use Rattle.java_core.specs.declared.RStmt.{RStmt}
 use Rattle.java_core.specs.declared.RArm.{RArm}
@@ -13,7 +14,9 @@ use Rattle.java_core.specs.Trees.{Arms, no_other, no_place, expr_of, exprs, stmt
 use Rattle.written_tree.specs.Bodies.{scope_after}
 use Rattle.tree_parts.specs.declared.within.Within.{Within}
 use Rattle.tree_parts.specs.Written as written
-use Rattle.tree_parts.proofs.Appended.{append_exprs, append_stmts, append_arms, next_at, exprs_push, stmts_push, arms_push}
+
+next_at : {A : Type 0} (list : List A) (n : ℕ) (s : A) → n < length list → s ≡ get_or list n s → drop n list ≡ s ∷ drop (n + 1) list
+next_at list n s below at = drop-cons list n s below ∙ ap (λ x. x ∷ drop (suc n) list) (sym at) ∙ ap (λ k. s ∷ drop k list) (sym (add-one n))
 
 -- with no item left, what is written so far is the whole
 pub all_written : {X T : Type 0} {o : T} (append : T → T → T) (rest : List X → T) (done : T) (list : List X) (n : ℕ) → append done (rest []) ≡ done
