@@ -99,6 +99,14 @@ pub length-le-width : (xs : List ℕ) → length xs ≤ width xs
 length-le-width [] = omega arith
 length-le-width (x ∷ xs) = omega (arith, length-le-width xs, (len_utf8_bounds x).0)
 
+-- a piece lies within what is left, which has fewer than 4,294,967,295 characters
+pub record Fits (n : ℕ) (rest : List ℕ) : Type 0 where
+  pub within : n < length rest
+  pub few : length rest < 4294967295
+
+pub piece_fits : (all rest : List ℕ) (at : ℕ) {n k : ℕ} → width all < 4294967295 → k ≡ n → k < length rest → at + width rest ≡ width all → Fits n rest
+piece_fits all rest at few is within whole = record { within = omega arith; few = omega (arith, length-le-width rest) }
+
 module _ (n : ℕ) (p r : Place) (all : List ℕ) where
   pub cut_size : r.at ≡ p.at + width (take (n + 1) all) → r.at + width (take (length all - (n + 1)) (drop (n + 1) all)) ≡ p.at + width all
   cut_size h = ap (λ ys. r.at + width ys) (take_rest all (n + 1)) ∙ omega (arith, h, width_split (n + 1) all)

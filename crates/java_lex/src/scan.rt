@@ -15,6 +15,13 @@ use crate::{MARKS, Mark, Name, TokenKind, Units};
 use kaba_base::{continues_identifier, keyword_of, starts_identifier};
 use std::alloc::{AllocError, Global};
 
+/// How many characters there are before the first that fails the test.
+macro_rules! leading {
+    ($rest:ident, |$c:ident| $passes:expr) => {
+        $rest.iter().copied().take_while(|$c| $passes).count()
+    };
+}
+
 /// Why a piece is no token.
 #[derive(Clone, Copy)]
 pub enum FaultKind {
@@ -69,10 +76,7 @@ fn parts(rest: &[char]) -> usize
     ensures value { result ≡ prefix_len is_part rest.now }
     ensures within { result ≤ length rest.now }
 {
-    rest.iter()
-        .copied()
-        .take_while(|c| continues_identifier(*c))
-        .count()
+    leading!(rest, |c| continues_identifier(*c))
 }
 
 /// How many digits there are.
@@ -80,10 +84,7 @@ fn digits(rest: &[char]) -> usize
     ensures value { result ≡ prefix_len is_ascii_digit rest.now }
     ensures within { result ≤ length rest.now }
 {
-    rest.iter()
-        .copied()
-        .take_while(|c| c.is_ascii_digit())
-        .count()
+    leading!(rest, |c| c.is_ascii_digit())
 }
 
 /// How many characters there are before the end of the line.
@@ -91,10 +92,7 @@ fn line_len(rest: &[char]) -> usize
     ensures value { result ≡ prefix_len in_line rest.now }
     ensures within { result ≤ length rest.now }
 {
-    rest.iter()
-        .copied()
-        .take_while(|c| !is_line_end(*c))
-        .count()
+    leading!(rest, |c| !is_line_end(*c))
 }
 
 /// Whether the characters begin with this ASCII text.
@@ -141,24 +139,16 @@ fn mark_of(rest: &[char]) -> Option<Mark>
 fn escaped(d: char) -> Option<u16>
     ensures { result ≡ escaped d }
 {
-    if d == 'b' {
-        Some(8)
-    } else if d == 't' {
-        Some(9)
-    } else if d == 'n' {
-        Some(10)
-    } else if d == 'f' {
-        Some(12)
-    } else if d == 'r' {
-        Some(13)
-    } else if d == '"' {
-        Some(34)
-    } else if d == '\'' {
-        Some(39)
-    } else if d == '\\' {
-        Some(92)
-    } else {
-        None
+    match d {
+        'b' => Some(8),
+        't' => Some(9),
+        'n' => Some(10),
+        'f' => Some(12),
+        'r' => Some(13),
+        '"' => Some(34),
+        '\'' => Some(39),
+        '\\' => Some(92),
+        _ => None,
     }
 }
 

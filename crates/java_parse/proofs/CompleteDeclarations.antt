@@ -19,7 +19,6 @@ use Rattle.java_tree.specs.Expressions.{int_base, boolean_base, char_base}
 use Rattle.java_parse.specs.Reading.{Reads, Left}
 use Rattle.java_tree.specs.Places.{unplaced}
 use Rattle.java_tree.specs.Declarations.{Derives}
-use Rattle.java_parse.proofs.Post.{stmt_append}
 use Rattle.java_parse.proofs.CompleteExpressions.{type_reads}
 use Rattle.java_parse.proofs.CompleteStatements.{items_reads, type_no_final}
 use Rattle.java_parse.proofs.Runs.{read_once, fails_once}
@@ -111,7 +110,6 @@ head_no_brace : {ts rest : List Token} {h : HeadTree} → IsHead ts rest h → a
 head_no_brace (a_head m r ps) = mods_no_brace m (result_no_mod r).1
 
 body_reads : {ts rest : List Token} {b : Option Statements} → IsBody ts rest b → Reads NBody ts (Ok (b, rest))
-unfolding stmt_append
 body_reads no_body = z.body_none refl
 body_reads (a_body d) = z.body_some refl refl (items_reads d no_statements)
 

@@ -25,8 +25,8 @@ use Rattle.std.proofs.lemmas.Bool.{le-leb, lt-leb}
 use Rattle.std.specs.Prelude.{nat_lt, nat_le}
 use Rattle.java_tree.specs.Nesting.{next_is}
 use Rattle.java_parse.specs.Reading.{Outcome, Reads}
-use Rattle.java_parse.proofs.Post.{expr_append}
-use Rattle.java_parse.proofs.SoundExpressions.{expr_append-none, expr_append-snoc}
+use Rattle.java_tree.proofs.Appended.{append_exprs, exprs_end}
+use Rattle.java_parse.proofs.SoundExpressions.{exprs_snoc}
 use Rattle.java_parse.proofs.ExpressionSteps as x
 
 -- the level of the operator that is next, or 0
@@ -285,8 +285,6 @@ closed : {ts rest : List Token} {e : Expression} → ((k : ℕ) → k ≤ 1 → 
 closed read s = read 1 (omega arith) (omega arith) (looser (omega arith) s) _ (stops_more s)
 
 mutual
-  unfolding expr_append
-
   pub expr_reads : {l : ℕ} {ts rest : List Token} {e : Expression} → IsExpr l ts rest e → (k : ℕ) → k ≤ l → l ≤ 11 → Stops (suc l) rest
       → (o : Outcome Expression) → ((c : ℕ) → l ≤ c → Reads (NMore k c e) rest o) → Reads (NExpr k) ts o
   expr_reads (binary {l = l} {m = m} {p = p} {a = a} {b = b} {ts = ts} {us = us} {rest = rest} po le da db) k kl lb s o end =
@@ -341,10 +339,10 @@ mutual
       x.args_some (no_round ts (expr_begins d)) (closed (expr_reads d) (more_stops m)) (more_reads m (and_more _ no_more))
 
   more_reads : {us rest : List Token} {es : Expressions} → IsMoreArgs us rest es → (before : Expressions)
-      → Reads (NMoreArgs before) us (Ok (expr_append before es, rest))
-  more_reads last_arg before = rw expr_append-none (x.more_args_end refl)
+      → Reads (NMoreArgs before) us (Ok (append_exprs before es, rest))
+  more_reads last_arg before = rw exprs_end (x.more_args_end refl)
   more_reads (next_arg {e = e} {es = es} d m) before =
-      rw (← expr_append-snoc before e es) (x.more_args_next refl refl (closed (expr_reads d) (more_stops m)) (more_reads m (expr_snoc before e)))
+      rw (← exprs_snoc before e es) (x.more_args_next refl refl (closed (expr_reads d) (more_stops m)) (more_reads m (expr_snoc before e)))
 
 pub closed_reads : {ts rest : List Token} {e : Expression} → IsExpr 1 ts rest e → Stops 1 rest → Reads (NExpr 1) ts (Ok (e, rest))
 closed_reads d s = closed (expr_reads d) s

@@ -24,8 +24,8 @@ use Rattle.java_tree.specs.Nesting.{next_is}
 use Rattle.java_parse.specs.Front.{index_next, follows_word}
 use Rattle.java_tree.specs.Expressions.{int_base, boolean_base, char_base}
 use Rattle.java_parse.specs.Reading.{Reads}
-use Rattle.java_parse.proofs.Post.{stmt_append, arm_append}
-use Rattle.java_parse.proofs.SoundStatements.{stmt_append-none, stmt_append-snoc, arm_append-snoc, arm_append-one}
+use Rattle.java_tree.proofs.Appended.{append_stmts, append_arms, stmts_end}
+use Rattle.java_parse.proofs.SoundStatements.{stmts_snoc, arms_snoc, arms_one}
 use Rattle.java_parse.proofs.Begins.{begins_post, post_begins, expr_begins, no_semi, no_closes, post_none}
 use Rattle.java_parse.proofs.CompleteExpressions.{Ends, Stops, stops_round, stops_square, stops_semi, index_none, post_reads, closed_reads, args_reads, type_reads}
 use Rattle.java_tree.specs.Statements.{not_final, is_final}
@@ -349,17 +349,15 @@ never : {P : Type 0} → false ≡ true → P
 never h = absurd (let g : ⊥ = cc in g)
 
 mutual
-  unfolding stmt_append arm_append
-
   item_reads : {ts rest : List Token} {s : Statement} → IsItem ts rest s → after_key keys.Else rest ≡ None → Reads NItem ts (Ok (s, rest))
   item_reads (local_item d) h = y.item_local (local_starts d).0 (local_reads d) refl
   item_reads (stmt_item d) h = y.item_stmt (stmt_no_local d) (stmt_reads d (λ z. h))
 
   pub items_reads : {us rest : List Token} {ss : Statements} → IsItems us rest ss → (before : Statements)
-      → Reads (NItems before) us (Ok (stmt_append before ss, rest))
-  items_reads no_items before = rw stmt_append-none (y.items_end refl)
+      → Reads (NItems before) us (Ok (append_stmts before ss, rest))
+  items_reads no_items before = rw stmts_end (y.items_end refl)
   items_reads (next_item {s = s} {ss = ss} d ds) before =
-      rw (← stmt_append-snoc before s ss) (y.items_next (item_starts d).brace (item_reads d (items_no_else ds)) (items_reads ds (stmt_snoc before s)))
+      rw (← stmts_snoc before s ss) (y.items_next (item_starts d).brace (item_reads d (items_no_else ds)) (items_reads ds (stmt_snoc before s)))
 
   stmt_reads : {o : Bool} {ts rest : List Token} {s : Statement} → IsStmt o ts rest s → (o ≡ true → after_key keys.Else rest ≡ None)
       → Reads NStmt ts (Ok (s, rest))
@@ -374,14 +372,14 @@ mutual
   stmt_reads continue_word h = y.stmt_continue refl refl
 
   arms_reads : {o : Bool} {ts rest : List Token} {a : Arms} {l : Else} → IsArms o ts rest a l → (o ≡ true → after_key keys.Else rest ≡ None)
-      → (before : Arms) → Reads (NBranches before) ts (Ok ((arm_append before a, l), rest))
+      → (before : Arms) → Reads (NBranches before) ts (Ok ((append_arms before a, l), rest))
   arms_reads (last_arm {o = false} {e = e} {s = s} t d) h before =
-      rw (← arm_append-one before e (as_body s)) (y.branches_end (tested_reads t) (stmt_reads d (λ z. never z)) (h refl))
+      rw (← arms_one before e (as_body s)) (y.branches_end (tested_reads t) (stmt_reads d (λ z. never z)) (h refl))
   arms_reads (last_arm {o = true} {e = e} {s = s} t d) h before =
-      rw (← arm_append-one before e (as_body s)) (y.branches_end (tested_reads t) (stmt_reads d h) (h refl))
+      rw (← arms_one before e (as_body s)) (y.branches_end (tested_reads t) (stmt_reads d h) (h refl))
   arms_reads (else_arm {e = e} {s = s} t d u n) h before =
-      rw (← arm_append-one before e (as_body s)) (y.branches_other (tested_reads t) (stmt_reads d (λ z. never z)) refl (stmt_no_if u n)
+      rw (← arms_one before e (as_body s)) (y.branches_other (tested_reads t) (stmt_reads d (λ z. never z)) refl (stmt_no_if u n)
       (stmt_reads u h))
   arms_reads (more_arms {e = e} {s = s} {a = a} t d r) h before =
-      rw (← arm_append-snoc before e (as_body s) a) (y.branches_again (tested_reads t) (stmt_reads d (λ z. never z)) refl refl
+      rw (← arms_snoc before e (as_body s) a) (y.branches_again (tested_reads t) (stmt_reads d (λ z. never z)) refl refl
       (arms_reads r h (arm_snoc before e (as_body s))))

@@ -4,8 +4,9 @@ use Rattle.kaba_base.specs.declared.Place.{Place}
 use Rattle.kaba_base.specs.declared.words.Keyword.TheVariants as keys
 use Rattle.java_lex.specs.declared.Token.{Token}
 use Rattle.java_lex.specs.declared.Mark.TheVariants as marks
-use Rattle.java_tree.specs.Syntax.{Expression, NameRef, NewOf, Expressions, no_more, and_more, Statement, Statements, no_statements, and_then, Arms, no_arms, and_arm, Else, OptionalStatement, DeclTree}
+use Rattle.java_tree.specs.Syntax.{Expression, NameRef, NewOf, Expressions, Statement, Statements, Arms, Else, OptionalStatement, DeclTree}
 use Rattle.java_tree.specs.Tokens.{mark, key, word}
+use Rattle.java_tree.proofs.Appended.{append_exprs, append_stmts, append_arms}
 use Rattle.java_parse.specs.declared.End.{End}
 use Rattle.java_parse.specs.declared.End.TheVariants as ends
 use Rattle.java_parse.specs.Want.{Want, NExpr, NMore, NPrefixed, NPost, NAtom, NSuper, NNew, NSized, NDims, NType, NTail, NArgs, NMoreArgs, NInit, NLocal, NValue, NAct, NActRest, NTested, NItem, NItems, NStmt, NForHead, NFirst, NStep, NBranches, NMods, NIds, NParent, NList, NParam, NParams, NMoreParams, NResult, NHead, NBody, NMember, NMethod, NMembers, NHeads, NClass, NInterface, NDecl, NDecls, Val}
@@ -30,21 +31,9 @@ pub record Counted (first : ℕ) (ts : List Token) (d : ℕ) (rest : List Token)
   pub is : d ≡ first + more
   pub dims : IsDims ts rest more
 
-unfoldable pub expr_append : Expressions → Expressions → Expressions
-expr_append no_more b = b
-expr_append (and_more e a) b = and_more e (expr_append a b)
-
-unfoldable pub stmt_append : Statements → Statements → Statements
-stmt_append no_statements b = b
-stmt_append (and_then e a) b = and_then e (stmt_append a b)
-
-unfoldable pub arm_append : Arms → Arms → Arms
-arm_append no_arms b = b
-arm_append (and_arm e s a) b = and_arm e s (arm_append a b)
-
 pub record MoreArgs (before : Expressions) (ts : List Token) (es : Expressions) (rest : List Token) : Type 0 where
   pub more : Expressions
-  pub is : es ≡ expr_append before more
+  pub is : es ≡ append_exprs before more
   pub args : IsMoreArgs ts rest more
 
 pub record Tested (ts : List Token) (e : Expression) (rest : List Token) : Type 0 where
@@ -56,7 +45,7 @@ pub record Tested (ts : List Token) (e : Expression) (rest : List Token) : Type 
 
 pub record Itemed (before : Statements) (ts : List Token) (ss : Statements) (rest : List Token) : Type 0 where
   pub more : Statements
-  pub is : ss ≡ stmt_append before more
+  pub is : ss ≡ append_stmts before more
   pub items : IsItems ts rest more
 
 -- a statement, and that no `else` behind it would belong to it
@@ -81,7 +70,7 @@ pub record Headed (ts : List Token) (f : OptionalStatement) (v : Option Expressi
 pub record Branched (before : Arms) (ts : List Token) (a : Arms) (l : Else) (rest : List Token) : Type 0 where
   pub flag : Bool
   pub more : Arms
-  pub is : a ≡ arm_append before more
+  pub is : a ≡ append_arms before more
   pub fact : IsArms flag ts rest more l
   pub closed : flag ≡ true → after_key keys.Else rest ≡ None
 

@@ -9,8 +9,9 @@ use Rattle.std.specs.declared.alloc.Global.{Global}
 use Rattle.kaba_base.specs.declared.Place.{Place}
 use Rattle.java_tree.specs.declared.Expr.{Expr, Call}
 use Rattle.java_tree.specs.Syntax.{Expression, expr_of, exprs, value_of}
-use Rattle.java_tree.specs.Statements.{is_called, is_out, printed_args, printed_by}
+use Rattle.java_tree.specs.Statements.{is_called, is_out, output_call, printed_args, printed_by}
 use Rattle.java_tree.proofs.Rows.{exprs_vec}
+use Rattle.java_tree.proofs.Outputs.{output_is, output_none}
 use Rattle.java_parse.specs.Prints.{print_kind}
 use Rattle.java_parse.proofs.Fronts.{bool_cases}
 
@@ -25,12 +26,11 @@ kind_args n (x ∷ (y ∷ xs)) =
     let f : nat_lt (length (x ∷ (y ∷ xs))) 2 ≡ false = lt-leb (suc (length (x ∷ (y ∷ xs)))) 2 (omega arith) in
     rw f refl
 
-pub prints_as : {e : Expr} {o : Option (Box Expr Global)} (b : Box Expr Global) (n : List ℕ) (v : Vec Expr Global) {p : Place} (k : ℕ)
-    → e ≡ Call o n v p → o ≡ Some b → is_out (expr_of b.value) ≡ true → k ≡ length v.items →
-    print_kind n k ≡ ends_line (printed_by (expr_of e))
-prints_as b n v {p = p} z h k i q =
-    ap (print_kind n) q ∙ kind_args n v.items ∙ sym (ap (λ (e : Expr). ends_line (printed_by (expr_of e))) (h ∙ ap (λ o. Call o n v p) k)
-    ∙ rw i (ap (λ es. ends_line (printed_args n es)) (exprs_vec v)))
+pub prints_as : (e : Expression) (n : List ℕ) (xs : List Expr) → Some (n, exprs xs) ≡ output_call e → print_kind n (length xs) ≡ ends_line (printed_by e)
+prints_as e n xs h = kind_args n xs ∙ sym (ap ends_line (output_is e (sym h)))
+
+pub prints_none : (e : Expression) → None ≡ output_call e → None ≡ ends_line (printed_by e)
+prints_none e h = sym (ap ends_line (output_none e (sym h)))
 
 list_arg : (n : List ℕ) (xs : List Expr) (k : ℕ) (r : Option Expr) → k ≡ length xs → ((d : Expr) → 0 < k → r ≡ Some (slice_index_or xs (k - 1) d))
     → (IsSome r → 0 < k) →

@@ -8,6 +8,7 @@ use Rattle.java_lex.specs.declared.Mark.TheVariants as marks
 use Rattle.java_tree.specs.declared.TypeBase.{TypeBase}
 use Rattle.java_tree.specs.Syntax.{Expression, NewArrayOf, InstanceOfClass, BinaryOf, Expressions, no_more, and_more}
 use Rattle.java_tree.specs.Tokens.{mark, key, word, level}
+use Rattle.java_tree.proofs.Appended.{append_exprs, exprs_end}
 use Rattle.java_parse.specs.declared.End.{End}
 use Rattle.java_parse.specs.declared.End.TheVariants as ends
 use Rattle.java_parse.specs.Want.{NExpr, NMore, NPrefixed, NPost, NAtom, NSuper, NNew, NSized, NDims, NType, NTail, NArgs, NMoreArgs}
@@ -15,7 +16,7 @@ use Rattle.java_parse.specs.Front.{after, after_key, word_next, operator, instan
 use Rattle.java_tree.specs.Expressions.{IsBase, named_base, IsDims, no_dims, one_dim, a_type, IsExpr, binary, instance_of, operand, signed, least, bare, IsPost, field, call_on, index, name, call, super_call, round, new_object, new_array, IsArgs, no_args, some_args, last_arg, next_arg}
 use Rattle.java_tree.specs.Statements.{IsTarget, to_name, to_field, to_index, IsCall, plain_call, call_upon, call_above}
 use Rattle.java_parse.proofs.Fronts.{option_cases, after_is, after_key_is, word_is, operator_is, instance_is, least_is, sign_is, cast_is, base_is, literal_is, index_is}
-use Rattle.java_parse.proofs.Post.{Ended, by_name, by_target, by_call, by_new, by_array, by_other, Counted, expr_append, MoreArgs, Post}
+use Rattle.java_parse.proofs.Post.{Ended, by_name, by_target, by_call, by_new, by_array, by_other, Counted, MoreArgs, Post}
 use Rattle.java_parse.proofs.Runs.{Good}
 use Rattle.java_parse.specs.ReadExpressions.{expr_step, more_step, prefixed_step, post_step, atom_step, super_step, new_step, sized_step, dims_step, type_step, tail_step, args_step, more_args_step}
 
@@ -81,18 +82,11 @@ sized_array {us = us} {rest = rest} {b = b} {e = e} {d = d} {p = p} {q = q} f x 
 counted_all : {ts rest : List Token} {d : ℕ} → Counted 0 ts d rest → IsDims ts rest d
 counted_all {ts = ts} {rest = rest} c = let g : c.more ≡ _ = omega (arith, c.is) in subst (λ (n : ℕ). IsDims ts rest n) g c.dims
 
-pub expr_append-none : (a : Expressions) → expr_append a no_more ≡ a
-unfolding expr_append
-expr_append-none no_more = refl
-expr_append-none (and_more e a) = ap (and_more e) (expr_append-none a)
-
-pub expr_append-snoc : (a : Expressions) (e : Expression) (b : Expressions) → expr_append (expr_snoc a e) b ≡ expr_append a (and_more e b)
-unfolding expr_append
-expr_append-snoc no_more e b = refl
-expr_append-snoc (and_more x a) e b = ap (and_more x) (expr_append-snoc a e b)
+pub exprs_snoc : (a : Expressions) (e : Expression) (b : Expressions) → append_exprs (expr_snoc a e) b ≡ append_exprs a (and_more e b)
+exprs_snoc no_more e b = refl
+exprs_snoc (and_more x a) e b = ap (and_more x) (exprs_snoc a e b)
 
 args_all : {ts us rest : List Token} {e : Expression} {es : Expressions} → IsExpr 1 ts us e → MoreArgs (and_more e no_more) us es rest → IsArgs ts rest es
-unfolding expr_append
 args_all {ts = ts} {rest = rest} d m = subst (λ (es : Expressions). IsArgs ts rest es) (sym m.is) (some_args d m.args)
 
 pub expr_good : (l : ℕ) (ts : List Token) → Good Post (expr_step l ts) (Post (NExpr l) ts)
@@ -199,6 +193,6 @@ more_args_good es ts = option_cases (after marks.CloseRound ts)
     (λ n0. rw (n0, more_args_step) (option_cases (after marks.Comma ts)
     (λ n1. rw n1 tt)
     (λ w1 y1. let e1 = after_is marks.Comma ts w1 y1 in rw y1
-    (λ v2 r2 d2. (λ v r d. record { more = and_more v2 d.more; is = d.is ∙ expr_append-snoc es v2 d.more; args = rw e1 (next_arg d2 d.args) })))))
+    (λ v2 r2 d2. (λ v r d. record { more = and_more v2 d.more; is = d.is ∙ exprs_snoc es v2 d.more; args = rw e1 (next_arg d2 d.args) })))))
     (λ w0 y0. let e0 = after_is marks.CloseRound ts w0 y0 in rw (y0, more_args_step)
-    (record { more = no_more; is = sym (expr_append-none es); args = rw e0 last_arg }))
+    (record { more = no_more; is = sym (exprs_end es); args = rw e0 last_arg }))

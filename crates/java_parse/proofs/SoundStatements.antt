@@ -8,13 +8,14 @@ use Rattle.java_lex.specs.declared.Mark.TheVariants as marks
 use Rattle.java_tree.specs.Syntax.{Expression, NameRef, BinaryOf, Statement, BlockOf, AssignOf, IfOf, WhileOf, ForOf, Statements, no_statements, and_then, Arms, no_arms, and_arm, Else, no_else, otherwise, OptionalStatement}
 use Rattle.java_tree.specs.Tokens.{mark, key, word, compound, stepping}
 use Rattle.java_tree.specs.Statements.{as_body, printed}
+use Rattle.java_tree.proofs.Appended.{append_stmts, append_arms, stmts_end, arms_end}
 use Rattle.java_parse.specs.declared.End.{End}
 use Rattle.java_parse.specs.Want.{NInit, NLocal, NValue, NAct, NActRest, NTested, NItem, NItems, NStmt, NForHead, NFirst, NStep, NBranches}
 use Rattle.java_parse.specs.Front.{after, after_key, word_next, stmt_snoc, arm_snoc, stepping_next, compound_next, named, is_target, is_call, stepped, done, starts_local, Start, start}
 use Rattle.java_tree.specs.Expressions.{IsExpr}
 use Rattle.java_tree.specs.Statements.{is_choice, printed, no_value, a_value, no_init, an_init, a_local, IsTarget, to_name, IsCall, IsAct, assign, assign_by, step_after, step_before, do_call, print, do_new, no_first, first_local, first_act, no_step, a_step, local_item, stmt_item, IsItems, no_items, next_item, IsStmt, block, empty, acting, choice, while_loop, for_loop, return_word, break_word, continue_word, IsArms, last_arm, else_arm, more_arms}
 use Rattle.java_parse.proofs.Fronts.{option_cases, bool_cases, after_is, after_key_is, word_is, final_is, stands_is, start_cases, Starts, start_is}
-use Rattle.java_parse.proofs.Post.{Ended, by_name, by_target, by_call, by_new, by_array, by_other, stmt_append, arm_append, Tested, Itemed, Stmted, Headed, Branched, Post}
+use Rattle.java_parse.proofs.Post.{Ended, by_name, by_target, by_call, by_new, by_array, by_other, Tested, Itemed, Stmted, Headed, Branched, Post}
 use Rattle.java_parse.proofs.Runs.{Good}
 use Rattle.java_parse.specs.ReadStatements.{init_step, local_step, value_step, act_step, act_rest_step, tested_step, item_step, items_step, stmt_step, for_head_step, first_step, step_step, branches_step}
 
@@ -69,31 +70,18 @@ call_act (by_new a) h = do_new a
 call_act (by_array d) h = cc
 call_act (by_other d) h = cc
 
-pub stmt_append-none : (a : Statements) → stmt_append a no_statements ≡ a
-unfolding stmt_append
-stmt_append-none no_statements = refl
-stmt_append-none (and_then e a) = ap (and_then e) (stmt_append-none a)
+pub stmts_snoc : (a : Statements) (e : Statement) (b : Statements) → append_stmts (stmt_snoc a e) b ≡ append_stmts a (and_then e b)
+stmts_snoc no_statements e b = refl
+stmts_snoc (and_then x a) e b = ap (and_then x) (stmts_snoc a e b)
 
-pub stmt_append-snoc : (a : Statements) (e : Statement) (b : Statements) → stmt_append (stmt_snoc a e) b ≡ stmt_append a (and_then e b)
-unfolding stmt_append
-stmt_append-snoc no_statements e b = refl
-stmt_append-snoc (and_then x a) e b = ap (and_then x) (stmt_append-snoc a e b)
+pub arms_snoc : (a : Arms) (e : Expression) (s : Statements) (b : Arms) → append_arms (arm_snoc a e s) b ≡ append_arms a (and_arm e s b)
+arms_snoc no_arms e s b = refl
+arms_snoc (and_arm x y a) e s b = ap (and_arm x y) (arms_snoc a e s b)
 
-pub arm_append-none : (a : Arms) → arm_append a no_arms ≡ a
-unfolding arm_append
-arm_append-none no_arms = refl
-arm_append-none (and_arm e s a) = ap (and_arm e s) (arm_append-none a)
-
-pub arm_append-snoc : (a : Arms) (e : Expression) (s : Statements) (b : Arms) → arm_append (arm_snoc a e s) b ≡ arm_append a (and_arm e s b)
-unfolding arm_append
-arm_append-snoc no_arms e s b = refl
-arm_append-snoc (and_arm x y a) e s b = ap (and_arm x y) (arm_append-snoc a e s b)
-
-pub arm_append-one : (a : Arms) (e : Expression) (s : Statements) → arm_snoc a e s ≡ arm_append a (and_arm e s no_arms)
-arm_append-one a e s = sym (arm_append-none (arm_snoc a e s)) ∙ arm_append-snoc a e s no_arms
+pub arms_one : (a : Arms) (e : Expression) (s : Statements) → arm_snoc a e s ≡ append_arms a (and_arm e s no_arms)
+arms_one a e s = sym (arms_end (arm_snoc a e s)) ∙ arms_snoc a e s no_arms
 
 pub items_all : {ts rest : List Token} {ss : Statements} → Itemed no_statements ts ss rest → IsItems ts rest ss
-unfolding stmt_append
 items_all {ts = ts} {rest = rest} d = subst (λ (ss : Statements). IsItems ts rest ss) (sym d.is) d.items
 
 block_good : {ts us rest : List Token} {p : Place} {ss : Statements} → ts ≡ mark marks.OpenBrace p ∷ us → Itemed no_statements us ss rest
@@ -101,7 +89,6 @@ block_good : {ts us rest : List Token} {p : Place} {ss : Statements} → ts ≡ 
 block_good e d = rw e (record { flag = false; fact = block (items_all d); closed = never })
 
 arms_good : {ts rest : List Token} {a : Arms} {l : Else} (d : Branched no_arms ts a l rest) → IsArms d.flag ts rest a l
-unfolding arm_append
 arms_good {ts = ts} {rest = rest} {l = l} d = subst (λ (a : Arms). IsArms d.flag ts rest a l) (sym d.is) d.fact
 
 choice_good : {ts us rest : List Token} {p : Place} {a : Arms} {l : Else} → ts ≡ key keys.If p ∷ us → Branched no_arms us a l rest → Stmted ts (IfOf a l p) rest
@@ -136,7 +123,7 @@ end_good {e = e} {s = s} a n t d =
     rw t.starts (record {
       flag = true;
       more = and_arm e (as_body s) no_arms;
-      is = arm_append-one a e (as_body s);
+      is = arms_one a e (as_body s);
       fact = last_arm t.test d.fact;
       closed = λ _. n;
     })
@@ -152,7 +139,7 @@ other_good {e = e} {s = s} a x n t d o =
     rw t.starts (record {
       flag = o.flag;
       more = and_arm e (as_body s) no_arms;
-      is = arm_append-one a e (as_body s);
+      is = arms_one a e (as_body s);
       fact = else_arm t.test
           (shut_at x d) o.fact (no_choice o.fact n);
       closed = o.closed;
@@ -167,7 +154,7 @@ again_good {us = us} {e = e} {s = s} {w = w} {x = x} a f g t d r =
       flag = r.flag;
       more = and_arm e (as_body s) r.more;
       is = r.is
-          ∙ arm_append-snoc a e (as_body s) r.more;
+          ∙ arms_snoc a e (as_body s) r.more;
       fact = more_arms t.test body r.fact;
       closed = r.closed;
     })
@@ -231,11 +218,11 @@ items_good ss ts = option_cases (after marks.CloseBrace ts)
     (λ n0. rw (n0, items_step) (λ v1 r1 d1. (λ v r d. record {
       more = and_then v1 d.more;
       is = d.is
-          ∙ stmt_append-snoc ss v1 d.more;
+          ∙ stmts_snoc ss v1 d.more;
       items = next_item d1 d.items;
     })))
     (λ w0 y0. let e0 = after_is marks.CloseBrace ts w0 y0 in rw (y0, items_step)
-    (record { more = no_statements; is = sym (stmt_append-none ss); items = rw e0 no_items }))
+    (record { more = no_statements; is = sym (stmts_end ss); items = rw e0 no_items }))
 
 pub stmt_good : (ts : List Token) → Good Post (stmt_step ts) (Post NStmt ts)
 stmt_good ts = start_cases (start ts)

@@ -16,7 +16,7 @@ use crate::End;
 use crate::parts::name_of;
 use java_lex::{Mark, Token, TokenKind};
 use java_tree::build::binary;
-use java_tree::{Expr, Stmt, is_output, is_text};
+use java_tree::{Expr, Stmt, is_text, output_call};
 use kaba_base::{Name, Place, made};
 use std::alloc::{AllocError, Global};
 use std::mem::drop;
@@ -97,23 +97,9 @@ fn prints_line(name: &Name, count: usize) -> Option<bool>
 fn prints(call: &Expr) -> Option<bool>
     ensures value { result ≡ option_map (λ (x : Bool × Option Expression). x.0) (printed_by (expr_of call.now)) }
 {
-    match call {
-        Expr::Call {
-            base,
-            name,
-            args,
-            ..
-        } => match base {
-            Some(base) => {
-                if is_output(base) {
-                    prints_line(name, args.len())
-                } else {
-                    None
-                }
-            }
-            None => None,
-        },
-        _ => None,
+    match output_call(call) {
+        Some((name, args)) => prints_line(name, args.len()),
+        None => None,
     }
 }
 

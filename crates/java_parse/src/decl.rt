@@ -120,10 +120,10 @@ fn result_type(alloc: Global, tokens: &[Token]) -> Result<(Option<TypeName>, &[T
     ensures reads { Reads NResult tokens.now (seen (λ (o : Option TypeName). o) result) }
     ensures shorter { IfOk result (λ x. length x.1.now < length tokens.now) }
 {
-    if let Some((_, rest)) = key_at(Keyword::Void, tokens) {
-        return Ok((None, rest));
+    match key_at(Keyword::Void, tokens) {
+        Some((_, rest)) => Ok((None, rest)),
+        None => some!(type_at(alloc, tokens)),
     }
-    some!(type_at(alloc, tokens))
 }
 
 // A method up to its body.
@@ -132,9 +132,7 @@ fn head(alloc: Global, tokens: &[Token]) -> Result<(Head, &[Token]), Stop<'_>>
     ensures reads { Reads NHead tokens.now (seen head_of result) }
     ensures shorter { IfOk result (λ x. length x.1.now < length tokens.now) }
 {
-    let (mods, rest) = modifiers(alloc, tokens)?;
-    let (ty, rest) = result_type(alloc, rest)?;
-    found!((found, place, behind) = word_at(rest), rest; ty);
+    begun!((mods, ty, found, place, behind) = alloc, tokens);
     found!((_, inner) = mark_at(Mark::OpenRound, behind), behind; ty);
     let (params, rest) = made!(params(alloc, inner); ty);
     copied!(name = found.copy(alloc); ty);
@@ -168,9 +166,7 @@ fn member(alloc: Global, tokens: &[Token]) -> Result<(Member, &[Token]), Stop<'_
     ensures reads { Reads NMember tokens.now (seen member_of result) }
     ensures shorter { IfOk result (λ x. length x.1.now < length tokens.now) }
 {
-    let (mods, rest) = modifiers(alloc, tokens)?;
-    let (ty, rest) = result_type(alloc, rest)?;
-    found!((found, place, behind) = word_at(rest), rest; ty);
+    begun!((mods, ty, found, place, behind) = alloc, tokens);
     copied!(name = found.copy(alloc); ty);
     if let Some((_, inner)) = mark_at(Mark::OpenRound, behind) {
         return method(alloc, mods, ty, name, place, inner);

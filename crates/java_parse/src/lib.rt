@@ -29,6 +29,25 @@ macro_rules! some {
     }};
 }
 
+/// Reads a part, unless this mark is next.
+macro_rules! unless {
+    ($mark:expr, $tokens:ident, $read:expr) => {{
+        if let Some(_) = mark_at($mark, $tokens) {
+            return Ok((None, $tokens));
+        }
+        some!($read)
+    }};
+}
+
+/// Names the modifiers, the type and the name that a member begins with.
+macro_rules! begun {
+    (($mods:ident, $ty:ident, $found:ident, $place:ident, $behind:ident) = $alloc:ident, $tokens:ident) => {
+        let ($mods, rest) = modifiers($alloc, $tokens)?;
+        let ($ty, rest) = result_type($alloc, rest)?;
+        found!(($found, $place, $behind) = word_at(rest), rest; $ty);
+    };
+}
+
 /// Reads parts up to a closing brace, with what follows that.
 macro_rules! in_braces {
     ($alloc:ident, $tokens:ident, $read:ident) => {{

@@ -3,7 +3,6 @@
 
 ghost use Rattle.std.specs.Prelude.{◌≡◌, ◌<◌, length, IfSome};
 ghost use Rattle.std.specs.Option.{option_map};
-ghost use Rattle.java_tree.specs.Tokens.{compound, stepping};
 ghost use Rattle.java_tree.specs.Syntax.{expr_of};
 ghost use Rattle.java_parse.specs.Front.{stepping_next, compound_next, named, starts_local, start, follows_word, closes};
 ghost use Rattle.java_parse.specs.Seen.{seen_two, seen_name, start_seen};
@@ -13,29 +12,17 @@ use java_lex::{Mark, Token, TokenKind};
 use java_tree::Expr;
 use kaba_base::{Keyword, Name, Place};
 
-/// The operator that the first token has, with its place and what follows it.
+/// The operator that stands here for the mark at the front, with its place and what follows it.
 macro_rules! operator_at {
-    ($tokens:ident, $operator_of:ident) => {{
+    ($tokens:ident, $($mark:pat => $operator:expr),+) => {{
         if let [first, rest @ ..] = $tokens {
-            if let TokenKind::Mark(mark) = first.kind {
-                if let Some(operator) = $operator_of(mark) {
-                    return Some((operator, first.place, rest));
-                }
-            }
+            return match first.kind {
+                $(TokenKind::Mark($mark) => Some(($operator, first.place, rest)),)+
+                _ => None,
+            };
         }
         None
     }};
-}
-
-// The operator of `++` and `--`.
-fn stepping_of(mark: Mark) -> Option<Mark>
-    ensures value { result ≡ stepping mark }
-{
-    match mark {
-        Mark::PlusPlus => Some(Mark::Plus),
-        Mark::MinusMinus => Some(Mark::Minus),
-        _ => None,
-    }
 }
 
 /// `++` or `--` at the front, as its operator.
@@ -43,21 +30,7 @@ pub fn stepping_at(tokens: &[Token]) -> Option<(Mark, Place, &[Token])>
     ensures value { option_map seen_two result ≡ stepping_next tokens.now }
     ensures shorter { IfSome result (λ x. length x.2.now < length tokens.now) }
 {
-    operator_at!(tokens, stepping_of)
-}
-
-// The operator of a compound assignment.
-fn compound_of(mark: Mark) -> Option<Mark>
-    ensures value { result ≡ compound mark }
-{
-    match mark {
-        Mark::PlusAssign => Some(Mark::Plus),
-        Mark::MinusAssign => Some(Mark::Minus),
-        Mark::StarAssign => Some(Mark::Star),
-        Mark::SlashAssign => Some(Mark::Slash),
-        Mark::PercentAssign => Some(Mark::Percent),
-        _ => None,
-    }
+    operator_at!(tokens, Mark::PlusPlus => Mark::Plus, Mark::MinusMinus => Mark::Minus)
 }
 
 /// The mark of a compound assignment at the front, as its operator.
@@ -65,7 +38,14 @@ pub fn compound_at(tokens: &[Token]) -> Option<(Mark, Place, &[Token])>
     ensures value { option_map seen_two result ≡ compound_next tokens.now }
     ensures shorter { IfSome result (λ x. length x.2.now < length tokens.now) }
 {
-    operator_at!(tokens, compound_of)
+    operator_at!(
+        tokens,
+        Mark::PlusAssign => Mark::Plus,
+        Mark::MinusAssign => Mark::Minus,
+        Mark::StarAssign => Mark::Star,
+        Mark::SlashAssign => Mark::Slash,
+        Mark::PercentAssign => Mark::Percent
+    )
 }
 
 /// The name that an expression is, where it has no round brackets.

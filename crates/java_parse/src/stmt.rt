@@ -21,7 +21,7 @@ use crate::parts::{ForHead, arm_of, body_of, for_of, while_of};
 use crate::{End, Stop};
 use java_lex::{Mark, Token};
 use java_tree::build::{block, choice};
-use java_tree::{Arm, Expr, Stmt};
+use java_tree::{Arm, Expr, Stmt, build};
 use kaba_base::{Keyword, made};
 use std::alloc::Global;
 use std::mem::drop;
@@ -73,16 +73,7 @@ fn local(alloc: Global, tokens: &[Token]) -> Result<(Stmt, &[Token]), Stop<'_>>
         drop(value);
         return Err(Stop::Memory);
     };
-    Ok((
-        Stmt::Local {
-            is_final,
-            ty,
-            name,
-            value,
-            place,
-        },
-        rest,
-    ))
+    Ok((build::local(is_final, ty, name, value, place), rest))
 }
 
 // An expression, if no semicolon is next.
@@ -91,10 +82,7 @@ fn value(alloc: Global, tokens: &[Token]) -> Result<(Option<Expr>, &[Token]), St
     ensures reads { Reads NValue tokens.now (seen value_of result) }
     ensures shorter { IfOk result (λ x. length x.1.now ≤ length tokens.now) }
 {
-    if let Some(_) = mark_at(Mark::Semi, tokens) {
-        return Ok((None, tokens));
-    }
-    some!(expr(alloc, 1, tokens))
+    unless!(Mark::Semi, tokens, expr(alloc, 1, tokens))
 }
 
 // What may stand before a semicolon, or steps a `for`.
@@ -194,10 +182,7 @@ fn next_step(alloc: Global, tokens: &[Token]) -> Result<(Option<Stmt>, &[Token])
     ensures reads { Reads NStep tokens.now (seen step_seen result) }
     ensures shorter { IfOk result (λ x. length x.1.now ≤ length tokens.now) }
 {
-    if let Some(_) = mark_at(Mark::CloseRound, tokens) {
-        return Ok((None, tokens));
-    }
-    some!(act(alloc, tokens))
+    unless!(Mark::CloseRound, tokens, act(alloc, tokens))
 }
 
 // What stands in the round brackets of a `for`.
@@ -222,11 +207,11 @@ fn item(alloc: Global, tokens: &[Token]) -> Result<(Stmt, &[Token]), Stop<'_>>
     ensures reads { Reads NItem tokens.now (seen stmt_of result) }
     ensures shorter { IfOk result (λ x. length x.1.now < length tokens.now) }
 {
-    if begins_local(tokens) {
-        let (whole, rest) = local(alloc, tokens)?;
-        return ended(whole, rest);
+    if !begins_local(tokens) {
+        return stmt(alloc, tokens);
     }
-    stmt(alloc, tokens)
+    let (whole, rest) = local(alloc, tokens)?;
+    ended(whole, rest)
 }
 
 /// The items behind an opening brace, and what follows the closing one.

@@ -26,6 +26,9 @@ use Rattle.java_print.specs.Adds.{Adds, Puts, margin_then}
 pub adds_then : {a b c : List ℕ} {x y z : List Item} → Adds a b x y → Adds b c y z → Adds a c x z
 adds_then h k = record { added = h.added ∙ k.added }
 
+pub both_put : {a b c : List ℕ} {f g : List Item → List Item} → Puts a b f → Puts b c g → Puts a c (λ r. f (g r))
+both_put {g = g} h k r = adds_then (h (g r)) (k r)
+
 -- characters that are those of an item
 pub adds_chars : (a b xs : List ℕ) (x y : List Item) → b ≡ a ++ encode_utf8_all xs → text x ≡ xs ++ text y → Adds a b x y
 adds_chars a b xs x y h e = record {

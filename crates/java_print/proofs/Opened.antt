@@ -30,6 +30,9 @@ creation e c v p h = ap expr_of h ∙ ap (λ es. NewOf c es p) (exprs_vec v)
 exprs_at : (xs : List Expr) (i : ℕ) (e : Expr) → i < length xs → e ≡ get_or xs i e → exprs (drop i xs) ≡ and_more (expr_of e) (exprs (drop (i + 1) xs))
 exprs_at xs i e l k = ap exprs (drop_more xs i e l) ∙ ap (λ y. and_more (expr_of y) (exprs (drop (i + 1) xs))) (sym k)
 
+pub args_same : {xs ys : List Expr} → xs ≡ ys → exprs_size (exprs xs) ≡ exprs_size (exprs ys)
+args_same e = ap (λ zs. exprs_size (exprs zs)) e
+
 -- an argument is smaller than all
 pub arg_size : (xs : List Expr) (i : ℕ) (e : Expr) → i < length xs → e ≡ get_or xs i e → expr_size (expr_of e) ≤ exprs_size (exprs xs)
 arg_size [] i e l k = absurd (omega arith)

@@ -8,21 +8,21 @@ use Rattle.kaba_base.specs.declared.Place.{Place}
 use Rattle.kaba_base.specs.declared.Keyword.TheVariants as keys
 use Rattle.kaba_base.specs.Words.{key_text}
 use Rattle.java_lex.specs.declared.Mark.TheVariants as marks
-use Rattle.java_tree.specs.declared.Expr.{Expr, Call}
+use Rattle.java_tree.specs.declared.Expr.{Expr}
 use Rattle.java_tree.specs.declared.Stmt.{Stmt, Block, If, While, For}
 use Rattle.java_tree.specs.declared.Arm.{Arm}
 use Rattle.java_tree.specs.declared.Stmt.TheBlock.{hidden-the_row-Stmt-0}
-use Rattle.java_tree.specs.Syntax.{Statement, BlockOf, IfOf, WhileOf, ForOf, Statements, and_then, and_arm, otherwise, expr_of, exprs, value_of, stmt_of, stmts, stmts_of, arms_seen, else_seen}
-use Rattle.java_tree.specs.Statements.{is_called, is_out, printed_args}
+use Rattle.java_tree.specs.Syntax.{Expression, Expressions, CallOn, Statement, BlockOf, IfOf, WhileOf, ForOf, Statements, and_then, and_arm, otherwise, expr_of, exprs, value_of, stmt_of, stmts, stmts_of, arms_seen, else_seen}
+use Rattle.java_tree.specs.Statements.{is_called, is_out, output_call, printed_args}
 use Rattle.java_tree.specs.Size.{stmt_size, stmts_size, arms_size}
 use Rattle.java_tree.proofs.Rows.{stmts_vec, arms_vec}
-use Rattle.java_print.specs.Items.{Item, Space, Margin, text}
-use Rattle.java_print.specs.Layout.{mark_then, key_then, word_then, prints, is_printing, print_head, print_name, bracketed_items, upon_system, expr_items, stmt_items, stmts_items, arms_items, arm_items, else_then, else_items, last_items, bare_items}
+use Rattle.java_tree.proofs.Outputs.{output_is, output_none}
+use Rattle.java_print.specs.Items.{Item, Space, End, Margin, text}
+use Rattle.java_print.specs.Layout.{mark_then, key_then, word_then, prints, is_printing, print_head, print_name, bracketed_items, upon_system, call_items, expr_items, stmt_items, stmts_items, arms_items, arm_items, else_then, else_items, last_items, bare_items}
 use Rattle.java_print.specs.Adds.{Adds, Puts}
 use Rattle.java_tree.specs.Syntax.{boxed_step}
 use Rattle.java_tree.proofs.Sameness.{for_as}
 use Rattle.java_print.proofs.Adding.{adds_then}
-use Rattle.java_print.proofs.Opened.{call_alone, call_upon}
 
 -- an ASCII text that stands for items
 by_text : (a b xs : List ℕ) (x y : List Item) → b ≡ a ++ xs → encode_utf8_all (text x) ≡ xs ++ encode_utf8_all (text y) → Adds a b x y
@@ -67,21 +67,36 @@ printing_by n (x ∷ []) = two_names (is_called n (codes "println")) (is_called 
 printing_by n (x ∷ y ∷ xs) = no_names (nat_lt (length (x ∷ y ∷ xs)) 2) (length (x ∷ y ∷ xs) == 1) _ _ (le-ltb (length (x ∷ y ∷ xs)) 2 (omega arith))
     (ne_eqb (length (x ∷ y ∷ xs)) 1 (λ e. omega (arith, e)))
 
-pub prints_upon : (e : Expr) (b : Option (Box Expr Global)) (x : Box Expr Global) (n : List ℕ) (v : Vec Expr Global) (p : Place) (k : ℕ) (t : Bool)
-    → e ≡ Call b n v p → b ≡ Some x → is_out (expr_of x.value) ≡ true → k ≡ length v.items → t ≡ is_printing n k → t ≡ prints (expr_of e)
-prints_upon e b x n v p k t h i o l f =
-    f ∙ ap (is_printing n) l ∙ printing_by n v.items ∙ ap (λ s. is_some (if s then printed_args n (exprs v.items) else None)) (sym o)
-    ∙ ap prints (sym (call_upon e b x n v p h i))
+prints_by : (e : Expression) (n : List ℕ) (xs : List Expr) {t : Bool} → Some (n, exprs xs) ≡ output_call e
+    → t ≡ is_printing n (length xs) → prints e ≡ t
+prints_by e n xs h f = ap is_some (output_is e (sym h)) ∙ sym (f ∙ printing_by n xs)
 
-pub bracketed_upon : {a c : List ℕ} (e : Expr) (b : Option (Box Expr Global)) (x : Box Expr Global) (n : List ℕ) (v : Vec Expr Global) (p : Place)
-    (xs : List Expr) → e ≡ Call b n v p → b ≡ Some x → xs ≡ v.items → Puts a c (upon_system n (exprs xs)) → Puts a c (bracketed_items (expr_of e))
-bracketed_upon {a} {c} e b x n v p xs h i l f = subst (λ z. Puts a c (bracketed_items z)) (sym (call_upon e b x n v p h i))
-    (subst (λ ys. Puts a c (upon_system n (exprs ys))) l f)
+bracketed_where : (t : Bool) (n : List ℕ) (es : Expressions) {y : List ℕ × Expressions}
+    → ◌≡◌ {A = Option (List ℕ × Expressions)} (if t then Some (n, es) else None) (Some y) → (r : List Item) → upon_system n es r ≡ upon_system y.0 y.1 r
+bracketed_where true n es {y = y} h r =
+    let e : ◌≡◌ {A = List ℕ × Expressions} (n, es) y = cc in ap (λ (z : List ℕ × Expressions). upon_system z.0 z.1 r) e
+bracketed_where false n es h r = cc
 
-pub bracketed_alone : {a c : List ℕ} (e : Expr) (b : Option (Box Expr Global)) (n : List ℕ) (v : Vec Expr Global) (p : Place) → e ≡ Call b n v p
-    → b ≡ None → Puts a c (expr_items (expr_of e)) → Puts a c (bracketed_items (expr_of e))
-bracketed_alone {a} {c} e b n v p h i f = let q = call_alone e b n v p h i in
-    subst (λ z. Puts a c (bracketed_items z)) (sym q) (subst (λ z. Puts a c (expr_items z)) q f)
+bracketed_by : (e : Expression) {y : List ℕ × Expressions} → output_call e ≡ Some y → (r : List Item) → bracketed_items e r ≡ upon_system y.0 y.1 r
+bracketed_by (CallOn b n es p) h r = bracketed_where (is_out b) n es h r
+bracketed_by _ h r = cc
+
+-- a call as a statement, with brackets where it would be read as a printing
+pub puts_printing : {a c : List ℕ} (e : Expression) (n : List ℕ) (xs : List Expr) {t : Bool} → Some (n, exprs xs) ≡ output_call e
+    → t ≡ is_printing n (length xs) → t ≡ true → Puts a c (upon_system n (exprs xs)) → Puts a c (call_items e)
+puts_printing {a} {c} e n xs h f y p r =
+    let whole = ap (λ (s : Bool). if s then bracketed_items e r else expr_items e r) (prints_by e n xs h f ∙ y) ∙ bracketed_by e (sym h) r in
+    subst (λ z. Adds a c z r) (sym whole) (p r)
+
+bare_call : {a c : List ℕ} (e : Expression) → prints e ≡ false → Puts a c (expr_items e) → Puts a c (call_items e)
+bare_call {a} {c} e h p r = subst (λ (s : Bool). Adds a c (if s then bracketed_items e r else expr_items e r) r) (sym h) (p r)
+
+pub puts_other : {a c : List ℕ} (e : Expression) (n : List ℕ) (xs : List Expr) {t : Bool} → Some (n, exprs xs) ≡ output_call e
+    → t ≡ is_printing n (length xs) → t ≡ false → Puts a c (expr_items e) → Puts a c (call_items e)
+puts_other e n xs h f y = bare_call e (prints_by e n xs h f ∙ y)
+
+pub puts_call : {a c : List ℕ} (e : Expression) → None ≡ output_call e → Puts a c (expr_items e) → Puts a c (call_items e)
+puts_call e h = bare_call e (ap is_some (output_none e (sym h)))
 
 -- opened statements
 pub block_of : (s : Stmt) (v : Vec Stmt Global) (p : Place) → s ≡ Block v p → stmt_of s ≡ BlockOf (stmts v.items) p

@@ -391,19 +391,30 @@ abbrev pub list_items : Keyword → List Id → List Item → List Item
 list_items k [] r = r
 list_items k (i ∷ is) r = listed_items k (i ∷ is) r
 
-abbrev pub class_items : List Modifier → List ℕ → Option Id → List Id → List MemberTree → List Item → List Item
-class_items ms n c fs bs r = mods_items ms
-    (key_then keys.Class (Space ∷ word_then n
-    (parent_items c (list_items keys.Implements fs (open_body (members_items bs (mark_then marks.CloseBrace (End ∷ r))))))))
+-- modifiers, a keyword and a name
+abbrev pub named_items : List Modifier → Keyword → List ℕ → List Item → List Item
+named_items ms k n r = mods_items ms (key_then k (Space ∷ word_then n r))
 
-abbrev pub interface_items : List Modifier → List ℕ → List Id → List HeadTree → List Item → List Item
-interface_items ms n fs hs r =
-    mods_items ms (key_then keys.Interface
-    (Space ∷ word_then n (list_items keys.Extends fs (open_body (heads_items hs (mark_then marks.CloseBrace (End ∷ r)))))))
+-- a class or an interface up to its name
+abbrev pub front_items : DeclTree → List Item → List Item
+front_items (ClassTree ms n c fs bs p) r = named_items ms keys.Class n r
+front_items (InterfaceTree ms n fs hs p) r = named_items ms keys.Interface n r
+
+-- what it extends and implements
+abbrev pub class_supers_items : Option Id → List Id → List Item → List Item
+class_supers_items c fs r = parent_items c (list_items keys.Implements fs r)
+
+abbrev pub supers_items : DeclTree → List Item → List Item
+supers_items (ClassTree ms n c fs bs p) r = class_supers_items c fs r
+supers_items (InterfaceTree ms n fs hs p) r = list_items keys.Extends fs r
+
+-- its members
+abbrev pub inside_items : DeclTree → List Item → List Item
+inside_items (ClassTree ms n c fs bs p) r = members_items bs r
+inside_items (InterfaceTree ms n fs hs p) r = heads_items hs r
 
 abbrev pub decl_items : DeclTree → List Item → List Item
-decl_items (ClassTree ms n c fs bs p) r = class_items ms n c fs bs r
-decl_items (InterfaceTree ms n fs hs p) r = interface_items ms n fs hs r
+decl_items d r = front_items d (supers_items d (open_body (inside_items d (mark_then marks.CloseBrace (End ∷ r)))))
 
 abbrev pub decls_items : List DeclTree → List Item → List Item
 decls_items [] r = r

@@ -1,35 +1,26 @@
 //! The text of a declaration.
 #![tactic(auto)]
 
-ghost use Rattle.std.specs.Prelude.{◌≡◌, OnOk, List, ◌∷◌, Bool, false, true};
-ghost use Rattle.java_tree.specs.Syntax.{stmts, head_of, heads, member_of, members, decl_of, decls, body_seen};
-ghost use Rattle.java_print.specs.Items.{Item, Space, End};
-ghost use Rattle.java_print.specs.Layout.{mark_then, key_then, word_then, type_items, mod_items, mods_items, result_items, param_items, params_items, head_items, body_items, field_member_items, method_items, member_items, members_items, heads_items, ids_items, extends_items, parent_items, listed_items, list_items, class_items, interface_items, decl_items, decls_items, body_block};
-ghost use Rattle.java_print.specs.Adds.{Adds, Puts};
+ghost use Rattle.std.specs.Prelude.{OnOk, false};
+ghost use Rattle.java_tree.specs.Syntax.{head_of, heads, member_of, members, decl_of, decls, body_seen};
+ghost use Rattle.java_print.specs.Layout.{mods_items, result_items, param_items, params_items, head_items, body_items, field_member_items, method_items, member_items, members_items, heads_items, ids_items, extends_items, parent_items, listed_items, list_items, named_items, front_items, class_supers_items, supers_items, inside_items, decl_items, decls_items};
+ghost use Rattle.java_print.specs.Adds.{Puts};
 
-use crate::exprs::{put_comma, put_space, put_type};
+use crate::exprs::{put_comma, put_key_space, put_space, put_type};
 use crate::put::{put_end, put_key, put_margin, put_mark, put_name};
 use crate::simple::{put_final, put_stop};
-use crate::stmts::{put_body, put_open_body};
+use crate::stmts::{put_open_body, put_whole_body};
 use java_lex::Mark;
 use java_tree::{Decl, Head, Id, Member, Modifier, Param, Stmt, TypeName};
 use kaba_base::{Keyword, Name};
 use std::alloc::AllocError;
-
-/// Adds a modifier and a space.
-fn put_mod(into: &mut Vec<u8>, m: &Modifier) -> Result<(), AllocError>
-    ensures value { OnOk result (Puts into.old.items into.new.items (mod_items m.now)) }
-{
-    put_key(into, m.word)?;
-    put_space(into)
-}
 
 /// Adds modifiers.
 fn put_mods(into: &mut Vec<u8>, mods: &[Modifier]) -> Result<(), AllocError>
     ensures value { OnOk result (Puts into.old.items into.new.items (mods_items mods.now)) }
 {
     for m in mods {
-        put_mod(into, m)?;
+        put_key_space(into, m.word)?;
     }
     Ok(())
 }
@@ -77,21 +68,13 @@ fn put_head(into: &mut Vec<u8>, head: &Head) -> Result<(), AllocError>
     put_params(into, head.params.as_slice())
 }
 
-/// Adds the body of a method.
-fn put_method_block(into: &mut Vec<u8>, body: &[Stmt]) -> Result<(), AllocError>
-    ensures value { OnOk result ((r : List Item) → Adds into.old.items into.new.items (body_block 2 (stmts body.now) (End ∷ r)) r) }
-{
-    put_body(into, 2, body)?;
-    put_end(into)
-}
-
 /// Adds the body of a method, or a semicolon.
 fn put_method_body(into: &mut Vec<u8>, body: &Option<Vec<Stmt>>) -> Result<(), AllocError>
     ensures value { OnOk result (Puts into.old.items into.new.items (body_items (body_seen body.now))) }
 {
     match body {
         None => put_stop(into),
-        Some(body) => put_method_block(into, body.as_slice()),
+        Some(body) => put_whole_body(into, 2, body.as_slice()),
     }
 }
 
@@ -169,8 +152,7 @@ fn put_extends(into: &mut Vec<u8>, name: &Name) -> Result<(), AllocError>
     ensures value { OnOk result (Puts into.old.items into.new.items (extends_items name.now)) }
 {
     put_space(into)?;
-    put_key(into, Keyword::Extends)?;
-    put_space(into)?;
+    put_key_space(into, Keyword::Extends)?;
     put_name(into, name)
 }
 
@@ -199,93 +181,77 @@ fn put_listed(into: &mut Vec<u8>, key: Keyword, ids: &[Id]) -> Result<(), AllocE
     ensures value { OnOk result (Puts into.old.items into.new.items (listed_items key ids.now)) }
 {
     put_space(into)?;
-    put_key(into, key)?;
-    put_space(into)?;
+    put_key_space(into, key)?;
     put_ids(into, ids)
 }
 
-/// Adds a class.
-fn put_class(
+/// Adds modifiers, a keyword and a name.
+fn put_named(
     into: &mut Vec<u8>,
     mods: &[Modifier],
+    key: Keyword,
     name: &Name,
-    parent: &Option<Id>,
-    faces: &[Id],
-    list: &[Member],
 ) -> Result<(), AllocError>
-    ensures value { OnOk result (Puts into.old.items into.new.items (class_items mods.now name.now parent.now faces.now (members list.now))) }
+    ensures value { OnOk result (Puts into.old.items into.new.items (named_items mods.now key name.now)) }
 {
     put_mods(into, mods)?;
-    put_key(into, Keyword::Class)?;
-    put_space(into)?;
-    put_name(into, name)?;
-    put_parent(into, parent)?;
-    put_list(into, Keyword::Implements, faces)?;
-    put_open_body(into)?;
-    put_members(into, list)?;
-    put_mark(into, Mark::CloseBrace)?;
-    put_end(into)
+    put_key_space(into, key)?;
+    put_name(into, name)
 }
 
-/// Adds an interface.
-fn put_interface(
-    into: &mut Vec<u8>,
-    mods: &[Modifier],
-    name: &Name,
-    parents: &[Id],
-    list: &[Head],
-) -> Result<(), AllocError>
-    ensures value { OnOk result (Puts into.old.items into.new.items (interface_items mods.now name.now parents.now (heads list.now))) }
+/// Adds a class or an interface up to its name.
+fn put_front(into: &mut Vec<u8>, decl: &Decl) -> Result<(), AllocError>
+    ensures value { OnOk result (Puts into.old.items into.new.items (front_items (decl_of decl.now))) }
 {
-    put_mods(into, mods)?;
-    put_key(into, Keyword::Interface)?;
-    put_space(into)?;
-    put_name(into, name)?;
-    put_list(into, Keyword::Extends, parents)?;
-    put_open_body(into)?;
-    put_heads(into, list)?;
-    put_mark(into, Mark::CloseBrace)?;
-    put_end(into)
+    match decl {
+        Decl::Class { mods, name, .. } => put_named(into, mods.as_slice(), Keyword::Class, name),
+        Decl::Interface { mods, name, .. } => put_named(
+            into,
+            mods.as_slice(),
+            Keyword::Interface,
+            name,
+        ),
+    }
+}
+
+/// Adds what a class extends and implements.
+fn put_class_supers(into: &mut Vec<u8>, parent: &Option<Id>, faces: &[Id]) -> Result<(), AllocError>
+    ensures value { OnOk result (Puts into.old.items into.new.items (class_supers_items parent.now faces.now)) }
+{
+    put_parent(into, parent)?;
+    put_list(into, Keyword::Implements, faces)
+}
+
+/// Adds what a class or an interface extends and implements.
+fn put_supers(into: &mut Vec<u8>, decl: &Decl) -> Result<(), AllocError>
+    ensures value { OnOk result (Puts into.old.items into.new.items (supers_items (decl_of decl.now))) }
+{
+    match decl {
+        Decl::Class { parent, faces, .. } => put_class_supers(into, parent, faces.as_slice()),
+        Decl::Interface { parents, .. } => put_list(into, Keyword::Extends, parents.as_slice()),
+    }
+}
+
+/// Adds the members of a class or an interface.
+fn put_inside(into: &mut Vec<u8>, decl: &Decl) -> Result<(), AllocError>
+    ensures value { OnOk result (Puts into.old.items into.new.items (inside_items (decl_of decl.now))) }
+{
+    match decl {
+        Decl::Class { members, .. } => put_members(into, members.as_slice()),
+        Decl::Interface { heads, .. } => put_heads(into, heads.as_slice()),
+    }
 }
 
 /// Adds a class or an interface.
 fn put_decl(into: &mut Vec<u8>, decl: &Decl) -> Result<(), AllocError>
     ensures value { OnOk result (Puts into.old.items into.new.items (decl_items (decl_of decl.now))) }
 {
-    match decl {
-        Decl::Class {
-            mods,
-            name,
-            parent,
-            faces,
-            members,
-            ..
-        } => {
-            put_class(
-                into,
-                mods.as_slice(),
-                name,
-                parent,
-                faces.as_slice(),
-                members.as_slice(),
-            )
-        }
-        Decl::Interface {
-            mods,
-            name,
-            parents,
-            heads,
-            ..
-        } => {
-            put_interface(
-                into,
-                mods.as_slice(),
-                name,
-                parents.as_slice(),
-                heads.as_slice(),
-            )
-        }
-    }
+    put_front(into, decl)?;
+    put_supers(into, decl)?;
+    put_open_body(into)?;
+    put_inside(into, decl)?;
+    put_mark(into, Mark::CloseBrace)?;
+    put_end(into)
 }
 
 /// Adds classes and interfaces.

@@ -5,7 +5,7 @@ ghost use Rattle.std.specs.Prelude.{◌≡◌, OnOk, List, ◌∷◌, Bool, suc,
 ghost use Rattle.java_tree.specs.Syntax.{expr_of, exprs};
 ghost use Rattle.java_print.specs.Items.{Item, Space};
 ghost use Rattle.java_print.specs.Layout.{rank, sign_of, same_sign, is_plus_or_minus, is_named, fits, fits_sign, fits_cast, mark_then, key_then, word_then, comma, bool_items, base_items, dims_items, more_dims_items, in_round, expr_items, args_items, type_items, called_items, field_items, index_items, new_array_items, cast_items, test_items, binary_items};
-ghost use Rattle.java_print.specs.Adds.{Adds, Puts, space_then};
+ghost use Rattle.java_print.specs.Adds.{Adds, Puts, space_then, key_space_then, square_then, dot_call};
 
 use crate::put::{
     put_char_literal, put_int, put_key, put_margin, put_mark, put_name, put_string_literal,
@@ -99,6 +99,14 @@ pub fn put_space(into: &mut Vec<u8>) -> Result<(), AllocError>
     ensures value { OnOk result (Puts into.old.items into.new.items space_then) }
 {
     put_margin(into, 1)
+}
+
+/// Adds a keyword and one space.
+pub fn put_key_space(into: &mut Vec<u8>, key: Keyword) -> Result<(), AllocError>
+    ensures value { OnOk result (Puts into.old.items into.new.items (key_space_then key)) }
+{
+    put_key(into, key)?;
+    put_space(into)
 }
 
 /// Adds a literal of `true` or `false`.
@@ -218,6 +226,16 @@ fn put_operand(into: &mut Vec<u8>, e: &Expr, bare: bool) -> Result<(), AllocErro
     }
 }
 
+/// Adds an expression in square brackets.
+#[cycle(printing)]
+fn put_square(into: &mut Vec<u8>, e: &Expr) -> Result<(), AllocError>
+    ensures value { OnOk result (Puts into.old.items into.new.items (square_then (expr_items (expr_of e.now)))) }
+{
+    put_mark(into, Mark::OpenSquare)?;
+    put_expr(into, e)?;
+    put_mark(into, Mark::CloseSquare)
+}
+
 /// Adds arguments and the bracket that closes them.
 #[cycle(printing)]
 pub fn put_args(into: &mut Vec<u8>, args: &[Expr]) -> Result<(), AllocError>
@@ -246,9 +264,7 @@ fn put_index(into: &mut Vec<u8>, base: &Expr, at: &Expr) -> Result<(), AllocErro
     ensures value { OnOk result ((r : List Item) → Adds into.old.items into.new.items (index_items (expr_of base.now) (expr_of at.now) r) r) }
 {
     put_operand(into, base, fits(13, base))?;
-    put_mark(into, Mark::OpenSquare)?;
-    put_expr(into, at)?;
-    put_mark(into, Mark::CloseSquare)
+    put_square(into, at)
 }
 
 /// Adds a call of a name.
@@ -259,6 +275,15 @@ fn put_call(into: &mut Vec<u8>, name: &Name, args: &[Expr]) -> Result<(), AllocE
     put_name(into, name)?;
     put_mark(into, Mark::OpenRound)?;
     put_args(into, args)
+}
+
+/// Adds a dot and a call of a name.
+#[cycle(printing)]
+fn put_dot_call(into: &mut Vec<u8>, name: &Name, args: &[Expr]) -> Result<(), AllocError>
+    ensures value { OnOk result (Puts into.old.items into.new.items (dot_call name.now (exprs args.now))) }
+{
+    put_mark(into, Mark::Dot)?;
+    put_call(into, name, args)
 }
 
 /// Adds a call upon an object.
@@ -272,8 +297,7 @@ fn put_call_on(
     ensures value { OnOk result ((r : List Item) → Adds into.old.items into.new.items (in_round (fits 12 (expr_of base.now)) (expr_items (expr_of base.now)) (mark_then Mark.Dot (called_items name.now (exprs args.now) r))) r) }
 {
     put_operand(into, base, fits(12, base))?;
-    put_mark(into, Mark::Dot)?;
-    put_call(into, name, args)
+    put_dot_call(into, name, args)
 }
 
 /// Adds a call of the method above.
@@ -282,8 +306,7 @@ fn put_super_call(into: &mut Vec<u8>, name: &Name, args: &[Expr]) -> Result<(), 
     ensures value { OnOk result ((r : List Item) → Adds into.old.items into.new.items (key_then Keyword.Super (mark_then Mark.Dot (called_items name.now (exprs args.now) r))) r) }
 {
     put_key(into, Keyword::Super)?;
-    put_mark(into, Mark::Dot)?;
-    put_call(into, name, args)
+    put_dot_call(into, name, args)
 }
 
 /// Adds the creation of an object.
@@ -291,8 +314,7 @@ fn put_super_call(into: &mut Vec<u8>, name: &Name, args: &[Expr]) -> Result<(), 
 fn put_new(into: &mut Vec<u8>, class: &Name, args: &[Expr]) -> Result<(), AllocError>
     ensures value { OnOk result ((r : List Item) → Adds into.old.items into.new.items (key_then Keyword.New (Space ∷ called_items class.now (exprs args.now) r)) r) }
 {
-    put_key(into, Keyword::New)?;
-    put_space(into)?;
+    put_key_space(into, Keyword::New)?;
     put_call(into, class, args)
 }
 
@@ -301,12 +323,9 @@ fn put_new(into: &mut Vec<u8>, class: &Name, args: &[Expr]) -> Result<(), AllocE
 fn put_new_array(into: &mut Vec<u8>, ty: &TypeName, size: &Expr) -> Result<(), AllocError>
     ensures value { OnOk result ((r : List Item) → Adds into.old.items into.new.items (new_array_items ty.now (expr_of size.now) r) r) }
 {
-    put_key(into, Keyword::New)?;
-    put_space(into)?;
+    put_key_space(into, Keyword::New)?;
     put_base(into, &ty.base)?;
-    put_mark(into, Mark::OpenSquare)?;
-    put_expr(into, size)?;
-    put_mark(into, Mark::CloseSquare)?;
+    put_square(into, size)?;
     put_more_dims(into, ty.dim)
 }
 
@@ -329,8 +348,7 @@ fn put_instance_of(into: &mut Vec<u8>, value: &Expr, class: &Name) -> Result<(),
 {
     put_operand(into, value, fits(7, value))?;
     put_space(into)?;
-    put_key(into, Keyword::InstanceOf)?;
-    put_space(into)?;
+    put_key_space(into, Keyword::InstanceOf)?;
     put_name(into, class)
 }
 

@@ -4,16 +4,26 @@
 ghost use Rattle.std.specs.Prelude.{◌≡◌, OnOk, List};
 ghost use Rattle.java_tree.specs.Syntax.{expr_of, exprs, value_of, stmt_of};
 ghost use Rattle.java_print.specs.Items.{Item};
-ghost use Rattle.java_print.specs.Layout.{key_then, value_items, spaced_items, init_items, initial_items, print_head, final_items, prints, is_printing, bracketed_items, upon_system, call_items, local_items, assign_items, print_items, simple_items, first_items, step_items, stop_then, for_head_items, return_items};
+ghost use Rattle.java_print.specs.Layout.{key_then, value_items, spaced_items, init_items, initial_items, print_head, final_items, is_printing, upon_system, call_items, local_items, assign_items, print_items, simple_items, first_items, step_items, stop_then, for_head_items, return_items};
 ghost use Rattle.java_print.specs.Adds.{Adds, Puts};
 ghost use Rattle.java_tree.specs.Syntax.{boxed_step};
 
-use crate::exprs::{put_args, put_expr, put_space, put_type};
+use crate::exprs::{put_args, put_expr, put_key_space, put_space, put_type};
 use crate::put::{put_end, put_key, put_mark, put_name, put_text};
 use java_lex::Mark;
-use java_tree::{Expr, Stmt, TypeName, is_output, is_text};
+use java_tree::{Expr, Stmt, TypeName, is_text, output_call};
 use kaba_base::{Keyword, Name};
 use std::alloc::AllocError;
+
+/// Adds a part that may be left out, where it is there.
+macro_rules! where_there {
+    ($part:ident, $put:expr) => {
+        match $part {
+            None => Ok(()),
+            Some($part) => $put,
+        }
+    };
+}
 
 /// Whether a call of `System.out` with so many arguments prints.
 fn is_printing(name: &Name, count: usize) -> bool
@@ -22,48 +32,27 @@ fn is_printing(name: &Name, count: usize) -> bool
     count < 2 && is_text(name, "println") || count == 1 && is_text(name, "print")
 }
 
-/// Whether a call would be read as the printing of a value.
-fn prints(call: &Expr) -> bool
-    ensures value { result ≡ prints (expr_of call.now) }
-{
-    match call {
-        Expr::Call {
-            base,
-            name,
-            args,
-            ..
-        } => match base {
-            Some(base) => is_output(base) && is_printing(name, args.as_slice().len()),
-            None => false,
-        },
-        _ => false,
-    }
-}
-
 /// Adds a value, where there is one.
 fn put_value(into: &mut Vec<u8>, value: &Option<Expr>) -> Result<(), AllocError>
     ensures value { OnOk result (Puts into.old.items into.new.items (value_items (value_of value.now))) }
 {
-    match value {
-        None => Ok(()),
-        Some(value) => put_expr(into, value),
-    }
+    where_there!(value, put_expr(into, value))
 }
 
 /// Adds a space and a value, where there is one.
 fn put_spaced(into: &mut Vec<u8>, value: &Option<Expr>) -> Result<(), AllocError>
     ensures value { OnOk result (Puts into.old.items into.new.items (spaced_items (value_of value.now))) }
 {
-    match value {
-        None => Ok(()),
-        Some(value) => {
+    where_there!(
+        value,
+        {
             put_space(into)?;
             put_expr(into, value)
         }
-    }
+    )
 }
 
-/// Adds ` = ` and an initial value.
+/// Adds ` = ` and a value.
 fn put_initial(into: &mut Vec<u8>, value: &Expr) -> Result<(), AllocError>
     ensures value { OnOk result (Puts into.old.items into.new.items (initial_items (expr_of value.now))) }
 {
@@ -77,10 +66,7 @@ fn put_initial(into: &mut Vec<u8>, value: &Expr) -> Result<(), AllocError>
 fn put_init(into: &mut Vec<u8>, value: &Option<Expr>) -> Result<(), AllocError>
     ensures value { OnOk result (Puts into.old.items into.new.items (init_items (value_of value.now))) }
 {
-    match value {
-        None => Ok(()),
-        Some(value) => put_initial(into, value),
-    }
+    where_there!(value, put_initial(into, value))
 }
 
 /// Adds `final `, where it is asked.
@@ -88,10 +74,10 @@ pub fn put_final(into: &mut Vec<u8>, is_final: bool) -> Result<(), AllocError>
     ensures value { OnOk result (Puts into.old.items into.new.items (final_items is_final)) }
 {
     if is_final {
-        put_key(into, Keyword::Final)?;
-        put_space(into)?;
+        put_key_space(into, Keyword::Final)
+    } else {
+        Ok(())
     }
-    Ok(())
 }
 
 /// Adds the declaration of a local.
@@ -116,10 +102,7 @@ fn put_assign(into: &mut Vec<u8>, target: &Expr, value: &Expr) -> Result<(), All
     ensures value { OnOk result (Puts into.old.items into.new.items (assign_items (expr_of target.now) (expr_of value.now))) }
 {
     put_expr(into, target)?;
-    put_space(into)?;
-    put_mark(into, Mark::Assign)?;
-    put_space(into)?;
-    put_expr(into, value)
+    put_initial(into, value)
 }
 
 /// How a printing begins.
@@ -142,32 +125,19 @@ fn put_print(into: &mut Vec<u8>, newline: bool, value: &Option<Expr>) -> Result<
     put_mark(into, Mark::CloseRound)
 }
 
-/// Adds a call that stands as a statement.
+/// Adds a call that stands as a statement: one that would be read as a printing with brackets that keep it a call.
 fn put_do(into: &mut Vec<u8>, call: &Expr) -> Result<(), AllocError>
     ensures value { OnOk result (Puts into.old.items into.new.items (call_items (expr_of call.now))) }
 {
-    if prints(call) {
-        put_unprinted(into, call)
-    } else {
-        put_expr(into, call)
-    }
-}
-
-/// Adds a call that would be read as a printing, with brackets that keep it a call.
-fn put_unprinted(into: &mut Vec<u8>, call: &Expr) -> Result<(), AllocError>
-    ensures value { OnOk result (Puts into.old.items into.new.items (bracketed_items (expr_of call.now))) }
-{
-    match call {
-        Expr::Call {
-            base,
-            name,
-            args,
-            ..
-        } => match base {
-            Some(_) => put_bracketed(into, name, args.as_slice()),
-            None => put_expr(into, call),
-        },
-        _ => put_expr(into, call),
+    match output_call(call) {
+        Some((name, args)) => {
+            if is_printing(name, args.len()) {
+                put_bracketed(into, name, args)
+            } else {
+                put_expr(into, call)
+            }
+        }
+        None => put_expr(into, call),
     }
 }
 
@@ -204,23 +174,20 @@ fn put_simple(into: &mut Vec<u8>, s: &Stmt) -> Result<(), AllocError>
 fn put_first(into: &mut Vec<u8>, first: &Option<Box<Stmt>>) -> Result<(), AllocError>
     ensures value { OnOk result (Puts into.old.items into.new.items (first_items (boxed_step first.now))) }
 {
-    match first {
-        None => Ok(()),
-        Some(first) => put_simple(into, first),
-    }
+    where_there!(first, put_simple(into, first))
 }
 
 /// Adds the last part of a `for`.
 fn put_step(into: &mut Vec<u8>, step: &Option<Box<Stmt>>) -> Result<(), AllocError>
     ensures value { OnOk result (Puts into.old.items into.new.items (step_items (boxed_step step.now))) }
 {
-    match step {
-        None => Ok(()),
-        Some(step) => {
+    where_there!(
+        step,
+        {
             put_space(into)?;
             put_simple(into, step)
         }
-    }
+    )
 }
 
 /// Adds a semicolon and the end of the line.

@@ -4,11 +4,11 @@
 ghost use Rattle.std.specs.Prelude.{◌≡◌, ◌+◌, OnOk, IfOk, List, false};
 ghost use Rattle.java_tree.specs.Syntax.{expr_of, value_of, stmt_of, stmts, arms_seen, else_seen};
 ghost use Rattle.java_print.specs.Items.{Item};
-ghost use Rattle.java_print.specs.Layout.{else_then, open_body, close_body, stmts_items, condition_items, body_block, block_items, while_items, arm_items, last_items, for_items, if_items, else_items, arms_items, bare_items};
-ghost use Rattle.java_print.specs.Adds.{Adds, Puts};
+ghost use Rattle.java_print.specs.Layout.{else_then, open_body, close_body, stmts_items, condition_items, body_block, block_items, while_items, arm_items, for_items, if_items, else_items, arms_items, bare_items};
+ghost use Rattle.java_print.specs.Adds.{Adds, Puts, tested_items, whole_body};
 ghost use Rattle.java_tree.specs.Syntax.{boxed_step};
 
-use crate::exprs::{put_expr, put_space};
+use crate::exprs::{put_expr, put_key_space, put_space};
 use crate::put::{put_end, put_key, put_margin, put_mark};
 use crate::simple::{put_for_head, put_jump, put_line, put_return};
 use java_lex::Mark;
@@ -43,16 +43,24 @@ fn put_condition(into: &mut Vec<u8>, test: &Expr) -> Result<(), AllocError>
     put_mark(into, Mark::CloseRound)
 }
 
+/// Adds a keyword and a condition in its brackets.
+fn put_tested(into: &mut Vec<u8>, key: Keyword, test: &Expr) -> Result<(), AllocError>
+    ensures value { OnOk result (Puts into.old.items into.new.items (tested_items key (expr_of test.now))) }
+{
+    put_key(into, key)?;
+    put_condition(into, test)
+}
+
 /// Adds ` else `, where an arm stands before.
 fn put_else(into: &mut Vec<u8>, more: bool) -> Result<(), AllocError>
     ensures value { OnOk result (Puts into.old.items into.new.items (else_then more)) }
 {
     if more {
         put_space(into)?;
-        put_key(into, Keyword::Else)?;
-        put_space(into)?;
+        put_key_space(into, Keyword::Else)
+    } else {
+        Ok(())
     }
-    Ok(())
 }
 
 /// The margin of the next level. A margin that is no number would take more than all memory.
@@ -115,6 +123,15 @@ pub fn put_body(into: &mut Vec<u8>, margin: usize, body: &[Stmt]) -> Result<(), 
     put_close_body(into, margin)
 }
 
+/// Adds a body in its braces, with the end of its last line.
+#[cycle(statements)]
+pub fn put_whole_body(into: &mut Vec<u8>, margin: usize, body: &[Stmt]) -> Result<(), AllocError>
+    ensures value { OnOk result (Puts into.old.items into.new.items (whole_body margin (stmts body.now))) }
+{
+    put_body(into, margin, body)?;
+    put_end(into)
+}
+
 /// Adds a block that stands as a statement.
 #[cycle(statements)]
 fn put_block(into: &mut Vec<u8>, margin: usize, body: &[Stmt]) -> Result<(), AllocError>
@@ -138,10 +155,8 @@ fn put_while(
 ) -> Result<(), AllocError>
     ensures value { OnOk result (Puts into.old.items into.new.items (while_items margin (expr_of test.now) (stmts body.now))) }
 {
-    put_key(into, Keyword::While)?;
-    put_condition(into, test)?;
-    put_body(into, margin, body)?;
-    put_end(into)
+    put_tested(into, Keyword::While, test)?;
+    put_whole_body(into, margin, body)
 }
 
 /// Adds a `for`.
@@ -157,8 +172,7 @@ fn put_for(
     ensures value { OnOk result (Puts into.old.items into.new.items (for_items margin (boxed_step first.now) (value_of test.now) (boxed_step step.now) (stmts body.now))) }
 {
     put_for_head(into, first, test, step)?;
-    put_body(into, margin, body)?;
-    put_end(into)
+    put_whole_body(into, margin, body)
 }
 
 /// Adds an `if` with all its arms.
@@ -192,8 +206,7 @@ fn put_arms(into: &mut Vec<u8>, margin: usize, arms: &[Arm]) -> Result<(), Alloc
 fn put_arm(into: &mut Vec<u8>, margin: usize, test: &Expr, body: &[Stmt]) -> Result<(), AllocError>
     ensures value { OnOk result (Puts into.old.items into.new.items (arm_items margin (expr_of test.now) (stmts body.now))) }
 {
-    put_key(into, Keyword::If)?;
-    put_condition(into, test)?;
+    put_tested(into, Keyword::If, test)?;
     put_body(into, margin, body)
 }
 
@@ -204,17 +217,10 @@ fn put_other(into: &mut Vec<u8>, margin: usize, other: &Option<Vec<Stmt>>) -> Re
 {
     match other {
         None => put_end(into),
-        Some(body) => put_last(into, margin, body.as_slice()),
+        Some(body) => {
+            put_space(into)?;
+            put_key(into, Keyword::Else)?;
+            put_whole_body(into, margin, body.as_slice())
+        }
     }
-}
-
-/// Adds the `else` of an `if`.
-#[cycle(statements)]
-fn put_last(into: &mut Vec<u8>, margin: usize, body: &[Stmt]) -> Result<(), AllocError>
-    ensures value { OnOk result (Puts into.old.items into.new.items (last_items margin (stmts body.now))) }
-{
-    put_space(into)?;
-    put_key(into, Keyword::Else)?;
-    put_body(into, margin, body)?;
-    put_end(into)
 }

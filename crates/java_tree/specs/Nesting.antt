@@ -1,5 +1,5 @@
 -- The nesting stack over a list of tokens.
-use Rattle.std.specs.Prelude.{ℕ, zero, suc, ◌<◌, ◌≤◌, List, [], ◌∷◌, length, Bool, true, false, if◌then◌else◌, ◌||◌, nat_lt, max}
+use Rattle.std.specs.Prelude.{ℕ, zero, suc, ◌<◌, ◌≤◌, List, [], ◌∷◌, length, Bool, true, false, if◌then◌else◌, ◌||◌, nat_lt, max, is_some}
 use Rattle.kaba_base.specs.declared.words.Keyword.{Keyword}
 use Rattle.kaba_base.specs.declared.words.Keyword.TheVariants as keys
 use Rattle.java_lex.specs.declared.Token.{Token}
@@ -9,14 +9,13 @@ use Rattle.java_lex.specs.declared.Mark.{Mark}
 use Rattle.java_lex.specs.declared.Mark.TheVariants as marks
 use Rattle.java_tree.specs.declared.Entry.{Entry}
 use Rattle.java_tree.specs.declared.Entry.TheVariants as entries
-use Rattle.java_tree.specs.Tokens.{casts, level, is_sign}
+use Rattle.java_tree.specs.Tokens.{casts, level, is_sign, compound, stepping}
 
 abbrev pub is_bracket : Entry → Bool
 is_bracket entries.Round = true
 is_bracket entries.Square = true
 is_bracket entries.Brace = true
-is_bracket entries.Operator = false
-is_bracket entries.Word = false
+is_bracket _ = false
 
 -- without the operators on top
 abbrev pub no_operators : List Entry → List Entry
@@ -65,14 +64,7 @@ ended next s = if is_round (to_bracket s) then s else if next_is is_else next th
 abbrev pub is_operator : Mark → Bool
 is_operator marks.Dot = true
 is_operator marks.Assign = true
-is_operator marks.PlusAssign = true
-is_operator marks.MinusAssign = true
-is_operator marks.StarAssign = true
-is_operator marks.SlashAssign = true
-is_operator marks.PercentAssign = true
-is_operator marks.PlusPlus = true
-is_operator marks.MinusMinus = true
-is_operator m = nat_lt 0 (level m) || is_sign m
+is_operator m = is_some (compound m) || is_some (stepping m) || nat_lt 0 (level m) || is_sign m
 
 -- the stack after a mark, by the tokens that follow
 abbrev pub after_mark : Mark → List Token → List Entry → List Entry

@@ -1,5 +1,5 @@
 -- Trees without their places.
-use Rattle.std.specs.Prelude.{List, [], ◌∷◌, Option, Some, None}
+use Rattle.std.specs.Prelude.{ℕ, List, [], ◌∷◌, Option, Some, None}
 use Rattle.kaba_base.specs.declared.Place.{Place}
 use Rattle.java_tree.specs.declared.Id.{Id}
 use Rattle.java_tree.specs.declared.Modifier.{Modifier}
@@ -11,8 +11,12 @@ use Rattle.java_tree.specs.Syntax.{Expression, IntLit, CharLit, StrLit, BoolLit,
 abbrev pub nowhere : Place
 nowhere = record { at = 0; line = 0 }
 
+-- a name of a tree without places
+abbrev pub id_nowhere : List ℕ → Id
+id_nowhere n = record { name = n; place = nowhere }
+
 abbrev pub id_unplaced : Id → Id
-id_unplaced i = record { name = i.name; place = nowhere }
+id_unplaced i = id_nowhere i.name
 
 abbrev pub modifier_unplaced : Modifier → Modifier
 modifier_unplaced m = record { word = m.word; place = nowhere }

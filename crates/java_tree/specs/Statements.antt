@@ -31,6 +31,11 @@ abbrev pub is_out : Expression → Bool
 is_out (FieldOf (NameRef s p) o q) = is_called s (codes "System") && is_called o (codes "out")
 is_out _ = false
 
+-- the name and the arguments of a call upon `System.out`
+abbrev pub output_call : Expression → Option (List ℕ × Expressions)
+output_call (CallOn b n es r) = if is_out b then Some (n, es) else None
+output_call _ = None
+
 -- whether a line ends, and what is printed: `println` takes at most one argument, `print` takes one
 abbrev pub printed_args : List ℕ → Expressions → Option (Bool × Option Expression)
 printed_args n no_more = if is_called n (codes "println") then Some (true, None) else None

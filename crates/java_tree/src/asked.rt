@@ -2,9 +2,10 @@
 #![tactic(auto)]
 
 ghost use Rattle.std.specs.Prelude.{◌≡◌, ◌≤◌};
-ghost use Rattle.java_tree.specs.Syntax.{expr_of};
+ghost use Rattle.std.specs.Option.{option_map};
+ghost use Rattle.java_tree.specs.Syntax.{expr_of, exprs};
 ghost use Rattle.java_tree.specs.Tokens.{level};
-ghost use Rattle.java_tree.specs.Statements.{is_called, is_out};
+ghost use Rattle.java_tree.specs.Statements.{is_called, is_out, output_call};
 
 use crate::Expr;
 use java_lex::Mark;
@@ -38,7 +39,7 @@ pub fn is_text(name: &Name, text: &str) -> bool
 }
 
 /// Whether an expression is `System.out`.
-pub fn is_output(base: &Expr) -> bool
+fn is_output(base: &Expr) -> bool
     ensures value { result ≡ is_out (expr_of base.now) }
 {
     match base {
@@ -47,5 +48,29 @@ pub fn is_output(base: &Expr) -> bool
             _ => false,
         },
         _ => false,
+    }
+}
+
+/// The name and the arguments of a call upon `System.out`.
+pub fn output_call(call: &Expr) -> Option<(&Name, &[Expr])>
+    ensures value { option_map (λ x. (x.0.now, exprs x.1.now)) result ≡ output_call (expr_of call.now) }
+{
+    match call {
+        Expr::Call {
+            base,
+            name,
+            args,
+            ..
+        } => match base {
+            Some(base) => {
+                if is_output(base) {
+                    Some((name, args.as_slice()))
+                } else {
+                    None
+                }
+            }
+            None => None,
+        },
+        _ => None,
     }
 }

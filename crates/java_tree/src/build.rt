@@ -3,7 +3,7 @@
 #![tactic(auto)]
 
 ghost use Rattle.std.specs.Prelude.{◌≡◌, IfOk};
-ghost use Rattle.java_tree.specs.Syntax.{expr_of, exprs, stmt_of, stmts, value_of, arms_seen, else_seen, step_seen, FieldOf, IndexOf, CallOf, CallOn, SuperCallOf, NewOf, NewArrayOf, CastOf, InstanceOfClass, UnaryOf, BinaryOf, BlockOf, IfOf, WhileOf, ForOf};
+ghost use Rattle.java_tree.specs.Syntax.{expr_of, exprs, stmt_of, stmts, value_of, arms_seen, else_seen, step_seen, FieldOf, IndexOf, CallOf, CallOn, SuperCallOf, NewOf, NewArrayOf, CastOf, InstanceOfClass, UnaryOf, BinaryOf, LocalOf, BlockOf, IfOf, WhileOf, ForOf};
 
 use crate::{Arm, Expr, Id, Stmt, TypeName};
 use java_lex::Mark;
@@ -131,6 +131,19 @@ pub fn binary(
         right,
         place,
     })
+}
+
+/// The declaration of a local
+pub fn local(is_final: bool, ty: TypeName, name: Name, value: Option<Expr>, place: Place) -> Stmt
+    ensures value { stmt_of result ≡ LocalOf is_final ty name (value_of value) place }
+{
+    Stmt::Local {
+        is_final,
+        ty,
+        name,
+        value,
+        place,
+    }
 }
 
 /// `{ items }`

@@ -12,6 +12,16 @@ macro_rules! sum {
     }};
 }
 
+/// What is counted in a part that may be left out.
+macro_rules! count_if {
+    ($part:ident, $count:ident) => {
+        match $part {
+            None => 0,
+            Some(one) => $count(one),
+        }
+    };
+}
+
 /// Whether two lists are equally long, and equal at each place.
 macro_rules! all_equal {
     ($a:ident, $b:ident, $equal:ident) => {{
@@ -62,8 +72,10 @@ mod compare;
 mod compare_bodies;
 mod measure;
 mod pairs;
+/// Parts of a tree that was read from no text.
+pub mod unplaced;
 
-pub use asked::{is_output, is_text, level_of};
+pub use asked::{is_text, level_of, output_call};
 pub use compare::same;
 use java_lex::{Mark, Units};
 use kaba_base::{Keyword, Name, Place};

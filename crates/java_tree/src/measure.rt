@@ -49,10 +49,7 @@ fn value_count(value: &Option<Expr>) -> u64
     requires room { value_size (value_of value.now) < 2 ^ 64 }
     ensures value { result ≡ value_size (value_of value.now) }
 {
-    match value {
-        None => 0,
-        Some(value) => expr_count(value),
-    }
+    count_if!(value, expr_count)
 }
 
 #[cycle(stmts)]
@@ -88,10 +85,7 @@ fn step_count(step: &Option<Box<Stmt>>) -> u64
     requires room { step_size (boxed_step step.now) < 2 ^ 64 }
     ensures value { result ≡ step_size (boxed_step step.now) }
 {
-    match step {
-        None => 0,
-        Some(stmt) => stmt_count(stmt),
-    }
+    count_if!(step, stmt_count)
 }
 
 #[cycle(stmts)]

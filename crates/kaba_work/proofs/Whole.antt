@@ -18,7 +18,7 @@ use Rattle.name_rules.specs.Outline.{FieldAt, MethodAt, parent_named, faces_name
 use Rattle.name_rules.specs.Meanings.{class_named}
 use Rattle.name_rules.specs.Asked.{Asks, by_super, by_type, IsSuper, a_parent, a_face, IsDeclared, of_field, of_param, of_result}
 use Rattle.name_rules.specs.Resolves.{BodiesResolve, HasSlot, no_slot, a_slot, AreSlots, Resolves}
-use Rattle.kaba_work.specs.Sample.{id, class_name, int_type, main_param, class_tree, main_tree, sample_tree}
+use Rattle.kaba_work.specs.Sample.{id_nowhere, class_name, int_type, main_param, class_tree, main_tree, sample_tree}
 use Rattle.kaba_work.specs.Program.{method_made, main_made, slot_made, sample_program}
 use Rattle.kaba_work.proofs.Places.{StandsAt, is_row, is_last, stands, row_at, last_at, PairAt, is_first, is_second, pair_stands}
 use Rattle.kaba_work.proofs.Outlined.{sum_field, extra_field, method_at, main_at, fields_are, methods_are, same_classes, same_fields, same_methods, named}
@@ -60,9 +60,9 @@ no_faces n j d (is_last l e) = ap faces_named e
 
 -- the superclass that a declaration names is one before it
 pub parent_is : (n j : ℕ) (d : DeclTree) (i : Id) → StandsAt class_tree (main_tree n) n j d → parent_named d ≡ Some i
-    → (k : ℕ) × (k < n) × (i ≡ id (class_name k))
+    → (k : ℕ) × (k < n) × (i ≡ id_nowhere (class_name k))
 parent_is n zero d i (is_row lt e) p = absurd (cc (sym (ap parent_named e) ∙ p))
-parent_is n (suc j) d i (is_row lt e) p = (j, omega (arith, lt), sym (same_Some (id (class_name j)) i (sym (ap parent_named e) ∙ p)))
+parent_is n (suc j) d i (is_row lt e) p = (j, omega (arith, lt), sym (same_Some (id_nowhere (class_name j)) i (sym (ap parent_named e) ∙ p)))
 parent_is n j d i (is_last l e) p = absurd (cc (sym (ap parent_named e) ∙ p))
 
 -- the parameters of methods

@@ -1,3 +1,4 @@
 pub mod Sample
 pub mod Program
 pub mod Laws
+pub mod Kinds

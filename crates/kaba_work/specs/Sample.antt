@@ -2,7 +2,6 @@
 use Rattle.std.specs.Prelude.{ℕ, zero, suc, ◌+◌, pos, false, true, List, [], ◌∷◌, ◌++◌, map, Option, Some, None, codes}
 use Rattle.std.specs.List.{range_with_len, flat_map}
 use Rattle.std.specs.Fmt.{decimal}
-use Rattle.kaba_base.specs.declared.Place.{Place}
 use Rattle.kaba_base.specs.declared.words.Keyword.TheVariants as keys
 use Rattle.java_lex.specs.declared.Mark.TheVariants as marks
 use Rattle.java_tree.specs.declared.Id.{Id}
@@ -10,14 +9,7 @@ use Rattle.java_tree.specs.declared.TypeBase.TheVariants as bases
 use Rattle.java_tree.specs.declared.TypeName.{TypeName}
 use Rattle.java_tree.specs.declared.Param.{Param}
 use Rattle.java_tree.specs.Syntax.{Expression, IntLit, ThisRef, NameRef, FieldOf, CallOn, SuperCallOf, NewOf, BinaryOf, no_more, Statement, LocalOf, AssignOf, PrintOf, ReturnOf, Statements, no_statements, and_then, HeadTree, MemberTree, FieldTree, MethodTree, DeclTree, ClassTree}
-
--- a sample comes from no text
-abbrev pub nowhere : Place
-nowhere = record { at = 0; line = 0 }
-
--- a name without a place
-abbrev pub id : List ℕ → Id
-id n = record { name = n; place = nowhere }
+pub use Rattle.java_tree.specs.Places.{nowhere, id_nowhere}
 
 -- the name of the class i
 abbrev pub class_name : ℕ → List ℕ
@@ -79,7 +71,7 @@ field_tree n = FieldTree [] int_type n nowhere
 -- each class but the first extends the one before
 abbrev pub parent_named : ℕ → Option Id
 parent_named zero = None
-parent_named (suc i) = Some (id (class_name i))
+parent_named (suc i) = Some (id_nowhere (class_name i))
 
 -- the members of the class i
 abbrev pub class_members : ℕ → List MemberTree
@@ -99,7 +91,7 @@ extra i = FieldOf (variable i) (extra_name i) nowhere
 
 -- `Ki vi = new Ki();`
 abbrev pub creation : ℕ → Statement
-creation i = LocalOf false (class_type i) (variable_name i) (Some (NewOf (id (class_name i)) no_more nowhere)) nowhere
+creation i = LocalOf false (class_type i) (variable_name i) (Some (NewOf (id_nowhere (class_name i)) no_more nowhere)) nowhere
 
 -- `vi.ei = i;`
 abbrev pub setting : ℕ → Statement

@@ -5,12 +5,13 @@ ghost use Rattle.java_tree.specs.Syntax.{expr_of, stmt_of, stmts, head_of, membe
 ghost use Rattle.java_tree.specs.Formed.{IsFormedTree, IsGiven};
 ghost use Rattle.kaba_work.specs.Sample as sample;
 
-use crate::names::{class_name, extra_name, field_name, id, int_type, method_name, nowhere, word};
-use crate::steps::{add_steps, sum_of};
+use crate::names::{Kind, int_type, method_name, name_of, word};
+use crate::steps::{add_steps, assignment, sum_of};
+use java_tree::unplaced::{id, nowhere};
 use java_tree::{
-    Decl, Expr, Head, Id, Member, Modifier, Param, Stmt, Tree, TypeBase, TypeName, build, made,
+    Decl, Expr, Head, Id, Member, Modifier, Param, Stmt, Tree, TypeBase, TypeName, build,
 };
-use kaba_base::{Keyword, Name, listed};
+use kaba_base::{Keyword, Name, listed, made};
 use std::alloc::{AllocError, Global};
 
 /// The sample of this number of classes. The class `Ki` extends the one before and has `int fi`, `int ei` and
@@ -37,7 +38,7 @@ fn class(alloc: Global, number: u32) -> Result<Decl, AllocError>
     requires { number < 100 }
     ensures { IfOk result (λ d. decl_of d ≡ sample.class_tree number) }
 {
-    let name = made!(class_name(alloc, number););
+    let name = made!(name_of(alloc, Kind::Class, number););
     let parent = made!(parent(alloc, number); name);
     let members = made!(class_members(alloc, number); name, parent);
     Ok(Decl::Class {
@@ -57,7 +58,7 @@ fn parent(alloc: Global, number: u32) -> Result<Option<Id>, AllocError>
     if number == 0 {
         return Ok(None);
     }
-    let name = made!(class_name(alloc, number - 1););
+    let name = made!(name_of(alloc, Kind::Class, number - 1););
     Ok(Some(id(name)))
 }
 
@@ -66,8 +67,8 @@ fn class_members(alloc: Global, number: u32) -> Result<Vec<Member>, AllocError>
     requires { number < 100 }
     ensures { IfOk result (λ v. members v.items ≡ sample.class_members number) }
 {
-    let name = made!(field_name(alloc, number););
-    let extra = made!(extra_name(alloc, number); name);
+    let name = made!(name_of(alloc, Kind::Field, number););
+    let extra = made!(name_of(alloc, Kind::Extra, number); name);
     let method = made!(method(alloc, number); name, extra);
     listed(
         alloc,
@@ -129,7 +130,7 @@ fn method_body(alloc: Global, number: u32) -> Result<Vec<Stmt>, AllocError>
 fn class_field(alloc: Global, number: u32) -> Result<Expr, AllocError>
     ensures { IfOk result (λ e. expr_of e ≡ sample.own_field (sample.field_name number)) }
 {
-    let name = made!(field_name(alloc, number););
+    let name = made!(name_of(alloc, Kind::Field, number););
     build::field(alloc, Expr::This { place: nowhere() }, name, nowhere())
 }
 
@@ -145,11 +146,7 @@ fn addition(alloc: Global, number: u32) -> Result<Stmt, AllocError>
         place: nowhere(),
     };
     let value = made!(sum_of(alloc, before, more); target);
-    Ok(Stmt::Assign {
-        target,
-        value,
-        place: nowhere(),
-    })
+    Ok(assignment(target, value))
 }
 
 /// What the method gives.

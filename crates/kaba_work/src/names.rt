@@ -1,30 +1,28 @@
-//! Names, types and places of a sample.
+//! Names and types of a sample.
 
 ghost use Rattle.std.specs.Prelude.{◌≡◌, ◌++◌, true, IfOk, string_bytes};
 ghost use Rattle.std.specs.List.{list_all};
 ghost use Rattle.std.specs.Char.{is_ascii};
 ghost use Rattle.std.specs.Fmt.{decimal};
 ghost use Rattle.kaba_work.specs.Sample as sample;
+ghost use Rattle.kaba_work.specs.Kinds.{name_of};
 
-use java_tree::{Id, TypeBase, TypeName};
-use kaba_base::{Name, Place, made};
+use java_tree::unplaced::nowhere;
+use java_tree::{TypeBase, TypeName};
+use kaba_base::{Name, made};
 use std::alloc::{AllocError, Global};
 
-/// A sample comes from no text.
-pub fn nowhere() -> Place
-    ensures { result ≡ sample.nowhere }
-{
-    Place { at: 0, line: 0 }
-}
-
-/// A name without a place.
-pub fn id(name: Name) -> Id
-    ensures { result ≡ sample.id name }
-{
-    Id {
-        name,
-        place: nowhere(),
-    }
+/// What a name with a number is the name of.
+#[derive(Clone, Copy)]
+pub enum Kind {
+    /// The class.
+    Class,
+    /// The field that its method adds to.
+    Field,
+    /// The field that is set from outside.
+    Extra,
+    /// The variable that holds an object of the class.
+    Variable,
 }
 
 /// The type of numbers.
@@ -42,7 +40,7 @@ pub fn int_type() -> TypeName
 pub fn class_type(alloc: Global, number: u32) -> Result<TypeName, AllocError>
     ensures { IfOk result (λ t. t ≡ sample.class_type number) }
 {
-    let name = made!(class_name(alloc, number););
+    let name = made!(name_of(alloc, Kind::Class, number););
     Ok(TypeName {
         base: TypeBase::Named(name),
         dim: 0,
@@ -67,32 +65,16 @@ fn numbered(alloc: Global, letter: &str, number: u32) -> Result<Name, AllocError
     Name::new(alloc, text.as_str())
 }
 
-/// The name of the class of a number.
-pub fn class_name(alloc: Global, number: u32) -> Result<Name, AllocError>
-    ensures { IfOk result (λ n. n ≡ sample.class_name number) }
+/// The name of what this is and has this number.
+pub fn name_of(alloc: Global, kind: Kind, number: u32) -> Result<Name, AllocError>
+    ensures { IfOk result (λ n. n ≡ name_of kind number) }
 {
-    numbered(alloc, "K", number)
-}
-
-/// The name of the field that its method adds to.
-pub fn field_name(alloc: Global, number: u32) -> Result<Name, AllocError>
-    ensures { IfOk result (λ n. n ≡ sample.field_name number) }
-{
-    numbered(alloc, "f", number)
-}
-
-/// The name of the field that is set from outside.
-pub fn extra_name(alloc: Global, number: u32) -> Result<Name, AllocError>
-    ensures { IfOk result (λ n. n ≡ sample.extra_name number) }
-{
-    numbered(alloc, "e", number)
-}
-
-/// The name of the variable that holds an object of the class.
-pub fn variable_name(alloc: Global, number: u32) -> Result<Name, AllocError>
-    ensures { IfOk result (λ n. n ≡ sample.variable_name number) }
-{
-    numbered(alloc, "v", number)
+    match kind {
+        Kind::Class => numbered(alloc, "K", number),
+        Kind::Field => numbered(alloc, "f", number),
+        Kind::Extra => numbered(alloc, "e", number),
+        Kind::Variable => numbered(alloc, "v", number),
+    }
 }
 
 /// The name of the method.

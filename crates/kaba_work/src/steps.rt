@@ -1,11 +1,12 @@
 //! What main does with each class.
 
 ghost use Rattle.std.specs.Prelude.{◌≡◌, ◌<◌, ◌++◌, map, IfOk, OnOk};
-ghost use Rattle.java_tree.specs.Syntax.{expr_of, stmt_of};
+ghost use Rattle.java_tree.specs.Syntax.{AssignOf, expr_of, stmt_of};
 ghost use Rattle.kaba_work.specs.Sample as sample;
 
-use crate::names::{class_name, class_type, extra_name, id, method_name, nowhere, variable_name};
+use crate::names::{Kind, class_type, method_name, name_of};
 use java_lex::Mark;
+use java_tree::unplaced::{id, nowhere};
 use java_tree::{Expr, Stmt, build};
 use kaba_base::{made, put};
 use std::alloc::{AllocError, Global};
@@ -17,11 +18,22 @@ pub fn sum_of(alloc: Global, left: Expr, right: Expr) -> Result<Expr, AllocError
     build::binary(alloc, Mark::Plus, left, right, nowhere())
 }
 
+/// `target = value;`
+pub fn assignment(target: Expr, value: Expr) -> Stmt
+    ensures { stmt_of result ≡ AssignOf (expr_of target) (expr_of value) sample.nowhere }
+{
+    Stmt::Assign {
+        target,
+        value,
+        place: nowhere(),
+    }
+}
+
 /// The variable that holds an object of the class.
 fn variable(alloc: Global, number: u32) -> Result<Expr, AllocError>
     ensures { IfOk result (λ e. expr_of e ≡ sample.variable number) }
 {
-    let name = made!(variable_name(alloc, number););
+    let name = made!(name_of(alloc, Kind::Variable, number););
     Ok(Expr::Name {
         name,
         place: nowhere(),
@@ -33,7 +45,7 @@ fn extra(alloc: Global, number: u32) -> Result<Expr, AllocError>
     ensures { IfOk result (λ e. expr_of e ≡ sample.extra number) }
 {
     let object = made!(variable(alloc, number););
-    let name = made!(extra_name(alloc, number); object);
+    let name = made!(name_of(alloc, Kind::Extra, number); object);
     build::field(alloc, object, name, nowhere())
 }
 
@@ -42,8 +54,8 @@ fn creation(alloc: Global, number: u32) -> Result<Stmt, AllocError>
     ensures { IfOk result (λ s. stmt_of s ≡ sample.creation number) }
 {
     let ty = made!(class_type(alloc, number););
-    let name = made!(variable_name(alloc, number); ty);
-    let class = made!(class_name(alloc, number); ty, name);
+    let name = made!(name_of(alloc, Kind::Variable, number); ty);
+    let class = made!(name_of(alloc, Kind::Class, number); ty, name);
     let object = build::new_object(id(class), Vec::new(alloc), nowhere());
     Ok(Stmt::Local {
         is_final: false,
@@ -64,11 +76,7 @@ fn setting(alloc: Global, number: u32) -> Result<Stmt, AllocError>
         value: number as i32,
         place: nowhere(),
     };
-    Ok(Stmt::Assign {
-        target,
-        value,
-        place: nowhere(),
-    })
+    Ok(assignment(target, value))
 }
 
 /// What the method gives and the field, printed.

@@ -16,10 +16,10 @@ use crate::places::{is_declaration, is_first_there, is_made_at, offers, stands_a
 use crate::supers::is_class;
 use hier_model::column_at;
 use java_core::{Slot, Ty, TyBase};
+use java_tree::unplaced::nowhere;
 use java_tree::{Expr, Head, Member, Modifier, Stmt, TypeBase, TypeName, build};
 use kaba_base::{ColId, Keyword, NodeId};
 use std::alloc::{AllocError, Global};
-use tree_forms::nowhere;
 
 /// Whether a declaration of a slot at a live node is written as a head: in an interface, and in an
 /// abstract class to which no body of the slot is offered.

@@ -10,10 +10,11 @@ ghost use Rattle.written_tree.specs.Members as members;
 
 use crate::parts::method_at;
 use java_core::{Local, Method, Slot};
+use java_tree::unplaced::nowhere;
 use java_tree::{Head, Modifier, Param, TypeName};
 use kaba_base::{Keyword, Name};
 use std::alloc::{AllocError, Global};
-use tree_forms::{Source, method_name, modifier, nowhere, result_row, row_type, variable_row};
+use tree_forms::{Source, method_name, modifier, result_row, row_type, variable_row};
 
 /// A list of one modifier.
 pub fn one_modifier(alloc: Global, word: Keyword) -> Result<Vec<Modifier>, AllocError>

@@ -10,10 +10,50 @@ ghost use Rattle.written_tree.specs.Written as types;
 
 use crate::members::{push_decl, push_member, static_field, static_method};
 use java_core::{Class, Field, Method, Program};
+use java_tree::unplaced::nowhere;
 use java_tree::{Decl, Member};
 use kaba_base::ClassId;
 use std::alloc::AllocError;
-use tree_forms::{Source, nowhere};
+use tree_forms::Source;
+
+/// Whether one of these members is static and of the class with this number.
+macro_rules! any_static {
+    ($member:ident in $members:expr, $c:ident) => {{
+        for $member in &$members {
+            if is_of($member.is_static, $member.owner, $c) {
+                return true;
+            }
+        }
+        false
+    }};
+}
+
+/// Adds a member as it is written, if it is a static one of the class.
+macro_rules! add_static {
+    ($written:ident, ($n:ident, $member:ident), $old:ident, $into:ident) => {{
+        if !is_of($member.is_static, $member.owner, $old.class) {
+            return Ok(());
+        }
+        push_member($into, $written($old.source, $n, $member)?)
+    }};
+}
+
+/// Adds the static members of the class among these, in their order.
+macro_rules! add_each {
+    ($add:ident, ($n:ident, $member:ident) in $members:expr, $old:ident, $into:ident) => {{
+        for ($n, $member) in $members.iter().enumerate() {
+            $add($old, $n as u64, $member, $into)?;
+        }
+        Ok(())
+    }};
+}
+
+/// A class of the old program, by its number, and what its static members are written of.
+#[derive(Clone, Copy)]
+struct Old<'a> {
+    source: &'a Source<'a>,
+    class: usize,
+}
 
 /// Whether a member is static and of the class with this number.
 fn is_of(is_static: bool, owner: ClassId, c: usize) -> bool
@@ -27,12 +67,7 @@ fn has_static_field(program: &Program, c: usize) -> bool
     ensures { result ≡ list_any (λ f. f.is_static && (f.owner == c)) (program_of no_place
         program.now).fields }
 {
-    for field in &program.fields {
-        if is_of(field.is_static, field.owner, c) {
-            return true;
-        }
-    }
-    false
+    any_static!(field in program.fields, c)
 }
 
 /// Whether a class has a static method.
@@ -40,12 +75,7 @@ fn has_static_method(program: &Program, c: usize) -> bool
     ensures { result ≡ list_any (λ m. m.is_static && (m.owner == c)) (program_of no_place
         program.now).methods }
 {
-    for method in &program.methods {
-        if is_of(method.is_static, method.owner, c) {
-            return true;
-        }
-    }
-    false
+    any_static!(method in program.methods, c)
 }
 
 /// Whether a class has static members.
@@ -55,102 +85,73 @@ fn is_holder(program: &Program, c: usize) -> bool
     has_static_field(program, c) || has_static_method(program, c)
 }
 
-/// Adds a field, if it is a static one of a class.
-fn add_field(
-    source: &Source,
-    c: usize,
-    f: u64,
-    field: &Field,
-    into: &mut Vec<Member>,
-) -> Result<(), AllocError>
-    requires { IsSource source.now }
-    ensures { OnOk result (tree.members into.new.items ≡ tree.members into.old.items ++ written.static_field_member (old_program source.now) (renaming
-        source.now) source.now.hier.now c f (field_seen no_place field.now)) }
+/// Adds a field, if it is a static one of the class.
+fn add_field(old: &Old, f: u64, field: &Field, into: &mut Vec<Member>) -> Result<(), AllocError>
+    requires { IsSource old.now.source.now }
+    ensures { OnOk result (tree.members into.new.items ≡ tree.members into.old.items ++ written.static_field_member (old_program old.now.source.now)
+        (renaming old.now.source.now) old.now.source.now.hier.now old.now.class f (field_seen no_place field.now)) }
 {
-    if !is_of(field.is_static, field.owner, c) {
-        return Ok(());
-    }
-    push_member(into, static_field(source, f, field)?)
+    add_static!(static_field, (f, field), old, into)
 }
 
-/// Adds a method, if it is a static one of a class.
-fn add_method(
-    source: &Source,
-    c: usize,
-    m: u64,
-    method: &Method,
-    into: &mut Vec<Member>,
-) -> Result<(), AllocError>
-    requires { IsSource source.now }
-    ensures { OnOk result (tree.members into.new.items ≡ tree.members into.old.items ++ written.static_method_member (old_program source.now)
-        (renaming source.now) source.now.hier.now c m (method_seen no_place method.now)) }
+/// Adds a method, if it is a static one of the class.
+fn add_method(old: &Old, m: u64, method: &Method, into: &mut Vec<Member>) -> Result<(), AllocError>
+    requires { IsSource old.now.source.now }
+    ensures { OnOk result (tree.members into.new.items ≡ tree.members into.old.items ++ written.static_method_member (old_program old.now.source.now)
+        (renaming old.now.source.now) old.now.source.now.hier.now old.now.class m (method_seen no_place method.now)) }
 {
-    if !is_of(method.is_static, method.owner, c) {
-        return Ok(());
-    }
-    push_member(into, static_method(source, m, method)?)
+    add_static!(static_method, (m, method), old, into)
 }
 
-/// Adds the static fields of a class, in the order of the program.
-fn add_fields(source: &Source, c: usize, into: &mut Vec<Member>) -> Result<(), AllocError>
-    requires { IsSource source.now }
-    ensures { OnOk result (tree.members into.new.items ≡ tree.members into.old.items ++ each (written.static_field_member (old_program source.now)
-        (renaming source.now) source.now.hier.now c) 0 (old_program source.now).fields) }
+/// Adds the static fields of the class, in the order of the program.
+fn add_fields(old: &Old, into: &mut Vec<Member>) -> Result<(), AllocError>
+    requires { IsSource old.now.source.now }
+    ensures { OnOk result (tree.members into.new.items ≡ tree.members into.old.items ++ each (written.static_field_member (old_program old.now.source.now)
+        (renaming old.now.source.now) old.now.source.now.hier.now old.now.class) 0 (old_program old.now.source.now).fields) }
 {
-    for (f, field) in source.program.fields.iter().enumerate() {
-        add_field(source, c, f as u64, field, into)?;
-    }
-    Ok(())
+    add_each!(add_field, (f, field) in old.source.program.fields, old, into)
 }
 
-/// Adds the static methods of a class, in the order of the program.
-fn add_methods(source: &Source, c: usize, into: &mut Vec<Member>) -> Result<(), AllocError>
-    requires { IsSource source.now }
-    ensures { OnOk result (tree.members into.new.items ≡ tree.members into.old.items ++ each (written.static_method_member (old_program source.now)
-        (renaming source.now) source.now.hier.now c) 0 (old_program source.now).methods) }
+/// Adds the static methods of the class, in the order of the program.
+fn add_methods(old: &Old, into: &mut Vec<Member>) -> Result<(), AllocError>
+    requires { IsSource old.now.source.now }
+    ensures { OnOk result (tree.members into.new.items ≡ tree.members into.old.items ++ each (written.static_method_member (old_program old.now.source.now)
+        (renaming old.now.source.now) old.now.source.now.hier.now old.now.class) 0 (old_program old.now.source.now).methods) }
 {
-    for (m, method) in source.program.methods.iter().enumerate() {
-        add_method(source, c, m as u64, method, into)?;
-    }
-    Ok(())
+    add_each!(add_method, (m, method) in old.source.program.methods, old, into)
 }
 
 /// The static members of an old class, under its name.
-fn holder(source: &Source, c: usize, class: &Class) -> Result<Decl, AllocError>
-    requires { IsSource source.now }
-    ensures { IfOk result (λ d. tree.decl_of d ≡ types.holder_tree (old_program source.now) (renaming source.now) source.now.hier.now c (class_seen
-        no_place class.now)) }
+fn holder(old: &Old, class: &Class) -> Result<Decl, AllocError>
+    requires { IsSource old.now.source.now }
+    ensures { IfOk result (λ d. tree.decl_of d ≡ types.holder_tree (old_program old.now.source.now) (renaming old.now.source.now)
+        old.now.source.now.hier.now old.now.class (class_seen no_place class.now)) }
 {
-    let name = class.name.copy(source.alloc)?;
-    let mut members = Vec::new(source.alloc);
-    add_fields(source, c, &mut members)?;
-    add_methods(source, c, &mut members)?;
+    let name = class.name.copy(old.source.alloc)?;
+    let mut members = Vec::new(old.source.alloc);
+    add_fields(old, &mut members)?;
+    add_methods(old, &mut members)?;
     Ok(Decl::Class {
-        mods: Vec::new(source.alloc),
+        mods: Vec::new(old.source.alloc),
         name,
         parent: None,
-        faces: Vec::new(source.alloc),
+        faces: Vec::new(old.source.alloc),
         members,
         place: nowhere(),
     })
 }
 
 /// Adds the holder of a class, if it has static members.
-fn add_holder(
-    source: &Source,
-    c: usize,
-    class: &Class,
-    into: &mut Vec<Decl>,
-) -> Result<(), AllocError>
-    requires { IsSource source.now }
-    ensures { OnOk result (tree.decls into.new.items ≡ tree.decls into.old.items ++ when (is_holder (old_program source.now) c)
-        (types.holder_tree (old_program source.now) (renaming source.now) source.now.hier.now c
+fn add_holder(old: &Old, class: &Class, into: &mut Vec<Decl>) -> Result<(), AllocError>
+    requires { IsSource old.now.source.now }
+    ensures { OnOk result (tree.decls into.new.items ≡ tree.decls into.old.items ++ when (is_holder (old_program old.now.source.now) old.now.class)
+        (types.holder_tree (old_program old.now.source.now) (renaming old.now.source.now) old.now.source.now.hier.now old.now.class
         (class_seen no_place class.now) ∷ [])) }
 {
-    if !is_holder(source.program, c) {
+    if !is_holder(old.source.program, old.class) {
         return Ok(());
     }
-    push_decl(into, holder(source, c, class)?)
+    push_decl(into, holder(old, class)?)
 }
 
 /// Adds the holders, in the order of the program.
@@ -160,7 +161,11 @@ pub fn add_holders(source: &Source, into: &mut Vec<Decl>) -> Result<(), AllocErr
         (renaming source.now) source.now.hier.now) }
 {
     for (c, class) in source.program.classes.iter().enumerate() {
-        add_holder(source, c, class, into)?;
+        let old = Old {
+            source: &*source,
+            class: c,
+        };
+        add_holder(&old, class, into)?;
     }
     Ok(())
 }

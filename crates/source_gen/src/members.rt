@@ -11,10 +11,11 @@ ghost use Rattle.written_tree.specs.Members as written;
 use crate::heads::{head, one_modifier, public_and};
 use flow_rules::RowItem;
 use java_core::{Field, Method};
+use java_tree::unplaced::nowhere;
 use java_tree::{Decl, Head, Member, Modifier, Stmt};
 use kaba_base::{Keyword, Name};
 use std::alloc::{AllocError, Global};
-use tree_forms::{Source, field_name, method_name, nowhere, row_type};
+use tree_forms::{Source, field_name, method_name, row_type};
 use tree_parts::{Within, body};
 
 /// Adds a head.

@@ -11,9 +11,33 @@ use crate::parts::Nodes;
 use fact_model::Facts;
 use hier_model::Hier;
 use java_tree::Id;
+use java_tree::unplaced::id;
 use kaba_base::NodeId;
 use std::alloc::{AllocError, Global};
-use tree_forms::id;
+
+/// Whether some node of the hierarchy passes the test.
+macro_rules! any_node {
+    ($nodes:ident, |$n:ident| $passes:expr) => {{
+        for $n in 0..$nodes.source.hier.order().count() {
+            if $passes {
+                return true;
+            }
+        }
+        false
+    }};
+}
+
+/// The names of the types of the nodes that pass the test, in rising number.
+macro_rules! names_where {
+    ($nodes:ident, |$n:ident| $passes:expr) => {{
+        let mut list = Vec::new($nodes.source.alloc);
+        for $n in 0..$nodes.source.hier.order().count() {
+            let passes = $passes;
+            add_name($nodes.source.alloc, $nodes.source.hier, passes, $n, &mut list)?;
+        }
+        Ok(list)
+    }};
+}
 
 /// Whether a number is that of a live class node.
 fn is_live_class(facts: &Facts, hier: &Hier, n: u32) -> bool
@@ -94,12 +118,7 @@ fn has_between(nodes: &Nodes, a: u32, b: u32) -> bool
     ensures { result ≡ any_below (length nodes.now.source.hier.now.order.live) (λ k. supers.is_above nodes.now.source.hier.now.order a k && supers.is_above
         nodes.now.source.hier.now.order k b) }
 {
-    for k in 0..nodes.source.hier.order().count() {
-        if is_between(nodes, a, k, b) {
-            return true;
-        }
-    }
-    false
+    any_node!(nodes, |k| is_between(nodes, a, k, b))
 }
 
 /// Whether `b` is strictly above `a`, with none strictly between.
@@ -134,12 +153,7 @@ fn has_elsewhere(nodes: &Nodes, n: u32, a: u32) -> bool
     ensures { result ≡ any_below (length nodes.now.source.hier.now.order.live) (λ b. supers.is_class_above nodes.now.facts.now (hierarchy_of nodes.now) n b &&
         not (is_le nodes.now.source.hier.now.order a b)) }
 {
-    for b in 0..nodes.source.hier.order().count() {
-        if is_elsewhere(nodes, n, a, b) {
-            return true;
-        }
-    }
-    false
+    any_node!(nodes, |b| is_elsewhere(nodes, n, a, b))
 }
 
 /// Whether a node is the lowest of the class nodes strictly above another.
@@ -214,12 +228,7 @@ pub fn implemented(nodes: &Nodes, n: NodeId) -> Result<Vec<Id>, AllocError>
     requires { AreNodes nodes.now }
     ensures { IfOk result (λ v. v.items ≡ supers.implemented nodes.now.facts.now (hierarchy_of nodes.now) n.0) }
 {
-    let mut list = Vec::new(nodes.source.alloc);
-    for a in 0..nodes.source.hier.order().count() {
-        let passes = is_face(nodes, n.0, a);
-        add_name(nodes.source.alloc, nodes.source.hier, passes, a, &mut list)?;
-    }
-    Ok(list)
+    names_where!(nodes, |a| is_face(nodes, n.0, a))
 }
 
 /// What an interface extends: the upper covers, in rising number.
@@ -227,10 +236,5 @@ pub fn covering(nodes: &Nodes, n: NodeId) -> Result<Vec<Id>, AllocError>
     requires { AreNodes nodes.now }
     ensures { IfOk result (λ v. v.items ≡ supers.covering nodes.now.facts.now (hierarchy_of nodes.now) n.0) }
 {
-    let mut list = Vec::new(nodes.source.alloc);
-    for a in 0..nodes.source.hier.order().count() {
-        let passes = is_cover(nodes, n.0, a);
-        add_name(nodes.source.alloc, nodes.source.hier, passes, a, &mut list)?;
-    }
-    Ok(list)
+    names_where!(nodes, |a| is_cover(nodes, n.0, a))
 }

@@ -12,10 +12,10 @@ use crate::members::push_decl;
 use crate::parts::Nodes;
 use crate::places::is_made_at;
 use crate::supers::{covering, extended, implemented, is_class};
+use java_tree::unplaced::nowhere;
 use java_tree::{Decl, Modifier};
 use kaba_base::{Keyword, NodeId};
 use std::alloc::{AllocError, Global};
-use tree_forms::nowhere;
 
 /// The modifiers of a class: one where no object is created is abstract.
 fn class_modifiers(alloc: Global, is_made: bool) -> Result<Vec<Modifier>, AllocError>

@@ -21,11 +21,10 @@ ghost use Rattle.tree_forms.specs.Renamed.{IsFitting};
 ghost use Rattle.tree_forms.specs.Sources.{renaming, IsSource, accessed, called, above, row_named, row_typed};
 
 use crate::given::Source;
-use crate::names::{
-    accessed_name, called_name, field_name, id, nowhere, row_name, row_type, super_name,
-};
+use crate::names::{accessed_name, called_name, field_name, row_name, row_type, super_name};
 use flow_rules::RowItem;
 use java_core::{Static, Ty, class_of};
+use java_tree::unplaced::{id, nowhere};
 use java_tree::{Expr, build};
 use kaba_base::{ClassId, MemberId, Name};
 use std::alloc::AllocError;

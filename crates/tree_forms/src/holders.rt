@@ -1,41 +1,27 @@
 //! Variables by their names, and static members by their simple name or by that of their holder.
 
-ghost use Rattle.std.specs.Prelude.{◌≡◌, IfOk, slice_get};
-ghost use Rattle.std.specs.Option.{option_map};
+ghost use Rattle.std.specs.Prelude.{◌≡◌, IfOk};
 ghost use Rattle.java_tree.specs.Syntax.{expr_of, exprs};
 ghost use Rattle.java_core.specs.Trees.{no_place};
-ghost use Rattle.java_core.specs.Programs.{method_seen, local_seen};
-ghost use Rattle.java_core.specs.Formed.{variables_of};
+ghost use Rattle.java_core.specs.Programs.{method_seen};
 ghost use Rattle.written_tree.specs.Bodies as written;
 ghost use Rattle.tree_forms.specs.Sources.{old_program};
 
 use crate::given::Source;
-use crate::names::{class_name, is_same, no_name, nowhere};
-use java_core::{Local, Method};
+use crate::names::{class_name, is_same, no_name};
+use flow_rules::variable_at;
+use java_core::Method;
+use java_tree::unplaced::nowhere;
 use java_tree::{Expr, build};
 use kaba_base::{ClassId, MemberId, Name};
 use std::alloc::{AllocError, Global};
 
-/// A parameter or a local of a method, by its number.
-pub fn variable(method: &Method, number: u32) -> Option<&Local>
-    ensures { option_map (λ v. local_seen no_place v.now) result ≡ slice_get (variables_of
-        (method_seen no_place method.now)) number }
-{
-    let at = number as usize;
-    let count = method.params.len();
-    if at < count {
-        method.params.get(at)
-    } else {
-        method.locals.get(at - count)
-    }
-}
-
-/// Its name.
+/// The name of a parameter or a local of a method.
 pub fn variable_name(alloc: Global, method: &Method, number: u32) -> Result<Name, AllocError>
     ensures { IfOk result (λ n. n ≡ written.variable_name (method_seen no_place method.now)
         number) }
 {
-    match variable(method, number) {
+    match variable_at(method, number as u64) {
         Some(variable) => variable.name.copy(alloc),
         None => no_name(alloc),
     }
@@ -45,7 +31,7 @@ pub fn variable_name(alloc: Global, method: &Method, number: u32) -> Result<Name
 fn is_named(method: &Method, number: u32, name: &Name) -> bool
     ensures { result ≡ written.is_named (method_seen no_place method.now) name.now number }
 {
-    match variable(method, number) {
+    match variable_at(method, number as u64) {
         Some(variable) => is_same(&variable.name, name),
         None => false,
     }

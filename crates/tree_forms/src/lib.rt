@@ -11,8 +11,6 @@ mod names;
 mod numbers;
 
 pub use given::Source;
-pub use holders::{static_call, static_field, variable, variable_name};
-pub use names::{
-    field_name, id, infix_mark, method_name, modifier, nowhere, prefix_mark, row_type,
-};
+pub use holders::{static_call, static_field, variable_name};
+pub use names::{field_name, infix_mark, method_name, modifier, prefix_mark, row_type};
 pub use numbers::{Numbering, result_row, variable_row};

@@ -11,29 +11,13 @@ ghost use Rattle.tree_forms.specs.Renamed.{IsFitting};
 ghost use Rattle.tree_forms.specs.Sources.{old_program, renaming, IsSource, accessed, called, above, row_named, row_typed};
 
 use crate::given::Source;
-use flow_rules::{ColumnItem, RowItem};
+use flow_rules::{ColumnItem, RowItem, number_of_column, number_of_row};
 use java_core::{BinOp, Op, Static, Ty, TyBase, UnOp, declaration_of, field_in, super_method};
 use java_lex::Mark;
-use java_tree::{Id, Modifier, TypeBase, TypeName};
-use kaba_base::{ClassId, ColId, Keyword, Name, NodeId, Place, RowId};
+use java_tree::unplaced::nowhere;
+use java_tree::{Modifier, TypeBase, TypeName};
+use kaba_base::{ClassId, ColId, Keyword, Name, NodeId, RowId};
 use std::alloc::{AllocError, Global};
-
-/// What is written has no place in a text.
-pub fn nowhere() -> Place
-    ensures { result ≡ written.nowhere }
-{
-    Place { at: 0, line: 0 }
-}
-
-/// A name without a place.
-pub fn id(name: Name) -> Id
-    ensures { result ≡ written.id name }
-{
-    Id {
-        name,
-        place: nowhere(),
-    }
-}
 
 /// A modifier without a place.
 pub fn modifier(word: Keyword) -> Modifier
@@ -130,7 +114,7 @@ fn node_of(source: &Source, item: RowItem) -> Option<NodeId>
     ensures node { option_map (λ n. n.0) result ≡ (renaming source.now).row_type item }
     ensures within { IfSome result (λ n. n.0 < length source.now.hier.now.types) }
 {
-    match source.numbering.row(item) {
+    match number_of_row(&source.numbering.rows, item) {
         Some(row) => Some(source.hier.place_of_row(RowId(row))),
         None => None,
     }
@@ -199,7 +183,7 @@ fn column_name(source: &Source, item: ColumnItem) -> Result<Name, AllocError>
     ensures { IfOk result (λ n. n ≡ columns.column_name source.now.hier.now (number_among same_column
         source.now.numbering.now.columns.keys item)) }
 {
-    match source.numbering.column(item) {
+    match number_of_column(&source.numbering.columns, item) {
         Some(column) => source.hier.member_name(ColId(column)).copy(source.alloc),
         None => no_name(source.alloc),
     }

@@ -1,7 +1,6 @@
 //! The numbers of the rows and the columns of a program.
 
-ghost use Rattle.std.specs.Prelude.{◌≡◌, ◌<◌, IfSome, length, slice_get};
-ghost use Rattle.flow_rules.specs.Numbered.{number_among, same_row, same_column};
+ghost use Rattle.std.specs.Prelude.{◌≡◌, ◌<◌, length, slice_get};
 ghost use Rattle.flow_rules.specs.Operands.{variable_row, result_in};
 ghost use Rattle.java_core.specs.Trees.{no_place};
 ghost use Rattle.java_core.specs.Programs.{method_seen};
@@ -22,26 +21,6 @@ pub struct Numbering {
 }
 
 impl Numbering {
-    /// The number of a row, from 0; `None` where no row has the item.
-    pub fn row(&self, item: RowItem) -> Option<u32>
-        ensures value { result ≡ number_among same_row self.now.rows.keys item }
-    {
-        match place_of_row(&self.rows, item) {
-            Some(number) => Some(number as u32),
-            None => None,
-        }
-    }
-
-    /// The number of a column, from 0; `None` where no column has the item.
-    pub fn column(&self, item: ColumnItem) -> Option<u32>
-        ensures value { result ≡ number_among same_column self.now.columns.keys item }
-    {
-        match place_of_column(&self.columns, item) {
-            Some(number) => Some(number as u32),
-            None => None,
-        }
-    }
-
     /// The item of a column; `None` for a number of none.
     pub fn item(&self, column: u32) -> Option<ColumnItem>
         ensures value { result ≡ slice_get self.now.columns.keys column }
@@ -51,22 +30,6 @@ impl Numbering {
             None => None,
         }
     }
-}
-
-/// Where an item stands among the rows.
-fn place_of_row(rows: &IndexSet<RowItem>, item: RowItem) -> Option<usize>
-    ensures value { result ≡ number_among same_row rows.now.keys item }
-    ensures within { IfSome result (λ i. i < length rows.now.keys) }
-{
-    rows.get_index_of(&item)
-}
-
-/// Where an item stands among the columns.
-fn place_of_column(columns: &IndexSet<ColumnItem>, item: ColumnItem) -> Option<usize>
-    ensures value { result ≡ number_among same_column columns.now.keys item }
-    ensures within { IfSome result (λ i. i < length columns.now.keys) }
-{
-    columns.get_index_of(&item)
 }
 
 /// The row of a parameter or a local: a parameter of an instance method is one of its slot.

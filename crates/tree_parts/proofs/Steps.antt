@@ -1,5 +1,5 @@
 -- One item more of a list that is written.
-use Rattle.std.proofs.Common.{◌≡◌, ℕ, ◌+◌, ◌<◌, ◌≤◌, List, [], ◌∷◌, ◌++◌, length, drop, get_or, sym, ap, ◌∙◌}
+use Rattle.std.proofs.Common.{◌≡◌, ℕ, ◌+◌, ◌<◌, ◌≤◌, List, [], ◌∷◌, ◌++◌, length, drop, get_or, suc, drop-cons, add-one, sym, ap, ◌∙◌}
 use Rattle.std.proofs.lemmas.List.{drop_all}
 use Rattle.kaba_base.proofs.ListLemmas.{drop_at}
 use Rattle.java_tree.specs.declared.Expr.{Expr}
@@ -7,6 +7,7 @@ use Rattle.java_tree.specs.declared.Stmt.{Stmt}
 use Rattle.java_tree.specs.declared.Arm.{Arm}
 use Rattle.java_tree.specs.Syntax as tree
 use Rattle.java_tree.specs.Syntax.{Expressions, and_more, Statements, and_then, and_arm}
+use Rattle.java_tree.proofs.Appended.{append_exprs, append_stmts, append_arms, exprs_push, stmts_push, arms_push}
 use Rattle.java_core.specs.declared.RExpr.{RExpr}
 use Rattle.java_core.specs.declared.RStmt.{RStmt}
 use Rattle.java_core.specs.declared.RArm.{RArm}
@@ -14,7 +15,7 @@ use Rattle.java_core.specs.Trees.{Arms, no_place, expr_of, exprs, stmt_of, stmts
 use Rattle.written_tree.specs.Bodies.{scope_after}
 use Rattle.tree_parts.specs.declared.within.Within.{Within}
 use Rattle.tree_parts.specs.Written as written
-use Rattle.tree_parts.proofs.Appended.{append_exprs, append_stmts, append_arms, exprs_push, stmts_push, arms_push}
+
 
 -- with no item left, what is written so far is the whole
 pub all_written : {X T : Type 0} {o : T} (append : T → T → T) (rest : List X → T) (done : T) (list : List X) (n : ℕ) → append done (rest []) ≡ done

@@ -9,12 +9,11 @@ ghost use Rattle.tree_parts.specs.Written.{expression, expressions};
 
 use crate::within::Within;
 use java_core::{RExpr, static_of};
+use java_tree::unplaced::nowhere;
 use java_tree::{Expr, build};
 use std::alloc::AllocError;
 use std::mem::drop;
-use tree_forms::{
-    forms, infix_mark, nowhere, prefix_mark, static_call, static_field, variable_name,
-};
+use tree_forms::{forms, infix_mark, prefix_mark, static_call, static_field, variable_name};
 
 /// An expression of the method, as it is written for the hierarchy: the
 /// form of the old one, with the types of the rows' nodes and the columns' names (after

@@ -12,11 +12,13 @@ ghost use Rattle.tree_parts.specs.Written as written;
 
 use crate::exprs::expr;
 use crate::within::Within;
+use flow_rules::variable_at;
 use java_core::{RArm, RExpr, RStmt};
+use java_tree::unplaced::nowhere;
 use java_tree::{Arm, Expr, Stmt, build};
 use std::alloc::{AllocError, Global};
 use std::mem::drop;
-use tree_forms::{nowhere, row_type, variable, variable_row};
+use tree_forms::{row_type, variable_row};
 
 /// The locals in scope once more.
 fn copy_scope(alloc: Global, scope: &Vec<u32>) -> Result<Vec<u32>, AllocError>
@@ -63,7 +65,7 @@ fn declaration(within: &Within, local: u32, value: Option<Expr>) -> Result<Stmt,
     requires { IsFitting within.now.source.now.numbering.now within.now.source.now.hier.now }
     ensures value { IfOk result (λ s. stmt_of s ≡ written.declared within.now local (value_of value)) }
 {
-    let Some(variable) = variable(within.method, local) else {
+    let Some(variable) = variable_at(within.method, local as u64) else {
         drop(value);
         return Ok(build::block(Vec::new(within.source.alloc), nowhere()));
     };

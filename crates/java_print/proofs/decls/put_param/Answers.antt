@@ -1,8 +1,8 @@
-use Rattle.java_print.proofs.Adding.{adds_then, on_ok}
+use Rattle.java_print.proofs.Adding.{both_put, on_ok}
 use Rattle.java_print.proofs.decls.put_param.Goals as goal
 
 pub returns : goal.returns
 returns c = record {
-  value = on_ok c.put_name.result c.put_name.ensures.value (λ h r. adds_then (c.in_ok-put_final.ensures.value _)
-      (adds_then (c.in_ok-put_type.ensures.value _) (adds_then (c.in_ok-put_space.ensures.value _) (h r))));
+  value = on_ok c.put_name.result c.put_name.ensures.value
+      (both_put (both_put c.in_ok-put_final.ensures.value (both_put c.in_ok-put_type.ensures.value c.in_ok-put_space.ensures.value)));
 }

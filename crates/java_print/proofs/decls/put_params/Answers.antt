@@ -1,7 +1,6 @@
-use Rattle.java_print.specs.Layout.{params_items}
-use Rattle.java_print.proofs.Adding.{adds_then, on_ok}
 use Rattle.std.proofs.Common.{refl}
-use Rattle.java_print.specs.Layout.{param_items}
+use Rattle.java_print.specs.Layout.{param_items, params_items}
+use Rattle.java_print.proofs.Adding.{adds_then, on_ok}
 use Rattle.java_print.proofs.DeclAdding.{comma_step, comma_end}
 use Rattle.java_print.proofs.decls.put_params.Goals as goal
 

@@ -2,39 +2,22 @@ use Rattle.std.proofs.Common.{◌∙◌, ap, sym, arith, false}
 use Rattle.java_tree.specs.Syntax.{expr_of, value_of, stmt_of, stmts, arms_seen, else_seen, BlockOf, IfOf, WhileOf, ForOf}
 use Rattle.java_print.specs.Layout.{stmts_items, arms_items}
 use Rattle.java_tree.specs.Syntax.{boxed_step}
-use Rattle.java_print.proofs.Adding.{adds_then, on_ok}
+use Rattle.java_print.proofs.Adding.{both_put, on_ok}
 use Rattle.java_print.proofs.StmtAdding.{block_of, while_of, for_of, if_of, bare_along, stmt_smaller, stmts_step, stmts_end, arm_smaller, arms_step, arms_end, deeper_as, other_along}
 use Rattle.java_tree.specs.Size.{stmt_size, stmts_size, arms_size, else_size}
 use Rattle.java_print.proofs.stmts.+statements.Goals as goal
 
 pub put_while-returns : goal.put_while-returns
-put_while-returns t c = record {
-  value = on_ok c.put_end.result c.put_end.ensures.value (λ h r. adds_then (c.in_ok-put_key.ensures.value _)
-      (adds_then (c.in_ok-put_condition.ensures.value _) (adds_then (c.in_ok-put_body.ensures.value _) (h r))));
-}
+put_while-returns t c = record { value = on_ok c.put_whole_body.result c.put_whole_body.ensures.value (both_put c.in_ok-put_tested.ensures.value) }
 
 pub put_for-returns : goal.put_for-returns
-put_for-returns t c = record {
-  value = on_ok c.put_end.result c.put_end.ensures.value (λ h r. adds_then (c.in_ok-put_for_head.ensures.value _)
-      (adds_then (c.in_ok-put_body.ensures.value _) (h r)));
-}
+put_for-returns t c = record { value = on_ok c.put_whole_body.result c.put_whole_body.ensures.value (both_put c.in_ok-put_for_head.ensures.value) }
 
 pub put_arm-returns : goal.put_arm-returns
-put_arm-returns t c = record {
-  value = on_ok c.put_body.result c.put_body.ensures.value (λ h r. adds_then (c.in_ok-put_key.ensures.value _)
-      (adds_then (c.in_ok-put_condition.ensures.value _) (h r)));
-}
-
-pub put_last-returns : goal.put_last-returns
-put_last-returns t c = record {
-  value = on_ok c.put_end.result c.put_end.ensures.value (λ h r. adds_then (c.in_ok-put_space.ensures.value _)
-      (adds_then (c.in_ok-put_key.ensures.value _) (adds_then (c.in_ok-put_body.ensures.value _) (h r))));
-}
+put_arm-returns t c = record { value = on_ok c.put_body.result c.put_body.ensures.value (both_put c.in_ok-put_tested.ensures.value) }
 
 pub put_if-returns : goal.put_if-returns
-put_if-returns t c = record {
-  value = on_ok c.put_other.result c.put_other.ensures.value (λ h r. adds_then (c.in_ok-put_arms.ensures.value _) (h r));
-}
+put_if-returns t c = record { value = on_ok c.put_other.result c.put_other.ensures.value (both_put c.in_ok-put_arms.ensures.value) }
 
 pub put_stmts-put_stmt-requires : goal.put_stmts-put_stmt-requires
 put_stmts-put_stmt-requires t c = (omega (arith, c.decreases, stmt_smaller c.args.body.now c.loop-s.s-index c.s-item.result c.loop-s-test.true c.s-item.is), tt)
@@ -94,22 +77,22 @@ put_stmt-put_for-requires t c =
 pub put_stmt-returns-in-Block : goal.put_stmt-returns-in-Block
 put_stmt-returns-in-Block t c = record {
   value = on_ok c.put_block.result c.put_block.ensures.value (λ h. bare_along c.args.margin (stmt_of c.args.s.now)
-      (BlockOf (stmts c.as_slice.result.now) c.in-Block.place)
-      (block_of _ _ _ c.in-Block.is ∙ ap (λ xs. BlockOf (stmts xs) c.in-Block.place) (sym c.as_slice.ensures.value)) h);
+      (BlockOf (stmts c.as_slice.result.now) c.in-Block.place) (block_of _ _ _ c.in-Block.is ∙ ap (λ xs. BlockOf (stmts xs) c.in-Block.place)
+      (sym c.as_slice.ensures.value)) h);
 }
 
 pub put_stmt-returns-in-If : goal.put_stmt-returns-in-If
 put_stmt-returns-in-If t c = record {
   value = on_ok c.put_if.result c.put_if.ensures.value (λ h. bare_along c.args.margin (stmt_of c.args.s.now)
-      (IfOf (arms_seen c.as_slice-in-If.result.now) (else_seen c.in-If.other) c.in-If.place)
-      (if_of _ _ _ _ c.in-If.is ∙ ap (λ xs. IfOf (arms_seen xs) (else_seen c.in-If.other) c.in-If.place) (sym c.as_slice-in-If.ensures.value)) h);
+      (IfOf (arms_seen c.as_slice-in-If.result.now) (else_seen c.in-If.other) c.in-If.place) (if_of _ _ _ _ c.in-If.is
+      ∙ ap (λ xs. IfOf (arms_seen xs) (else_seen c.in-If.other) c.in-If.place) (sym c.as_slice-in-If.ensures.value)) h);
 }
 
 pub put_stmt-returns-in-While : goal.put_stmt-returns-in-While
 put_stmt-returns-in-While t c = record {
   value = on_ok c.put_while.result c.put_while.ensures.value (λ h. bare_along c.args.margin (stmt_of c.args.s.now)
-      (WhileOf (expr_of c.in-While.test) (stmts c.as_slice-in-While.result.now) c.in-While.place)
-      (while_of _ _ _ _ c.in-While.is ∙ ap (λ xs. WhileOf (expr_of c.in-While.test) (stmts xs) c.in-While.place) (sym c.as_slice-in-While.ensures.value)) h);
+      (WhileOf (expr_of c.in-While.test) (stmts c.as_slice-in-While.result.now) c.in-While.place) (while_of _ _ _ _ c.in-While.is
+      ∙ ap (λ xs. WhileOf (expr_of c.in-While.test) (stmts xs) c.in-While.place) (sym c.as_slice-in-While.ensures.value)) h);
 }
 
 pub put_stmt-returns-in-For : goal.put_stmt-returns-in-For
@@ -122,25 +105,30 @@ put_stmt-returns-in-For t c = record {
 
 pub put_body-returns : goal.put_body-returns
 put_body-returns t c = record {
-  value = on_ok c.put_close_body.result c.put_close_body.ensures.value (λ h r. adds_then (c.in_ok-put_open_body.ensures.value _)
-      (adds_then (deeper_as _ _ (stmts c.args.body.now) c.in_ok-deeper.ensures.value c.in_ok-put_stmts.ensures.value _) (h r)));
+  value = on_ok c.put_close_body.result c.put_close_body.ensures.value
+      (both_put (both_put c.in_ok-put_open_body.ensures.value (deeper_as _ _ (stmts c.args.body.now) c.in_ok-deeper.ensures.value
+      c.in_ok-put_stmts.ensures.value)));
 }
+
+pub put_whole_body-returns : goal.put_whole_body-returns
+put_whole_body-returns t c = record { value = on_ok c.put_end.result c.put_end.ensures.value (both_put c.in_ok-put_body.ensures.value) }
 
 pub put_block-returns : goal.put_block-returns
 put_block-returns t c = record {
-  value = on_ok c.put_end-2.result c.put_end-2.ensures.value (λ h r. adds_then (c.in_ok-put_mark.ensures.value _)
-      (adds_then (c.in_ok-put_end.ensures.value _)
-      (adds_then (deeper_as _ _ (stmts c.args.body.now) c.in_ok-deeper.ensures.value c.in_ok-put_stmts.ensures.value _)
-      (adds_then (c.in_ok-put_close_body.ensures.value _) (h r)))));
+  value = on_ok c.put_end-2.result c.put_end-2.ensures.value
+      (both_put (both_put c.in_ok-put_mark.ensures.value
+      (both_put c.in_ok-put_end.ensures.value
+      (both_put (deeper_as _ _ (stmts c.args.body.now) c.in_ok-deeper.ensures.value c.in_ok-put_stmts.ensures.value)
+      c.in_ok-put_close_body.ensures.value))));
 }
 
-pub put_other-put_last-requires : goal.put_other-put_last-requires
-put_other-put_last-requires t c =
+pub put_other-put_whole_body-requires : goal.put_other-put_whole_body-requires
+put_other-put_whole_body-requires t c =
     (omega (arith, c.decreases, ap (λ o. else_size (else_seen o)) c.in-Some.is, ap (λ xs. stmts_size (stmts xs)) c.as_slice.ensures.value), tt)
 
-pub put_other-returns-in-Some : goal.put_other-returns-in-Some
-put_other-returns-in-Some t c =
-    record {
-      value = on_ok c.put_last.result c.put_last.ensures.value (λ h. other_along c.args.margin c.args.other.now c.in-Some.body
-          c.as_slice.result.now c.in-Some.is c.as_slice.ensures.value h);
-    }
+pub put_other-returns-in_ok-put_key-in-Some : goal.put_other-returns-in_ok-put_key-in-Some
+put_other-returns-in_ok-put_key-in-Some t c = record {
+  value = on_ok c.put_whole_body.result c.put_whole_body.ensures.value (λ h. other_along c.args.margin c.args.other.now c.in-Some.body
+      c.as_slice.result.now c.in-Some.is c.as_slice.ensures.value (both_put
+      (both_put c.in_ok-put_space-in-Some.ensures.value c.in_ok-put_key-in-Some.ensures.value) h));
+}

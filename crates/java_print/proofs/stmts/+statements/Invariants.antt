@@ -16,17 +16,20 @@ decreases-put_stmt l = 8 * stmt_size (stmt_of l.s.now) + 1
 abbrev pub decreases-put_body : goal.decreases-put_body
 decreases-put_body l = 8 * stmts_size (stmts l.body.now) + 4
 
+abbrev pub decreases-put_whole_body : goal.decreases-put_whole_body
+decreases-put_whole_body l = 8 * stmts_size (stmts l.body.now) + 5
+
 abbrev pub decreases-put_block : goal.decreases-put_block
 decreases-put_block l = 8 * stmts_size (stmts l.body.now) + 4
 
 abbrev pub decreases-put_while : goal.decreases-put_while
-decreases-put_while l = 8 * stmts_size (stmts l.body.now) + 5
+decreases-put_while l = 8 * stmts_size (stmts l.body.now) + 6
 
 abbrev pub decreases-put_for : goal.decreases-put_for
-decreases-put_for l = 8 * stmts_size (stmts l.body.now) + 5
+decreases-put_for l = 8 * stmts_size (stmts l.body.now) + 6
 
 abbrev pub decreases-put_if : goal.decreases-put_if
-decreases-put_if l = 8 * (arms_size (arms_seen l.arms.now) + else_size (else_seen l.other.now)) + 7
+decreases-put_if l = 8 * (arms_size (arms_seen l.arms.now) + else_size (else_seen l.other.now)) + 8
 
 abbrev pub decreases-put_arms : goal.decreases-put_arms
 decreases-put_arms l = 8 * arms_size (arms_seen l.arms.now) + 6
@@ -35,10 +38,7 @@ abbrev pub decreases-put_arm : goal.decreases-put_arm
 decreases-put_arm l = 8 * stmts_size (stmts l.body.now) + 5
 
 abbrev pub decreases-put_other : goal.decreases-put_other
-decreases-put_other l = 8 * else_size (else_seen l.other.now) + 6
-
-abbrev pub decreases-put_last : goal.decreases-put_last
-decreases-put_last l = 8 * stmts_size (stmts l.body.now) + 5
+decreases-put_other l = 8 * else_size (else_seen l.other.now) + 7
 
 -- the statements that are left are still to add
 abbrev pub invariant-put_stmts-loop-s : goal.invariant-put_stmts-loop-s

@@ -1,8 +1,8 @@
-use Rattle.java_print.proofs.Adding.{adds_then, on_ok}
+use Rattle.java_print.proofs.Adding.{both_put, on_ok}
 use Rattle.java_print.proofs.stmts.put_open_body.Goals as goal
 
 pub returns : goal.returns
 returns c = record {
-  value = on_ok c.put_end.result c.put_end.ensures.value (λ h r. adds_then (c.in_ok-put_space.ensures.value _)
-      (adds_then (c.in_ok-put_mark.ensures.value _) (h r)));
+  value = on_ok c.put_end.result c.put_end.ensures.value
+      (both_put (both_put c.in_ok-put_space.ensures.value c.in_ok-put_mark.ensures.value));
 }

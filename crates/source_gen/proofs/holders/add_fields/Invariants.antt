@@ -9,6 +9,6 @@ use Rattle.source_gen.proofs.holders.add_fields.Given as goal
 
 abbrev pub invariant-loop-f : goal.invariant-loop-f
 invariant-loop-f l =
-    let f = static_field_member (old_program l.source) (renaming l.source) l.source.hier.now l.c in
-    members l.into.items ++ each f l.f (map (field_seen no_place) (drop l.f l.source.program.now.fields.items))
-    ≡ members l.fn.into.items ++ each f 0 (map (field_seen no_place) l.source.program.now.fields.items)
+    let f = static_field_member (old_program l.old.source.now) (renaming l.old.source.now) l.old.source.now.hier.now l.old.class in
+    members l.into.items ++ each f l.f (map (field_seen no_place) (drop l.f l.old.source.now.program.now.fields.items))
+    ≡ members l.fn.into.items ++ each f 0 (map (field_seen no_place) l.old.source.now.program.now.fields.items)

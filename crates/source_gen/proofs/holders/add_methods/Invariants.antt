@@ -9,6 +9,6 @@ use Rattle.source_gen.proofs.holders.add_methods.Given as goal
 
 abbrev pub invariant-loop-m : goal.invariant-loop-m
 invariant-loop-m l =
-    let f = static_method_member (old_program l.source) (renaming l.source) l.source.hier.now l.c in
-    members l.into.items ++ each f l.m (map (method_seen no_place) (drop l.m l.source.program.now.methods.items))
-    ≡ members l.fn.into.items ++ each f 0 (map (method_seen no_place) l.source.program.now.methods.items)
+    let f = static_method_member (old_program l.old.source.now) (renaming l.old.source.now) l.old.source.now.hier.now l.old.class in
+    members l.into.items ++ each f l.m (map (method_seen no_place) (drop l.m l.old.source.now.program.now.methods.items))
+    ≡ members l.fn.into.items ++ each f 0 (map (method_seen no_place) l.old.source.now.program.now.methods.items)

@@ -5,12 +5,12 @@ use Rattle.java_core.specs.Trees.{no_place, expr_of, exprs}
 use Rattle.java_core.specs.Types.{class_of, static, env_of}
 use Rattle.java_tree.specs.Syntax as tree
 use Rattle.java_tree.specs.Syntax.{NewArrayOf, CastOf}
+use Rattle.java_tree.proofs.Appended.{append_exprs, exprs_end}
 use Rattle.flow_rules.specs.declared.items.RowItem.TheVariants as row
 use Rattle.written_tree.specs.Names.{nowhere}
 use Rattle.tree_forms.specs.Sources.{old_program, row_typed}
 use Rattle.tree_parts.specs.Written.{method_of, expression, expressions}
 use Rattle.tree_parts.proofs.Forms.{own_call, call_on, static_form, super_form, creation_form}
-use Rattle.tree_parts.proofs.Appended.{append_exprs, exprs_end}
 use Rattle.tree_parts.proofs.Steps.{all_next, all_written}
 use Rattle.tree_parts.proofs.Parts.{call_is, around}
 use Rattle.tree_parts.proofs.exprs.+exprs.Goals as goal

@@ -1,9 +1,9 @@
 -- What is written so far and the rest is the whole.
 use Rattle.std.proofs.Common.{◌≡◌, drop}
 use Rattle.java_tree.specs.Syntax as tree
+use Rattle.java_tree.proofs.Appended.{append_exprs}
 use Rattle.java_core.specs.Trees.{no_place, exprs}
 use Rattle.tree_parts.specs.Written.{expressions}
-use Rattle.tree_parts.proofs.Appended.{append_exprs}
 use Rattle.tree_parts.proofs.exprs.+exprs.Given as goal
 
 abbrev pub invariant-all-loop-one : goal.invariant-all-loop-one

@@ -7,12 +7,12 @@ use Rattle.std.specs.declared.vec.Vec.{Vec}
 use Rattle.std.specs.declared.alloc.Global.{Global}
 use Rattle.java_core.specs.declared.RStmt.{RStmt}
 use Rattle.java_tree.specs.Syntax as tree
+use Rattle.java_tree.proofs.Appended.{append_stmts, append_arms, stmts_end, arms_end}
 use Rattle.tree_parts.specs.Written.{statement, statements, arms, otherwise}
 use Rattle.java_core.proofs.StatementSize.{st_size}
 use Rattle.tree_parts.proofs.Sizes.{choice_sizes, stmt_within, arm_within}
 use Rattle.tree_parts.proofs.Forms.{block_form, if_form, while_form, for_form}
 use Rattle.tree_parts.proofs.Bodies.{arms_alike, else_alike, for_is}
-use Rattle.tree_parts.proofs.Appended.{append_stmts, append_arms, stmts_end, arms_end}
 use Rattle.tree_parts.proofs.Steps.{sts_next, arms_next, all_written}
 use Rattle.tree_parts.proofs.stmts.+stmts.Goals as goal
 

@@ -1,10 +1,10 @@
 -- What is written so far and the rest is the whole; each call has a smaller statement, or the same by a function below.
 use Rattle.std.proofs.Common.{◌≡◌, ◌+◌, ◌*◌, drop}
 use Rattle.java_tree.specs.Syntax as tree
+use Rattle.java_tree.proofs.Appended.{append_stmts, append_arms}
 use Rattle.java_core.specs.Trees.{no_place, no_other, stmt_of, stmts, arms_seen, else_seen, step_seen}
 use Rattle.tree_parts.specs.Written.{statements, arms}
 use Rattle.java_core.proofs.StatementSize.{st_size, sts_size, arms_size}
-use Rattle.tree_parts.proofs.Appended.{append_stmts, append_arms}
 use Rattle.tree_parts.proofs.stmts.+stmts.Given as goal
 
 abbrev pub decreases-stmt : goal.decreases-stmt

@@ -7,6 +7,6 @@ pub returns : goal.returns
 returns c =
     record {
       value = declared_is c.args.within.now c.args.local
-          (local_seen no_place c.in-Some.variable.now) c.variable_row-row.result c.in-Some.ensures c.nowhere-2.ensures c.in-Ok.ensures
+          (local_seen no_place c.in-Some.variable.now) c.variable_row-row.result c.in-Some.ensures.plain c.nowhere-2.ensures c.in-Ok.ensures
           c.variable_row-row.ensures.value c.in-Ok-copy.ensures.value;
     }

@@ -1,5 +1,5 @@
--- Lists of trees that are written one after the other: what is written so far, and then what the rest becomes.
-use Rattle.std.proofs.Common.{◌≡◌, ◌+◌, List, [], ◌∷◌, ◌++◌, refl, ap}
+-- Lists of trees that stand one after the other.
+use Rattle.std.proofs.Common.{◌≡◌, List, [], ◌∷◌, ◌++◌, refl, ap}
 use Rattle.java_tree.specs.declared.Expr.{Expr}
 use Rattle.java_tree.specs.declared.Stmt.{Stmt}
 use Rattle.java_tree.specs.declared.Arm.{Arm}
@@ -17,6 +17,7 @@ abbrev pub append_arms : Arms → Arms → Arms
 append_arms no_arms more = more
 append_arms (and_arm e b rest) more = and_arm e b (append_arms rest more)
 
+-- with none behind them
 pub exprs_end : (es : Expressions) → append_exprs es no_more ≡ es
 exprs_end no_more = refl
 exprs_end (and_more e es) = ap (and_more e) (exprs_end es)
@@ -29,6 +30,7 @@ pub arms_end : (more : Arms) → append_arms more no_arms ≡ more
 arms_end no_arms = refl
 arms_end (and_arm e b more) = ap (and_arm e b) (arms_end more)
 
+-- those of a list with one more
 pub exprs_push : (xs : List Expr) (e : Expr) (rest : Expressions) → append_exprs (exprs (xs ++ e ∷ [])) rest
     ≡ append_exprs (exprs xs) (and_more (expr_of e) rest)
 exprs_push [] e rest = refl

@@ -1,5 +1,0 @@
-use Rattle.java_print.proofs.Adding.{adds_then, on_ok}
-use Rattle.java_print.proofs.decls.put_method_block.Goals as goal
-
-pub returns : goal.returns
-returns c = record { value = on_ok c.put_end.result c.put_end.ensures.value (λ h r. adds_then (c.in_ok-put_body.ensures.value _) (h r)) }
