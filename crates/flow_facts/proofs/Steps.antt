@@ -1,6 +1,6 @@
 -- One more item of a list that is gone through.
-use Rattle.std.proofs.Common.{◌≡◌, ℕ, ◌+◌, ◌<◌, Bool, true, false, cond, List, [], ◌∷◌, ◌++◌, length, get_or, drop, map, refl, sym, ap, ◌∙◌, subst, append_assoc, add-one, drop-cons}
-use Rattle.std.proofs.lemmas.List.{append-nil, map-append}
+use Rattle.std.proofs.Common.{◌≡◌, ℕ, ◌+◌, ◌<◌, Bool, true, false, cond, List, [], ◌∷◌, ◌++◌, length, get_or, drop, map, refl, sym, ap, ◌∙◌, subst, append_assoc}
+use Rattle.std.proofs.lemmas.List.{append-nil, map-append, drop_more}
 use Rattle.std.specs.Prelude.{not, Option, Some, None}
 use Rattle.std.specs.List.{list_any, flat_map}
 use Rattle.indexmap.specs.IndexSet.{insert_key}
@@ -9,9 +9,6 @@ use Rattle.flow_rules.specs.declared.items.ColumnItem.{ColumnItem}
 use Rattle.flow_rules.specs.Ordered.{each, once_after}
 use Rattle.flow_facts.specs.Seen.{if_there}
 
-pub front : {A : Type 0} (xs : List A) (i : ℕ) (d : A) → i < length xs → drop i xs ≡ get_or xs i d ∷ drop (i + 1) xs
-front xs i d h = drop-cons xs i d h ∙ ap (λ k. get_or xs i d ∷ drop k xs) (sym (add-one i))
-
 -- G is what the items left give, and H what they give after the first
 pub step : {A B : Type 0} (f : A → List B) (G H : List A → List B) → ((x : A) (r : List A) → G (x ∷ r) ≡ f x ++ H r)
     → (xs ys : List A) (i : ℕ) (d : A) (old new all : List B)
@@ -19,7 +16,7 @@ pub step : {A B : Type 0} (f : A → List B) (G H : List A → List B) → ((x :
 step f G H is xs ys i d old new all s h e n =
     let k : i < length xs = subst (λ l. i < length l) s h in
     ap (λ l. l ++ H (drop (i + 1) xs)) (n ∙ ap (λ l. old ++ f (get_or l i d)) s) ∙ append_assoc old (f (get_or xs i d)) (H (drop (i + 1) xs))
-    ∙ ap (λ l. old ++ l) (sym (ap G (front xs i d k) ∙ is (get_or xs i d) (drop (i + 1) xs))) ∙ e
+    ∙ ap (λ l. old ++ l) (sym (ap G (drop_more xs i d k) ∙ is (get_or xs i d) (drop (i + 1) xs))) ∙ e
 
 -- the same for an item that is read where it stands
 pub step_at : {A B : Type 0} (f : A → List B) (G H : List A → List B) → ((x : A) (r : List A) → G (x ∷ r) ≡ f x ++ H r)
@@ -87,7 +84,7 @@ listed_step eq key x k seen with_x old new b is n s w xs ys i all e h at before 
     let j : i < length xs = subst (λ l. i < length l) e h in
     let there : x ≡ get_or xs i x = subst (λ l. x ≡ get_or l i x) e at in
     once_step eq key x seen with_x old new (drop (i + 1) xs) b (n ∙ ap (λ y. not (list_any (eq y) seen)) is) (s ∙ ap (insert_key eq seen) is) w
-    ∙ ap (λ l. old ++ once_after eq key seen l) (ap (λ y. y ∷ drop (i + 1) xs) there ∙ sym (front xs i x j)) ∙ before
+    ∙ ap (λ l. old ++ once_after eq key seen l) (ap (λ y. y ∷ drop (i + 1) xs) there ∙ sym (drop_more xs i x j)) ∙ before
 
 with_key : {A K : Type 0} (key : A → K) (old : List A) (x : A) (c : Bool) → map key (old ++ cond (not c) (x ∷ []) [])
     ≡ cond c (map key old) (map key old ++ key x ∷ [])

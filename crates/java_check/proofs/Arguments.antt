@@ -9,7 +9,7 @@ use Rattle.kaba_base.specs.declared.ClassId.{ClassId}
 use Rattle.kaba_base.specs.declared.MemberId.{MemberId}
 use Rattle.java_core.specs.declared.RExpr.{RExpr, Call, StaticCall, SuperCall, New}
 use Rattle.java_core.specs.Trees.{Tag, at_place, expr_of, exprs, base_seen}
-use Rattle.java_core.specs.Programs.{Plain, PlainLocal}
+use Rattle.java_core.specs.Programs.{Plain}
 use Rattle.java_core.specs.Classes.{super_method, is_concrete}
 use Rattle.java_core.specs.Types.{Env, fits, call_signature, signature_of_method}
 use Rattle.java_core.proofs.Rows.{exprs_vec, call_as}

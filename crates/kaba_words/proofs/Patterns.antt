@@ -1,10 +1,10 @@
 -- Words that fit none of the patterns.
-use Rattle.std.proofs.Common.{◌≡◌, ℕ, ◌<◌, ◌≤◌, List, [], ◌∷◌, codes, subst, sym, ap, ◌∙◌, refl, Bool, true, false, arith, Option, Some, MatchOption, Result, Err}
+use Rattle.std.proofs.Common.{◌≡◌, ℕ, ◌<◌, List, [], ◌∷◌, codes, subst, sym, ap, ◌∙◌, refl, Bool, true, false, arith, Option, Some, MatchOption, Result, Err}
 use Rattle.std.specs.Str.{bytes_eq}
 use Rattle.std.proofs.lemmas.Bool.{false≢true}
 use Rattle.std.proofs.lemmas.Slice.Eq.{bytes_eq-Decides}
 use Rattle.std.proofs.lemmas.Fmt.{decimal_injective}
-use Rattle.kaba_words.specs.Commands.{Cmd, run, table, lattice, edit, regen, make, help, version, FitsRun, FitsLattice, FitsEdit, NoEdit, FitsMake, NoMake, FitsNone, Fits, TakesFlag, TakesBound, BoundAfter, IsNumber, most_concepts, most_samples}
+use Rattle.kaba_words.specs.Commands.{Cmd, run, table, lattice, edit, regen, make, help, version, FitsRun, FitsLattice, NoEdit, NoMake, FitsNone, Fits, TakesFlag, TakesBound, BoundAfter, IsNumber, most_concepts, most_samples}
 
 -- two words that differ
 apart : (a b : List ℕ) → bytes_eq a b ≡ false → a ≡ b → ⊥

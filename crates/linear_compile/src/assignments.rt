@@ -9,7 +9,8 @@ ghost use Rattle.java_meaning.specs.Values.{default_of};
 ghost use Rattle.linear_code.specs.Ops.{slot, constant};
 ghost use Rattle.linear_code.specs.Seen.{operand_of};
 ghost use Rattle.linear_code.specs.Code.{operand, code_local, code_initial, code_assign, default_op, store_op};
-ghost use Rattle.linear_compile.specs.Scopes.{plain, env, IsReady, bare};
+ghost use Rattle.java_core.specs.Untagged.{bare_tag};
+ghost use Rattle.linear_compile.specs.Scopes.{plain, env, IsReady};
 
 use crate::code::{Code, further};
 use crate::expressions::{compile, compile_to};
@@ -153,7 +154,7 @@ fn store_field(
     value: &RExpr,
 ) -> Result<(), AllocError>
     requires { IsReady site.scope.now }
-    ensures { OnOk result (code.new ≡ code_assign (plain site.entry.scope.now) (env site.entry.scope.now) (to_field bare (expr_of no_place base.now) name.now)
+    ensures { OnOk result (code.new ≡ code_assign (plain site.entry.scope.now) (env site.entry.scope.now) (to_field bare_tag (expr_of no_place base.now) name.now)
         (expr_of no_place value.now) site.entry.at ++ code.old) }
 {
     let next = further(site.at, 1)?;
@@ -178,7 +179,7 @@ fn store_element(
     value: &RExpr,
 ) -> Result<(), AllocError>
     requires { IsReady site.scope.now }
-    ensures { OnOk result (code.new ≡ code_assign (plain site.entry.scope.now) (env site.entry.scope.now) (to_element bare (expr_of no_place base.now)
+    ensures { OnOk result (code.new ≡ code_assign (plain site.entry.scope.now) (env site.entry.scope.now) (to_element bare_tag (expr_of no_place base.now)
         (expr_of no_place index.now)) (expr_of no_place value.now) site.entry.at ++ code.old) }
 {
     let next = further(site.at, 1)?;

@@ -6,7 +6,7 @@ use Rattle.std.proofs.lemmas.List.Elements.{Contains-append_left, Contains-appen
 use Rattle.std.proofs.Math.Seq.{take-suc}
 use Rattle.std.proofs.Math.Numerals.{add-one}
 use Rattle.kaba_base.specs.declared.ClassId.{ClassId}
-use Rattle.kaba_base.proofs.ListLemmas.{one_from, one as one-is, no-member}
+use Rattle.kaba_base.proofs.ListLemmas.{one_from, no-member}
 use Rattle.kaba_bits.specs.Sets.{bit, row, IsNoneFrom, GainsBit}
 use Rattle.kaba_bits.proofs.SetLemmas.{bit-below}
 use Rattle.fact_model.specs.declared.facts.Facts.{Facts}

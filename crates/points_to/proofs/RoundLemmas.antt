@@ -48,8 +48,33 @@ pub on_true_of : {P : Type 0} (g : Bool) → (g ≡ true → P) → OnTrue g P
 on_true_of true p = p refl
 on_true_of false p = tt
 
-use Rattle.kaba_bits.proofs.RowLemmas.{bit-row-below, set-kept}
-use Rattle.kaba_bits.proofs.StepLemmas.{IsStep-then, closed_more, closed-both}
+-- a turn over a list at one of its elements: what the sets are, whether they grew, and what holds of each element before while they did not
+pub record IsTurn {X : Type 0} (F : Facts) (P : List (List Bool) → X → Type 0) (xs : List X) (first now : List (List Bool)) (grew : Bool) (k : ℕ) : Type 0 where
+  pub sets : AreSound F now
+  pub step : IsStep first now grew
+  pub closed : OnFalse grew (AllWithin (P now) xs 0 k)
+
+-- and something that is kept beside them
+pub record IsKeeping {X : Type 0} (F : Facts) (P : List (List Bool) → X → Type 0) (xs : List X) (first now : List (List Bool)) (grew : Bool) (k : ℕ)
+    (W : Type 0) : Type 0 where
+  pub kept : OnFalse grew W
+  pub turn : IsTurn F P xs first now grew k
+
+-- one element on
+pub turn_more : {X : Type 0} {F : Facts} {P : List (List Bool) → X → Type 0} {xs : List X} {k : ℕ} {first old new : List (List Bool)} {g : Bool} (h : Bool) (d : X)
+    → IsTurn F P xs first old g k → k < length xs → AreSound F new → IsStep old new h → OnFalse h (P new (get_or xs k d))
+    → IsTurn F P xs first new (g || h) (k + 1)
+turn_more {X} {F} {P} {xs} {k} {first} {old} {new} {g} h d before lt sets step here = record {
+  sets = sets;
+  step = IsStep-then first old new g h before.step step;
+  closed = closed_more P old new xs k d g h lt (closed-both (P new (get_or xs k d)) old new h step here) before.closed;
+}
+
+-- at its end
+pub turn_all : {X : Type 0} {F : Facts} {P : List (List Bool) → X → Type 0} {xs : List X} {k : ℕ} {first now : List (List Bool)} {g : Bool}
+    → IsTurn F P xs first now g k → length xs ≤ k → OnFalse g (All (P now) xs)
+turn_all {X} {F} {P} {xs} {k} {first} {now} {g} t le = all_end (P now) xs k g le t.closed
+
 -- what a turn keeps from one element to the next, and what it gives for each
 round_first : (W V Q : Type 0) (g h : Bool) → OnFalse g W → OnFalse h (W → V × Q) → OnFalse (g || h) V
 round_first W V Q true h w f = tt

@@ -1,5 +1,5 @@
 -- Steps of the loops over lists.
-use Rattle.std.proofs.Common.{◌≡◌, List, ◌∷◌, Result, ap}
+use Rattle.std.proofs.Common.{Result, ap}
 use Rattle.name_rules.specs.declared.Refusal.{Refusal}
 use Rattle.name_rules.specs.declared.Refusal.TheVariants as refusals
 use Rattle.name_outcome.specs.Answers.{with, IsRefused}

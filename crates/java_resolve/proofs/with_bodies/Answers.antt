@@ -1,7 +1,7 @@
 use Rattle.std.proofs.Common.{map, Ok, sym, ap, ◌∙◌}
 use Rattle.java_tree.specs.Syntax.{decls}
 use Rattle.java_core.specs.Trees.{at_place}
-use Rattle.java_core.specs.Programs.{class_seen, method_seen}
+use Rattle.java_core.specs.Programs.{class_seen}
 use Rattle.name_outcome.specs.Answers.{with}
 use Rattle.name_outcome.specs.Members.{clashes_of, main_of}
 use Rattle.name_outcome.specs.Resolved.{methods_of, table, program}

@@ -1,4 +1,4 @@
-use Rattle.std.proofs.Common.{◌≡◌, ◌≤◌, ap, ◌∙◌, refl, arith, string_bytes, map}
+use Rattle.std.proofs.Common.{◌≤◌, ap, ◌∙◌, refl, arith, string_bytes, map}
 use Rattle.java_core.specs.Trees.{no_place}
 use Rattle.java_core.specs.Programs.{program_of}
 use Rattle.linear_code.specs.Seen.{entry_of, tables_of}
