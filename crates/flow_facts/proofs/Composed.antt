@@ -6,14 +6,13 @@ use Rattle.std.specs.declared.vec.Vec.{Vec}
 use Rattle.std.specs.declared.alloc.Global.{Global}
 use Rattle.kaba_base.specs.declared.Place.{Place}
 use Rattle.java_core.specs.declared.RStmt.{RStmt}
-use Rattle.java_core.specs.Trees.{Tag, Ex, Exs, call, Sts, no_st, loop, to_own, to_element, at_place, else_seen}
+use Rattle.java_core.specs.Trees.{Tag, Ex, Sts, no_st, loop, to_own, to_element, at_place, else_seen}
 use Rattle.java_core.specs.Programs.{Plain, PlainMethod}
 use Rattle.flow_rules.specs.declared.items.Operand.{Operand}
-use Rattle.flow_rules.specs.Labels.{size, size_if, size_sts, size_arms, label, label_all, label_if, label_sts, label_st, label_arms}
-use Rattle.flow_rules.specs.Operands.{operand_of, operands_of, this_operand, call_slot, call_declaration}
-use Rattle.flow_rules.specs.Parts.{Part, a_call, a_store, an_element_store, parts, parts_all, parts_if, parts_sts, parts_st, parts_arms, parts_assign}
+use Rattle.flow_rules.specs.Labels.{size, size_if, size_sts, size_arms, label, label_if, label_sts, label_st, label_arms}
+use Rattle.flow_rules.specs.Operands.{operand_of, this_operand}
+use Rattle.flow_rules.specs.Parts.{Part, a_store, an_element_store, parts, parts_if, parts_sts, parts_st, parts_arms, parts_assign}
 use Rattle.flow_rules.specs.Types.{object_type}
-use Rattle.flow_facts.specs.Views.{call_operand}
 
 -- two steps are one
 pub then : {A : Type 0} (old mid new X Y : List A) → mid ≡ old ++ X → new ≡ mid ++ Y → new ≡ old ++ (X ++ Y)
@@ -33,27 +32,6 @@ module _ (P : Plain) (m : ℕ) (k : PlainMethod) where
     sym (ap (λ y. n + size_arms (else_seen at_place y)) e) ∙ g,
     sym (ap (λ y. new ++ parts_arms P (object_type P k) m k (label_arms n (else_seen at_place y))) e) ∙ p,
   )
-
-  pub call_parts : (t : Tag) (x : List ℕ) (es : Exs) (B : Ex) (u : Bool) (old mid new : List Part) (n l : ℕ) (o : Operand)
-      → mid ≡ old ++ parts P (object_type P k) m k true (label n B)
-      → o ≡ operand_of P (object_type P k) m k (label n B) → l ≡ n + size B
-      → new ≡ mid ++ a_call t.place o (call_slot P o.ty x) (call_declaration P o.ty x) (operands_of P (object_type P k) m k (label_all (l + 1) es))
-      (call_operand P m l o.ty x) ∷ parts_all P (object_type P k) m k true (label_all (l + 1) es)
-      → new ≡ old ++ parts P (object_type P k) m k u (label n (call t B x es))
-  call_parts t x es B u old mid new n l o e v h d =
-      then_at old mid new (parts P (object_type P k) m k true (label n B))
-      (λ j. a_call t.place (operand_of P (object_type P k) m k (label n B)) (call_slot P (object_type P k (label n B)) x)
-      (call_declaration P (object_type P k (label n B)) x)
-      (operands_of P (object_type P k) m k (label_all (j + 1) es)) (call_operand P m j (object_type P k (label n B)) x) ∷ parts_all P
-      (object_type P k) m k true (label_all (j + 1) es)) l (n + size B) e h
-      (d ∙ ap (λ q. mid ++ a_call t.place q (call_slot P q.ty x) (call_declaration P q.ty x)
-      (operands_of P (object_type P k) m k (label_all (l + 1) es)) (call_operand P m l q.ty x) ∷ parts_all P (object_type P k) m k true
-      (label_all (l + 1) es)) v)
-
-  pub creation_parts : (a : Part) (es : Exs) (old mid new : List Part) (n l : ℕ) → mid ≡ old ++ a ∷ [] → l ≡ n + 1
-      → new ≡ mid ++ parts_all P (object_type P k) m k false (label_all l es)
-      → new ≡ old ++ a ∷ parts_all P (object_type P k) m k false (label_all (n + 1) es)
-  creation_parts a es old mid new n l e h d = then_at old mid new (a ∷ []) (λ j. parts_all P (object_type P k) m k false (label_all j es)) l (n + 1) e h d
 
   pub loop_parts : (t : Tag) (is_while : Bool) (first : Sts) (test : Option Ex) (step body : Sts) (old a b c new : List Part) (n la lb lc : ℕ)
       → a ≡ old ++ parts_sts P (object_type P k) m k (label_sts n first) → la ≡ n + size_sts first

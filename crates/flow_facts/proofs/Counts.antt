@@ -6,8 +6,6 @@ use Rattle.std.proofs.lemmas.Bool.{lt-ltb, le-ltb}
 use Rattle.java_core.specs.Programs.{Plain}
 use Rattle.flow_rules.specs.declared.faults.Counted.{Counted}
 use Rattle.flow_rules.specs.declared.faults.Counted.TheVariants as counted
-use Rattle.flow_rules.specs.declared.faults.FactsFault.{FactsFault}
-use Rattle.flow_rules.specs.declared.faults.FactsFault.TheVariants as fault
 use Rattle.flow_facts.specs.declared.lists.PlacedCall.{PlacedCall}
 use Rattle.fact_model.specs.declared.facts.CallInfo.{CallInfo}
 use Rattle.fact_model.specs.declared.facts.CellInfo.{CellInfo}
@@ -25,7 +23,7 @@ use Rattle.flow_rules.specs.Lists.{Numbers}
 use Rattle.flow_facts.specs.Views.{outline_seen}
 use Rattle.flow_facts.proofs.Along.{map-by_place, once_as}
 use Rattle.flow_rules.specs.Numbered.{Body, Outline, bodies_of, field_rows, method_rows, field_columns, method_columns, form_sites, listed, static_points, outline_if, number_among, same_row, same_column, same_point, rows_of, columns_of, sites_of, points_of, row_number, column_number, site_number, point_number}
-use Rattle.flow_rules.specs.Facts.{TooMany, over, too_many, numbers, FieldCell, fields_of, site_cells, cells_of, first_interface, IsOver, IsRefused, call_seen}
+use Rattle.flow_rules.specs.Facts.{TooMany, over, too_many, numbers, FieldCell, fields_of, site_cells, cells_of, call_seen}
 use Rattle.flow_facts.specs.Seen.{call_at, calls_seen}
 
 pub over_here : (limit n : ℕ) (what : Counted) (rest : Option TooMany) → limit < n → over limit n what rest ≡ Some (record { what = what; number = limit + 1 })
@@ -130,11 +128,6 @@ module _ (P Q : Plain) where
   pub none_over : length (rows_of P Q) ≤ 16384 → length (columns_of P Q) ≤ 8192 → length (sites_of P Q) ≤ 8192
       → length (points_of P Q) + length (cells_of P Q) ≤ 65536 → too_many P Q ≡ None
   none_over r c s h = points_counted r c s ∙ over_not 65536 _ counted.Points _ h
-
-pub refused_from : (P Q : Plain) (e : FactsFault) → first_interface Q.classes ≡ None → IsOver P Q e → IsRefused P Q e
-refused_from P Q (fault.TooMany what n) h o = (h, o)
-refused_from P Q (fault.HasInterface x) h o = absurd o
-refused_from P Q fault.Memory h o = tt
 
 -- calls without their places
 pub calls_apart : (xs : List PlacedCall) → map call_seen (map (λ c. c.call) xs) ≡ map (λ c. c.item) (calls_seen xs)
