@@ -7,7 +7,7 @@ ghost use Rattle.java_core.specs.Programs.{Plain, method_seen, local_seen};
 ghost use Rattle.flow_rules.specs.Ordered.{by_place, each};
 ghost use Rattle.flow_rules.specs.Parts as plain;
 ghost use Rattle.flow_rules.specs.Numbered.{own_point, form_points, variable_points, method_points};
-ghost use Rattle.flow_facts.specs.Views.{part_seen, parts_seen};
+ghost use Rattle.flow_facts.specs.Views.{parts_seen};
 
 use crate::from_part::{FromPart, add_from};
 use crate::ordered::by_place;

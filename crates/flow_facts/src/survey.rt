@@ -1,7 +1,6 @@
 //! What is numbered: the rows, the columns and what may be flow points, in the order of the program.
 
 ghost use Rattle.std.specs.Prelude.{◌≡◌, ℕ, ◌+◌, ◌<◌, ◌^◌, ◌++◌, ◌∷◌, [], List, Option, Some, None, IfOk, OnOk, length, map};
-ghost use Rattle.std.specs.List.{flat_map};
 ghost use Rattle.java_core.specs.Trees.{at_place, no_place};
 ghost use Rattle.java_core.specs.Programs.{Plain, program_of, method_seen, local_seen, field_seen};
 ghost use Rattle.java_core.specs.Formed.{IsFormed};
@@ -9,7 +8,7 @@ ghost use Rattle.flow_rules.specs.Ordered.{each};
 ghost use Rattle.flow_rules.specs.Parts as plain;
 ghost use Rattle.flow_rules.specs.Numbered.{row_if, own_row, form_rows, mark, array_mark, form_columns, is_first, field_rows, this_rows, result_rows, variable_rows, method_rows, field_columns, method_columns, static_points, body_at, outline_if, bodies_of};
 ghost use Rattle.flow_rules.specs.Operands.{result_in};
-ghost use Rattle.flow_facts.specs.Views.{part_seen, parts_seen, outline_seen, body_seen};
+ghost use Rattle.flow_facts.specs.Views.{parts_seen, outline_seen, body_seen};
 
 use crate::bodies::parts_of;
 use crate::by_number::slot_by_number;
