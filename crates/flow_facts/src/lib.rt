@@ -37,6 +37,7 @@ mod by_number;
 mod cells;
 mod enclosing;
 mod expr_rows;
+mod from_part;
 mod gathering;
 mod given;
 mod infos;

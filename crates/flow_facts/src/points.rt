@@ -7,8 +7,9 @@ ghost use Rattle.java_core.specs.Programs.{Plain, method_seen, local_seen};
 ghost use Rattle.flow_rules.specs.Ordered.{by_place, each};
 ghost use Rattle.flow_rules.specs.Parts as plain;
 ghost use Rattle.flow_rules.specs.Numbered.{own_point, form_points, variable_points, method_points};
-ghost use Rattle.flow_facts.specs.Views.{part_seen, parts_seen};
+ghost use Rattle.flow_facts.specs.Views.{parts_seen};
 
+use crate::from_part::{FromPart, add_from};
 use crate::ordered::by_place;
 use crate::survey::result_row;
 use crate::walk::variable_row;
@@ -28,19 +29,21 @@ fn add_own_point(points: &mut Vec<PointAt>, place: Place, own: Operand) -> Resul
     }
 }
 
-/// Adds what may be the flow point of a part.
-fn add_part_point(points: &mut Vec<PointAt>, part: &Part) -> Result<(), AllocError>
-    ensures value { OnOk result (points.new.items ≡ points.old.items ++ form_points (part_seen part.now)) }
-{
-    match part {
-        Part::Load(place, _, _, own)
-        | Part::Element(place, _, own)
-        | Part::New(place, true, own)
-        | Part::Call(place, _, _, _, _, own)
-        | Part::StaticCall(place, _, _, own)
-        | Part::SuperCall(place, _, _, own)
-        | Part::Test(place, _, own) => add_own_point(points, *place, *own),
-        _ => Ok(()),
+/// An expression of a body may be a flow point.
+impl FromPart for PointAt {
+    ghost given = { form_points };
+
+    fn add(part: &Part, points: &mut Vec<PointAt>) -> Result<(), AllocError> {
+        match part {
+            Part::Load(place, _, _, own)
+            | Part::Element(place, _, own)
+            | Part::New(place, true, own)
+            | Part::Call(place, _, _, _, _, own)
+            | Part::StaticCall(place, _, _, own)
+            | Part::SuperCall(place, _, _, own)
+            | Part::Test(place, _, own) => add_own_point(points, *place, *own),
+            _ => Ok(()),
+        }
     }
 }
 
@@ -49,9 +52,7 @@ fn form_points(alloc: Global, parts: &Vec<Part>) -> Result<Vec<PointAt>, AllocEr
     ensures value { IfOk result (λ v. v.items ≡ by_place (λ p. p.place.at) (flat_map form_points (parts_seen parts.now.items))) }
 {
     let mut points = Vec::new(alloc);
-    for part in parts {
-        made!(add_part_point(&mut points, part));
-    }
+    made!(add_from(parts, &mut points));
     by_place(points)
 }
 

@@ -1,7 +1,6 @@
 //! What is numbered: the rows, the columns and what may be flow points, in the order of the program.
 
 ghost use Rattle.std.specs.Prelude.{◌≡◌, ℕ, ◌+◌, ◌<◌, ◌^◌, ◌++◌, ◌∷◌, [], List, Option, Some, None, IfOk, OnOk, length, map};
-ghost use Rattle.std.specs.List.{flat_map};
 ghost use Rattle.java_core.specs.Trees.{at_place, no_place};
 ghost use Rattle.java_core.specs.Programs.{Plain, program_of, method_seen, local_seen, field_seen};
 ghost use Rattle.java_core.specs.Formed.{IsFormed};
@@ -9,10 +8,11 @@ ghost use Rattle.flow_rules.specs.Ordered.{each};
 ghost use Rattle.flow_rules.specs.Parts as plain;
 ghost use Rattle.flow_rules.specs.Numbered.{row_if, own_row, form_rows, mark, array_mark, form_columns, is_first, field_rows, this_rows, result_rows, variable_rows, method_rows, field_columns, method_columns, static_points, body_at, outline_if, bodies_of};
 ghost use Rattle.flow_rules.specs.Operands.{result_in};
-ghost use Rattle.flow_facts.specs.Views.{part_seen, parts_seen, outline_seen, body_seen};
+ghost use Rattle.flow_facts.specs.Views.{parts_seen, outline_seen, body_seen};
 
 use crate::bodies::parts_of;
 use crate::by_number::slot_by_number;
+use crate::from_part::{FromPart, add_from};
 use crate::points::method_points;
 use crate::stages::Surveyed;
 use crate::types::{object_if, object_of};
@@ -50,24 +50,16 @@ fn add_own_row(rows: &mut Vec<Row>, place: Place, own: Operand) -> Result<(), Al
     }
 }
 
-/// Adds the row of a part.
-fn add_part_row(rows: &mut Vec<Row>, part: &Part) -> Result<(), AllocError>
-    ensures value { OnOk result (rows.new.items ≡ rows.old.items ++ form_rows (part_seen part.now)) }
-{
-    match part {
-        Part::New(place, _, own) | Part::Test(place, _, own) => add_own_row(rows, *place, *own),
-        _ => Ok(()),
-    }
-}
+/// A creation, a cast and an `instanceof` have a row.
+impl FromPart for Row {
+    ghost given = { form_rows };
 
-/// Adds the rows of the creations, casts and `instanceof` of a body.
-fn add_form_rows(rows: &mut Vec<Row>, parts: &Vec<Part>) -> Result<(), AllocError>
-    ensures value { OnOk result (rows.new.items ≡ rows.old.items ++ flat_map form_rows (parts_seen parts.now.items)) }
-{
-    for part in parts {
-        made!(add_part_row(rows, part));
+    fn add(part: &Part, rows: &mut Vec<Row>) -> Result<(), AllocError> {
+        match part {
+            Part::New(place, _, own) | Part::Test(place, _, own) => add_own_row(rows, *place, *own),
+            _ => Ok(()),
+        }
     }
-    Ok(())
 }
 
 /// Whether a method has the rows of its slot's return and parameters; a static method has its own.
@@ -134,7 +126,7 @@ fn add_method_rows(
     let count = method.params.len();
     made!(add_variable_rows(program, m, method, &method.params, 0, rows));
     made!(add_variable_rows(program, m, method, &method.locals, count, rows));
-    add_form_rows(rows, parts)
+    add_from(parts, rows)
 }
 
 /// The row of what a method gives back.
@@ -164,28 +156,20 @@ fn add_mark(
     }
 }
 
-/// Adds the column of a part.
-fn add_part_column(columns: &mut Vec<Column>, part: &Part) -> Result<(), AllocError>
-    ensures value { OnOk result (columns.new.items ≡ columns.old.items ++ form_columns (part_seen part.now)) }
-{
-    match part {
-        Part::New(place, _, own) => match own.ty {
-            Some(ty) if ty.dim != 0 => add_mark(columns, *place, own.ty),
-            _ => Ok(()),
-        },
-        Part::Test(place, _, own) => add_mark(columns, *place, own.ty),
-        _ => Ok(()),
-    }
-}
+/// The tests and the creations of arrays have a column, the mark of their type.
+impl FromPart for Column {
+    ghost given = { form_columns };
 
-/// Adds the columns of the tests and the array creations of a body.
-fn add_form_columns(columns: &mut Vec<Column>, parts: &Vec<Part>) -> Result<(), AllocError>
-    ensures value { OnOk result (columns.new.items ≡ columns.old.items ++ flat_map form_columns (parts_seen parts.now.items)) }
-{
-    for part in parts {
-        made!(add_part_column(columns, part));
+    fn add(part: &Part, columns: &mut Vec<Column>) -> Result<(), AllocError> {
+        match part {
+            Part::New(place, _, own) => match own.ty {
+                Some(ty) if ty.dim != 0 => add_mark(columns, *place, own.ty),
+                _ => Ok(()),
+            },
+            Part::Test(place, _, own) => add_mark(columns, *place, own.ty),
+            _ => Ok(()),
+        }
     }
-    Ok(())
 }
 
 /// Adds the columns of a method, whose body has these parts.
@@ -208,7 +192,7 @@ fn add_method_columns(
             made!(put(columns, Column { item, place }));
         }
     }
-    add_form_columns(columns, parts)
+    add_from(parts, columns)
 }
 
 /// Adds the rows, the columns and the points of the fields.

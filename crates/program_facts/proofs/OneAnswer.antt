@@ -1,5 +1,5 @@
 -- A program has one answer: two that it may have are the same.
-use Rattle.std.proofs.Common.{◌≡◌, List, refl, sym, ap, ◌∙◌}
+use Rattle.std.proofs.Common.{◌≡◌, List, refl, sym, ap, ◌∙◌, rules}
 use Rattle.std.specs.Prelude.{◌≢◌}
 use Rattle.std.proofs.lemmas.Option.{same_Some}
 use Rattle.java_core.specs.Programs.{Plain}
@@ -18,30 +18,9 @@ pub same_facts : (P Q : Plain) (F G : Facts) → AreProgramFacts P Q F → ArePr
 same_facts P Q F G f g =
     let a = f.is in
     let b = g.is in
-    record {
-      rows = a.rows ∙ sym b.rows;
-      columns = a.columns ∙ sym b.columns;
-      sites = a.sites ∙ sym b.sites;
-      classes = a.classes ∙ sym b.classes;
-      points = a.points ∙ sym b.points;
-      cells = a.cells ∙ sym b.cells;
-      bodies = a.bodies ∙ sym b.bodies;
-      calls = a.calls ∙ sym b.calls;
-      tests = a.tests ∙ sym b.tests;
-      makers = a.makers ∙ sym b.makers;
-      makes = a.makes ∙ sym b.makes;
-      spots = a.spots ∙ sym b.spots;
-      words = f.names.words ∙ sym g.names.words;
-      news = both _ _ _ a.news b.news;
-      flows = both _ _ _ a.flows b.flows;
-      loads = both _ _ _ a.loads b.loads;
-      stores = both _ _ _ a.stores b.stores;
-      casts = both _ _ _ a.casts b.casts;
-      accesses = both _ _ _ a.accesses b.accesses;
-      supers = both _ _ _ a.supers b.supers;
-      ties = both _ _ _ a.ties b.ties;
-      vars = both _ _ _ f.names.vars g.names.vars;
-    }
+    let m = f.names in
+    let n = g.names in
+    search (rules, both)
 
 pub same_faults : (P Q : Plain) (e f : FactsFault) → IsRefused P Q e → IsRefused P Q f → e ≢ fault.Memory → f ≢ fault.Memory → e ≡ f
 same_faults P Q (fault.HasInterface x) (fault.HasInterface y) a b m n = cc

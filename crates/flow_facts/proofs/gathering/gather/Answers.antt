@@ -1,5 +1,5 @@
 -- One body more.
-use Rattle.std.proofs.Common.{ap}
+use Rattle.std.proofs.Common.{rules}
 use Rattle.java_core.specs.Trees.{no_place}
 use Rattle.java_core.specs.Programs.{program_of}
 use Rattle.flow_facts.specs.Views.{body_seen}
@@ -8,20 +8,7 @@ use Rattle.flow_facts.proofs.Gathers.{body_more, so_far}
 use Rattle.flow_facts.proofs.gathering.gather.Goals as goal
 
 pub loop-body-init : goal.loop-body-init
-loop-body-init c = record {
-  unordered = record {
-    news = c.new.ensures.items;
-    flows = c.new-2.ensures.items;
-    loads = c.new-3.ensures.items;
-    stores = c.new-4.ensures.items;
-    casts = c.new-5.ensures.items;
-    accesses = c.new-6.ensures.items;
-    supers = c.new-7.ensures.items;
-    ties = c.new-8.ensures.items;
-  };
-  calls = ap calls_seen c.new-9.ensures.items;
-  tests = c.new-10.ensures.items;
-}
+loop-body-init c = search rules
 
 pub loop-body-preserved : goal.loop-body-preserved
 loop-body-preserved c =

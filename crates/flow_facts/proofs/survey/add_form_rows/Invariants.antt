@@ -1,9 +1,0 @@
-use Rattle.std.proofs.Common.{◌≡◌, ◌++◌, drop}
-use Rattle.std.specs.List.{flat_map}
-use Rattle.flow_rules.specs.Numbered.{form_rows}
-use Rattle.flow_facts.specs.Views.{parts_seen}
-use Rattle.flow_facts.proofs.survey.add_form_rows.Given as goal
-
-abbrev pub invariant-loop-part : goal.invariant-loop-part
-invariant-loop-part l = l.rows.items ++ flat_map form_rows (parts_seen (drop l.part-index l.parts.items)) ≡ l.fn.rows.items ++ flat_map form_rows
-    (parts_seen l.parts.items)
