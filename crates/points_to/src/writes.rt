@@ -72,8 +72,8 @@ fn include_all(
     grew
 }
 
-/// What fits of the values into the sets of a member of a site: those whose class is at or below the one that they must have. Answers whether one grew. An error comes only for want of
-/// memory.
+/// What fits of the values into the sets of a member of a site, and whether one grew. Where a class is named, a value fits whose class is at
+/// or below it. An error comes only for want of memory.
 fn write_into(
     given: &Given,
     sets: &mut [BitRow],

@@ -14,7 +14,8 @@ fit-requires-clause-class c =
     (omega (arith, lt, c.requires.pending.sites)) (sym c.wanted.ensures ∙ c.in-Some.is)
 
 pub include_all-requires-clause-list : goal.include_all-requires-clause-list
-include_all-requires-clause-list c = targets_below c.args.given.now.facts.now c.requires.given.facts c.args.pending.now.member c.args.o c.args.list.now c.requires.list
+include_all-requires-clause-list c = targets_below c.args.given.now.facts.now c.requires.given.facts c.args.pending.now.member c.args.o
+    c.args.list.now c.requires.list
 
 pub include_all-requires-clause-holds : goal.include_all-requires-clause-holds
 include_all-requires-clause-holds c =
@@ -26,10 +27,12 @@ pub returns-in_ok-row-in-Some-clause-closed : goal.returns-in_ok-row-in-Some-cla
 returns-in_ok-row-in-Some-clause-closed c =
     let row = c.in_ok-row-in-Some in
     into_flushed c.args.given.now.facts.now c.args.pending.now c.args.o c.args.list.now row.row c.requires.list c.include_all.new.sets c.include_all.result
-    (λ s b pass. row.ensures.whole s b (subst (λ k. Passes c.args.given.now.facts.now k s) (sym c.wanted.ensures ∙ c.in-Some.is) pass)) c.include_all.ensures.closed
+    (λ s b pass. row.ensures.whole s b (subst (λ k. Passes c.args.given.now.facts.now k s) (sym c.wanted.ensures ∙ c.in-Some.is) pass))
+    c.include_all.ensures.closed
 
 pub include_all-requires-in-None-clause-list : goal.include_all-requires-in-None-clause-list
-include_all-requires-in-None-clause-list c = targets_below c.args.given.now.facts.now c.requires.given.facts c.args.pending.now.member c.args.o c.args.list.now c.requires.list
+include_all-requires-in-None-clause-list c = targets_below c.args.given.now.facts.now c.requires.given.facts c.args.pending.now.member c.args.o
+    c.args.list.now c.requires.list
 
 pub include_all-requires-in-None-clause-holds : goal.include_all-requires-in-None-clause-holds
 include_all-requires-in-None-clause-holds c =
