@@ -1,14 +1,12 @@
 //! A script on the hierarchy of a program.
 #![tactic(auto)]
 
-ghost use Rattle.std.specs.Prelude.{◌≡◌, ◌<◌, All, IfOk, length};
-ghost use Rattle.hier_rules.specs.Words.{InRange, InOrder, IsTable, AreSets, NamesSome};
-ghost use Rattle.fact_model.specs.Concepts.{IsLatticeOf};
-ghost use Rattle.hier_model.specs.Start.{start_from};
-ghost use Rattle.hier_script.specs.Answers.{IsEdited, IsScripted};
+ghost use Rattle.std.specs.Prelude.{◌<◌, IfOk, length};
+ghost use Rattle.hier_rules.specs.Words.{InRange, InOrder, IsTable, IsLatticeOf, AreSets, start_from};
+ghost use Rattle.hier_script.specs.Answers.{IsScripted};
 
 use crate::edits::run_edits;
-use edit_script::{Line, ScriptFault, read_script};
+use edit_script::{ScriptFault, read_script};
 use fact_model::{Facts, Lattice, PointsTo, Table};
 use hier_model::{Hier, start};
 use std::alloc::{AllocError, Global};
@@ -30,29 +28,6 @@ pub enum Scripted {
     /// There are more edits than there may be.
     TooManyEdits,
     Edited(Edited),
-}
-
-/// The start, and the edits one after the other.
-fn edit_start(
-    alloc: Global,
-    facts: &Facts,
-    sets: &PointsTo,
-    table: &Table,
-    lattice: &Lattice,
-    lines: &[Line],
-) -> Result<Edited, AllocError>
-    requires range { InRange facts.now }
-    requires order { InOrder facts.now }
-    requires table { IsTable facts.now table.now }
-    requires lattice { IsLatticeOf table.now lattice.now }
-    requires sets { AreSets facts.now sets.now }
-    requires few { length lattice.now.concepts.items < 4294967295 }
-    requires some { All (λ line. NamesSome line.edit) lines.now }
-    ensures { IfOk result (IsEdited facts.now sets.now (start_from facts.now table.now lattice.now) lines.now) }
-{
-    let mut hier = start(alloc, facts, table, lattice)?;
-    let refusals = run_edits(alloc, &mut hier, facts, sets, lines)?;
-    Ok(Edited { hier, refusals })
 }
 
 /// Runs a script on the hierarchy at which a program starts: the one of its table's lattice.
@@ -78,8 +53,9 @@ pub fn run_script(
 {
     match read_script(alloc, script) {
         Ok(lines) => {
-            let edited = edit_start(alloc, facts, sets, table, lattice, &lines)?;
-            Ok(Scripted::Edited(edited))
+            let mut hier = start(alloc, facts, table, lattice)?;
+            let refusals = run_edits(alloc, &mut hier, facts, sets, &lines)?;
+            Ok(Scripted::Edited(Edited { hier, refusals }))
         }
         Err(ScriptFault::BadLine(number)) => Ok(Scripted::BadLine(number)),
         Err(ScriptFault::TooManyEdits) => Ok(Scripted::TooManyEdits),

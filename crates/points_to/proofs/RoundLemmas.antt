@@ -61,7 +61,8 @@ pub record IsKeeping {X : Type 0} (F : Facts) (P : List (List Bool) → X → Ty
   pub turn : IsTurn F P xs first now grew k
 
 -- one element on
-pub turn_more : {X : Type 0} {F : Facts} {P : List (List Bool) → X → Type 0} {xs : List X} {k : ℕ} {first old new : List (List Bool)} {g : Bool} (h : Bool) (d : X)
+pub turn_more : {X : Type 0} {F : Facts} {P : List (List Bool) → X → Type 0} {xs : List X} {k : ℕ} {first old new : List (List Bool)} {g : Bool}
+    (h : Bool) (d : X)
     → IsTurn F P xs first old g k → k < length xs → AreSound F new → IsStep old new h → OnFalse h (P new (get_or xs k d))
     → IsTurn F P xs first new (g || h) (k + 1)
 turn_more {X} {F} {P} {xs} {k} {first} {old} {new} {g} h d before lt sets step here = record {

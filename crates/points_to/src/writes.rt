@@ -72,38 +72,8 @@ fn include_all(
     grew
 }
 
-/// Those values whose class is at or below one into the sets of a member of a site, and whether one grew. An error comes only for want of
-/// memory.
-fn write_fitting(
-    given: &Given,
-    sets: &mut [BitRow],
-    grown: &mut Queue,
-    pending: &Pending,
-    list: &[usize],
-    o: u32,
-    class: ClassId,
-) -> Result<bool, AllocError>
-    requires given { IsGiven given.now }
-    requires sets { AreSound given.now.facts.now sets.old }
-    requires pending { IsPending given.now.facts.now pending.now }
-    requires site { bit pending.now.sites o ≡ true }
-    requires list { AreTargets given.now.facts.now pending.now.member o list.now }
-    requires class { wanted given.now.facts.now pending.now.member o ≡ Some class }
-    ensures sets { OnOk result (AreSound given.now.facts.now sets.new) }
-    ensures step { IfOk result (IsStep sets.old sets.new) }
-    ensures closed { IfOk result (λ grew. OnFalse grew (IsFlushedAt given.now.facts.now sets.new pending.now o)) }
-{
-    let row = fit(
-        given.alloc,
-        given.facts,
-        &given.index.below,
-        &pending.values,
-        class,
-    )?;
-    Ok(include_all(given.facts, sets, grown, &row, list))
-}
-
-/// What fits of the values into the sets of a member of a site, and whether one grew. An error comes only for want of memory.
+/// What fits of the values into the sets of a member of a site, and whether one grew. Where a class is named, a value fits whose class is at
+/// or below it. An error comes only for want of memory.
 fn write_into(
     given: &Given,
     sets: &mut [BitRow],
@@ -122,30 +92,18 @@ fn write_into(
     ensures closed { IfOk result (λ grew. OnFalse grew (IsFlushedAt given.now.facts.now sets.new pending.now o)) }
 {
     match wanted(given.facts, pending.member, o) {
-        Some(class) => { write_fitting(given, sets, grown, pending, list, o, class) }
+        Some(class) => {
+            let row = fit(
+                given.alloc,
+                given.facts,
+                &given.index.below,
+                &pending.values,
+                class,
+            )?;
+            Ok(include_all(given.facts, sets, grown, &row, list))
+        }
         None => Ok(include_all(given.facts, sets, grown, &pending.values, list)),
     }
-}
-
-/// The values into a member of one site, and whether anything was new. An error comes only for want of memory.
-fn flush_site(
-    given: &Given,
-    sets: &mut [BitRow],
-    grown: &mut Queue,
-    pending: &Pending,
-    list: &mut Vec<usize>,
-    o: u32,
-) -> Result<bool, AllocError>
-    requires given { IsGiven given.now }
-    requires sets { AreSound given.now.facts.now sets.old }
-    requires pending { IsPending given.now.facts.now pending.now }
-    requires site { bit pending.now.sites o ≡ true }
-    ensures sets { OnOk result (AreSound given.now.facts.now sets.new) }
-    ensures step { IfOk result (IsStep sets.old sets.new) }
-    ensures closed { IfOk result (λ grew. OnFalse grew (IsFlushedAt given.now.facts.now sets.new pending.now o)) }
-{
-    list_targets(given.facts, given.index, list, pending.member, o)?;
-    write_into(given, sets, grown, pending, list, o)
 }
 
 /// The values into the member of each site, and whether anything was new. An error comes only for want of memory.
@@ -169,7 +127,8 @@ pub fn flush(
     'scan: while at < width {
         match pending.sites.next(at) {
             Some(o) => {
-                let more = flush_site(given, sets, grown, pending, list, o)?;
+                list_targets(given.facts, given.index, list, pending.member, o)?;
+                let more = write_into(given, sets, grown, pending, list, o)?;
                 grew |= more;
                 at = o + 1;
             }

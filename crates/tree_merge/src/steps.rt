@@ -44,7 +44,7 @@ fn step_at(given: &Given, hier: &mut Hier, broken: Broken) -> Result<Turn, Alloc
     ensures is { IsHierarchyOf given.now.facts.now hier.new }
 {
     let conflict = conflict_of(broken);
-    let mut tries = tries_of(given.alloc, given.facts, hier, conflict)?;
+    let mut tries = tries_of(given, hier, conflict)?;
     match first_accepted(given, hier, &tries)? {
         Attempt::Accepted(k) => {
             let edit = tries.swap_remove(k);

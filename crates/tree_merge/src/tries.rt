@@ -2,12 +2,13 @@
 
 ghost use Rattle.std.specs.Prelude.{◌≡◌, ◌<◌, ◌&&◌, ◌∷◌, ◌++◌, [], cond, length, map, All, IfOk, OnOk, Some};
 ghost use Rattle.hier_rules.specs.Words.{is_live};
-ghost use Rattle.fact_model.specs.InRange.{InRange, IsClass};
+ghost use Rattle.fact_model.specs.InRange.{IsClass};
 ghost use Rattle.hier_model.specs.Hierarchies.{Hierarchy, IsHierarchyOf, node, origin_of};
 ghost use Rattle.hier_tree.specs.Trees.{is_from, nodes_from, tries_of_one, tries_of_lower, tries_of_others, tries_by, tries_of, try_of};
-ghost use Rattle.tree_merge.specs.Attempts.{AreApart, IsTryOf};
+ghost use Rattle.tree_merge.specs.Attempts.{AreApart, IsGiven, IsTryOf};
 
-use fact_model::{Facts, below};
+use crate::given::Given;
+use fact_model::below;
 use hier_model::{Edit, Hier};
 use hier_tree::Conflict;
 use kaba_base::{ClassId, NodeId};
@@ -102,24 +103,25 @@ fn tries_of_others(alloc: Global, x: NodeId, y: NodeId) -> Result<Vec<Edit>, All
 
 /// The tries of two nodes that come from two classes, or from one.
 fn tries_by(
-    alloc: Global,
-    facts: &Facts,
+    given: &Given,
     hier: &Hier,
     conflict: Conflict,
     first: ClassId,
     second: ClassId,
 ) -> Result<Vec<Edit>, AllocError>
-    requires range { InRange facts.now }
-    requires first_class { IsClass facts.now first }
-    requires second_class { IsClass facts.now second }
+    requires given { IsGiven given.now }
+    requires first_class { IsClass given.now.facts.now first }
+    requires second_class { IsClass given.now.facts.now second }
     requires sized { length hier.now.origins ≡ length hier.now.order.live }
     requires apart { AreApart hier.now.order conflict.first conflict.second }
     requires first { origin_of hier.now conflict.first.0 ≡ Some first }
     requires second { origin_of hier.now conflict.second.0 ≡ Some second }
-    ensures tries { IfOk result (λ v. map try_of v.items ≡ tries_by facts.now hier.now conflict.first conflict.second (Some first) (Some second)) }
+    ensures tries { IfOk result (λ v. map try_of v.items
+        ≡ tries_by given.now.facts.now hier.now conflict.first conflict.second (Some first) (Some second)) }
     ensures some { IfOk result (λ v. 0 < length v.items) }
     ensures edits { IfOk result (λ v. All (IsTryOf hier.now) v.items) }
 {
+    let (alloc, facts) = (given.alloc, given.facts);
     let (x, y) = (conflict.first, conflict.second);
     if first.0 == second.0 {
         return tries_of_one(alloc, hier, first, x, y);
@@ -134,21 +136,16 @@ fn tries_by(
 }
 
 /// The tries of a conflict, by the classes from which its two nodes come.
-pub fn tries_of(
-    alloc: Global,
-    facts: &Facts,
-    hier: &Hier,
-    conflict: Conflict,
-) -> Result<Vec<Edit>, AllocError>
-    requires range { InRange facts.now }
-    requires hierarchy { IsHierarchyOf facts.now hier.now }
+pub fn tries_of(given: &Given, hier: &Hier, conflict: Conflict) -> Result<Vec<Edit>, AllocError>
+    requires given { IsGiven given.now }
+    requires hierarchy { IsHierarchyOf given.now.facts.now hier.now }
     requires apart { AreApart hier.now.order conflict.first conflict.second }
-    ensures tries { IfOk result (λ v. map try_of v.items ≡ tries_of facts.now hier.now conflict) }
+    ensures tries { IfOk result (λ v. map try_of v.items ≡ tries_of given.now.facts.now hier.now conflict) }
     ensures some { IfOk result (λ v. 0 < length v.items) }
     ensures edits { IfOk result (λ v. All (IsTryOf hier.now) v.items) }
 {
     match (hier.origin(conflict.first), hier.origin(conflict.second)) {
-        (Some(first), Some(second)) => tries_by(alloc, facts, hier, conflict, first, second),
-        _ => tries_of_others(alloc, conflict.first, conflict.second),
+        (Some(first), Some(second)) => tries_by(given, hier, conflict, first, second),
+        _ => tries_of_others(given.alloc, conflict.first, conflict.second),
     }
 }
