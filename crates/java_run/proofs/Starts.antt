@@ -63,7 +63,8 @@ module _ (P : Plain) (words : List (String Global)) (bound : ℕ) (last : Machin
   -- where the machine stops, the meaning does
   pub meant_so : IsFormed P → IsTyped P → (Q : Plain) (T : Tables) → Fits P T → (n : Entry) (c : Config) → T.entry P.main ≡ Some n
       → c ≡ first_config P n (map (λ w. units_of (string_bytes w)) words) bound
-      → Q ≡ P → ((k : ℕ) × ((m : ℕ) → comes Q T (k + m) c ≡ stop (end_of e) (state_of last))) → meant P (map string_bytes words) bound ≡ stop (end_of e) (state_of last)
+      → Q ≡ P → ((k : ℕ) × ((m : ℕ) → comes Q T (k + m) c ≡ stop (end_of e) (state_of last))) → meant P (map string_bytes words) bound
+      ≡ stop (end_of e) (state_of last)
   unfolding meant
   meant_so formed typed Q T fits n c at is q g =
       let h : (k : ℕ) × ((m : ℕ) → comes P T (k + m) c ≡ stop (end_of e) (state_of last)) =
