@@ -3,7 +3,7 @@ use Rattle.std.proofs.Common.{rules}
 use Rattle.java_core.specs.Trees.{no_place}
 use Rattle.java_core.specs.Programs.{program_of}
 use Rattle.flow_facts.specs.Views.{body_seen}
-use Rattle.flow_facts.specs.Seen.{numbers_seen, calls_seen}
+use Rattle.flow_facts.specs.Seen.{numbers_seen}
 use Rattle.flow_facts.proofs.Gathers.{body_more, so_far}
 use Rattle.flow_facts.proofs.gathering.gather.Goals as goal
 
