@@ -34,7 +34,7 @@ use Rattle.fact_model.specs.declared.facts.ColKind.{ColKind}
 use Rattle.fact_model.specs.declared.facts.ColKind.TheVariants.{Fld, Dcl, Def, Is}
 use Rattle.fact_model.specs.declared.sets.Concept.{Concept}
 use Rattle.fact_model.specs.declared.sets.Table.{Table}
-use Rattle.hier_model.specs.Hierarchies.{Hierarchy, hierarchy_of, node, is_method, KeepsTable, IsHierarchyOf}
+use Rattle.hier_model.specs.Hierarchies.{hierarchy_of, node, is_method, KeepsTable, IsHierarchyOf}
 use Rattle.hier_model.specs.Names.{is_field, named_member, member_names, named_type, type_names}
 use Rattle.hier_model.specs.Start.{is_filled, is_subset, is_same_set, order_of, concept_at, rows_with, column_place, row_place, is_below_all, lowest, owners, start_origin, origins_of, start_of}
 use Rattle.hier_model.specs.Listed.{extent_of, intent_of, is_above_concept, lists_column, lists_row, listed_column, row_node}

@@ -1,4 +1,4 @@
-use Rattle.std.proofs.Common.{map, Option, None, ap, ◌∙◌}
+use Rattle.std.proofs.Common.{map, None, ap, ◌∙◌}
 use Rattle.std.specs.Prelude.{slice_set, slice_index_or}
 use Rattle.std.specs.Option.{option_map}
 use Rattle.hier_model.specs.Hierarchies.{Hierarchy}
