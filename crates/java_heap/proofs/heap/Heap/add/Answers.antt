@@ -8,8 +8,8 @@ invariant_of-self-in_err-push_both c =
 
 pub invariant_of-self-2 : goal.invariant_of-self-2
 invariant_of-self-2 c =
-    let put = c.in_ok-push_both.ensures in
-    heap_added _ _ _ _ _ _ _ c.self.invariant c.in_ok-extend.ensures _ _ put.first put.second (c.in_ok-start.ensures ∙ c.len-2.ensures) c.in_ok-len.ensures
+    heap_added _ _ _ _ _ _ _ c.self.invariant c.in_ok-extend.ensures _ _ c.in_ok-push_both.ensures.first c.in_ok-push_both.ensures.second
+    (c.in_ok-start.ensures ∙ c.len-2.ensures) c.in_ok-len.ensures
 
 pub returns-clause-place : goal.returns-clause-place
 returns-clause-place c = c.in_ok-at.ensures ∙ c.len.ensures ∙ c.self.inside.labels.ok.0 ∙ count _ _ _ _ _ c.self.view_is c.self.invariant
