@@ -16,7 +16,6 @@ use Rattle.written_tree.specs.Bodies.{scope_after}
 use Rattle.tree_parts.specs.declared.within.Within.{Within}
 use Rattle.tree_parts.specs.Written as written
 
-
 -- with no item left, what is written so far is the whole
 pub all_written : {X T : Type 0} {o : T} (append : T → T → T) (rest : List X → T) (done : T) (list : List X) (n : ℕ) → append done (rest []) ≡ done
     → append done (rest (drop n list)) ≡ o → length list ≤ n → done ≡ o
