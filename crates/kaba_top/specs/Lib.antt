@@ -4,6 +4,7 @@ pub mod Reading
 pub mod RunAnswers
 pub mod FactsAnswers
 pub mod ScriptAnswers
+pub mod CauseWords
 pub mod EditAnswers
 pub mod Fresh
 pub mod RegenAnswers
