@@ -121,6 +121,6 @@ abbrev pub ordered : List Bool → List (List Bool) → Ordered
 ordered live le = record { live = live; le = le }
 
 -- rows that are written into a `Vec` of as many
-pub stored : (live : List Bool) (v : Vec (List Bool) Global) (new : List (List Bool)) → length new ≡ v.len
+pub stored : (live : List Bool) (v : Vec (List Bool) Global) {old new : List (List Bool)} → length new ≡ length old → old ≡ v.items
     → ordered live new ≡ ordered live (take v.len (new ++ drop (length new) v.items))
-stored live v new len = ap (ordered live) (sym (with_items_is v new len))
+stored live v {new = new} len is = ap (ordered live) (sym (with_items_is v new (len ∙ (ap length is ∙ sym v.ok.0))))

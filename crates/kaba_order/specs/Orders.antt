@@ -9,6 +9,11 @@ pub record Ordered : Type 0 where
   pub live : List Bool
   pub le : List (List Bool)
 
+-- as many rows as before, each as wide as there are rows
+pub record AreAsWide (old new : List (List Bool)) : Type 0 where
+  pub len : length new ≡ length old
+  pub widths : HasWidth (length old) new
+
 -- whether a is at or below b
 abbrev pub is_le : Ordered → ℕ → ℕ → Bool
 is_le o a b = bit (row o.le a) b

@@ -2,7 +2,7 @@
 
 ghost use Rattle.std.specs.Prelude.{◌≡◌, ◌≢◌, ℕ, ◌<◌, ◌&&◌, ◌||◌, ◌==◌, true, length, All};
 ghost use Rattle.kaba_bits.specs.Sets.{bit, row, HasWidth};
-ghost use Rattle.kaba_order.specs.Orders.{is_among, has_any, any_has, stays, IsLeastOf};
+ghost use Rattle.kaba_order.specs.Orders.{is_among, has_any, any_has, stays, AreAsWide, IsLeastOf};
 
 use crate::rows::drop_from;
 use kaba_base::NodeId;
@@ -70,8 +70,7 @@ fn gather(le: &mut [BitRow], set: &[NodeId], m: u32)
     requires m { m < length le.old }
     requires set { All (λ s. s.0 < length le.old) set.now }
     requires widths { HasWidth (length le.old) le.old }
-    ensures len { length le.new ≡ length le.old }
-    ensures widths { HasWidth (length le.old) le.new }
+    ensures size { AreAsWide le.old le.new }
     ensures others { (k : ℕ) → k ≢ m → row le.new k ≡ row le.old k }
     ensures gathered { (b : ℕ) → bit (row le.new m) b ≡ (bit (row le.old m) b || any_has le.old set.now b) }
 {
@@ -85,8 +84,7 @@ fn spread(le: &mut [BitRow], set: &[NodeId], m: u32)
     requires m { m < length le.old }
     requires set { All (λ s. s.0 < length le.old) set.now }
     requires widths { HasWidth (length le.old) le.old }
-    ensures len { length le.new ≡ length le.old }
-    ensures widths { HasWidth (length le.old) le.new }
+    ensures size { AreAsWide le.old le.new }
     ensures same { (b : ℕ) → bit (row le.new m) b ≡ bit (row le.old m) b }
     ensures rows { (a b : ℕ) → a < length le.old → a ≢ m → bit (row le.new a) b ≡ (bit (row le.old a) b || (has_any (row le.old a) set.now && bit (row le.old m) b)) }
 {
@@ -102,8 +100,7 @@ fn spread(le: &mut [BitRow], set: &[NodeId], m: u32)
 fn drop_others(le: &mut [BitRow], set: &[NodeId], m: u32)
     requires set { All (λ s. s.0 < length le.old) set.now }
     requires widths { HasWidth (length le.old) le.old }
-    ensures len { length le.new ≡ length le.old }
-    ensures widths { HasWidth (length le.old) le.new }
+    ensures size { AreAsWide le.old le.new }
     ensures rows { (a b : ℕ) → bit (row le.new a) b ≡ (bit (row le.old a) b && stays set.now m a && stays set.now m b) }
 {
     for s in set {
@@ -133,8 +130,7 @@ pub fn merge_rows(le: &mut [BitRow], set: &[NodeId], m: u32)
     requires reflexive { bit (row le.old m) m ≡ true }
     requires set { All (λ s. s.0 < length le.old) set.now }
     requires widths { HasWidth (length le.old) le.old }
-    ensures len { length le.new ≡ length le.old }
-    ensures widths { HasWidth (length le.old) le.new }
+    ensures size { AreAsWide le.old le.new }
     ensures rows { (a b : ℕ) → bit (row le.new a) b ≡ ((bit (row le.old a) b || (has_any (row le.old a) set.now && any_has le.old set.now b)) && stays set.now m a && stays set.now m b) }
 {
     gather(le, set, m);

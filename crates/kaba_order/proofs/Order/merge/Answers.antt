@@ -42,18 +42,17 @@ least c =
     let pairs : IsMerged old set m (made c) = rw before at c.merge_rows.ensures.rows in
     let n_count : length c.keep_one.new.live ≡ length old.live = c.keep_one.ensures.len ∙ ap (λ l. length l) live in
     let n_live = rw live at c.keep_one.ensures.bits in
-    let count : length c.merge_rows.new.le ≡ length c.keep_one.new.live = c.merge_rows.ensures.len
+    let count : length c.merge_rows.new.le ≡ length c.keep_one.new.live = c.merge_rows.ensures.size.len
     ∙ (ap (λ l. length l) before ∙ (order.count ∙ sym n_count)) in
-    let widths : HasWidth (length c.keep_one.new.live) c.merge_rows.new.le = subst (λ w. HasWidth w c.merge_rows.new.le) (sym c.merge_rows.ensures.len
-    ∙ count) c.merge_rows.ensures.widths in
+    let widths : HasWidth (length c.keep_one.new.live) c.merge_rows.new.le = subst (λ w. HasWidth w c.merge_rows.new.le) (sym c.merge_rows.ensures.size.len
+    ∙ count) c.merge_rows.ensures.size.widths in
     least_merged old (made c) set m order count widths n_count n_live pairs c.least_of-m.ensures.among
     (among-All (λ s. is_live old s ≡ true) set c.requires.live) c.in_default.ensures
 
 -- the field after the call is the list that the call left
 whole : (c : After-merge_rows) → made c ≡ ordered c.keep_one.new.live (take c.self.inside.le.len (c.merge_rows.new.le ++ drop (length c.merge_rows.new.le)
     c.self.inside.le.items))
-whole c = stored c.keep_one.new.live c.self.inside.le c.merge_rows.new.le (c.merge_rows.ensures.len
-    ∙ (ap length c.deref_mut.ensures.value ∙ sym c.self.inside.le.ok.0))
+whole c = stored c.keep_one.new.live c.self.inside.le c.merge_rows.ensures.size.len c.deref_mut.ensures.value
 
 pub invariant_of-self : goal.invariant_of-self
 invariant_of-self c = subst IsPartialOrder (whole (goal.at.invariant_of-self c).After-merge_rows) ((least (goal.at.invariant_of-self c).After-merge_rows).order)

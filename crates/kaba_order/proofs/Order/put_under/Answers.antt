@@ -29,8 +29,7 @@ least c =
 -- the field after the call is the list that the call left
 whole : (c : After-close_under) → made c ≡ ordered c.self.inside.live (take c.self.inside.le.len (c.close_under.new.le ++ drop (length c.close_under.new.le)
     c.self.inside.le.items))
-whole c = stored c.self.inside.live c.self.inside.le c.close_under.new.le (c.close_under.ensures.len
-    ∙ (ap length c.deref_mut.ensures.value ∙ sym c.self.inside.le.ok.0))
+whole c = stored c.self.inside.live c.self.inside.le c.close_under.ensures.len c.deref_mut.ensures.value
 
 pub invariant_of-self : goal.invariant_of-self
 invariant_of-self c = subst IsPartialOrder (whole (goal.at.invariant_of-self c).After-close_under)
