@@ -1,5 +1,5 @@
 -- What is found in the bucket of a name or a slot is what is found by going over all.
-use Rattle.std.proofs.Common.{◌≡◌, ℕ, Bool, true, ◌&&◌, not, List, map, Option, Some, None, ap, ap₂, ◌∙◌}
+use Rattle.std.proofs.Common.{◌≡◌, ℕ, Bool, true, ◌&&◌, not, List, map, Option, Some, None, ap, ◌∙◌}
 use Rattle.std.specs.Prelude.{◌==◌}
 use Rattle.std.specs.List.{position}
 use Rattle.std.specs.Option.{is_some}
@@ -15,10 +15,10 @@ use Rattle.java_core.specs.Programs.{Plain, field_seen, method_seen}
 use Rattle.java_core.specs.Own.{offers}
 use Rattle.java_core.specs.Classes.{below, is_field_of, is_method_of, has_slot, is_slot}
 use Rattle.java_core.specs.Owned.{AreOwned, listed, first_among}
-use Rattle.java_core.specs.Nearest.{is_named_field, is_named_method}
-use Rattle.java_core.specs.declared.tables.FieldKey.TheVariants as field_key
-use Rattle.java_core.specs.declared.tables.MethodKey.TheVariants as method_key
-use Rattle.java_core.specs.Tables.{name_bucket, slot_bucket, field_place, method_place}
+use Rattle.java_core.specs.MemberKeys.{MemberKeys, method_keys}
+use Rattle.java_core.specs.Nearest.{has_name}
+use Rattle.java_core.specs.declared.tables.MemberKey.TheVariants as key
+use Rattle.java_core.specs.Tables.{name_bucket, slot_bucket, place_by}
 use Rattle.java_core.proofs.OwnedLemmas.{own-position}
 
 -- lists by a key have under a key the first item of each test that only items of the key pass
@@ -36,40 +36,31 @@ same_slot : (n c s : ℕ) (o : Option ℕ) → is_slot o s ≡ true → slot_buc
 same_slot n c s None e = absurd (false≢true e)
 same_slot n c s (Some r) e = ap (λ i. slot_bucket n c (Some i)) (eqb-true r s e)
 
--- a field of a name in a class is in the bucket of the two
-pub field_there : (n c : ℕ) (x : List ℕ) (f : Field) → is_field_of c x (field_seen no_place f) ≡ true → field_place field_key.OwnerAndName n f
-    ≡ name_bucket n c x
-field_there n c x f e =
+-- a field of a name in a class has the two, and so does an instance method
+pub field_in : (c : ℕ) (x : List ℕ) (f : Field) → is_field_of c x (field_seen no_place f) ≡ true → (f.owner.0 ≡ c) × (f.name ≡ x)
+field_in c x f e =
     let z = and_parts (f.owner.0 == c) (bytes_eq f.name x) e in
-    ap₂ (name_bucket n) (eqb-true f.owner.0 c z.0) ((bytes_eq-Decides f.name x).0 z.1)
+    (eqb-true f.owner.0 c z.0, (bytes_eq-Decides f.name x).0 z.1)
 
--- an instance method of a name in a class is in the bucket of the two
-pub method_there : (n c : ℕ) (x : List ℕ) (m : Method) → is_method_of c x (method_seen no_place m) ≡ true → method_place method_key.OwnerAndName n m
-    ≡ name_bucket n c x
-method_there n c x m e =
+pub method_in : (c : ℕ) (x : List ℕ) (m : Method) → is_method_of c x (method_seen no_place m) ≡ true → (m.owner.0 ≡ c) × (m.name ≡ x)
+method_in c x m e =
     let z = and_parts (m.owner.0 == c) (not m.is_static && bytes_eq m.name x) e in
-    ap₂ (name_bucket n) (eqb-true m.owner.0 c z.0) ((bytes_eq-Decides m.name x).0 (and_parts (not m.is_static) (bytes_eq m.name x) z.1).1)
+    (eqb-true m.owner.0 c z.0, (bytes_eq-Decides m.name x).0 (and_parts (not m.is_static) (bytes_eq m.name x) z.1).1)
 
 -- a method of a slot in a class is in the bucket of the two
-pub slot_there : (n c s : ℕ) (m : Method) → has_slot c s (method_seen no_place m) ≡ true → method_place method_key.OwnerAndSlot n m ≡ slot_bucket n c (Some s)
+pub slot_there : (n c s : ℕ) (m : Method) → has_slot c s (method_seen no_place m) ≡ true → place_by key.OwnerAndSlot n (method_keys m) ≡ slot_bucket n c (Some s)
 slot_there n c s m e =
     let z = and_parts (m.owner.0 == c) (is_slot m.slot s) e in
     ap (λ k. slot_bucket n k m.slot) (eqb-true m.owner.0 c z.0) ∙ same_slot n c s m.slot z.1
 
 -- an instance method of a name at or above a type is in the bucket of the name
 pub offer_there : (n : ℕ) (P : Plain) (c : ℕ) (x : List ℕ) (m : Method) → offers P c x (method_seen no_place m) ≡ true
-    → method_place method_key.Name n m ≡ name_bucket n 0 x
+    → place_by key.Name n (method_keys m) ≡ name_bucket n 0 x
 offer_there n P c x m e =
     let z = and_parts (below P c m.owner.0) (not m.is_static && bytes_eq m.name x) e in
     ap (name_bucket n 0) ((bytes_eq-Decides m.name x).0 (and_parts (not m.is_static) (bytes_eq m.name x) z.1).1)
 
--- the owner of a field of a name in a class, of such a method, of a method of a slot
-pub field_owner : (c : ℕ) (x : List ℕ) (f : Field) → is_field_of c x (field_seen no_place f) ≡ true → f.owner.0 ≡ c
-field_owner c x f e = eqb-true f.owner.0 c (and_parts (f.owner.0 == c) (bytes_eq f.name x) e).0
-
-pub method_owner : (c : ℕ) (x : List ℕ) (m : Method) → is_method_of c x (method_seen no_place m) ≡ true → m.owner.0 ≡ c
-method_owner c x m e = eqb-true m.owner.0 c (and_parts (m.owner.0 == c) (not m.is_static && bytes_eq m.name x) e).0
-
+-- the owner of a method of a slot in a class
 pub slot_owner : (c s : ℕ) (m : Method) → has_slot c s (method_seen no_place m) ≡ true → m.owner.0 ≡ c
 slot_owner c s m e = eqb-true m.owner.0 c (and_parts (m.owner.0 == c) (is_slot m.slot s) e).0
 
@@ -78,9 +69,6 @@ pub body_slot : (c s : ℕ) (m : Method) → (has_slot c s (method_seen no_place
     → has_slot c s (method_seen no_place m) ≡ true
 body_slot c s m e = (and_parts ((m.owner.0 == c) && is_slot m.slot s) (is_some (method_seen no_place m).body) e).0
 
--- a field of a name, and an instance method of a name, are in the bucket of the name
-pub named_field_there : (n : ℕ) (x : List ℕ) (f : Field) → is_named_field x f ≡ true → field_place field_key.Name n f ≡ name_bucket n 0 x
-named_field_there n x f e = ap (name_bucket n 0) ((bytes_eq-Decides f.name x).0 e)
-
-pub named_method_there : (n : ℕ) (x : List ℕ) (m : Method) → is_named_method x m ≡ true → method_place method_key.Name n m ≡ name_bucket n 0 x
-named_method_there n x m e = ap (name_bucket n 0) ((bytes_eq-Decides m.name x).0 (and_parts (not m.is_static) (bytes_eq m.name x) e).1)
+-- a member of a name that is looked for from below is in the bucket of the name
+pub named_there : {A : Type 0} (keys : A → MemberKeys) (n : ℕ) (x : List ℕ) (a : A) → has_name keys x a ≡ true → place_by key.Name n (keys a) ≡ name_bucket n 0 x
+named_there keys n x a e = ap (name_bucket n 0) ((bytes_eq-Decides (keys a).name x).0 (and_parts (keys a).is_inherited (bytes_eq (keys a).name x) e).1)

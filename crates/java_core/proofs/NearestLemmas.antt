@@ -22,7 +22,8 @@ use Rattle.java_core.specs.Plain.{Plain, class_seen}
 use Rattle.java_core.specs.Subtypes.{of_classes}
 use Rattle.java_core.specs.Classes.{parent_of, first_or, nearest, nearest_of, is_slot}
 use Rattle.java_core.specs.Owned.{AreOwned, owned_from, listed, passes, first_among}
-use Rattle.java_core.specs.Nearest.{superclasses, parent_at, nearest_by, IsFirst, highest, lower, AreVersions, IsVersionAbove, IsAbove, IsNearestBy, numbered_among}
+use Rattle.java_core.specs.MemberKeys.{MemberKeys}
+use Rattle.java_core.specs.Nearest.{superclasses, parent_at, nearest_by, IsFirst, highest, lower, AreVersions, IsVersionAbove, IsAbove, IsNearestBy, numbered_among, has_name, name_number, number_of, name_numbers}
 use Rattle.java_core.proofs.Chains.{Chain, ends, goes_up, short}
 use Rattle.java_core.proofs.OwnedLemmas.{owned-position}
 use Rattle.java_core.proofs.Positions.{position-passes, position-map, passes-position}
@@ -180,66 +181,60 @@ first_among-same {A} p q e xs (k ∷ ks) = rw (seen (slice_get xs k), first_amon
     seen None = refl
     seen (Some a) = e a
 
--- members with owners and names, of which some count; the number of a name is that of the first that counts and has it
-module _ {A : Type 0} (owner : A → ℕ) (name : A → List ℕ) (counts : A → Bool) (xs : List A) where
-  abbrev pub named : List ℕ → A → Bool
-  named x a = counts a && bytes_eq (name a) x
+-- what is found by the number of a name
+module _ {A : Type 0} (keys : A → MemberKeys) (xs : List A) where
+  abbrev owner : A → ℕ
+  owner a = (keys a).owner
 
-  abbrev pub number : List ℕ → Option ℕ
-  number x = position (λ a. named x a) xs
-
-  abbrev pub number_of : A → Option ℕ
-  number_of a = if counts a then number (name a) else None
-
-  -- a member has the number of a name where it counts and has the name
-  numbered : (x : List ℕ) (i : ℕ) → number x ≡ Some i → (a : A) → is_slot (number_of a) i ≡ named x a
-  numbered x i e a = by_count (counts a)
+  -- a member has the number of a name where it has the name
+  numbered : (x : List ℕ) (i : ℕ) → name_number keys xs x ≡ Some i → (a : A) → is_slot (number_of keys xs a) i ≡ has_name keys x a
+  numbered x i e a = by_count (keys a).is_inherited
     where
-      other : (b : Bool) → bytes_eq (name a) x ≡ b → (o : Option ℕ) → number (name a) ≡ o → is_slot o i ≡ b
-      other true h o k = let same = (bytes_eq-Decides (name a) x).0 h in rw (sym k ∙ ap number same ∙ e) (eq-eqb i i refl)
+      other : (b : Bool) → bytes_eq (keys a).name x ≡ b → (o : Option ℕ) → name_number keys xs (keys a).name ≡ o → is_slot o i ≡ b
+      other true h o k = let same = (bytes_eq-Decides (keys a).name x).0 h in rw (sym k ∙ ap (name_number keys xs) same ∙ e) (eq-eqb i i refl)
       other false h None k = refl
       other false h (Some j) k = by_number (j == i) refl
         where
           by_number : (b : Bool) → (j == i) ≡ b → b ≡ false
           by_number false g = refl
           by_number true g =
-              let mine = position-passes (λ y. named (name a) y) xs i (k ∙ ap Some (eqb-true j i g)) in
-              let its = position-passes (λ y. named x y) xs i e in
+              let mine = position-passes (λ y. has_name keys (keys a).name y) xs i (k ∙ ap Some (eqb-true j i g)) in
+              let its = position-passes (λ y. has_name keys x y) xs i e in
               let y : mine.0 ≡ its.0 = cc (mine.1, its.1) in
-              let m = (bytes_eq-Decides (name mine.0) (name a)).0 (and_parts (counts mine.0) (bytes_eq (name mine.0) (name a)) mine.2).1 in
-              let t = (bytes_eq-Decides (name its.0) x).0 (and_parts (counts its.0) (bytes_eq (name its.0) x) its.2).1 in
-              absurd (false≢true (sym h ∙ (bytes_eq-Decides (name a) x).1 (sym m ∙ ap name y ∙ t)))
+              let m = (bytes_eq-Decides (keys mine.0).name (keys a).name).0 (and_parts ((keys mine.0).is_inherited) (bytes_eq (keys mine.0).name (keys a).name) mine.2).1 in
+              let t = (bytes_eq-Decides (keys its.0).name x).0 (and_parts ((keys its.0).is_inherited) (bytes_eq (keys its.0).name x) its.2).1 in
+              absurd (false≢true (sym h ∙ (bytes_eq-Decides (keys a).name x).1 (sym m ∙ ap (λ z. (keys z).name) y ∙ t)))
 
-      by_count : (b : Bool) → is_slot (if b then number (name a) else None) i ≡ (b && bytes_eq (name a) x)
+      by_count : (b : Bool) → is_slot (if b then name_number keys xs (keys a).name else None) i ≡ (b && bytes_eq (keys a).name x)
       by_count false = refl
-      by_count true = other (bytes_eq (name a) x) refl (number (name a)) refl
+      by_count true = other (bytes_eq (keys a).name x) refl (name_number keys xs (keys a).name) refl
 
   -- what a class itself has under the number of a name is the member of the name that it declares
-  pub own-numbered : (x : List ℕ) (i : ℕ) → number x ≡ Some i → (c : ℕ)
-      → first_among (λ o. is_slot o i) (map number_of xs) (owned_from 0 c (map owner xs)) ≡ position (λ a. (owner a == c) && named x a) xs
+  pub own-numbered : (x : List ℕ) (i : ℕ) → name_number keys xs x ≡ Some i → (c : ℕ)
+      → first_among (λ o. is_slot o i) (name_numbers keys xs) (owned_from 0 c (map owner xs)) ≡ position (λ a. (owner a == c) && has_name keys x a) xs
   own-numbered x i e c =
-      first_among-map number_of (λ o. is_slot o i) xs (owned_from 0 c (map owner xs))
-      ∙ first_among-same (λ a. is_slot (number_of a) i) (named x) (numbered x i e) xs (owned_from 0 c (map owner xs))
-      ∙ owned-position owner (named x) c xs
+      first_among-map (number_of keys xs) (λ o. is_slot o i) xs (owned_from 0 c (map owner xs))
+      ∙ first_among-same (λ a. is_slot (number_of keys xs a) i) (has_name keys x) (numbered x i e) xs (owned_from 0 c (map owner xs))
+      ∙ owned-position owner (has_name keys x) c xs
 
   -- no class has a member of a name without a number
-  pub unnumbered : (x : List ℕ) → number x ≡ None → (c : ℕ) → position (λ a. (owner a == c) && named x a) xs ≡ None
-  unnumbered x e c = go (position (λ a. (owner a == c) && named x a) xs) refl
+  pub unnumbered : (x : List ℕ) → name_number keys xs x ≡ None → (c : ℕ) → position (λ a. (owner a == c) && has_name keys x a) xs ≡ None
+  unnumbered x e c = go (position (λ a. (owner a == c) && has_name keys x a) xs) refl
     where
-      go : (o : Option ℕ) → position (λ a. (owner a == c) && named x a) xs ≡ o → o ≡ None
+      go : (o : Option ℕ) → position (λ a. (owner a == c) && has_name keys x a) xs ≡ o → o ≡ None
       go None h = refl
       go (Some j) h =
-          let f = position-passes (λ a. (owner a == c) && named x a) xs j h in
-          let g = passes-position (λ a. named x a) xs j f.0 f.1 (and_parts (owner f.0 == c) (named x f.0) f.2).1 in
+          let f = position-passes (λ a. (owner a == c) && has_name keys x a) xs j h in
+          let g = passes-position (λ a. has_name keys x a) xs j f.0 f.1 (and_parts (owner f.0 == c) (has_name keys x f.0) f.2).1 in
           absurd (cc (e, g.1))
 
   -- what the version of the superclass has under the number of a name is nearest, where a class has nothing of its own
   pub numbered-nearest : (parents : List (Option ClassId)) (lists : List (Vec ℕ Global)) → AreOwned (map owner xs) lists
-      → (all : List (Option VersionMap)) → AreVersions parents (map number_of xs) lists all → (c : ℕ) (m : VersionMap) → IsAbove parents all c m
-      → (x : List ℕ) (o : Option ℕ) → o ≡ number x → (own : ℕ → Option ℕ) → ((k : ℕ) → position (λ a. (owner a == k) && named x a) xs ≡ own k)
+      → (all : List (Option VersionMap)) → AreVersions parents (name_numbers keys xs) lists all → (c : ℕ) (m : VersionMap) → IsAbove parents all c m
+      → (x : List ℕ) (o : Option ℕ) → o ≡ name_number keys xs x → (own : ℕ → Option ℕ) → ((k : ℕ) → position (λ a. (owner a == k) && has_name keys x a) xs ≡ own k)
       → IsNearestBy parents own c (option_and_then (holds m) o)
   numbered-nearest parents lists owned all v c m a x None e own is here = nowhere parents own (λ k. sym (is k) ∙ unnumbered x (sym e) k) (length parents) c
   numbered-nearest parents lists owned all v c m a x (Some i) e own is here =
-      first-above parents own (λ k. numbered_among (map number_of xs) i (listed lists k))
-      (λ k. ap (numbered_among (map number_of xs) i) (owned.exact k) ∙ own-numbered x i (sym e) k ∙ is k)
+      first-above parents own (λ k. numbered_among (name_numbers keys xs) i (listed lists k))
+      (λ k. ap (numbered_among (name_numbers keys xs) i) (owned.exact k) ∙ own-numbered x i (sym e) k ∙ is k)
       c a.by (holds m i) here a.parent (v.each a.by.0 m a.stands i)

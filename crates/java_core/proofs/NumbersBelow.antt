@@ -1,5 +1,5 @@
 -- The numbers below one are those that are less.
-use Rattle.std.proofs.Common.{◌≡◌, ◌⊎◌, ℕ, zero, suc, ◌<◌, ◌∷◌, Contains, arith, subst, ⊎_elim}
+use Rattle.std.proofs.Common.{◌≡◌, ℕ, zero, suc, ◌<◌, ◌∷◌, Contains, arith, subst, ⊎_elim}
 use Rattle.std.proofs.lemmas.Bool.{cases_lt}
 use Rattle.kaba_base.proofs.ListLemmas.{first, later, contains_cases}
 use Rattle.java_core.specs.Formed.{numbers_below}

@@ -1,5 +1,5 @@
 -- What stands nearest at or above a class, by numbers of names.
-use Rattle.std.specs.Prelude.{◌≡◌, ℕ, zero, suc, ◌&&◌, not, Bool, List, length, map, Option, Some, None, slice_get, position, if◌then◌else◌}
+use Rattle.std.specs.Prelude.{◌≡◌, ℕ, zero, suc, ◌&&◌, Bool, List, length, map, Option, Some, None, slice_get, position, if◌then◌else◌}
 use Rattle.std.specs.Option.{option_and_then}
 use Rattle.std.specs.Str.{bytes_eq}
 use Rattle.std.specs.declared.vec.Vec.{Vec}
@@ -7,36 +7,27 @@ use Rattle.std.specs.declared.alloc.Global.{Global}
 use Rattle.kaba_base.specs.declared.ClassId.{ClassId}
 use Rattle.version_map.specs.declared.VersionMap.{VersionMap}
 use Rattle.version_map.specs.Held.{holds}
-use Rattle.java_core.specs.declared.Field.{Field}
-use Rattle.java_core.specs.declared.Method.{Method}
 use Rattle.java_core.specs.declared.Class.{Class}
+use Rattle.java_core.specs.MemberKeys.{MemberKeys}
 use Rattle.java_core.specs.Classes.{first_or, is_slot}
 use Rattle.java_core.specs.Owned.{listed, first_among}
 
 -- ---- numbers of names
 
-abbrev pub is_named_field : List ℕ → Field → Bool
-is_named_field x f = bytes_eq f.name x
+-- a member is looked for from below, and has the name
+abbrev pub has_name : {A : Type 0} → (A → MemberKeys) → List ℕ → A → Bool
+has_name keys x a = (keys a).is_inherited && bytes_eq (keys a).name x
 
-abbrev pub is_named_method : List ℕ → Method → Bool
-is_named_method x m = not m.is_static && bytes_eq m.name x
+-- the number of a name is that of the first such member that has it
+abbrev pub name_number : {A : Type 0} → (A → MemberKeys) → List A → List ℕ → Option ℕ
+name_number keys members x = position (λ a. has_name keys x a) members
 
--- the number of a name is that of the first field that has it, or of the first instance method
-abbrev pub field_number : List Field → List ℕ → Option ℕ
-field_number fields x = position (λ f. is_named_field x f) fields
-
-abbrev pub method_number : List Method → List ℕ → Option ℕ
-method_number methods x = position (λ m. is_named_method x m) methods
-
-abbrev pub number_of_method : List Method → Method → Option ℕ
-number_of_method methods m = if not m.is_static then method_number methods m.name else None
+abbrev pub number_of : {A : Type 0} → (A → MemberKeys) → List A → A → Option ℕ
+number_of keys members a = if (keys a).is_inherited then name_number keys members (keys a).name else None
 
 -- for each member the number of its name
-abbrev pub field_numbers : List Field → List (Option ℕ)
-field_numbers fields = map (λ f. field_number fields f.name) fields
-
-abbrev pub method_numbers : List Method → List (Option ℕ)
-method_numbers methods = map (λ m. number_of_method methods m) methods
+abbrev pub name_numbers : {A : Type 0} → (A → MemberKeys) → List A → List (Option ℕ)
+name_numbers keys members = map (λ a. number_of keys members a) members
 
 -- the first of these members whose name has a number
 abbrev pub numbered_among : List (Option ℕ) → ℕ → List ℕ → Option ℕ

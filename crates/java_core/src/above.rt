@@ -3,12 +3,12 @@
 
 ghost use Rattle.std.specs.Prelude.{◌≡◌, ℕ, ◌<◌, ◌&&◌, ◌==◌, Option, IfSome, position, option_and_then};
 ghost use Rattle.version_map.specs.Held.{holds};
-ghost use Rattle.java_core.specs.Tables.{AreFieldTables, AreMethodTables};
-ghost use Rattle.java_core.specs.Nearest.{is_named_field, is_named_method, IsAbove, IsNearestBy};
+ghost use Rattle.java_core.specs.MemberKeys.{MemberKeys};
+ghost use Rattle.java_core.specs.Tables.{AreMemberTables};
+ghost use Rattle.java_core.specs.Nearest.{has_name, IsAbove, IsNearestBy};
 
-use crate::nearest::{MANY, field_number, method_number, parent_at};
-use crate::tables::{FieldTables, MethodTables};
-use crate::{Field, Method};
+use crate::nearest::{MANY, name_number, parent_at};
+use crate::tables::{Member, MemberTables};
 use kaba_base::{ClassId, Name};
 use version_map::VersionMap;
 
@@ -40,47 +40,24 @@ fn numbered(map: &VersionMap, number: Option<usize>) -> Option<u32>
     }
 }
 
-impl FieldTables {
-    /// The field of a name nearest to a class that has none itself, where the tables tell it.
-    pub fn nearest_above(
+impl MemberTables {
+    /// The member of a name nearest to a class that has none itself, where the tables tell it.
+    pub fn nearest_above<M: Member>(
         &self,
         parents: &[Option<ClassId>],
-        fields: &[Field],
+        members: &[M],
         class: usize,
         name: &Name,
     ) -> Option<Option<u32>>
-        requires { AreFieldTables parents.now fields.now self.now }
-        ensures { IfSome result (λ r. (own : ℕ → Option ℕ) → ((k : ℕ) → position (λ f. (f.owner.0 == k) && is_named_field name.now f) fields.now ≡ own k)
-            → IsNearestBy parents.now own class r) }
+        requires { AreMemberTables M.keys parents.now members.now self.now }
+        ensures { IfSome result (λ r. (own : ℕ → Option ℕ)
+            → ((k : ℕ) → position (λ m. ((M.keys m).owner == k) && has_name M.keys name.now m) members.now ≡ own k) → IsNearestBy parents.now own class r) }
     {
-        if fields.len() >= MANY {
+        if members.len() >= MANY {
             return None;
         }
         match version_above(&self.nearest, parents, class) {
-            Some(map) => Some(numbered(map, field_number(fields, &self.named, name))),
-            None => None,
-        }
-    }
-}
-
-impl MethodTables {
-    /// The instance method of a name nearest to a class that has none itself, where the tables tell it.
-    pub fn nearest_above(
-        &self,
-        parents: &[Option<ClassId>],
-        methods: &[Method],
-        class: usize,
-        name: &Name,
-    ) -> Option<Option<u32>>
-        requires { AreMethodTables parents.now methods.now self.now }
-        ensures { IfSome result (λ r. (own : ℕ → Option ℕ) → ((k : ℕ) → position (λ m. (m.owner.0 == k) && is_named_method name.now m) methods.now ≡ own k)
-            → IsNearestBy parents.now own class r) }
-    {
-        if methods.len() >= MANY {
-            return None;
-        }
-        match version_above(&self.nearest, parents, class) {
-            Some(map) => Some(numbered(map, method_number(methods, &self.named, name))),
+            Some(map) => Some(numbered(map, name_number(members, &self.named, name))),
             None => None,
         }
     }

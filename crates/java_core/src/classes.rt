@@ -190,8 +190,15 @@ fn one_above(p: &Program, class: ClassId) -> Option<ClassId>
 fn first_face(p: &Program, class: ClassId) -> Option<ClassId>
     ensures { IfSome result (λ k. Contains (supers_of (program_of no_place p.now) class.0) k) }
 {
-    match faces_of(p, class).get(0) {
-        Some(face) => Some(*face),
+    first_of(faces_of(p, class))
+}
+
+/// The first of a list.
+fn first_of(list: &[ClassId]) -> Option<ClassId>
+    ensures { IfSome result (λ k. Contains list.now k) }
+{
+    match list.get(0) {
+        Some(first) => Some(*first),
         None => None,
     }
 }
@@ -297,6 +304,7 @@ fn told_above(p: &Program, class: ClassId, name: &Name, kind: Named) -> Option<O
         Named::Method => p
             .tables
             .methods
+            .members
             .nearest_above(parents, &p.methods, at, name),
     }
 }

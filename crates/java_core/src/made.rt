@@ -9,7 +9,7 @@ ghost use Rattle.java_core.specs.Tables.{AreFieldTables};
 ghost use Rattle.java_core.specs.Subtypes.{subtype_rows};
 ghost use Rattle.java_core.specs.Programs.{IsMadeOf};
 
-use crate::tables::{FieldTables, MethodTables, Tables};
+use crate::tables::{MemberTables, MethodTables, Tables};
 use crate::{Class, Field, Hierarchy, Method, Program, Slot};
 use kaba_base::{ClassId, MemberId};
 use std::alloc::{AllocError, Global};
@@ -26,7 +26,7 @@ impl Program {
         main: MemberId,
         above: Hierarchy,
         parents: Vec<Option<ClassId>>,
-        field_tables: FieldTables,
+        field_tables: MemberTables,
     ) -> Result<Program, AllocError>
         requires above { above ≡ subtype_rows (map (class_seen at_place) classes.items) }
         requires parents { parents.items ≡ superclasses classes.items }

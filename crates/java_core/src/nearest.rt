@@ -6,14 +6,12 @@ ghost use Rattle.version_map.specs.Held.{holds};
 ghost use Rattle.version_map.specs.declared.VersionMap.{VersionMap};
 ghost use Rattle.java_core.specs.Classes.{first_or, is_slot};
 ghost use Rattle.java_core.specs.Owned.{passes};
-ghost use Rattle.java_core.specs.declared.tables.FieldKey.TheVariants as field_key;
-ghost use Rattle.java_core.specs.declared.tables.MethodKey.TheVariants as method_key;
-ghost use Rattle.java_core.specs.Tables.{AreFieldsBy, AreMethodsBy};
-ghost use Rattle.java_core.specs.Nearest.{is_named_field, is_named_method, field_number, method_number, number_of_method, field_numbers, method_numbers, numbered_among, parent_at, AreVersions, IsVersion, IsVersionAbove};
+ghost use Rattle.java_core.specs.declared.tables.MemberKey.TheVariants as key;
+ghost use Rattle.java_core.specs.Tables.{AreMembersBy};
+ghost use Rattle.java_core.specs.Nearest.{has_name, name_number, number_of, name_numbers, numbered_among, parent_at, AreVersions, IsVersion, IsVersionAbove};
 
 use crate::owned::{first_among, listed_under};
-use crate::tables::name_bucket;
-use crate::{Field, Method};
+use crate::tables::{Member, name_bucket};
 use kaba_base::{ClassId, Name};
 use std::alloc::{AllocError, Global};
 use version_map::VersionMap;
@@ -21,36 +19,20 @@ use version_map::VersionMap;
 /// Members are numbered in 32 bits.
 pub const MANY: usize = 4294967295;
 
-/// Whether a field has the name.
-fn is_named_field(field: &Field, name: &Name) -> bool
-    ensures { result ≡ is_named_field name.now field.now }
+/// Whether a member is looked for from below, and has the name.
+fn has_name<M: Member>(member: &M, name: &Name) -> bool
+    ensures { result ≡ has_name M.keys name.now member.now }
 {
-    field.name.same(name)
+    member.is_inherited() && member.name().same(name)
 }
 
-/// Whether a method is an instance method of the name.
-fn is_named_method(method: &Method, name: &Name) -> bool
-    ensures { result ≡ is_named_method name.now method.now }
+/// The number of a name: that of the first such member that has it. The lists are those of the names.
+pub fn name_number<M: Member>(members: &[M], lists: &Vec<Vec<usize>>, name: &Name) -> Option<usize>
+    requires { AreMembersBy M.keys key.Name members.now lists.now.items }
+    ensures { result ≡ name_number M.keys members.now name.now }
 {
-    !method.is_static && method.name.same(name)
-}
-
-/// The number of a name: that of the first field that has it. The lists are those of the names.
-pub fn field_number(fields: &[Field], lists: &Vec<Vec<usize>>, name: &Name) -> Option<usize>
-    requires { AreFieldsBy field_key.Name fields.now lists.now.items }
-    ensures { result ≡ field_number fields.now name.now }
-{
-    let list = listed_under(lists, name_bucket(fields.len(), ClassId(0), name));
-    first_among(fields, list, |field| is_named_field(field, name))
-}
-
-/// The number of a name: that of the first instance method that has it. The lists are those of the names.
-pub fn method_number(methods: &[Method], lists: &Vec<Vec<usize>>, name: &Name) -> Option<usize>
-    requires { AreMethodsBy method_key.Name methods.now lists.now.items }
-    ensures { result ≡ method_number methods.now name.now }
-{
-    let list = listed_under(lists, name_bucket(methods.len(), ClassId(0), name));
-    first_among(methods, list, |method| is_named_method(method, name))
+    let list = listed_under(lists, name_bucket(members.len(), ClassId(0), name));
+    first_among(members, list, |member| has_name(member, name))
 }
 
 /// A number in 32 bits.
@@ -64,48 +46,32 @@ fn narrow(at: Option<usize>) -> Option<u32>
     }
 }
 
-/// The number of a method's name, where it is an instance method.
-fn number_of_method(methods: &[Method], lists: &Vec<Vec<usize>>, method: &Method) -> Option<u32>
-    requires few { length methods.now < 4294967295 }
-    requires named { AreMethodsBy method_key.Name methods.now lists.now.items }
-    ensures { result ≡ number_of_method methods.now method.now }
+/// The number of a member's name, where it is looked for from below.
+fn number_of<M: Member>(members: &[M], lists: &Vec<Vec<usize>>, member: &M) -> Option<u32>
+    requires few { length members.now < 4294967295 }
+    requires named { AreMembersBy M.keys key.Name members.now lists.now.items }
+    ensures { result ≡ number_of M.keys members.now member.now }
 {
-    if method.is_static {
-        return None;
+    if member.is_inherited() {
+        narrow(name_number(members, lists, member.name()))
+    } else {
+        None
     }
-    narrow(method_number(methods, lists, &method.name))
 }
 
-/// For each field the number of its name; `AllocError` where memory is short.
-fn field_numbers(
+/// For each member the number of its name; `AllocError` where memory is short.
+fn name_numbers<M: Member>(
     alloc: Global,
-    fields: &[Field],
+    members: &[M],
     lists: &Vec<Vec<usize>>,
 ) -> Result<Vec<Option<u32>>, AllocError>
-    requires few { length fields.now < 4294967295 }
-    requires named { AreFieldsBy field_key.Name fields.now lists.now.items }
-    ensures { IfOk result (λ v. v.items ≡ field_numbers fields.now) }
+    requires few { length members.now < 4294967295 }
+    requires named { AreMembersBy M.keys key.Name members.now lists.now.items }
+    ensures { IfOk result (λ v. v.items ≡ name_numbers M.keys members.now) }
 {
     let mut numbers = Vec::new(alloc);
-    for field in fields {
-        numbers.push(narrow(field_number(fields, lists, &field.name)))?;
-    }
-    Ok(numbers)
-}
-
-/// For each method the number of its name; `AllocError` where memory is short.
-fn method_numbers(
-    alloc: Global,
-    methods: &[Method],
-    lists: &Vec<Vec<usize>>,
-) -> Result<Vec<Option<u32>>, AllocError>
-    requires few { length methods.now < 4294967295 }
-    requires named { AreMethodsBy method_key.Name methods.now lists.now.items }
-    ensures { IfOk result (λ v. v.items ≡ method_numbers methods.now) }
-{
-    let mut numbers = Vec::new(alloc);
-    for method in methods {
-        numbers.push(number_of_method(methods, lists, method))?;
+    for member in members {
+        numbers.push(number_of(members, lists, member))?;
     }
     Ok(numbers)
 }
@@ -282,40 +248,21 @@ fn versions(
     Ok(all)
 }
 
-/// For each class that others extend the fields at or above it by the numbers of their names; `AllocError` where memory is short.
-pub fn nearest_fields(
+/// For each class that others extend those members at or above it by the numbers of their names; `AllocError` where memory is short.
+pub fn nearest_members<M: Member>(
     alloc: Global,
     parents: &[Option<ClassId>],
-    fields: &[Field],
+    members: &[M],
     own: &Vec<Vec<usize>>,
     lists: &Vec<Vec<usize>>,
     order: &[u32],
 ) -> Result<Vec<Option<VersionMap>>, AllocError>
-    requires { AreFieldsBy field_key.Name fields.now lists.now.items }
-    ensures { IfOk result (λ v. AreVersions parents.now (field_numbers fields.now) own.now.items v.items) }
+    requires { AreMembersBy M.keys key.Name members.now lists.now.items }
+    ensures { IfOk result (λ v. AreVersions parents.now (name_numbers M.keys members.now) own.now.items v.items) }
 {
-    if fields.len() >= MANY {
+    if members.len() >= MANY {
         return none_yet(alloc, 0);
     }
-    let numbers = field_numbers(alloc, fields, lists)?;
-    versions(alloc, parents, own, numbers.as_slice(), order)
-}
-
-/// For each class that others extend the instance methods at or above it by the numbers of their names; `AllocError` where memory is short.
-pub fn nearest_methods(
-    alloc: Global,
-    parents: &[Option<ClassId>],
-    methods: &[Method],
-    own: &Vec<Vec<usize>>,
-    lists: &Vec<Vec<usize>>,
-    order: &[u32],
-) -> Result<Vec<Option<VersionMap>>, AllocError>
-    requires { AreMethodsBy method_key.Name methods.now lists.now.items }
-    ensures { IfOk result (λ v. AreVersions parents.now (method_numbers methods.now) own.now.items v.items) }
-{
-    if methods.len() >= MANY {
-        return none_yet(alloc, 0);
-    }
-    let numbers = method_numbers(alloc, methods, lists)?;
+    let numbers = name_numbers(alloc, members, lists)?;
     versions(alloc, parents, own, numbers.as_slice(), order)
 }

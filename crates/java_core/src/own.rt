@@ -1,52 +1,44 @@
 //! The members that a class or an interface itself has, by name and by slot.
 #![tactic(auto)]
 
-ghost use Rattle.std.specs.Prelude.{◌≡◌, ℕ, ◌<◌, ◌&&◌, length, IfSome, position};
+ghost use Rattle.std.specs.Prelude.{◌≡◌, ℕ, ◌<◌, ◌&&◌, Bool, true, length, IfSome, position};
 ghost use Rattle.std.specs.Option.{is_some};
 ghost use Rattle.java_core.specs.Trees.{no_place};
 ghost use Rattle.java_core.specs.Programs.{program_of, field_seen, method_seen};
 ghost use Rattle.java_core.specs.Classes.{is_field_of, is_method_of, has_slot};
 ghost use Rattle.java_core.specs.Own.{offers, offered};
 ghost use Rattle.java_core.specs.Owned.{first_among};
+ghost use Rattle.java_core.specs.MemberKeys.{MemberKeys};
+ghost use Rattle.java_core.specs.declared.tables.MemberKey.TheVariants as key;
+ghost use Rattle.java_core.specs.Tables.{AreMembersBy};
 ghost use Rattle.java_core.specs.Formed.{IsFormed};
 
 use crate::classes::is_subtype;
 use crate::owned::{first_among, listed_under};
-use crate::tables::{name_bucket, slot_bucket};
+use crate::tables::{Member, MemberTables, name_bucket, slot_bucket};
 use crate::{Field, Method, Program};
 use kaba_base::{ClassId, Name};
 
 /// How many members of a class are looked through one by one; those of a class with more are looked up by name or slot.
 const FEW: usize = 32;
 
-/// The fields among which the one of a name in a class is, if it has one.
-fn fields_of<'a>(p: &'a Program, class: ClassId, name: &Name) -> &'a [usize]
-    ensures { first_among (λ f. is_field_of class.0 name.now (field_seen no_place f)) p.now.fields.items result.now
-        ≡ position (λ f. is_field_of class.0 name.now (field_seen no_place f)) p.now.fields.items }
+/// The members among which each of a name in a class is.
+fn named_in<'a, M: Member>(
+    tables: &'a MemberTables,
+    members: &[M],
+    class: ClassId,
+    name: &Name,
+) -> &'a [usize]
+    requires own { AreMembersBy M.keys key.Owner members.now tables.now.own.items }
+    requires by_name { AreMembersBy M.keys key.OwnerAndName members.now tables.now.by_name.items }
+    ensures { (p : M → Bool) → ((m : M) → p m ≡ true → ((M.keys m).owner ≡ class.0) × ((M.keys m).name ≡ name.now))
+        → first_among p members.now result.now ≡ position p members.now }
 {
-    let own = listed_under(&p.tables.fields.own, class.0 as usize);
+    let own = listed_under(&tables.own, class.0 as usize);
     if own.len() <= FEW {
         return own;
     }
-    listed_under(
-        &p.tables.fields.by_name,
-        name_bucket(p.fields.len(), class, name),
-    )
-}
-
-/// The methods among which the instance method of a name in a class is, if it has one.
-fn methods_of<'a>(p: &'a Program, class: ClassId, name: &Name) -> &'a [usize]
-    ensures { first_among (λ m. is_method_of class.0 name.now (method_seen no_place m)) p.now.methods.items result.now
-        ≡ position (λ m. is_method_of class.0 name.now (method_seen no_place m)) p.now.methods.items }
-{
-    let own = listed_under(&p.tables.methods.own, class.0 as usize);
-    if own.len() <= FEW {
-        return own;
-    }
-    listed_under(
-        &p.tables.methods.by_name,
-        name_bucket(p.methods.len(), class, name),
-    )
+    listed_under(&tables.by_name, name_bucket(members.len(), class, name))
 }
 
 /// The methods among which each of a slot in a class is.
@@ -56,7 +48,7 @@ fn methods_in(p: &Program, class: ClassId, slot: u32) -> &[usize]
     ensures body { first_among (λ m. has_slot class.0 slot (method_seen no_place m) && is_some (method_seen no_place m).body) p.now.methods.items result.now
         ≡ position (λ m. has_slot class.0 slot (method_seen no_place m) && is_some (method_seen no_place m).body) p.now.methods.items }
 {
-    let own = listed_under(&p.tables.methods.own, class.0 as usize);
+    let own = listed_under(&p.tables.methods.members.own, class.0 as usize);
     if own.len() <= FEW {
         return own;
     }
@@ -71,9 +63,11 @@ pub fn own_field_at(p: &Program, class: ClassId, name: &Name) -> Option<usize>
     ensures value { result ≡ position (λ f. is_field_of class.0 name.now (field_seen no_place f)) p.now.fields.items }
     ensures within { IfSome result (λ i. i < length p.now.fields.items) }
 {
-    first_among(&p.fields, fields_of(p, class, name), |field| {
-        is_field_of(field, class, name)
-    })
+    first_among(
+        &p.fields,
+        named_in(&p.tables.fields, &p.fields, class, name),
+        |field| { is_field_of(field, class, name) },
+    )
 }
 
 /// The number of the instance method of a name that a class itself declares.
@@ -81,9 +75,11 @@ pub fn own_method_at(p: &Program, class: ClassId, name: &Name) -> Option<usize>
     ensures value { result ≡ position (λ m. is_method_of class.0 name.now (method_seen no_place m)) p.now.methods.items }
     ensures within { IfSome result (λ i. i < length p.now.methods.items) }
 {
-    first_among(&p.methods, methods_of(p, class, name), |method| {
-        is_method_of(method, class, name)
-    })
+    first_among(
+        &p.methods,
+        named_in(&p.tables.methods.members, &p.methods, class, name),
+        |method| { is_method_of(method, class, name) },
+    )
 }
 
 /// Whether a field stands in the class and has the name.
@@ -140,7 +136,7 @@ pub fn methods_named<'a>(p: &'a Program, name: &Name) -> &'a [usize]
         ≡ position (λ m. offers (program_of no_place p.now) c name.now (method_seen no_place m)) p.now.methods.items }
 {
     listed_under(
-        &p.tables.methods.named,
+        &p.tables.methods.members.named,
         name_bucket(p.methods.len(), ClassId(0), name),
     )
 }

@@ -1,29 +1,80 @@
 //! The members of a program by owner, by owner and name, by owner and slot, and by name.
 #![tactic(auto)]
 
-ghost use Rattle.std.specs.Prelude.{◌≡◌, ◌+◌, ◌/◌, ◌<◌, length, map, IfOk};
-ghost use Rattle.java_core.specs.Owned.{AreOwned};
-ghost use Rattle.java_core.specs.Tables.{AreFieldTables, AreMethodTables, mixed, mixed_all, name_bucket, slot_bucket, field_place, method_place};
+ghost use Rattle.std.specs.Prelude.{◌≡◌, ◌+◌, ◌/◌, ◌<◌, None, true, not, length, IfOk};
+ghost use Rattle.java_core.specs.MemberKeys.{MemberKeys, field_keys, method_keys};
+ghost use Rattle.java_core.specs.Tables.{AreMembersBy, AreMemberTables, AreMethodTables, mixed, mixed_all, name_bucket, slot_bucket, place_by};
 
-use crate::nearest::{nearest_fields, nearest_methods};
+use crate::nearest::nearest_members;
 use crate::owned::note_under;
 use crate::{Field, Method};
-use kaba_base::{ClassId, Name};
+use kaba_base::{ClassId, Name, made};
 use std::alloc::{AllocError, Global};
 use version_map::VersionMap;
 
-/// By what fields are listed.
-pub enum FieldKey {
-    /// By their class.
-    Owner,
-    /// By their class and their name.
-    OwnerAndName,
-    /// By their name.
-    Name,
+/// A field or a method, by what it is looked for.
+pub trait Member {
+    ghost keys: { Self → MemberKeys };
+
+    /// The class or interface that it stands in.
+    fn owner(&self) -> ClassId
+        ensures { result.0 ≡ (keys self.now).owner };
+
+    /// Its name.
+    fn name(&self) -> &Name
+        ensures { result.now ≡ (keys self.now).name };
+
+    /// The slot of a method, if it has one.
+    fn slot(&self) -> Option<u32>
+        ensures { result ≡ (keys self.now).slot };
+
+    /// Whether it is looked for by its name from the classes below: a field, or an instance method.
+    fn is_inherited(&self) -> bool
+        ensures { result ≡ (keys self.now).is_inherited };
 }
 
-/// By what methods are listed.
-pub enum MethodKey {
+impl Member for Field {
+    ghost keys = { field_keys };
+
+    fn owner(&self) -> ClassId {
+        self.owner
+    }
+
+    fn name(&self) -> &Name {
+        &self.name
+    }
+
+    fn slot(&self) -> Option<u32> {
+        None
+    }
+
+    fn is_inherited(&self) -> bool {
+        true
+    }
+}
+
+impl Member for Method {
+    ghost keys = { method_keys };
+
+    fn owner(&self) -> ClassId {
+        self.owner
+    }
+
+    fn name(&self) -> &Name {
+        &self.name
+    }
+
+    fn slot(&self) -> Option<u32> {
+        self.slot
+    }
+
+    fn is_inherited(&self) -> bool {
+        !self.is_static
+    }
+}
+
+/// By what members are listed.
+pub enum MemberKey {
     /// By their class or interface.
     Owner,
     /// By their class or interface and their name.
@@ -34,32 +85,25 @@ pub enum MethodKey {
     Name,
 }
 
-/// The numbers of fields, in rising order in each list.
+/// The numbers of fields, or of methods, in rising order in each list.
 #[derive(Drop)]
-pub struct FieldTables {
-    /// For each class the fields that it declares itself.
+pub struct MemberTables {
+    /// For each class or interface the members that it declares itself.
     pub own: Vec<Vec<usize>>,
-    /// For each bucket the fields of its owners and names.
+    /// For each bucket the members of its owners and names.
     pub by_name: Vec<Vec<usize>>,
-    /// For each bucket the fields of its names.
+    /// For each bucket the members of its names.
     pub named: Vec<Vec<usize>>,
-    /// For each class that others extend the fields at or above it by the numbers of their names, the nearest ones.
+    /// For each class that others extend the fields, or instance methods, at or above it by the numbers of their names, the nearest ones.
     pub nearest: Vec<Option<VersionMap>>,
 }
 
-/// The numbers of methods, in rising order in each list.
+/// The numbers of methods, by their slots too.
 #[derive(Drop)]
 pub struct MethodTables {
-    /// For each class or interface the methods that it declares itself.
-    pub own: Vec<Vec<usize>>,
-    /// For each bucket the methods of its owners and names.
-    pub by_name: Vec<Vec<usize>>,
+    pub members: MemberTables,
     /// For each bucket the methods of its owners and slots.
     pub by_slot: Vec<Vec<usize>>,
-    /// For each bucket the methods of its names.
-    pub named: Vec<Vec<usize>>,
-    /// For each class that others extend the instance methods at or above it by the numbers of their names, the nearest ones.
-    pub nearest: Vec<Option<VersionMap>>,
 }
 
 /// The numbers of members by what they are looked for by.
@@ -67,26 +111,26 @@ pub struct MethodTables {
 pub struct Tables {
     /// The superclass of each class.
     pub parents: Vec<Option<ClassId>>,
-    pub fields: FieldTables,
+    pub fields: MemberTables,
     pub methods: MethodTables,
 }
 
-impl FieldTables {
-    /// The tables of these fields, for classes with these superclasses and types in an order in which each comes behind its supertypes;
+impl MemberTables {
+    /// The tables of these members, for classes with these superclasses and types in an order in which each comes behind its supertypes;
     /// `AllocError` where memory is short.
-    pub fn new(
+    pub fn new<M: Member>(
         alloc: Global,
         parents: &[Option<ClassId>],
-        fields: &[Field],
+        members: &[M],
         order: &[u32],
-    ) -> Result<FieldTables, AllocError>
-        ensures { IfOk result (λ t. AreFieldTables parents.now fields.now t) }
+    ) -> Result<MemberTables, AllocError>
+        ensures { IfOk result (λ t. AreMemberTables M.keys parents.now members.now t) }
     {
-        let own = fields_by(alloc, fields, &FieldKey::Owner)?;
-        let named = fields_by(alloc, fields, &FieldKey::Name)?;
-        Ok(FieldTables {
-            nearest: nearest_fields(alloc, parents, fields, &own, &named, order)?,
-            by_name: fields_by(alloc, fields, &FieldKey::OwnerAndName)?,
+        let own = listed_by(alloc, members, &MemberKey::Owner)?;
+        let named = listed_by(alloc, members, &MemberKey::Name)?;
+        Ok(MemberTables {
+            nearest: nearest_members(alloc, parents, members, &own, &named, order)?,
+            by_name: listed_by(alloc, members, &MemberKey::OwnerAndName)?,
             own,
             named,
         })
@@ -103,15 +147,9 @@ impl MethodTables {
     ) -> Result<MethodTables, AllocError>
         ensures { IfOk result (λ t. AreMethodTables parents.now methods.now t) }
     {
-        let own = methods_by(alloc, methods, &MethodKey::Owner)?;
-        let named = methods_by(alloc, methods, &MethodKey::Name)?;
-        Ok(MethodTables {
-            nearest: nearest_methods(alloc, parents, methods, &own, &named, order)?,
-            by_name: methods_by(alloc, methods, &MethodKey::OwnerAndName)?,
-            by_slot: methods_by(alloc, methods, &MethodKey::OwnerAndSlot)?,
-            own,
-            named,
-        })
+        let by_slot = made!(listed_by(alloc, methods, &MemberKey::OwnerAndSlot));
+        let members = made!(MemberTables::new(alloc, parents, methods, order); by_slot);
+        Ok(MethodTables { members, by_slot })
     }
 }
 
@@ -155,47 +193,29 @@ pub fn slot_bucket(members: usize, class: ClassId, slot: Option<u32>) -> usize
     }
 }
 
-/// The place of a field in the lists, of so many fields.
-fn field_place(by: &FieldKey, members: usize, field: &Field) -> usize
-    ensures { result ≡ field_place by.now members field.now }
+/// The place of a member in the lists, of so many members.
+fn place_by<M: Member>(by: &MemberKey, members: usize, member: &M) -> usize
+    ensures { result ≡ place_by by.now members (M.keys member.now) }
 {
     match by {
-        FieldKey::Owner => field.owner.0 as usize,
-        FieldKey::OwnerAndName => name_bucket(members, field.owner, &field.name),
-        FieldKey::Name => name_bucket(members, ClassId(0), &field.name),
+        MemberKey::Owner => member.owner().0 as usize,
+        MemberKey::OwnerAndName => name_bucket(members, member.owner(), member.name()),
+        MemberKey::OwnerAndSlot => slot_bucket(members, member.owner(), member.slot()),
+        MemberKey::Name => name_bucket(members, ClassId(0), member.name()),
     }
 }
 
-/// The place of a method in the lists, of so many methods.
-fn method_place(by: &MethodKey, members: usize, method: &Method) -> usize
-    ensures { result ≡ method_place by.now members method.now }
-{
-    match by {
-        MethodKey::Owner => method.owner.0 as usize,
-        MethodKey::OwnerAndName => name_bucket(members, method.owner, &method.name),
-        MethodKey::OwnerAndSlot => slot_bucket(members, method.owner, method.slot),
-        MethodKey::Name => name_bucket(members, ClassId(0), &method.name),
-    }
-}
-
-/// The fields by what is said; `AllocError` where memory is short.
-fn fields_by(alloc: Global, list: &[Field], by: &FieldKey) -> Result<Vec<Vec<usize>>, AllocError>
-    ensures { IfOk result (λ v. AreOwned (map (λ f. field_place by.now (length list.now) f) list.now) v.items) }
+/// The members by what is said; `AllocError` where memory is short.
+fn listed_by<M: Member>(
+    alloc: Global,
+    list: &[M],
+    by: &MemberKey,
+) -> Result<Vec<Vec<usize>>, AllocError>
+    ensures { IfOk result (λ v. AreMembersBy M.keys by.now list.now v.items) }
 {
     let mut lists = Vec::new(alloc);
     for k in 0..list.len() {
-        note_under(alloc, &mut lists, field_place(by, list.len(), &list[k]), k)?;
-    }
-    Ok(lists)
-}
-
-/// The methods by what is said; `AllocError` where memory is short.
-fn methods_by(alloc: Global, list: &[Method], by: &MethodKey) -> Result<Vec<Vec<usize>>, AllocError>
-    ensures { IfOk result (λ v. AreOwned (map (λ m. method_place by.now (length list.now) m) list.now) v.items) }
-{
-    let mut lists = Vec::new(alloc);
-    for k in 0..list.len() {
-        note_under(alloc, &mut lists, method_place(by, list.len(), &list[k]), k)?;
+        note_under(alloc, &mut lists, place_by(by, list.len(), &list[k]), k)?;
     }
     Ok(lists)
 }
