@@ -54,18 +54,11 @@ pub record Stmted (ts : List Token) (s : Statement) (rest : List Token) : Type 0
   pub fact : IsStmt flag ts rest s
   pub closed : flag ≡ true → after_key keys.Else rest ≡ None
 
-pub record Headed (ts : List Token) (f : OptionalStatement) (v : Option Expression) (g : OptionalStatement) (rest : List Token) : Type 0 where
-  pub open_at : Place
-  pub first_at : Place
-  pub second_at : Place
-  pub close_at : Place
-  pub inner : List Token
-  pub middle : List Token
-  pub last : List Token
-  pub starts : ts ≡ mark marks.OpenRound open_at ∷ inner
-  pub first : IsFirst inner (mark marks.Semi first_at ∷ middle) f
-  pub test : IsValue middle (mark marks.Semi second_at ∷ last) v
-  pub step : IsStep last (mark marks.CloseRound close_at ∷ rest) g
+-- the head of a `for`, by its three parts
+pub data Headed : List Token → OptionalStatement → Option Expression → OptionalStatement → List Token → Type 0 where
+  headed : {o p q r : Place} {inner middle last rest : List Token} {f : OptionalStatement} {v : Option Expression} {g : OptionalStatement} →
+      IsFirst inner (mark marks.Semi p ∷ middle) f → IsValue middle (mark marks.Semi q ∷ last) v → IsStep last (mark marks.CloseRound r ∷ rest) g →
+      Headed (mark marks.OpenRound o ∷ inner) f v g rest
 
 pub record Branched (before : Arms) (ts : List Token) (a : Arms) (l : Else) (rest : List Token) : Type 0 where
   pub flag : Bool

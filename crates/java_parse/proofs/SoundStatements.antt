@@ -15,7 +15,7 @@ use Rattle.java_parse.specs.Front.{after, after_key, word_next, stmt_snoc, arm_s
 use Rattle.java_tree.specs.Expressions.{IsExpr}
 use Rattle.java_tree.specs.Statements.{is_choice, printed, no_value, a_value, no_init, an_init, a_local, IsTarget, to_name, IsCall, IsAct, assign, assign_by, step_after, step_before, do_call, print, do_new, no_first, first_local, first_act, no_step, a_step, local_item, stmt_item, IsItems, no_items, next_item, IsStmt, block, empty, acting, choice, while_loop, for_loop, return_word, break_word, continue_word, IsArms, last_arm, else_arm, more_arms}
 use Rattle.java_parse.proofs.Fronts.{option_cases, bool_cases, after_is, after_key_is, word_is, final_is, stands_is, start_cases, Starts, start_is}
-use Rattle.java_parse.proofs.Post.{Ended, by_name, by_target, by_call, by_new, by_array, by_other, Tested, Itemed, Stmted, Headed, Branched, Post}
+use Rattle.java_parse.proofs.Post.{Ended, by_name, by_target, by_call, by_new, by_array, by_other, Tested, Itemed, Stmted, Headed, headed, Branched, Post}
 use Rattle.java_parse.proofs.Runs.{Good}
 use Rattle.java_parse.specs.ReadStatements.{init_step, local_step, value_step, act_step, act_rest_step, tested_step, item_step, items_step, stmt_step, for_head_step, first_step, step_step, branches_step}
 
@@ -100,7 +100,7 @@ while_good e t d = rw (e, t.starts) (record { flag = d.flag; fact = while_loop t
 
 for_good : {ts us vs rest : List Token} {p : Place} {f g : OptionalStatement} {v : Option Expression} {s : Statement} → ts ≡ key keys.For p ∷ us
     → Headed us f v g vs → Stmted vs s rest → Stmted ts (ForOf f v g (as_body s) p) rest
-for_good e t d = rw (e, t.starts) (record { flag = d.flag; fact = for_loop t.first t.test t.step d.fact; closed = d.closed })
+for_good e (headed first test step) d = rw e (record { flag = d.flag; fact = for_loop first test step d.fact; closed = d.closed })
 
 -- a body before an `else`
 shut : {o : Bool} {ts us : List Token} {s : Statement} {p : Place} → (o ≡ true → after_key keys.Else (key keys.Else p ∷ us) ≡ None)
@@ -255,20 +255,7 @@ for_head_good ts = option_cases (after marks.OpenRound ts)
     (λ w4 y4. let e4 = after_is marks.Semi r3 w4 y4 in rw y4 (λ v5 r5 d5. (option_cases (after marks.CloseRound r5)
     (λ n6. rw n6 tt)
     (λ w6 y6. let e6 = after_is marks.CloseRound r5 w6 y6 in rw y6
-    (record {
-      open_at = w0.0;
-      first_at = w2.0;
-      second_at = w4.0;
-      close_at = w6.0;
-      inner = w0.1;
-      middle = w2.1;
-      last = w4.1;
-      starts = e0;
-      first =
-          rw e2 at d1;
-      test = rw e4 at d3;
-      step = rw e6 at d5;
-    })))))))))))
+    (rw e0 (headed (rw e2 at d1) (rw e4 at d3) (rw e6 at d5)))))))))))))
 
 pub first_good : (ts : List Token) → Good Post (first_step ts) (Post NFirst ts)
 first_good ts = option_cases (after marks.Semi ts)
