@@ -23,7 +23,8 @@ pub const MANY: usize = 4294967295;
 fn has_name<M: Member>(member: &M, name: &Name) -> bool
     ensures { result ≡ has_name M.keys name.now member.now }
 {
-    member.is_inherited() && member.name().same(name)
+    let keys = member.keys();
+    keys.is_inherited && keys.name.same(name)
 }
 
 /// The number of a name: that of the first such member that has it. The lists are those of the names.
@@ -52,8 +53,9 @@ fn number_of<M: Member>(members: &[M], lists: &Vec<Vec<usize>>, member: &M) -> O
     requires named { AreMembersBy M.keys key.Name members.now lists.now.items }
     ensures { result ≡ number_of M.keys members.now member.now }
 {
-    if member.is_inherited() {
-        narrow(name_number(members, lists, member.name()))
+    let keys = member.keys();
+    if keys.is_inherited {
+        narrow(name_number(members, lists, keys.name))
     } else {
         None
     }

@@ -12,64 +12,53 @@ use kaba_base::{ClassId, Name, made};
 use std::alloc::{AllocError, Global};
 use version_map::VersionMap;
 
-/// A field or a method, by what it is looked for.
+/// What a member is looked for by.
+#[derive(Clone, Copy)]
+pub struct Keys<'a> {
+    /// Whether it is looked for by its name from the classes below: a field, or an instance method.
+    pub is_inherited: bool,
+    /// The class or interface that it stands in.
+    pub owner: ClassId,
+    pub name: &'a Name,
+    /// The slot of a method, if it has one.
+    pub slot: Option<u32>,
+}
+
+/// A field or a method.
 pub trait Member {
     ghost keys: { Self → MemberKeys };
 
-    /// The class or interface that it stands in.
-    fn owner(&self) -> ClassId
-        ensures { result.0 ≡ (keys self.now).owner };
-
-    /// Its name.
-    fn name(&self) -> &Name
-        ensures { result.now ≡ (keys self.now).name };
-
-    /// The slot of a method, if it has one.
-    fn slot(&self) -> Option<u32>
-        ensures { result ≡ (keys self.now).slot };
-
-    /// Whether it is looked for by its name from the classes below: a field, or an instance method.
-    fn is_inherited(&self) -> bool
-        ensures { result ≡ (keys self.now).is_inherited };
+    /// What it is looked for by.
+    fn keys(&self) -> Keys<'_>
+        ensures inherited { result.is_inherited ≡ (keys self.now).is_inherited }
+        ensures owner { result.owner.0 ≡ (keys self.now).owner }
+        ensures name { result.name.now ≡ (keys self.now).name }
+        ensures slot { result.slot ≡ (keys self.now).slot };
 }
 
 impl Member for Field {
     ghost keys = { field_keys };
 
-    fn owner(&self) -> ClassId {
-        self.owner
-    }
-
-    fn name(&self) -> &Name {
-        &self.name
-    }
-
-    fn slot(&self) -> Option<u32> {
-        None
-    }
-
-    fn is_inherited(&self) -> bool {
-        true
+    fn keys(&self) -> Keys<'_> {
+        Keys {
+            is_inherited: true,
+            owner: self.owner,
+            name: &self.name,
+            slot: None,
+        }
     }
 }
 
 impl Member for Method {
     ghost keys = { method_keys };
 
-    fn owner(&self) -> ClassId {
-        self.owner
-    }
-
-    fn name(&self) -> &Name {
-        &self.name
-    }
-
-    fn slot(&self) -> Option<u32> {
-        self.slot
-    }
-
-    fn is_inherited(&self) -> bool {
-        !self.is_static
+    fn keys(&self) -> Keys<'_> {
+        Keys {
+            is_inherited: !self.is_static,
+            owner: self.owner,
+            name: &self.name,
+            slot: self.slot,
+        }
     }
 }
 
@@ -197,11 +186,12 @@ pub fn slot_bucket(members: usize, class: ClassId, slot: Option<u32>) -> usize
 fn place_by<M: Member>(by: &MemberKey, members: usize, member: &M) -> usize
     ensures { result ≡ place_by by.now members (M.keys member.now) }
 {
+    let keys = member.keys();
     match by {
-        MemberKey::Owner => member.owner().0 as usize,
-        MemberKey::OwnerAndName => name_bucket(members, member.owner(), member.name()),
-        MemberKey::OwnerAndSlot => slot_bucket(members, member.owner(), member.slot()),
-        MemberKey::Name => name_bucket(members, ClassId(0), member.name()),
+        MemberKey::Owner => keys.owner.0 as usize,
+        MemberKey::OwnerAndName => name_bucket(members, keys.owner, keys.name),
+        MemberKey::OwnerAndSlot => slot_bucket(members, keys.owner, keys.slot),
+        MemberKey::Name => name_bucket(members, ClassId(0), keys.name),
     }
 }
 
