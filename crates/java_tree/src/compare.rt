@@ -82,14 +82,10 @@ fn equal_method_bodies(a: &Option<Vec<Stmt>>, b: &Option<Vec<Stmt>>) -> bool
 fn equal_members(a: &Member, b: &Member) -> bool
     ensures value { result ≡ same_member (member_of a.now) (member_of b.now) }
 {
-    match a {
-        Member::Field { mods, ty, name, .. } =>
-            same_form!(b, Member::Field { mods: words, ty: kind, name: other, .. } =>
-                equal_modifier_lists(mods, words) && equal_types(ty, kind) && equal_names(name, other)),
-        Member::Method { head, body, .. } =>
-            same_form!(b, Member::Method { head: front, body: other, .. } =>
-                equal_heads(head, front) && equal_method_bodies(body, other)),
-    }
+    same_forms!(a, b;
+        Member::Field { mods words equal_modifier_lists, ty kind equal_types, name other equal_names }
+        Member::Method { head front equal_heads, body other equal_method_bodies }
+    )
 }
 
 #[tactic(auto, using(crate::proofs::Sameness::lists))]
@@ -103,28 +99,15 @@ fn equal_member_lists(a: &[Member], b: &[Member]) -> bool
 fn equal_decls(a: &Decl, b: &Decl) -> bool
     ensures value { result ≡ same_decl (decl_of a.now) (decl_of b.now) }
 {
-    match a {
+    same_forms!(a, b;
         Decl::Class {
-            mods,
-            name,
-            parent,
-            faces,
-            members,
-            ..
-        } =>
-            same_form!(b, Decl::Class { mods: words, name: other, parent: above, faces: others, members: rest, .. } =>
-                equal_modifier_lists(mods, words) && equal_names(name, other) && equal_parents(parent, above)
-                    && equal_id_lists(faces, others) && equal_member_lists(members, rest)),
+            mods words equal_modifier_lists, name other equal_names, parent above equal_parents,
+            faces others equal_id_lists, members rest equal_member_lists
+        }
         Decl::Interface {
-            mods,
-            name,
-            parents,
-            heads,
-            ..
-        } =>
-            same_form!(b, Decl::Interface { mods: words, name: other, parents: others, heads: rest, .. } =>
-                equal_modifier_lists(mods, words) && equal_names(name, other) && equal_id_lists(parents, others) && equal_head_lists(heads, rest)),
-    }
+            mods words equal_modifier_lists, name other equal_names, parents others equal_id_lists, heads rest equal_head_lists
+        }
+    )
 }
 
 #[tactic(auto, using(crate::proofs::Sameness::lists))]

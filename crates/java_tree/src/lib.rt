@@ -63,6 +63,16 @@ macro_rules! same_form {
     };
 }
 
+/// Whether two trees have the same of these forms, with each of the parts that are named equal.
+macro_rules! same_forms {
+    ($a:ident, $b:ident; $($form:path { $first:ident $one:ident $equal:ident $(, $field:ident $other:ident $by:ident)* })*) => {
+        match $a {
+            $($form { $first, $($field,)* .. } =>
+                same_form!($b, $form { $first: $one, $($field: $other,)* .. } => $equal($first, $one) $(&& $by($field, $other))*),)*
+        }
+    };
+}
+
 ghost use Rattle.java_tree.specs.Laws.{OneAnswer};
 
 mod asked;
