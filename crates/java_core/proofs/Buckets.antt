@@ -36,19 +36,9 @@ same_slot : (n c s : ℕ) (o : Option ℕ) → is_slot o s ≡ true → slot_buc
 same_slot n c s None e = absurd (false≢true e)
 same_slot n c s (Some r) e = ap (λ i. slot_bucket n c (Some i)) (eqb-true r s e)
 
--- a field of a name in a class has the two, and so does an instance method
-pub field_in : (c : ℕ) (x : List ℕ) (f : Field) → is_field_of c x (field_seen no_place f) ≡ true → (f.owner.0 ≡ c) × (f.name ≡ x)
-field_in c x f e =
-    let z = and_parts (f.owner.0 == c) (bytes_eq f.name x) e in
-    (eqb-true f.owner.0 c z.0, (bytes_eq-Decides f.name x).0 z.1)
-
-pub method_in : (c : ℕ) (x : List ℕ) (m : Method) → is_method_of c x (method_seen no_place m) ≡ true → (m.owner.0 ≡ c) × (m.name ≡ x)
-method_in c x m e =
-    let z = and_parts (m.owner.0 == c) (not m.is_static && bytes_eq m.name x) e in
-    (eqb-true m.owner.0 c z.0, (bytes_eq-Decides m.name x).0 (and_parts (not m.is_static) (bytes_eq m.name x) z.1).1)
-
 -- a method of a slot in a class is in the bucket of the two
-pub slot_there : (n c s : ℕ) (m : Method) → has_slot c s (method_seen no_place m) ≡ true → place_by key.OwnerAndSlot n (method_keys m) ≡ slot_bucket n c (Some s)
+pub slot_there : (n c s : ℕ) (m : Method) → has_slot c s (method_seen no_place m) ≡ true → place_by key.OwnerAndSlot n (method_keys m)
+    ≡ slot_bucket n c (Some s)
 slot_there n c s m e =
     let z = and_parts (m.owner.0 == c) (is_slot m.slot s) e in
     ap (λ k. slot_bucket n k m.slot) (eqb-true m.owner.0 c z.0) ∙ same_slot n c s m.slot z.1
@@ -70,5 +60,6 @@ pub body_slot : (c s : ℕ) (m : Method) → (has_slot c s (method_seen no_place
 body_slot c s m e = (and_parts ((m.owner.0 == c) && is_slot m.slot s) (is_some (method_seen no_place m).body) e).0
 
 -- a member of a name that is looked for from below is in the bucket of the name
-pub named_there : {A : Type 0} (keys : A → MemberKeys) (n : ℕ) (x : List ℕ) (a : A) → has_name keys x a ≡ true → place_by key.Name n (keys a) ≡ name_bucket n 0 x
+pub named_there : {A : Type 0} (keys : A → MemberKeys) (n : ℕ) (x : List ℕ) (a : A) → has_name keys x a ≡ true → place_by key.Name n (keys a)
+    ≡ name_bucket n 0 x
 named_there keys n x a e = ap (name_bucket n 0) ((bytes_eq-Decides (keys a).name x).0 (and_parts (keys a).is_inherited (bytes_eq (keys a).name x) e).1)

@@ -201,7 +201,8 @@ module _ {A : Type 0} (keys : A → MemberKeys) (xs : List A) where
               let mine = position-passes (λ y. has_name keys (keys a).name y) xs i (k ∙ ap Some (eqb-true j i g)) in
               let its = position-passes (λ y. has_name keys x y) xs i e in
               let y : mine.0 ≡ its.0 = cc (mine.1, its.1) in
-              let m = (bytes_eq-Decides (keys mine.0).name (keys a).name).0 (and_parts ((keys mine.0).is_inherited) (bytes_eq (keys mine.0).name (keys a).name) mine.2).1 in
+              let m = (bytes_eq-Decides (keys mine.0).name (keys a).name).0
+              (and_parts ((keys mine.0).is_inherited) (bytes_eq (keys mine.0).name (keys a).name) mine.2).1 in
               let t = (bytes_eq-Decides (keys its.0).name x).0 (and_parts ((keys its.0).is_inherited) (bytes_eq (keys its.0).name x) its.2).1 in
               absurd (false≢true (sym h ∙ (bytes_eq-Decides (keys a).name x).1 (sym m ∙ ap (λ z. (keys z).name) y ∙ t)))
 
@@ -231,7 +232,8 @@ module _ {A : Type 0} (keys : A → MemberKeys) (xs : List A) where
   -- what the version of the superclass has under the number of a name is nearest, where a class has nothing of its own
   pub numbered-nearest : (parents : List (Option ClassId)) (lists : List (Vec ℕ Global)) → AreOwned (map owner xs) lists
       → (all : List (Option VersionMap)) → AreVersions parents (name_numbers keys xs) lists all → (c : ℕ) (m : VersionMap) → IsAbove parents all c m
-      → (x : List ℕ) (o : Option ℕ) → o ≡ name_number keys xs x → (own : ℕ → Option ℕ) → ((k : ℕ) → position (λ a. (owner a == k) && has_name keys x a) xs ≡ own k)
+      → (x : List ℕ) (o : Option ℕ) → o ≡ name_number keys xs x → (own : ℕ → Option ℕ)
+      → ((k : ℕ) → position (λ a. (owner a == k) && has_name keys x a) xs ≡ own k)
       → IsNearestBy parents own c (option_and_then (holds m) o)
   numbered-nearest parents lists owned all v c m a x None e own is here = nowhere parents own (λ k. sym (is k) ∙ unnumbered x (sym e) k) (length parents) c
   numbered-nearest parents lists owned all v c m a x (Some i) e own is here =

@@ -35,7 +35,7 @@ pub use statics::{
 };
 pub use subtypes::{Hierarchy, subtypes_of};
 use tables::Tables;
-pub use tables::{MemberTables, mixed, mixed_all};
+pub use tables::{MemberTables as FieldTables, mixed, mixed_all};
 
 /// What an array's elements are, or a type that is no array.
 #[derive(Clone, Copy, PartialEq, Eq)]

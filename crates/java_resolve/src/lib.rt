@@ -22,7 +22,7 @@ ghost use Rattle.name_outcome.specs.Resolved.{resolved, with_bodies, parents_of}
 use declared_types::{
     Draft, above_of, clashes_of, classes_of, known_of, loops_of, main_of, members_of,
 };
-use java_core::{Class, Hierarchy, MemberTables, Program};
+use java_core::{Class, FieldTables, Hierarchy, Program};
 use java_tree::{Decl, Tree};
 use kaba_base::{ClassId, MemberId, made};
 pub use name_rules::{Form, Refusal};
@@ -97,7 +97,7 @@ fn with_bodies(
         }
     };
     let field_tables =
-        made!(MemberTables::new(alloc, parents.as_slice(), draft.fields.as_slice(), above.supertypes_first()) => Refusal; known, classes, above, draft, parents);
+        made!(FieldTables::new(alloc, parents.as_slice(), draft.fields.as_slice(), above.supertypes_first()) => Refusal; known, classes, above, draft, parents);
     let blocks =
         made!(blocks_of_names(alloc, &above, &draft.headings, &draft.method_spots) => Refusal; known, classes, above, draft, parents, field_tables);
     let tables = Tables {

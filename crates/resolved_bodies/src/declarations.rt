@@ -8,7 +8,7 @@ ghost use Rattle.name_tables.specs.Owned.{AreOwned};
 ghost use Rattle.name_tables.specs.Spots.{AreSpots};
 ghost use Rattle.resolved_bodies.specs.Met.{AreBlocksOf};
 
-use java_core::{Field, Hierarchy, MemberTables};
+use java_core::{Field, FieldTables, Hierarchy};
 use kaba_base::ClassId;
 use kaba_bits::BitRow;
 use name_outcome::Heading;
@@ -33,7 +33,7 @@ pub struct Tables {
     /// Which classes meet methods of the names that many have.
     pub blocks: Vec<Vec<BitRow>>,
     /// Which fields are nearest above a class.
-    pub field_tables: MemberTables,
+    pub field_tables: FieldTables,
     ghost fields_found: { AreOwned (field_in fields.items) own_fields },
     ghost blocks_found: { AreBlocksOf above headings.items method_spots blocks.items },
     ghost above_found: { AreFieldTables parents.items fields.items field_tables },

@@ -5,7 +5,8 @@ use Rattle.java_core.proofs.Buckets.{keyed_at}
 use Rattle.java_core.proofs.own.named_in.Goals as goal
 
 pub returns-then-own-le-FEW : goal.returns-then-own-le-FEW
-returns-then-own-le-FEW g c p is = keyed_at (λ m. (g.M.Member.keys m).owner) p c.args.members.now c.listed_under-own.ensures refl c.requires.own (λ m e. (is m e).0)
+returns-then-own-le-FEW g c p is = keyed_at (λ m. (g.M.Member.keys m).owner) p c.args.members.now c.listed_under-own.ensures refl c.requires.own
+    (λ m e. (is m e).0)
 
 pub returns : goal.returns
 returns g c p is =

@@ -11,5 +11,6 @@ returns-clause-rows c = λ a b.
     let m = c.args.m in
     c.drop_others.ensures.rows a b
     ∙ ap (λ x. x && stays set m a && stays set m b)
-    (closed_rows c.args.le.now c.gather.new.le c.spread.new.le set m c.requires.among c.requires.reflexive g.size.len (s.size.len ∙ g.size.len) g.others g.gathered
+    (closed_rows c.args.le.now c.gather.new.le c.spread.new.le set m c.requires.among c.requires.reflexive g.size.len (s.size.len
+    ∙ g.size.len) g.others g.gathered
     s.same s.rows a b)
