@@ -89,6 +89,9 @@ formed = record {
   main = method_main;
   main_stands = refl;
   main_is = record { static = refl; name = refl; params = refl; result = refl };
-  main_first = λ m k e h. each_at (λ (k : PlainMethod). IsMain k → 2 ≤ k.owner) old.methods m k ((λ i. absurd (false≢true i.static)), ((λ i. omega arith), tt)) e h;
+  main_first = λ m k e h. each_at (λ (k : PlainMethod). IsMain k → 2 ≤ k.owner) old.methods m k (
+    (λ i. absurd (false≢true i.static)),
+    ((λ i. omega arith), tt),
+  ) e h;
   counted = record { classes = omega arith; fields = omega arith; methods = omega arith; slots = omega arith };
 }
