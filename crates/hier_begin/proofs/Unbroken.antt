@@ -42,16 +42,7 @@ none_of_edit F pt H none =
     let d = or_else-None (first_wrong_need F pt H) (or_else (first_wrong_super F H) (or_else (first_two_bodies F H) (first_wrong_outcome F pt H))) c.0 in
     let e = or_else-None (first_wrong_super F H) (or_else (first_two_bodies F H) (first_wrong_outcome F pt H)) d.1 in
     let f = or_else-None (first_two_bodies F H) (first_wrong_outcome F pt H) e.1 in
-    record {
-      offered = a.0;
-      tied = b.0;
-      needs = d.0;
-      supers = e.0;
-      bodies = f.0;
-      outcomes = f.1;
-      misnamed = c.1;
-      names = none_misnamed F H c.1;
-    }
+    record { offered = a.0; tied = b.0; needs = d.0; supers = e.0; bodies = f.0; outcomes = f.1; misnamed = c.1; names = none_misnamed F H c.1 }
 
 pub none_broken : (F : Facts) (pt : PointsTo) (H : Hierarchy) → first_broken F pt H ≡ None → NoneBroken F pt H
 none_broken F pt H none = none_of_edit F pt H (or_else-None (first_of_edit F pt H) (first_unchained F H) none).0

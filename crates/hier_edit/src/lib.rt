@@ -8,7 +8,7 @@ ghost use Rattle.hier_edit.specs.declared.ApplyFault.TheVariants as ApplyFault;
 
 use fact_model::{Facts, PointsTo};
 use hier_model::{ChangeFault, Edit, Hier};
-use hier_rules::{Broken, Nodes, Rule, first_of_edit};
+use hier_rules::{Asked, Broken, Nodes, Rule, first_of_edit};
 use kaba_base::{ColId, NodeId};
 use std::alloc::Global;
 
@@ -54,7 +54,12 @@ fn tested(alloc: Global, made: Hier, facts: &Facts, sets: &PointsTo) -> Result<H
     ensures meets { IfOk result (MeetsEdit facts.now sets.now) }
     ensures fits { IfOk result (IsHierarchyOf facts.now) }
 {
-    match first_of_edit(alloc, &made, facts, sets) {
+    let asked = Asked {
+        facts,
+        pt: sets,
+        hier: &made,
+    };
+    match first_of_edit(alloc, &asked) {
         Ok(None) => Ok(made),
         Ok(Some(broken)) => Err(ApplyFault::Breaks(broken)),
         Err(_) => Err(ApplyFault::Memory),

@@ -7,6 +7,8 @@ use Rattle.kaba_bits.specs.Sets.{first_below, when}
 use Rattle.fact_model.specs.Concepts.{pair_of}
 use Rattle.fact_model.specs.declared.sets.Concept.{Concept}
 use Rattle.hier_model.specs.Hierarchies.{node}
+use Rattle.hier_model.specs.declared.begin.Entry.{Entry}
+use Rattle.hier_model.specs.declared.begin.Entry.TheVariants as entry
 use Rattle.hier_model.specs.Start.{concept_at, is_filled, is_subset}
 
 -- the extent and the intent at a number
@@ -27,7 +29,15 @@ lists_column concepts k c = option_map_or (λ x. list_any (λ d. d.0 == c) x.col
 abbrev pub lists_row : List Concept → ℕ → ℕ → Bool
 lists_row concepts k r = option_map_or (λ x. list_any (λ q. q.0 == r) x.rows.items) (slice_get concepts k) false
 
--- the node that lists a column, and the one that lists a row
+-- the same of either
+abbrev pub lists : List Concept → ℕ → Entry → Bool
+lists concepts k (entry.Column c) = lists_column concepts k c.0
+lists concepts k (entry.Row r) = lists_row concepts k r.0
+
+-- the node that lists a column or a row
+abbrev pub listed : List Concept → Entry → Option NodeId
+listed concepts e = first_below (length concepts) (λ k. when (lists concepts k e) (node k))
+
 abbrev pub listed_column : List Concept → ℕ → Option NodeId
 listed_column concepts c = first_below (length concepts) (λ k. when (lists_column concepts k c) (node k))
 

@@ -11,7 +11,7 @@ ghost use Rattle.fact_model.specs.Concepts.{pair_of, IsLatticeOf};
 ghost use Rattle.fact_model.specs.Classes.{is_interface};
 ghost use Rattle.hier_model.specs.Hierarchies.{IsHierarchyOf};
 ghost use Rattle.hier_model.specs.Start.{is_filled, order_of, owners, start_origin, origins_of, start_from};
-ghost use Rattle.hier_model.specs.Listed.{extent_of, intent_of, is_above_concept, lists_column, lists_row, listed_column, listed_row, row_node};
+ghost use Rattle.hier_model.specs.Listed.{extent_of, intent_of, is_above_concept, lists, listed_column, listed, row_node};
 
 use crate::names::{member_names, type_names};
 use crate::origins::lowest;
@@ -162,31 +162,43 @@ fn column_places(
 {
     let mut places = Vec::new(alloc);
     for c in 0..width {
-        places.push(listed_column(concepts, ColId(c)))?;
+        places.push(listed(concepts, Entry::Column(ColId(c))))?;
     }
     Ok(places)
 }
 
-/// The concept that lists a column.
-fn listed_column(concepts: &[Concept], c: ColId) -> Option<NodeId>
+/// A column or a row, as concepts list them.
+#[derive(Clone, Copy)]
+enum Entry {
+    /// A column.
+    Column(ColId),
+    /// A row.
+    Row(RowId),
+}
+
+/// The concept that lists a column or a row.
+fn listed(concepts: &[Concept], entry: Entry) -> Option<NodeId>
     requires few { length concepts.now < 4294967295 }
-    ensures { result ≡ listed_column concepts.now c.0 }
+    ensures { result ≡ listed concepts.now entry }
 {
     for k in 0..concepts.len() {
-        if lists_column(concepts, k, c) {
+        if lists(concepts, k, entry) {
             return Some(NodeId(k as u32));
         }
     }
     None
 }
 
-/// Whether a concept lists a column.
-fn lists_column(concepts: &[Concept], k: usize, c: ColId) -> bool
+/// Whether a concept lists a column or a row.
+fn lists(concepts: &[Concept], k: usize, entry: Entry) -> bool
     requires { k < length concepts.now }
-    ensures { result ≡ lists_column concepts.now k c.0 }
+    ensures { result ≡ lists concepts.now k entry }
 {
     let concept = concept_at(concepts, k);
-    has_column(&concept.columns, c)
+    match entry {
+        Entry::Column(c) => has_column(&concept.columns, c),
+        Entry::Row(r) => has_row(&concept.rows, r),
+    }
 }
 
 /// One concept.
@@ -228,32 +240,10 @@ fn row_node(concepts: &[Concept], r: RowId) -> NodeId
     requires few { length concepts.now < 4294967295 }
     ensures { result ≡ row_node concepts.now r.0 }
 {
-    match listed_row(concepts, r) {
+    match listed(concepts, Entry::Row(r)) {
         Some(n) => n,
         None => NodeId(0),
     }
-}
-
-/// The concept that lists a row.
-fn listed_row(concepts: &[Concept], r: RowId) -> Option<NodeId>
-    requires few { length concepts.now < 4294967295 }
-    ensures { result ≡ listed_row concepts.now r.0 }
-{
-    for k in 0..concepts.len() {
-        if lists_row(concepts, k, r) {
-            return Some(NodeId(k as u32));
-        }
-    }
-    None
-}
-
-/// Whether a concept lists a row.
-fn lists_row(concepts: &[Concept], k: usize, r: RowId) -> bool
-    requires { k < length concepts.now }
-    ensures { result ≡ lists_row concepts.now k r.0 }
-{
-    let concept = concept_at(concepts, k);
-    has_row(&concept.rows, r)
 }
 
 /// The origin of each concept.

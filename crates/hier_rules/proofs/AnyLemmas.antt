@@ -1,6 +1,8 @@
 -- Tests over lists and over numbers, a step at a time.
-use Rattle.std.proofs.Common.{◌≡◌, ℕ, ◌+◌, ◌&&◌, Bool, None, true, false, List, [], ◌∷◌, add-one, ap, ⊎_elim}
+use Rattle.std.proofs.Common.{◌≡◌, ℕ, ◌+◌, ◌<◌, ◌&&◌, ◌||◌, Bool, length, get_or, take, sym, subst, ◌∙◌, None, true, false, List, [], ◌∷◌, add-one, ap, ⊎_elim}
 use Rattle.std.specs.List.{list_any}
+use Rattle.std.proofs.Math.Bool.{or_assoc}
+use Rattle.std.proofs.lemmas.List.Folds.{list_any_more}
 use Rattle.std.proofs.lemmas.Bool.{or_cases, or_left, or_right}
 use Rattle.kaba_bits.specs.Sets.{first_below, when}
 use Rattle.kaba_bits.proofs.FirstLemmas.{first_below_clear}
@@ -19,3 +21,13 @@ pub any_weaker : {X : Type 0} (p q : X → Bool) → ((x : X) → q x ≡ true �
 any_weaker p q f [] h = h
 any_weaker p q f (x ∷ xs) h = ⊎_elim (λ a. or_left (p x) (list_any p xs) (f x a)) (λ b. or_right (p x) (list_any p xs) (any_weaker p q f xs b))
     (or_cases (q x) (list_any q xs) h)
+
+-- one item of a list on, in a set that gathers what passes for some item
+pub gathered : {X S : Type 0} (p : X → S → Bool) (start old new : S → Bool) (xs ys : List X) (i : ℕ) (d : X) → ys ≡ xs → i < length ys
+    → ((s : S) → new s ≡ (old s || p (get_or ys i d) s)) → ((s : S) → old s ≡ (start s || list_any (λ x. p x s) (take i xs)))
+    → (s : S) → new s ≡ (start s || list_any (λ x. p x s) (take (i + 1) xs))
+gathered {X = X} p start old new xs ys i d same lt step before s =
+    let test : X → Bool = λ x. p x s in
+    let within : i < length xs = subst (λ l. i < length l) same lt in
+    step s ∙ ap (λ b. b || p (get_or ys i d) s) (before s) ∙ or_assoc (start s) (list_any test (take i xs)) (p (get_or ys i d) s)
+    ∙ ap (λ b. start s || b) (ap (λ l. list_any test (take i xs) || p (get_or l i d) s) same ∙ sym (list_any_more test xs i d within))

@@ -2,7 +2,8 @@
 use Rattle.std.specs.Prelude.{◌≡◌, ℕ, suc, zero, ◌+◌, ◌<◌, ◌==◌, ◌&&◌, nat_lt, not, cond, length, List, Bool, slice_index_or}
 use Rattle.kaba_bits.specs.Sets.{bit}
 use Rattle.fact_model.specs.declared.facts.Facts.{Facts}
-use Rattle.hier_model.specs.Hierarchies.{Hierarchy, is_class_node, any_below}
+use Rattle.hier_model.specs.Hierarchies.{Hierarchy, IsHierarchyOf, is_class_node, any_below}
+use Rattle.hier_rules.specs.declared.chains.ClassNodes.{ClassNodes}
 use Rattle.hier_rules.specs.Obligations.{is_class_above}
 
 -- how many numbers below n pass a test
@@ -14,6 +15,11 @@ count_below (suc n) p = cond (p n) (count_below n p + 1) (count_below n p)
 pub record AreClassNodes (F : Facts) (H : Hierarchy) (nodes : List Bool) : Type 0 where
   pub width : length nodes ≡ length H.order.live
   pub exact : (n : ℕ) → bit nodes n ≡ is_class_node F H n
+
+-- a hierarchy, and the set of its class nodes
+pub record AreNodes (nodes : ClassNodes) : Type 0 where
+  pub hier : IsHierarchyOf nodes.facts.now nodes.hier.now
+  pub classes : AreClassNodes nodes.facts.now nodes.hier.now nodes.classes.now
 
 module _ (F : Facts) (H : Hierarchy) where
   -- whether a class node is strictly above another

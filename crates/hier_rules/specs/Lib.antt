@@ -8,3 +8,4 @@ pub mod Chains
 pub mod First
 pub mod Given
 pub mod Words
+pub mod Pairs

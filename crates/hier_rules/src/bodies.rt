@@ -7,6 +7,7 @@ ghost use Rattle.fact_model.specs.Items.{site_class, column_kind, column_class, 
 ghost use Rattle.fact_model.specs.Classes.{is_def, finds};
 ghost use Rattle.hier_rules.specs.Asked.{is_super, is_called, slots_of, is_other_body};
 ghost use Rattle.hier_rules.specs.Instances.{of_column};
+ghost use Rattle.hier_rules.specs.Pairs.{IsPairsRow};
 ghost use Rattle.hier_rules.specs.Obligations.{is_nearer, has_nearer, wrong_body, wrong_need, first_wrong_need, is_between, has_between, wrong_super, first_wrong_super, is_body_at, two_bodies, first_two_bodies};
 ghost use Rattle.hier_model.specs.Edits.{is_one_slot};
 
@@ -180,12 +181,7 @@ pub fn first_wrong_need(alloc: Global, asked: &Asked) -> Result<Option<Broken>, 
     requires { IsAsked asked.now }
     ensures { IfOk result (λ b. b ≡ first_wrong_need asked.now.facts.now asked.now.pt.now asked.now.hier.now) }
 {
-    for s in 0..asked.facts.sites.len() as u32 {
-        if let Some(found) = first_wrong_need_of(alloc, asked, s)? {
-            return Ok(Some(found));
-        }
-    }
-    Ok(None)
+    first_found_below!(s < asked.facts.sites.len() as u32; first_wrong_need_of(alloc, asked, s)?)
 }
 
 /// Whether a column belongs to the class of a row.
@@ -229,12 +225,7 @@ pub fn first_wrong_super(alloc: Global, asked: &Asked) -> Result<Option<Broken>,
     ensures { IfOk result (λ b. b ≡ first_wrong_super asked.now.facts.now asked.now.hier.now) }
 {
     let supers = super_rows(alloc, asked.facts)?;
-    for r in 0..asked.facts.rows.len() as u32 {
-        if let Some(found) = first_wrong_super_of(asked, row_at(&supers, r as usize), r) {
-            return Ok(Some(found));
-        }
-    }
-    Ok(None)
+    first_found_below!(r < asked.facts.rows.len() as u32; first_wrong_super_of(asked, row_at(&supers, r as usize), r))
 }
 
 /// The first body that a super call of the method of a row runs and that stands wrong.
@@ -242,8 +233,7 @@ pub fn first_wrong_super(alloc: Global, asked: &Asked) -> Result<Option<Broken>,
 fn first_wrong_super_of(asked: &Asked, bodies: &BitRow, r: u32) -> Option<Broken>
     requires asked { IsAsked asked.now }
     requires row { r < length asked.now.facts.now.rows.items }
-    requires width { length bodies.now ≡ length asked.now.facts.now.columns.items }
-    requires supers { (c : ℕ) → bit bodies.now c ≡ is_super asked.now.facts.now r c }
+    requires bodies { IsPairsRow (length asked.now.facts.now.columns.items) (is_super asked.now.facts.now r) bodies.now }
     ensures { result ≡ first_below (length asked.now.facts.now.columns.items) (wrong_super asked.now.facts.now asked.now.hier.now r) }
 {
     let n = place_of_row(asked, r);

@@ -185,10 +185,5 @@ pub fn first_confused(alloc: Global, asked: &Asked) -> Result<Option<Broken>, Al
     ensures { IfOk result (λ b. b ≡ first_confused asked.now.facts.now asked.now.hier.now) }
 {
     let clashes = all_clashes(alloc, asked)?;
-    for n in 0..node_count(asked.hier) {
-        if let Some(found) = first_confused_at(asked, &clashes, n) {
-            return Ok(Some(found));
-        }
-    }
-    Ok(None)
+    first_found_below!(n < node_count(asked.hier); first_confused_at(asked, &clashes, n))
 }

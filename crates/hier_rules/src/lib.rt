@@ -3,7 +3,7 @@
 #![tactic(auto)]
 
 ghost use Rattle.std.specs.Prelude.{◌≡◌, IfOk};
-ghost use Rattle.hier_rules.specs.Words.{InRange, AreSets, IsHierarchyOf, IsAsked};
+ghost use Rattle.hier_rules.specs.Words.{IsAsked};
 ghost use Rattle.hier_rules.specs.First.{first_changed_run, first_of_edit, first_broken};
 
 /// Whether one of the numbers below a count passes a test.
@@ -30,6 +30,18 @@ macro_rules! first_below {
     }};
 }
 
+/// The same in a function that fails where memory is short.
+macro_rules! first_found_below {
+    ($number:ident < $count:expr; $found:expr) => {{
+        for $number in 0..$count {
+            if let Some(found) = $found {
+                return Ok(Some(found));
+            }
+        }
+        Ok(None)
+    }};
+}
+
 mod bodies;
 mod broken;
 mod chains;
@@ -44,55 +56,38 @@ mod taken;
 use bodies::{first_two_bodies, first_wrong_need, first_wrong_super};
 pub use broken::{Broken, Nodes, Rule};
 pub use chains::first_unchained;
-use fact_model::{Facts, PointsTo};
-use hier_model::Hier;
 use names::first_misnamed;
 use outcomes::first_wrong_outcome;
-use places::Asked;
+pub use places::Asked;
 use rows::{first_unoffered, first_untied};
 use std::alloc::{AllocError, Global};
 
 /// The first instance of the first broken obligation of B2 to B9, by the numbers that each names in
 /// turn; `None` where all hold. The sets are those of the facts. An error comes only for want of memory.
-pub fn first_broken(
-    alloc: Global,
-    hier: &Hier,
-    facts: &Facts,
-    pt: &PointsTo,
-) -> Result<Option<Broken>, AllocError>
-    requires facts { InRange facts.now }
-    requires sets { AreSets facts.now pt.now }
-    requires hier { IsHierarchyOf facts.now hier.now }
-    ensures first { IfOk result (λ b. b ≡ first_broken facts.now pt.now hier.now) }
+pub fn first_broken(alloc: Global, asked: &Asked) -> Result<Option<Broken>, AllocError>
+    requires { IsAsked asked.now }
+    ensures first { IfOk result (λ b. b ≡ first_broken asked.now.facts.now asked.now.pt.now asked.now.hier.now) }
 {
-    match first_of_edit(alloc, hier, facts, pt)? {
+    match first_of_edit(alloc, asked)? {
         Some(found) => Ok(Some(found)),
-        None => first_unchained(alloc, facts, hier),
+        None => first_unchained(alloc, asked.facts, asked.hier),
     }
 }
 
 /// The same of B2 to B8, which an edit is tested for.
-pub fn first_of_edit(
-    alloc: Global,
-    hier: &Hier,
-    facts: &Facts,
-    pt: &PointsTo,
-) -> Result<Option<Broken>, AllocError>
-    requires facts { InRange facts.now }
-    requires sets { AreSets facts.now pt.now }
-    requires hier { IsHierarchyOf facts.now hier.now }
-    ensures first { IfOk result (λ b. b ≡ first_of_edit facts.now pt.now hier.now) }
+pub fn first_of_edit(alloc: Global, asked: &Asked) -> Result<Option<Broken>, AllocError>
+    requires { IsAsked asked.now }
+    ensures first { IfOk result (λ b. b ≡ first_of_edit asked.now.facts.now asked.now.pt.now asked.now.hier.now) }
 {
-    let asked = Asked { facts, pt, hier };
-    if let Some(found) = first_unoffered(&asked) {
+    if let Some(found) = first_unoffered(asked) {
         return Ok(Some(found));
     }
-    if let Some(found) = first_untied(alloc, &asked)? {
+    if let Some(found) = first_untied(alloc, asked)? {
         return Ok(Some(found));
     }
-    match first_changed_run(alloc, &asked)? {
+    match first_changed_run(alloc, asked)? {
         Some(found) => Ok(Some(found)),
-        None => first_misnamed(alloc, &asked),
+        None => first_misnamed(alloc, asked),
     }
 }
 

@@ -12,7 +12,7 @@ use crate::bodies::of_column;
 use crate::broken::{Broken, Nodes, Rule};
 use crate::clashes::first_confused;
 use crate::places::{Asked, is_live, node_count, stands_at};
-use crate::taken::{TakenNames, has_name, taken_names};
+use crate::taken::{Taken, has_name, taken_names};
 use fact_model::ColKind;
 use hier_model::column_at;
 use kaba_base::{ColId, Name, NodeId, is_identifier};
@@ -104,17 +104,17 @@ fn unwritable_members(alloc: Global, asked: &Asked) -> Result<Vec<u32>, AllocErr
     Ok(list)
 }
 
-/// The first name of a type or of a member that cannot be written, by the members of which that is so.
+/// The first name of a type or of a member that cannot be written. An error comes only for want of memory.
 #[tactic(auto, using(kaba_bits::proofs::FirstLemmas::first_below_found))]
-fn first_unwritable(asked: &Asked, list: &[u32]) -> Option<Broken>
-    requires asked { IsAsked asked.now }
-    requires list { ListsColumns asked.now.facts.now (is_unwritable_member asked.now.facts.now asked.now.hier.now) list.now }
-    ensures { result ≡ first_unwritable asked.now.facts.now asked.now.hier.now }
+fn first_unwritable(alloc: Global, asked: &Asked) -> Result<Option<Broken>, AllocError>
+    requires { IsAsked asked.now }
+    ensures { IfOk result (λ b. b ≡ first_unwritable asked.now.facts.now asked.now.hier.now) }
 {
-    first_below!(n < node_count(asked.hier); first_unwritable_at(asked, list, n))
+    let list = unwritable_members(alloc, asked)?;
+    first_found_below!(n < node_count(asked.hier); first_unwritable_at(asked, &list, n))
 }
 
-/// The same at one node.
+/// The same at one node, by the members of which that is so.
 fn first_unwritable_at(asked: &Asked, list: &[u32], n: u32) -> Option<Broken>
     requires asked { IsAsked asked.now }
     requires list { ListsColumns asked.now.facts.now (is_unwritable_member asked.now.facts.now asked.now.hier.now) list.now }
@@ -130,7 +130,7 @@ fn first_unwritable_at(asked: &Asked, list: &[u32], n: u32) -> Option<Broken>
 
 /// The first name of a type that another type, a class with static members, the language or a variable has.
 #[tactic(auto, using(kaba_bits::proofs::FirstLemmas::first_below_found))]
-fn first_taken_type(asked: &Asked, taken: &TakenNames) -> Option<Broken>
+fn first_taken_type(asked: &Asked, taken: &Taken) -> Option<Broken>
     requires asked { IsAsked asked.now }
     requires taken { AreTaken asked.now.facts.now asked.now.hier.now taken.now }
     ensures { result ≡ first_taken_type asked.now.facts.now asked.now.hier.now }
@@ -144,7 +144,7 @@ fn first_taken_type(asked: &Asked, taken: &TakenNames) -> Option<Broken>
 }
 
 /// Whether the name of a live node's type is taken.
-fn is_taken_type(asked: &Asked, taken: &TakenNames, n: u32) -> bool
+fn is_taken_type(asked: &Asked, taken: &Taken, n: u32) -> bool
     requires asked { IsAsked asked.now }
     requires taken { AreTaken asked.now.facts.now asked.now.hier.now taken.now }
     requires node { is_live asked.now.hier.now.order n ≡ true }
@@ -158,7 +158,7 @@ fn is_taken_type(asked: &Asked, taken: &TakenNames, n: u32) -> bool
 }
 
 /// Whether the name of a member is one of a type, or reserved.
-fn is_taken_name(asked: &Asked, taken: &TakenNames, c: u32) -> bool
+fn is_taken_name(asked: &Asked, taken: &Taken, c: u32) -> bool
     requires asked { IsAsked asked.now }
     requires taken { AreTaken asked.now.facts.now asked.now.hier.now taken.now }
     requires column { c < length asked.now.facts.now.columns.items }
@@ -169,7 +169,7 @@ fn is_taken_name(asked: &Asked, taken: &TakenNames, c: u32) -> bool
 }
 
 /// Whether a column is a field whose name is taken.
-fn is_taken_field(asked: &Asked, taken: &TakenNames, c: u32) -> bool
+fn is_taken_field(asked: &Asked, taken: &Taken, c: u32) -> bool
     requires asked { IsAsked asked.now }
     requires taken { AreTaken asked.now.facts.now asked.now.hier.now taken.now }
     requires column { c < length asked.now.facts.now.columns.items }
@@ -179,7 +179,7 @@ fn is_taken_field(asked: &Asked, taken: &TakenNames, c: u32) -> bool
 }
 
 /// The fields whose names are taken. An error comes only for want of memory.
-fn taken_fields(alloc: Global, asked: &Asked, taken: &TakenNames) -> Result<Vec<u32>, AllocError>
+fn taken_fields(alloc: Global, asked: &Asked, taken: &Taken) -> Result<Vec<u32>, AllocError>
     requires asked { IsAsked asked.now }
     requires taken { AreTaken asked.now.facts.now asked.now.hier.now taken.now }
     ensures { IfOk result (λ v. ListsColumns asked.now.facts.now (is_taken_field asked.now.facts.now asked.now.hier.now) v.items) }
@@ -198,33 +198,11 @@ fn first_taken_field(asked: &Asked, list: &[u32]) -> Option<Broken>
     requires list { ListsColumns asked.now.facts.now (is_taken_field asked.now.facts.now asked.now.hier.now) list.now }
     ensures { result ≡ first_taken_field asked.now.facts.now asked.now.hier.now }
 {
-    first_below!(n < node_count(asked.hier); first_taken_field_at(asked, list, n))
-}
-
-/// The same at one node.
-fn first_taken_field_at(asked: &Asked, list: &[u32], n: u32) -> Option<Broken>
-    requires asked { IsAsked asked.now }
-    requires list { ListsColumns asked.now.facts.now (is_taken_field asked.now.facts.now asked.now.hier.now) list.now }
-    ensures { result ≡ first_below (length asked.now.facts.now.columns.items) (taken_field asked.now.facts.now asked.now.hier.now n) }
-{
-    first_standing(asked, list, n)
-}
-
-/// The first name of a type or of a member that cannot be written. An error comes only for want of memory.
-fn first_unwritable_of(alloc: Global, asked: &Asked) -> Result<Option<Broken>, AllocError>
-    requires { IsAsked asked.now }
-    ensures { IfOk result (λ b. b ≡ first_unwritable asked.now.facts.now asked.now.hier.now) }
-{
-    let list = unwritable_members(alloc, asked)?;
-    Ok(first_unwritable(asked, &list))
+    first_below!(n < node_count(asked.hier); first_standing(asked, list, n))
 }
 
 /// The first instance against the parts of B8 after the first, by the names that are taken.
-fn first_taken(
-    alloc: Global,
-    asked: &Asked,
-    taken: &TakenNames,
-) -> Result<Option<Broken>, AllocError>
+fn first_taken(alloc: Global, asked: &Asked, taken: &Taken) -> Result<Option<Broken>, AllocError>
     requires asked { IsAsked asked.now }
     requires taken { AreTaken asked.now.facts.now asked.now.hier.now taken.now }
     ensures { IfOk result (λ b. b ≡ or_else (first_taken_type asked.now.facts.now asked.now.hier.now)
@@ -255,7 +233,7 @@ pub fn first_misnamed(alloc: Global, asked: &Asked) -> Result<Option<Broken>, Al
     requires { IsAsked asked.now }
     ensures { IfOk result (λ b. b ≡ first_misnamed asked.now.facts.now asked.now.hier.now) }
 {
-    match first_unwritable_of(alloc, asked)? {
+    match first_unwritable(alloc, asked)? {
         Some(found) => Ok(Some(found)),
         None => first_not_apart(alloc, asked),
     }

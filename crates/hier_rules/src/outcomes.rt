@@ -281,12 +281,7 @@ fn first_wrong_target(alloc: Global, asked: &Asked, p: u32) -> Result<Option<Bro
     ensures { IfOk result (λ b. b ≡ first_wrong_of_place asked.now.facts.now asked.now.pt.now asked.now.hier.now p) }
 {
     let targets = targets_at(alloc, asked, p)?;
-    for t in 0..asked.facts.rows.len() as u32 {
-        if let Some(found) = first_wrong_at(alloc, asked, &targets, p, t)? {
-            return Ok(Some(found));
-        }
-    }
-    Ok(None)
+    first_found_below!(t < asked.facts.rows.len() as u32; first_wrong_at(alloc, asked, &targets, p, t)?)
 }
 
 /// The first instance against B7. An error comes only for want of memory.

@@ -68,9 +68,10 @@ pub fn row_le(asked: &Asked, r: u32, v: u32) -> bool
     requires upper { v < length asked.now.facts.now.rows.items }
     ensures { result ≡ row_le asked.now.hier.now r v }
 {
-    let lower = place_of_row(asked, r);
-    let upper = place_of_row(asked, v);
-    asked.hier.order().le(lower, upper)
+    asked
+        .hier
+        .order()
+        .le(place_of_row(asked, r), place_of_row(asked, v))
 }
 
 /// Whether one place is at or below another.
@@ -92,9 +93,11 @@ pub fn column_le(asked: &Asked, c: u32, d: u32) -> bool
     requires upper { d < length asked.now.facts.now.columns.items }
     ensures { result ≡ column_le asked.now.hier.now c d }
 {
-    let lower = place_of_column(asked, c);
-    let upper = place_of_column(asked, d);
-    is_below(asked.hier.order(), lower, upper)
+    is_below(
+        asked.hier.order(),
+        place_of_column(asked, c),
+        place_of_column(asked, d),
+    )
 }
 
 /// Whether a column stands at a live node or above it.
@@ -104,10 +107,7 @@ pub fn is_offered(asked: &Asked, n: NodeId, c: u32) -> bool
     requires column { c < length asked.now.facts.now.columns.items }
     ensures { result ≡ is_offered asked.now.hier.now n.0 c }
 {
-    match place_of_column(asked, c) {
-        Some(p) => asked.hier.order().le(n, p),
-        None => false,
-    }
+    asked.hier.offers(n, ColId(c))
 }
 
 /// Whether a column stands strictly above a live node.

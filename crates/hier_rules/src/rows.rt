@@ -1,8 +1,10 @@
 //! B2 and B3: rows and their columns, ties, and sites in the sets of rows.
+#![tactic(auto, using(kaba_bits::proofs::FirstLemmas::first_below_found))]
 
 ghost use Rattle.std.specs.Prelude.{◌≡◌, ℕ, ◌<◌, length, IfOk};
-ghost use Rattle.hier_rules.specs.Words.{bit, row, first_below, HasWidth, IsAsked};
+ghost use Rattle.hier_rules.specs.Words.{first_below, IsAsked};
 ghost use Rattle.hier_rules.specs.Asked.{is_tie};
+ghost use Rattle.hier_rules.specs.Pairs.{ArePairs, IsPairsRow};
 ghost use Rattle.hier_rules.specs.Instances.{of_both, of_row};
 ghost use Rattle.hier_rules.specs.Obligations.{unoffered, first_unoffered, untied, unheld, first_untied};
 
@@ -39,7 +41,6 @@ pub fn of_row(rule: Rule, n: NodeId, m: NodeId, r: u32) -> Broken
 }
 
 /// The first instance against B2.
-#[tactic(auto, using(kaba_bits::proofs::FirstLemmas::first_below_found))]
 pub fn first_unoffered(asked: &Asked) -> Option<Broken>
     requires { IsAsked asked.now }
     ensures { result ≡ first_unoffered asked.now.facts.now asked.now.hier.now }
@@ -48,7 +49,6 @@ pub fn first_unoffered(asked: &Asked) -> Option<Broken>
 }
 
 /// The first column that a row has and is not offered.
-#[tactic(auto, using(kaba_bits::proofs::FirstLemmas::first_below_found))]
 fn first_unoffered_of(asked: &Asked, r: u32) -> Option<Broken>
     requires asked { IsAsked asked.now }
     requires row { r < length asked.now.facts.now.rows.items }
@@ -77,12 +77,9 @@ pub fn first_untied(alloc: Global, asked: &Asked) -> Result<Option<Broken>, Allo
 }
 
 /// The first tie whose lower row does not stand at or below its upper.
-#[tactic(auto, using(kaba_bits::proofs::FirstLemmas::first_below_found))]
 fn first_tie(asked: &Asked, ties: &[BitRow]) -> Option<Broken>
     requires asked { IsAsked asked.now }
-    requires len { length ties.now ≡ length asked.now.facts.now.rows.items }
-    requires widths { HasWidth (length asked.now.facts.now.rows.items) ties.now }
-    requires ties { (l u : ℕ) → bit (row ties.now l) u ≡ is_tie asked.now.facts.now l u }
+    requires ties { ArePairs (length asked.now.facts.now.rows.items) (length asked.now.facts.now.rows.items) (is_tie asked.now.facts.now) ties.now }
     ensures { result ≡ first_below (length asked.now.facts.now.rows.items) (λ l. first_below (length asked.now.facts.now.rows.items)
         (untied asked.now.facts.now asked.now.hier.now l)) }
 {
@@ -90,25 +87,21 @@ fn first_tie(asked: &Asked, ties: &[BitRow]) -> Option<Broken>
 }
 
 /// The first such tie of a lower row.
-#[tactic(auto, using(kaba_bits::proofs::FirstLemmas::first_below_found))]
 fn first_tie_of(asked: &Asked, uppers: &BitRow, l: u32) -> Option<Broken>
     requires asked { IsAsked asked.now }
     requires row { l < length asked.now.facts.now.rows.items }
-    requires width { length uppers.now ≡ length asked.now.facts.now.rows.items }
-    requires ties { (u : ℕ) → bit uppers.now u ≡ is_tie asked.now.facts.now l u }
+    requires uppers { IsPairsRow (length asked.now.facts.now.rows.items) (is_tie asked.now.facts.now l) uppers.now }
     ensures { result ≡ first_below (length asked.now.facts.now.rows.items) (untied asked.now.facts.now asked.now.hier.now l) }
 {
-    let n = place_of_row(asked, l);
     for u in 0..asked.facts.rows.len() as u32 {
         if uppers.has(u) && !row_le(asked, l, u) {
-            return Some(of_row(Rule::B3, n, place_of_row(asked, u), l));
+            return Some(of_row(Rule::B3, place_of_row(asked, l), place_of_row(asked, u), l));
         }
     }
     None
 }
 
 /// The first site that does not stand at or below a row in whose set it is.
-#[tactic(auto, using(kaba_bits::proofs::FirstLemmas::first_below_found))]
 fn first_unheld(asked: &Asked) -> Option<Broken>
     requires { IsAsked asked.now }
     ensures { result ≡ first_below (length asked.now.facts.now.sites.items) (λ o. first_below (length asked.now.facts.now.rows.items)
@@ -118,7 +111,6 @@ fn first_unheld(asked: &Asked) -> Option<Broken>
 }
 
 /// The first row in whose set a site is and at or below which it does not stand.
-#[tactic(auto, using(kaba_bits::proofs::FirstLemmas::first_below_found))]
 fn first_unheld_of(asked: &Asked, o: u32) -> Option<Broken>
     requires asked { IsAsked asked.now }
     requires site { o < length asked.now.facts.now.sites.items }

@@ -15,7 +15,7 @@ use std::alloc::{AllocError, Global};
 
 /// Names of a hierarchy and its facts.
 #[derive(Drop)]
-pub struct TakenNames {
+pub struct Taken {
     /// Those of the types of live nodes.
     pub types: IndexSet<String>,
     /// Those that two such types have.
@@ -135,7 +135,7 @@ fn add_type(
 }
 
 /// The names that types and fields cannot have. An error comes only for want of memory.
-pub fn taken_names(alloc: Global, asked: &Asked) -> Result<TakenNames, AllocError>
+pub fn taken_names(alloc: Global, asked: &Asked) -> Result<Taken, AllocError>
     requires { IsAsked asked.now }
     ensures { IfOk result (AreTaken asked.now.facts.now asked.now.hier.now) }
 {
@@ -146,7 +146,7 @@ pub fn taken_names(alloc: Global, asked: &Asked) -> Result<TakenNames, AllocErro
     for n in 0..node_count(asked.hier) {
         add_type(alloc, asked, n, &mut types, &mut twice)?;
     }
-    Ok(TakenNames {
+    Ok(Taken {
         types,
         twice,
         reserved,

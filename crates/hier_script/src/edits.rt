@@ -1,7 +1,7 @@
 //! Edits, one after the other.
 #![tactic(auto)]
 
-ghost use Rattle.std.specs.Prelude.{◌≡◌, ◌++◌, All, IfOk, OnOk};
+ghost use Rattle.std.specs.Prelude.{◌≡◌, All, IfOk, OnOk, string_bytes};
 ghost use Rattle.hier_rules.specs.Words.{InRange, AreSets, IsHierarchyOf, NamesSome, MeetsEdit};
 ghost use Rattle.hier_script.specs.Scripts.{after_edit, refusal_of, after_edits, refusals_of};
 
@@ -12,32 +12,28 @@ use hier_edit::{ApplyFault, apply};
 use hier_model::Hier;
 use std::alloc::{AllocError, Global};
 
-/// Applies one edit, and appends its line where it is refused.
+/// Applies one edit, and gives its line where it is refused, and else no text.
 fn run_edit(
     alloc: Global,
     hier: &mut Hier,
     facts: &Facts,
     sets: &PointsTo,
     line: &Line,
-    refusals: &mut Vec<u8>,
-) -> Result<(), AllocError>
+) -> Result<String, AllocError>
     requires range { InRange facts.now }
     requires sets { AreSets facts.now sets.now }
     requires hierarchy { IsHierarchyOf facts.now hier.old }
     requires meets { MeetsEdit facts.now sets.now hier.old }
     requires some { NamesSome line.now.edit }
     ensures hierarchy { OnOk result (hier.new ≡ after_edit facts.now sets.now hier.old line.now) }
-    ensures refusals { OnOk result (refusals.new.items ≡ refusals.old.items ++ refusal_of facts.now sets.now hier.old line.now) }
+    ensures refusal { IfOk result (λ text. string_bytes text ≡ refusal_of facts.now sets.now hier.old line.now) }
     ensures is { IsHierarchyOf facts.now hier.new }
     ensures meets { MeetsEdit facts.now sets.now hier.new }
 {
     match apply(alloc, hier, facts, sets, &line.edit) {
-        Ok(()) => Ok(()),
+        Ok(()) => Ok(String::new(alloc)),
         Err(ApplyFault::Memory) => Err(AllocError),
-        Err(fault) => {
-            let text = refusal_line(alloc, line.number, fault)?;
-            refusals.extend_from_slice(text.as_bytes())
-        }
+        Err(fault) => refusal_line(alloc, line.number, fault),
     }
 }
 
@@ -63,7 +59,8 @@ pub fn run_edits(
 {
     let mut refusals = Vec::new(alloc);
     for line in lines {
-        run_edit(alloc, hier, facts, sets, line, &mut refusals)?;
+        let refusal = run_edit(alloc, hier, facts, sets, line)?;
+        refusals.extend_from_slice(refusal.as_bytes())?;
     }
     Ok(refusals)
 }

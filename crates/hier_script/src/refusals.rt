@@ -1,7 +1,8 @@
 //! The line of an edit that was refused.
 #![tactic(auto)]
 
-ghost use Rattle.std.specs.Prelude.{◌≡◌, ◌≢◌, IfOk, string_bytes};
+ghost use Rattle.std.specs.Prelude.{◌≡◌, ◌≢◌, ◌++◌, IfOk, string_bytes};
+ghost use Rattle.std.specs.Fmt.{decimal};
 ghost use Rattle.hier_edit.specs.declared.ApplyFault.TheVariants as ApplyFault;
 ghost use Rattle.hier_script.specs.Refusals.{rule_text, nodes_text, some_row_text, some_column_text, broken_text, fault_text, refusal_line};
 
@@ -27,15 +28,19 @@ fn rule_text(rule: Rule) -> &'static str
     }
 }
 
+/// A number behind a word.
+fn numbered(alloc: Global, word: &str, number: u32) -> Result<String, AllocError>
+    ensures { IfOk result (λ text. string_bytes text ≡ word.now ++ decimal number) }
+{
+    format!(in alloc; "{word}{number}")
+}
+
 /// The nodes of an instance.
 fn nodes_text(alloc: Global, nodes: Nodes) -> Result<String, AllocError>
     ensures { IfOk result (λ text. string_bytes text ≡ nodes_text nodes) }
 {
     match nodes {
-        Nodes::One(a) => {
-            let a = a.0;
-            format!(in alloc; "n{a}")
-        }
+        Nodes::One(a) => numbered(alloc, "n", a.0),
         Nodes::Two(a, b) => {
             let (a, b) = (a.0, b.0);
             format!(in alloc; "n{a} n{b}")
@@ -53,10 +58,7 @@ fn row_text(alloc: Global, row: Option<RowId>) -> Result<String, AllocError>
 {
     match row {
         None => String::from_str(alloc, "-"),
-        Some(row) => {
-            let row = row.0;
-            format!(in alloc; "r{row}")
-        }
+        Some(row) => numbered(alloc, "r", row.0),
     }
 }
 
@@ -66,10 +68,7 @@ fn column_text(alloc: Global, column: Option<ColId>) -> Result<String, AllocErro
 {
     match column {
         None => String::from_str(alloc, "-"),
-        Some(column) => {
-            let column = column.0;
-            format!(in alloc; "c{column}")
-        }
+        Some(column) => numbered(alloc, "c", column.0),
     }
 }
 
@@ -89,18 +88,9 @@ fn fault_text(alloc: Global, fault: ApplyFault) -> Result<String, AllocError>
     ensures { IfOk result (λ text. string_bytes text ≡ fault_text fault) }
 {
     match fault {
-        ApplyFault::UnknownNode(node) => {
-            let node = node.0;
-            format!(in alloc; "unknown node n{node}")
-        }
-        ApplyFault::UnknownMember(column) => {
-            let column = column.0;
-            format!(in alloc; "unknown member c{column}")
-        }
-        ApplyFault::NotEmpty(node) => {
-            let node = node.0;
-            format!(in alloc; "not empty n{node}")
-        }
+        ApplyFault::UnknownNode(node) => numbered(alloc, "unknown node n", node.0),
+        ApplyFault::UnknownMember(column) => numbered(alloc, "unknown member c", column.0),
+        ApplyFault::NotEmpty(node) => numbered(alloc, "not empty n", node.0),
         ApplyFault::Breaks(broken) => broken_text(alloc, broken),
         ApplyFault::Memory => Ok(String::new(alloc)),
     }

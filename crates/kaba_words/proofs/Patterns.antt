@@ -22,70 +22,44 @@ name_of help = codes "--help"
 name_of version = codes "--version"
 
 -- words with another name than that of a command do not say it
-other : (name : List ℕ) (more : List (List ℕ)) (command : Cmd) → bytes_eq name (name_of command) ≡ false → Fits (name ∷ more) command → ⊥
-other name more (run file steps after) f h = apart name (codes "run") f h.0
-other name more command f h = apart name (name_of command) f h.0
-
-at_run : (more : List (List ℕ)) → ((file : List ℕ) (steps : ℕ) (after : List (List ℕ)) → FitsRun more file steps after → ⊥) → (command : Cmd)
-    → Fits (codes "run" ∷ more) command → ⊥
-at_run more none (run file steps after) h = none file steps after h.1
-at_run more none command h = other (codes "run") more command refl h
-
-at_table : (more : List (List ℕ)) → ((file : List ℕ) → more ≡ file ∷ [] → ⊥) → (command : Cmd) → Fits (codes "table" ∷ more) command → ⊥
-at_table more none (table file) h = none file h.1
-at_table more none command h = other (codes "table") more command refl h
-
-at_lattice : (more : List (List ℕ)) → ((json : Bool) (bound : ℕ) (file : List ℕ) → FitsLattice more json bound file → ⊥) → (command : Cmd)
-    → Fits (codes "lattice" ∷ more) command → ⊥
-at_lattice more none (lattice json bound file) h = none json bound file h.1
-at_lattice more none command h = other (codes "lattice") more command refl h
-
-at_edit : (more : List (List ℕ)) → NoEdit more → (command : Cmd) → Fits (codes "edit" ∷ more) command → ⊥
-at_edit more none (edit bound file script) h = none bound file script h.1
-at_edit more none command h = other (codes "edit") more command refl h
-
-at_regen : (more : List (List ℕ)) → NoEdit more → (command : Cmd) → Fits (codes "regen" ∷ more) command → ⊥
-at_regen more none (regen bound file script) h = none bound file script h.1
-at_regen more none command h = other (codes "regen") more command refl h
-
-at_make : (more : List (List ℕ)) → NoMake more → (command : Cmd) → Fits (codes "make" ∷ more) command → ⊥
-at_make more none (make prints n) h = none prints n h.1
-at_make more none command h = other (codes "make") more command refl h
-
-at_help : (more : List (List ℕ)) → (more ≡ [] → ⊥) → (command : Cmd) → Fits (codes "--help" ∷ more) command → ⊥
-at_help more none help h = none h.1
-at_help more none command h = other (codes "--help") more command refl h
-
-at_version : (more : List (List ℕ)) → (more ≡ [] → ⊥) → (command : Cmd) → Fits (codes "--version" ∷ more) command → ⊥
-at_version more none version h = none h.1
-at_version more none command h = other (codes "--version") more command refl h
+other : (name own : List ℕ) (more : List (List ℕ)) (command : Cmd) → name ≡ own → bytes_eq own (name_of command) ≡ false → Fits (name ∷ more) command → ⊥
+other name own more (run file steps after) e f h = apart own (codes "run") f (sym e ∙ h.0)
+other name own more command e f h = apart own (name_of command) f (sym e ∙ h.0)
 
 -- the name is that of the command, and the words after it do not fit
-pub none_of_run : (words : List (List ℕ)) (more : List (List ℕ)) → words ≡ codes "run" ∷ more → ((file : List ℕ) (steps : ℕ) (after : List (List ℕ))
-    → FitsRun more file steps after → ⊥) → FitsNone words
-none_of_run words more e none = subst FitsNone (sym e) (at_run more none)
+pub none_of_run : {name : List ℕ} {more : List (List ℕ)} → name ≡ codes "run" → ((file : List ℕ) (steps : ℕ) (after : List (List ℕ))
+    → FitsRun more file steps after → ⊥) → FitsNone (name ∷ more)
+none_of_run e none (run file steps after) h = none file steps after h.1
+none_of_run {name} {more} e none command h = other name (codes "run") more command e refl h
 
-pub none_of_table : (words : List (List ℕ)) (more : List (List ℕ)) → words ≡ codes "table" ∷ more → ((file : List ℕ) → more ≡ file ∷ [] → ⊥) → FitsNone words
-none_of_table words more e none = subst FitsNone (sym e) (at_table more none)
+pub none_of_table : {name : List ℕ} {more : List (List ℕ)} → name ≡ codes "table" → ((file : List ℕ) → more ≡ file ∷ [] → ⊥) → FitsNone (name ∷ more)
+none_of_table e none (table file) h = none file h.1
+none_of_table {name} {more} e none command h = other name (codes "table") more command e refl h
 
-pub none_of_lattice : (words : List (List ℕ)) (more : List (List ℕ)) → words ≡ codes "lattice" ∷ more → ((json : Bool) (bound : ℕ) (file : List ℕ)
-    → FitsLattice more json bound file → ⊥) → FitsNone words
-none_of_lattice words more e none = subst FitsNone (sym e) (at_lattice more none)
+pub none_of_lattice : {name : List ℕ} {more : List (List ℕ)} → name ≡ codes "lattice" → ((json : Bool) (bound : ℕ) (file : List ℕ)
+    → FitsLattice more json bound file → ⊥) → FitsNone (name ∷ more)
+none_of_lattice e none (lattice json bound file) h = none json bound file h.1
+none_of_lattice {name} {more} e none command h = other name (codes "lattice") more command e refl h
 
-pub none_of_edit : (words : List (List ℕ)) (more : List (List ℕ)) → words ≡ codes "edit" ∷ more → NoEdit more → FitsNone words
-none_of_edit words more e none = subst FitsNone (sym e) (at_edit more none)
+pub none_of_edit : {name : List ℕ} {more : List (List ℕ)} → name ≡ codes "edit" → NoEdit more → FitsNone (name ∷ more)
+none_of_edit e none (edit bound file script) h = none bound file script h.1
+none_of_edit {name} {more} e none command h = other name (codes "edit") more command e refl h
 
-pub none_of_regen : (words : List (List ℕ)) (more : List (List ℕ)) → words ≡ codes "regen" ∷ more → NoEdit more → FitsNone words
-none_of_regen words more e none = subst FitsNone (sym e) (at_regen more none)
+pub none_of_regen : {name : List ℕ} {more : List (List ℕ)} → name ≡ codes "regen" → NoEdit more → FitsNone (name ∷ more)
+none_of_regen e none (regen bound file script) h = none bound file script h.1
+none_of_regen {name} {more} e none command h = other name (codes "regen") more command e refl h
 
-pub none_of_make : (words : List (List ℕ)) (more : List (List ℕ)) → words ≡ codes "make" ∷ more → NoMake more → FitsNone words
-none_of_make words more e none = subst FitsNone (sym e) (at_make more none)
+pub none_of_make : {name : List ℕ} {more : List (List ℕ)} → name ≡ codes "make" → NoMake more → FitsNone (name ∷ more)
+none_of_make e none (make prints n) h = none prints n h.1
+none_of_make {name} {more} e none command h = other name (codes "make") more command e refl h
 
-pub none_of_help : (words : List (List ℕ)) (more : List (List ℕ)) → words ≡ codes "--help" ∷ more → (more ≡ [] → ⊥) → FitsNone words
-none_of_help words more e none = subst FitsNone (sym e) (at_help more none)
+pub none_of_help : {name : List ℕ} {more : List (List ℕ)} → name ≡ codes "--help" → (more ≡ [] → ⊥) → FitsNone (name ∷ more)
+none_of_help e none help h = none h.1
+none_of_help {name} {more} e none command h = other name (codes "--help") more command e refl h
 
-pub none_of_version : (words : List (List ℕ)) (more : List (List ℕ)) → words ≡ codes "--version" ∷ more → (more ≡ [] → ⊥) → FitsNone words
-none_of_version words more e none = subst FitsNone (sym e) (at_version more none)
+pub none_of_version : {name : List ℕ} {more : List (List ℕ)} → name ≡ codes "--version" → (more ≡ [] → ⊥) → FitsNone (name ∷ more)
+none_of_version e none version h = none h.1
+none_of_version {name} {more} e none command h = other name (codes "--version") more command e refl h
 
 -- the next word is the one that is wanted, or another
 pub flag_taken : (flag word : List ℕ) (words rest : List (List ℕ)) → words ≡ word ∷ rest → bytes_eq word flag ≡ true → words ≡ flag ∷ rest

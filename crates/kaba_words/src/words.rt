@@ -1,7 +1,7 @@
 //! The words of the command line.
 #![tactic(auto)]
 
-ghost use Rattle.std.specs.Prelude.{◌≡◌, ◌∷◌, ◌≤◌, ℕ, Bool, true, List, [], Err, IfOk, MatchOption, IsTrue, ◌↔◌, length, codes, string_bytes};
+ghost use Rattle.std.specs.Prelude.{◌≡◌, ◌∷◌, ◌≤◌, ℕ, Bool, true, false, List, [], Err, IfOk, MatchOption, IsTrue, ◌↔◌, length, codes, string_bytes};
 ghost use Rattle.std.specs.List.{All};
 ghost use Rattle.kaba_words.specs.Commands.{Cmd, texts, command_of, IsNumber, Fits, FitsNone, FitsRun, TakesFlag, BoundAfter, TakesBound, FitsLattice, FitsEdit, NoEdit, FitsMake, NoMake, most_units};
 ghost use Rattle.kaba_words.specs.declared.words.WordsFault.TheVariants as WordsFault;
@@ -82,6 +82,13 @@ impl<'a> Arguments<'a> {
             return true;
         }
         false
+    }
+
+    /// Whether no word is left.
+    fn is_done(&self) -> bool
+        ensures { IsTrue result ↔ (texts self.now.words.now ≡ []) }
+    {
+        self.words.is_empty()
     }
 
     /// The last word.
@@ -218,17 +225,14 @@ fn read_lattice(alloc: Global, mut arguments: Arguments<'_>) -> Result<Command, 
     Ok(Command::Lattice(json, bound, String::from_str(alloc, file)?))
 }
 
-/// The words after `edit` and `regen`.
-#[derive(Drop)]
-struct Files {
-    bound: u32,
-    file: String,
-    script: String,
-}
-
-/// How many concepts are allowed, a file and a script.
-fn read_files(alloc: Global, mut arguments: Arguments<'_>) -> Result<Files, WordsFault>
-    ensures files { IfOk result (λ files. FitsEdit (texts arguments.entry.words.now) files.bound (string_bytes files.file) (string_bytes files.script)) }
+/// The commands `edit` and `regen`, of which the words after the name are left; the second writes a program.
+fn read_edit(
+    alloc: Global,
+    writes: bool,
+    mut arguments: Arguments<'_>,
+) -> Result<Command, WordsFault>
+    ensures edit { writes ≡ false → IfOk result (λ command. Fits (codes "edit" ∷ texts arguments.entry.words.now) (command_of command)) }
+    ensures regen { writes ≡ true → IfOk result (λ command. Fits (codes "regen" ∷ texts arguments.entry.words.now) (command_of command)) }
     ensures usage { result ≡ Err WordsFault.Usage → NoEdit (texts arguments.entry.words.now) }
 {
     let bound = match read_bound(alloc, &mut arguments) {
@@ -243,32 +247,10 @@ fn read_files(alloc: Global, mut arguments: Arguments<'_>) -> Result<Files, Word
     };
     let file = String::from_str(alloc, file)?;
     let script = String::from_str(alloc, script)?;
-    Ok(Files {
-        bound,
-        file,
-        script,
-    })
-}
-
-/// The command `edit`, of which the words after its name are left.
-fn read_edit(alloc: Global, arguments: Arguments<'_>) -> Result<Command, WordsFault>
-    ensures command { IfOk result (λ command. Fits (codes "edit" ∷ texts arguments.entry.words.now) (command_of command)) }
-    ensures usage { result ≡ Err WordsFault.Usage → NoEdit (texts arguments.entry.words.now) }
-{
-    match read_files(alloc, arguments) {
-        Ok(files) => Ok(Command::Edit(files.bound, files.file, files.script)),
-        Err(fault) => Err(fault),
-    }
-}
-
-/// The command `regen`, of which the words after its name are left.
-fn read_regen(alloc: Global, arguments: Arguments<'_>) -> Result<Command, WordsFault>
-    ensures command { IfOk result (λ command. Fits (codes "regen" ∷ texts arguments.entry.words.now) (command_of command)) }
-    ensures usage { result ≡ Err WordsFault.Usage → NoEdit (texts arguments.entry.words.now) }
-{
-    match read_files(alloc, arguments) {
-        Ok(files) => Ok(Command::Regen(files.bound, files.file, files.script)),
-        Err(fault) => Err(fault),
+    if writes {
+        Ok(Command::Regen(bound, file, script))
+    } else {
+        Ok(Command::Edit(bound, file, script))
     }
 }
 
@@ -288,25 +270,21 @@ fn read_make(alloc: Global, mut arguments: Arguments<'_>) -> Result<Command, Wor
     }
 }
 
-/// The command `--help`, of which the words after its name are left.
-fn read_help(arguments: Arguments<'_>) -> Result<Command, WordsFault>
-    ensures command { IfOk result (λ command. Fits (codes "--help" ∷ texts arguments.entry.words.now) (command_of command)) }
-    ensures usage { result ≡ Err WordsFault.Usage → texts arguments.entry.words.now ≡ [] → ⊥ }
+/// The command of this name, of which the words after the name are left.
+fn read_named(alloc: Global, name: &str, arguments: Arguments<'_>) -> Result<Command, WordsFault>
+    ensures command { IfOk result (λ command. Fits (name.now ∷ texts arguments.entry.words.now) (command_of command)) }
+    ensures usage { result ≡ Err WordsFault.Usage → FitsNone (name.now ∷ texts arguments.entry.words.now) }
 {
-    match arguments.words {
-        [] => Ok(Command::Help),
-        [_, ..] => Err(WordsFault::Usage),
-    }
-}
-
-/// The command `--version`, of which the words after its name are left.
-fn read_version(arguments: Arguments<'_>) -> Result<Command, WordsFault>
-    ensures command { IfOk result (λ command. Fits (codes "--version" ∷ texts arguments.entry.words.now) (command_of command)) }
-    ensures usage { result ≡ Err WordsFault.Usage → texts arguments.entry.words.now ≡ [] → ⊥ }
-{
-    match arguments.words {
-        [] => Ok(Command::Version),
-        [_, ..] => Err(WordsFault::Usage),
+    match name {
+        "run" => read_run(alloc, arguments),
+        "table" => read_table(alloc, arguments),
+        "lattice" => read_lattice(alloc, arguments),
+        "edit" => read_edit(alloc, false, arguments),
+        "regen" => read_edit(alloc, true, arguments),
+        "make" => read_make(alloc, arguments),
+        "--help" if arguments.is_done() => Ok(Command::Help),
+        "--version" if arguments.is_done() => Ok(Command::Version),
+        _ => Err(WordsFault::Usage),
     }
 }
 
@@ -320,15 +298,7 @@ pub fn read_words(alloc: Global, words: &Vec<String>) -> Result<Command, WordsFa
         words: words.as_slice(),
     };
     match arguments.next() {
-        Some("run") => read_run(alloc, arguments),
-        Some("table") => read_table(alloc, arguments),
-        Some("lattice") => read_lattice(alloc, arguments),
-        Some("edit") => read_edit(alloc, arguments),
-        Some("regen") => read_regen(alloc, arguments),
-        Some("make") => read_make(alloc, arguments),
-        Some("--help") => read_help(arguments),
-        Some("--version") => read_version(arguments),
-        Some(_) => Err(WordsFault::Usage),
+        Some(name) => read_named(alloc, name, arguments),
         None => Err(WordsFault::Usage),
     }
 }

@@ -51,7 +51,8 @@ module _ {P Q : Plain} {F : Facts} {H : Hierarchy} {W : Plain} (K : Known P Q F 
   pub one_body : (m a b g h : ℕ) → IsNewBody K m a g → IsNewBody K m b h → g ≡ h
   one_body m a b g h x y =
       K.new.method_names g h x.method y.method x.stands y.stands
-      (x.is.owner ∙ ap T.type_of (stands_once K x.is.node y.is.node (column.Def m) x.is.stands y.is.stands) ∙ sym y.is.owner) (x.is.name ∙ sym y.is.name)
+      (x.is.at.owner_is ∙ ap T.type_of (stands_once K x.is.at.node y.is.at.node (column.Def m) x.is.at.stands y.is.at.stands) ∙ sym y.is.at.owner_is)
+      (x.is.name ∙ sym y.is.name)
 
   -- the body of a slot that a class itself has
   record IsOwnBody (c q g : ℕ) : Type 0 where
@@ -126,8 +127,8 @@ module _ {P Q : Plain} {F : Facts} {H : Hierarchy} {W : Plain} (K : Known P Q F 
 
       by_sort : (y : ℕ) (new : PlainMethod) → slice_get W.methods y ≡ Some new → Sort K j s new → y ≡ number
       by_sort y new at (a_body m b st e) =
-          one_body d b.node o.node y number
-          (subst (λ z. IsNewBody K z b.node y) (only m e st) (record { method = new; stands = at; is = b; owner = b.owner })) body
+          one_body d b.at.node o.node y number
+          (subst (λ z. IsNewBody K z b.at.node y) (only m e st) (record { method = new; stands = at; is = b; owner = b.at.owner_is })) body
       by_sort y new at (a_head h none) = absurd (no_head_there h)
       by_sort y new at (a_filler f b) = absurd (no_filler f)
 
@@ -187,7 +188,7 @@ module _ {P Q : Plain} {F : Facts} {H : Hierarchy} {W : Plain} (K : Known P Q F 
       unfolding super_method
       finds_super =
           let own = own_named (T.type_of o.node) number (R.method_name d)
-          (record { method = body.method; stands = body.stands; owner = body.owner; instance = body.is.instance; name = body.is.name }) in
+          (record { method = body.method; stands = body.stands; owner = body.owner; instance = body.is.at.instance; name = body.is.name }) in
           let apart : T.type_of n ≢ T.type_of o.node = λ e. other (K.rebuilt.types.nodes_once n o.node live at_live e) in
           let x = nearest_strictly W (λ k. own_method W k (R.method_name d)) chain apart own way in
           ap (option_and_then (λ (p : ClassId). nearest_of W (λ k. own_method W k (R.method_name d)) p.0)) x.above

@@ -39,8 +39,16 @@ module _ {P Q : Plain} {F : Facts} {H : Hierarchy} {W : Plain} (K : Known P Q F 
 
   pub new_body : (m n : ℕ) → StandsAt P Q F H W T (column.Def m) n → (g : ℕ) × IsNewBody m n g
   new_body m n s =
-      let x = K.rebuilt.members.each_body m n s in
-      (x.0, record { method = x.1; stands = x.2; is = x.3; owner = x.3.owner ∙ ap T.type_of (stands_once K x.3.node n (column.Def m) x.3.stands s) })
+      let x = K.rebuilt.members.each_body m n s in (
+        x.0,
+        record {
+          method = x.1;
+          stands = x.2;
+          is = x.3;
+          owner = x.3.at.owner_is
+              ∙ ap T.type_of (stands_once K x.3.at.node n (column.Def m) x.3.at.stands s);
+        },
+      )
 
   -- a method of the new name stands at or above the type of a node
   pub record IsDeclared (n m : ℕ) : Type 0 where
@@ -61,7 +69,7 @@ module _ {P Q : Plain} {F : Facts} {H : Hierarchy} {W : Plain} (K : Known P Q F 
         number = x.0;
         method = x.1.method;
         stands = x.1.stands;
-        instance = x.1.is.instance;
+        instance = x.1.is.at.instance;
         name = x.1.is.name ∙ same_name K o.method m s o.of e;
         above = up_to n o.offers.node x.1.method.owner (K.order.transitive n j o.offers.node h o.offers.above) x.1.owner;
       }

@@ -68,7 +68,8 @@ module _ {P Q : Plain} {F : Facts} {H : Hierarchy} {W : Plain} (K : Known P Q F 
   pub one_field : (f g h : ℕ) → IsNewField f g → IsNewField f h → g ≡ h
   one_field f g h a b =
       K.new.field_names g h a.field b.field a.stands b.stands
-      (a.is.owner ∙ ap T.type_of (stands_once K a.is.node b.is.node (column.Fld f) a.is.stands b.is.stands) ∙ sym b.is.owner) (a.is.name ∙ sym b.is.name)
+      (a.is.at.owner_is ∙ ap T.type_of (stands_once K a.is.at.node b.is.at.node (column.Fld f) a.is.at.stands b.is.at.stands) ∙ sym b.is.at.owner_is)
+      (a.is.name ∙ sym b.is.name)
 
   -- what a node offers has different names
   pub fields_apart : (e f n : ℕ) → Offers K n (column.Fld e) → Offers K n (column.Fld f) → R.field_name e ≡ R.field_name f → e ≡ f
@@ -86,13 +87,14 @@ module _ {P Q : Plain} {F : Facts} {H : Hierarchy} {W : Plain} (K : Known P Q F 
   -- and comes from one
   pub one_old_field : (e f g : ℕ) → IsNewField e g → IsNewField f g → e ≡ f
   one_old_field e f g a b =
-      let s = a.is.stands in
-      let t = b.is.stands in
+      let s = a.is.at.stands in
+      let t = b.is.at.stands in
       let same : a.field ≡ b.field = same_Some _ _ (sym a.stands ∙ b.stands) in
-      let owner : T.type_of a.is.node ≡ T.type_of b.is.node = sym a.is.owner ∙ ap (λ (z : PlainField). z.owner) same ∙ b.is.owner in
-      let node = K.rebuilt.types.nodes_once a.is.node b.is.node (stands_live K a.is.node (column.Fld e) s) (stands_live K b.is.node (column.Fld f) t) owner in
-      fields_apart e f b.is.node (offers_own K b.is.node (column.Fld e) (subst (λ z. StandsAt P Q F H W T (column.Fld e) z) node s))
-      (offers_own K b.is.node (column.Fld f) t) (sym a.is.name ∙ ap (λ (z : PlainField). z.name) same ∙ b.is.name)
+      let owner : T.type_of a.is.at.node ≡ T.type_of b.is.at.node = sym a.is.at.owner_is ∙ ap (λ (z : PlainField). z.owner) same ∙ b.is.at.owner_is in
+      let node = K.rebuilt.types.nodes_once a.is.at.node b.is.at.node (stands_live K a.is.at.node (column.Fld e) s)
+      (stands_live K b.is.at.node (column.Fld f) t) owner in
+      fields_apart e f b.is.at.node (offers_own K b.is.at.node (column.Fld e) (subst (λ z. StandsAt P Q F H W T (column.Fld e) z) node s))
+      (offers_own K b.is.at.node (column.Fld f) t) (sym a.is.name ∙ ap (λ (z : PlainField). z.name) same ∙ b.is.name)
 
   holder_is : (c : ℕ) → R.holder_of c ≡ T.holder_of c
   unfolding renaming_of
@@ -150,10 +152,11 @@ module _ {P Q : Plain} {F : Facts} {H : Hierarchy} {W : Plain} (K : Known P Q F 
     is_it e y k at owner named instance down =
         let z = K.rebuilt.members.fields y k at instance in
         let h = z.1 in
-        let low : is_le H.order n h.node ≡ true =
-        le_of K n h.node live (stands_live K h.node (column.Fld z.0) h.stands) (subst (λ z. IsSubclass W (T.type_of n) z) (sym owner ∙ h.owner) down) in
+        let low : is_le H.order n h.at.node ≡ true =
+        le_of K n h.at.node live (stands_live K h.at.node (column.Fld z.0) h.at.stands) (subst (λ z. IsSubclass W (T.type_of n) z) (sym owner
+        ∙ h.at.owner_is) down) in
         let one : z.0 ≡ f = fields_apart z.0 f n
-        (offers_below K n h.node (column.Fld z.0) low (offers_own K h.node (column.Fld z.0) h.stands)) o (sym h.name ∙ named) in
+        (offers_below K n h.at.node (column.Fld z.0) low (offers_own K h.at.node (column.Fld z.0) h.at.stands)) o (sym h.name ∙ named) in
         one_field f y there (subst (λ z. IsNewField z y) one (record { field = k; stands = at; is = h })) (new_field f o.node o.stands).1
 
     one_on_way : OneOnWay W (λ k. own_field_of W k name) (T.type_of n) (T.type_of o.node) there
@@ -166,11 +169,11 @@ module _ {P Q : Plain} {F : Facts} {H : Hierarchy} {W : Plain} (K : Known P Q F 
     unfolding member_field field_of
     finds_field =
         let it = (new_field f o.node o.stands).1 in
-        let at : T.type_of it.is.node ≡ T.type_of o.node = ap T.type_of (stands_once K it.is.node o.node (column.Fld f) it.is.stands o.stands) in
+        let at : T.type_of it.is.at.node ≡ T.type_of o.node = ap T.type_of (stands_once K it.is.at.node o.node (column.Fld f) it.is.at.stands o.stands) in
         let class = member_class K o.node at_live (class_node K o.node (column.Fld f) refl (offers_own K o.node (column.Fld f) o.stands)) in
-        let own = is_own (T.type_of o.node) there name (record { field = it.field; stands = it.stands; owner = it.is.owner ∙ at; name = it.is.name }) in
+        let own = is_own (T.type_of o.node) there name (record { field = it.field; stands = it.stands; owner = it.is.at.owner_is ∙ at; name = it.is.name }) in
         let near = nearest_on_way W (λ k. own_field_of W k name) (along W K.new class (subclass_of K n o.node o.above)) own one_on_way in
-        ap (when_instance W) (nearest-nearest_of W (λ k. own_field_of W k name) K.new.acyclic near) ∙ static_is there it.field it.stands it.is.instance
+        ap (when_instance W) (nearest-nearest_of W (λ k. own_field_of W k name) K.new.acyclic near) ∙ static_is there it.field it.stands it.is.at.instance
 
     -- each object below has a place for it
     pub has_place : (m : ℕ) → is_le H.order m n ≡ true → is_some (index_of W (T.type_of m) there) ≡ true

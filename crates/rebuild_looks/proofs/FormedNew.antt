@@ -5,11 +5,11 @@ use Rattle.std.proofs.lemmas.Bool.{false≢true}
 use Rattle.std.proofs.lemmas.Option.{same_Some}
 use Rattle.kaba_base.specs.declared.ClassId.{ClassId}
 use Rattle.java_core.specs.Trees.{Sts, field, this, return, no_st, st_then}
-use Rattle.java_core.specs.Programs.{PlainClass, PlainMethod, PlainSlot}
+use Rattle.java_core.specs.Programs.{PlainClass, PlainMethod}
 use Rattle.java_core.specs.Classes.{supers_of}
 use Rattle.java_core.specs.Formed.{IsFormedClass, IsFormedField, IsFormedMethod, IsFormedSlot, IsMain, FormedSts, IsFormed, numbers_below, f_field, f_this, f_some, f_return, f_no_st, f_st_then}
 use Rattle.rebuild_model.proofs.Worked.{place, class, object, the_field, method, main, main_code, new}
-use Rattle.rebuild_looks.proofs.WorkedParts.{one_item, formed_m, formed_main}
+use Rattle.rebuild_looks.proofs.WorkedParts.{one_item, at_only, formed_m, formed_main}
 use Rattle.java_meaning.proofs.Small.{Each, each_at, no_item, no_twice, one_once, once_each, differ, named, variable_name, formed_class, acyclic}
 
 abbrev face : PlainClass
@@ -114,11 +114,6 @@ one_slot m n h k e d x = go m n h k e d x
     go (suc (suc zero)) (suc (suc (suc n))) h k e d x = absurd (cc d)
     go (suc (suc (suc m))) n h k e d x = absurd (cc e)
 
-formed_slot : (s : ℕ) (z : PlainSlot) → slice_get new.slots s ≡ Some z → IsFormedSlot new s z
-formed_slot zero z e = subst (λ y. IsFormedSlot new 0 y) (same_Some _ _ e)
-    (record { method = head_m; stands = refl; of = refl; least = λ m k d f. omega arith })
-formed_slot (suc s) z e = absurd (cc e)
-
 pub formed : IsFormed new
 formed = record {
   object = record { object = top; first = refl; name = refl; class = refl; concrete = refl; parent = refl; faces = refl };
@@ -136,7 +131,7 @@ formed = record {
   ) e;
   method_names = λ m n h k e d o x. one_method m n h k e d o;
   one_slot = λ c m n h k e d p q x. one_slot m n h k e d x;
-  slots = formed_slot;
+  slots = at_only (IsFormedSlot new) _ (record { method = head_m; stands = refl; of = refl; least = λ m k d f. omega arith });
   numbered = one_once 0;
   main = method_main;
   main_stands = refl;

@@ -5,11 +5,11 @@ use Rattle.std.proofs.lemmas.Bool.{false≢true}
 use Rattle.std.proofs.lemmas.Option.{same_Some}
 use Rattle.kaba_base.specs.declared.ClassId.{ClassId}
 use Rattle.java_core.specs.Trees.{Sts, own_field, return, no_st, st_then}
-use Rattle.java_core.specs.Programs.{PlainClass, PlainMethod, PlainSlot}
+use Rattle.java_core.specs.Programs.{PlainClass, PlainMethod}
 use Rattle.java_core.specs.Classes.{field_of, supers_of}
 use Rattle.java_core.specs.Formed.{IsFormedClass, IsFormedField, IsFormedMethod, IsFormedSlot, IsMain, FormedSts, IsFormed, numbers_below, f_own_field, f_some, f_return, f_no_st, f_st_then}
 use Rattle.rebuild_model.proofs.Worked.{place, class, object, the_field, method, main, main_code, old}
-use Rattle.rebuild_looks.proofs.WorkedParts.{one_item, formed_m, formed_main}
+use Rattle.rebuild_looks.proofs.WorkedParts.{one_item, at_only, formed_m, formed_main}
 use Rattle.java_meaning.proofs.Small.{Each, each_at, no_item, no_twice, one_once, once_each, differ, named, variable_name, formed_class, acyclic}
 
 abbrev top : PlainClass
@@ -68,11 +68,6 @@ one_method zero (suc (suc n)) h k e d x = absurd (cc d)
 one_method (suc zero) (suc (suc n)) h k e d x = absurd (cc d)
 one_method (suc (suc m)) n h k e d x = absurd (cc e)
 
-formed_slot : (s : ℕ) (z : PlainSlot) → slice_get old.slots s ≡ Some z → IsFormedSlot old s z
-formed_slot zero z e = subst (λ y. IsFormedSlot old 0 y) (same_Some _ _ e)
-    (record { method = method_m; stands = refl; of = refl; least = λ m k d f. omega arith })
-formed_slot (suc s) z e = absurd (cc e)
-
 pub formed : IsFormed old
 formed = record {
   object = record { object = top; first = refl; name = refl; class = refl; concrete = refl; parent = refl; faces = refl };
@@ -89,12 +84,14 @@ formed = record {
   ) e;
   method_names = λ m n h k e d o x. one_method m n h k e d x;
   one_slot = λ c m n h k e d p q x. inl (one_method m n h k e d x);
-  slots = formed_slot;
+  slots = at_only (IsFormedSlot old) _ (record { method = method_m; stands = refl; of = refl; least = λ m k d f. omega arith });
   numbered = one_once 0;
   main = method_main;
   main_stands = refl;
   main_is = record { static = refl; name = refl; params = refl; result = refl };
-  main_first = λ m k e h. each_at (λ (k : PlainMethod). IsMain k → 2 ≤ k.owner) old.methods m k
-      ((λ i. absurd (false≢true i.static)), ((λ i. omega arith), tt)) e h;
+  main_first = λ m k e h. each_at (λ (k : PlainMethod). IsMain k → 2 ≤ k.owner) old.methods m k (
+    (λ i. absurd (false≢true i.static)),
+    ((λ i. omega arith), tt),
+  ) e h;
   counted = record { classes = omega arith; fields = omega arith; methods = omega arith; slots = omega arith };
 }

@@ -64,13 +64,13 @@ module _ {P Q : Plain} {F : Facts} {H : Hierarchy} {W : Plain} (K : Known P Q F 
 
   from_body : (m : ℕ) (new : PlainMethod) → IsBody P Q F H W T m new → IsNewMethod new
   from_body m new b =
-      let s = K.columns.slotted (column.Def m) b.stands.number b.stands.numbered refl in
+      let s = K.columns.slotted (column.Def m) b.at.stands.number b.at.stands.numbered refl in
       let slot : b.old.slot ≡ Some s.0 = sym (ap (option_and_then (λ (k : PlainMethod). k.slot)) b.old_stands) ∙ s.1 in
       let in_slot = ((K.old.methods m b.old b.old_stands).slots s.0).0 slot in
       record {
-        node = b.node;
-        live = stands_live K b.node (column.Def m) b.stands;
-        owner = b.owner;
+        node = b.at.node;
+        live = stands_live K b.at.node (column.Def m) b.at.stands;
+        owner = b.at.owner_is;
         method = m;
         slot = s.0;
         of = s.1;
@@ -78,22 +78,22 @@ module _ {P Q : Plain} {F : Facts} {H : Hierarchy} {W : Plain} (K : Known P Q F 
         signature = in_slot.slot;
         slot_stands = in_slot.stands;
         types = body_types R m s.0 b.old slot P new b.types in_slot;
-        offered = offers_item K b.node s.0 (column.Def m) refl s.1 (offers_own K b.node (column.Def m) b.stands);
-        sort = a_body m b b.stands s.1;
+        offered = offers_item K b.at.node s.0 (column.Def m) refl s.1 (offers_own K b.at.node (column.Def m) b.at.stands);
+        sort = a_body m b b.at.stands s.1;
       }
 
-  from_slot : (n m : ℕ) (new : PlainMethod) (o : IsOfSlot P Q F H W T n m new) → is_live H.order n ≡ true → OffersSlot K n o.slot
-      → Sort n o.slot new → IsNewMethod new
+  from_slot : (n m : ℕ) (new : PlainMethod) (o : IsOfSlot P Q F H W T n m new) → is_live H.order n ≡ true → OffersSlot K n o.was.slot
+      → Sort n o.was.slot new → IsNewMethod new
   from_slot n m new o live offered sort = record {
     node = n;
     live = live;
     owner = o.owner;
     method = m;
-    slot = o.slot;
-    of = ap (option_and_then (λ (k : PlainMethod). k.slot)) o.old_stands ∙ o.of_slot;
+    slot = o.was.slot;
+    of = ap (option_and_then (λ (k : PlainMethod). k.slot)) o.was.old_stands ∙ o.was.of_slot;
     name = o.name;
-    signature = o.signature;
-    slot_stands = o.slot_stands;
+    signature = o.was.signature;
+    slot_stands = o.was.slot_stands;
     types = o.types;
     offered = offered;
     sort = sort;
@@ -101,15 +101,15 @@ module _ {P Q : Plain} {F : Facts} {H : Hierarchy} {W : Plain} (K : Known P Q F 
 
   from_head : (n m : ℕ) (new : PlainMethod) → IsHead P Q F H W T n m new → IsNewMethod new
   from_head n m new h =
-      let of : slot_of_method P m ≡ Some h.of.slot = ap (option_and_then (λ (k : PlainMethod). k.slot)) h.of.old_stands ∙ h.of.of_slot in
+      let of : slot_of_method P m ≡ Some h.of.was.slot = ap (option_and_then (λ (k : PlainMethod). k.slot)) h.of.was.old_stands ∙ h.of.was.of_slot in
       from_slot n m new h.of (stands_live K n (column.Dcl m) h.stands)
-      (offers_item K n h.of.slot (column.Dcl m) refl of (offers_own K n (column.Dcl m) h.stands)) (a_head h.headed h.bodyless)
+      (offers_item K n h.of.was.slot (column.Dcl m) refl of (offers_own K n (column.Dcl m) h.stands)) (a_head h.headed h.bodyless)
 
   from_filler : (n m : ℕ) (new : PlainMethod) → IsFiller P Q F H W T n m new → IsNewMethod new
   from_filler n m new f =
-      let parts = and_parts (is_made_at F H n) (offers_slot F H n f.of.slot && not (offers_body F H n f.of.slot)) f.filled in
-      from_slot n m new f.of f.live (slot_asked K n f.of.slot
-      (and_parts (offers_slot F H n f.of.slot) (not (offers_body F H n f.of.slot)) parts.1).0) (a_filler f.filled f.bodied)
+      let parts = and_parts (is_made_at F H n) (offers_slot F H n f.of.was.slot && not (offers_body F H n f.of.was.slot)) f.filled in
+      from_slot n m new f.of f.live (slot_asked K n f.of.was.slot
+      (and_parts (offers_slot F H n f.of.was.slot) (not (offers_body F H n f.of.was.slot)) parts.1).0) (a_filler f.filled f.bodied)
 
   pub new_method : (g : ℕ) (new : PlainMethod) → slice_get W.methods g ≡ Some new → new.is_static ≡ false → IsNewMethod new
   new_method g new at instance =

@@ -16,6 +16,11 @@ pub one_item : {A : Type 0} (a : A) (i : ℕ) (x : A) → slice_get (a ∷ []) i
 one_item a zero x e = refl
 one_item a (suc i) x e = absurd (cc e)
 
+-- what holds of it at 0 holds of what stands there
+pub at_only : {A : Type 0} (P : ℕ → A → Type 0) (a : A) → P 0 a → (i : ℕ) (x : A) → slice_get (a ∷ []) i ≡ Some x → P i x
+at_only P a h zero x e = subst (P 0) (same_Some a x e) h
+at_only P a h (suc i) x e = absurd (cc e)
+
 module _ (A : Plain) (slots : (s : ℕ) → slice_get A.slots s ≡ slice_get (slot ∷ []) s) (owner : ℕ) (own : owner ≢ 0) (holder : PlainClass)
     (stands : slice_get A.classes owner ≡ Some holder) where
   pub formed_m : (b : Option Sts) → (holder.is_interface ≡ true → b ≡ None) → (b ≡ None → holder.is_interface || holder.is_abstract ≡ true)

@@ -215,17 +215,20 @@ module _ (others : Facts) where
   stands_alone c k n at i is s = cc (sym at ∙ ap (place_of_column hierarchy) (cc (sym is ∙ s.numbered)) ∙ s.placed, s.at)
 
   new_field : IsField old old facts hierarchy new places 0 (the_field 2)
-  new_field = record { old = the_field 1; old_stands = refl; node = 1; stands = field_stands; instance = refl; owner = refl; name = name_f; type = type_f }
+  new_field = record {
+    old = the_field 1;
+    old_stands = refl;
+    at = record { node = 1; stands = field_stands; instance = refl; owner_is = refl };
+    name = name_f;
+    type = type_f;
+  }
 
   new_body : IsBody old old facts hierarchy new places 0
       (method 2 (Some (st_then (return (place 0) (Some (field (place 0) (this (place 0)) (codes "f")))) no_st)))
   new_body = record {
     old = method 1 (Some (st_then (return (place 22) (Some (own_field (place 24) 0))) no_st));
     old_stands = refl;
-    node = 1;
-    stands = body_stands;
-    instance = refl;
-    owner = refl;
+    at = record { node = 1; stands = body_stands; instance = refl; owner_is = refl };
     name = name_m;
     types = record { params = refl; result = result_m };
     code = record {
@@ -240,12 +243,14 @@ module _ (others : Facts) where
 
   new_of_slot : IsOfSlot old old facts hierarchy new places 0 0 (method 1 None)
   new_of_slot = record {
-    old = method 1 (Some (st_then (return (place 22) (Some (own_field (place 24) 0))) no_st));
-    old_stands = refl;
-    slot = 0;
-    of_slot = refl;
-    signature = slot;
-    slot_stands = refl;
+    was = record {
+      old = method 1 (Some (st_then (return (place 22) (Some (own_field (place 24) 0))) no_st));
+      old_stands = refl;
+      slot = 0;
+      of_slot = refl;
+      signature = slot;
+      slot_stands = refl;
+    };
     instance = refl;
     owner = refl;
     name = name_m;

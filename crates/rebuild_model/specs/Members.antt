@@ -63,6 +63,15 @@ pub record HasCode (P W : Plain) (R : Renaming) (m : ℕ) (old new : PlainMethod
   pub locals : types_of new.locals ≡ new_types R m old (length old.params) old.locals
   pub matches : MatchesSts P W R (env_of m old) code written
 
+-- an old method of a slot
+pub record HasOldSlot (P : Plain) (m : ℕ) : Type 0 where
+  pub old : PlainMethod
+  pub old_stands : slice_get P.methods m ≡ Some old
+  pub slot : ℕ
+  pub of_slot : old.slot ≡ Some slot
+  pub signature : PlainSlot
+  pub slot_stands : slice_get P.slots slot ≡ Some signature
+
 module _ (P Q : Plain) (F : Facts) (H : Hierarchy) (W : Plain) (T : Places) where
   -- an item has a column, which stands at the node n
   pub record StandsAt (i : ColumnItem) (n : ℕ) : Type 0 where
@@ -72,14 +81,18 @@ module _ (P Q : Plain) (F : Facts) (H : Hierarchy) (W : Plain) (T : Places) wher
     pub placed : place_of_column H number ≡ Some place
     pub at : place.0 ≡ n
 
+  -- an instance member of the type of the node where its item stands
+  pub record IsInstanceAt (i : ColumnItem) (is_static : Bool) (owner : ℕ) : Type 0 where
+    pub node : ℕ
+    pub stands : StandsAt i node
+    pub instance : is_static ≡ false
+    pub owner_is : owner ≡ T.type_of node
+
   -- an instance field is an old one that stands at a node
   pub record IsField (f : ℕ) (new : PlainField) : Type 0 where
     pub old : PlainField
     pub old_stands : slice_get P.fields f ≡ Some old
-    pub node : ℕ
-    pub stands : StandsAt (column.Fld f) node
-    pub instance : new.is_static ≡ false
-    pub owner : new.owner ≡ T.type_of node
+    pub at : IsInstanceAt (column.Fld f) new.is_static new.owner
     pub name : new.name ≡ (renaming_of P Q H T).field_name f
     pub type : new.ty ≡ retyped ((renaming_of P Q H T).row_type (row.Field f)) old.ty
 
@@ -87,39 +100,31 @@ module _ (P Q : Plain) (F : Facts) (H : Hierarchy) (W : Plain) (T : Places) wher
   pub record IsBody (m : ℕ) (new : PlainMethod) : Type 0 where
     pub old : PlainMethod
     pub old_stands : slice_get P.methods m ≡ Some old
-    pub node : ℕ
-    pub stands : StandsAt (column.Def m) node
-    pub instance : new.is_static ≡ false
-    pub owner : new.owner ≡ T.type_of node
+    pub at : IsInstanceAt (column.Def m) new.is_static new.owner
     pub name : new.name ≡ (renaming_of P Q H T).method_name m
     pub types : HasTypes (renaming_of P Q H T) m old new
     pub code : HasCode P W (renaming_of P Q H T) m old new
 
   -- an instance method of the type of a node, of the slot of the old method m
   pub record IsOfSlot (n m : ℕ) (new : PlainMethod) : Type 0 where
-    pub old : PlainMethod
-    pub old_stands : slice_get P.methods m ≡ Some old
-    pub slot : ℕ
-    pub of_slot : old.slot ≡ Some slot
-    pub signature : PlainSlot
-    pub slot_stands : slice_get P.slots slot ≡ Some signature
+    pub was : HasOldSlot P m
     pub instance : new.is_static ≡ false
     pub owner : new.owner ≡ T.type_of n
     pub name : new.name ≡ (renaming_of P Q H T).method_name m
-    pub types : HasSlotTypes (renaming_of P Q H T) slot signature new
+    pub types : HasSlotTypes (renaming_of P Q H T) was.slot was.signature new
 
   -- it is the head of a declaration that stands there
   pub record IsHead (n m : ℕ) (new : PlainMethod) : Type 0 where
     pub of : IsOfSlot n m new
     pub stands : StandsAt (column.Dcl m) n
-    pub headed : is_headed F H n of.slot ≡ true
+    pub headed : is_headed F H n of.was.slot ≡ true
     pub bodyless : new.body ≡ None
 
   -- it fills in for a body that no object needs
   pub record IsFiller (n m : ℕ) (new : PlainMethod) : Type 0 where
     pub of : IsOfSlot n m new
     pub live : is_live H.order n ≡ true
-    pub filled : is_filled F H n of.slot ≡ true
+    pub filled : is_filled F H n of.was.slot ≡ true
     pub bodied : is_some new.body ≡ true
 
   -- a static field and a static method, in the holders

@@ -162,7 +162,7 @@ module _ {Q : Plain} {F : Facts} {H : Hierarchy} {W : Plain} (K : Known (untagge
       let k = old_of m b.old b.old_stands in
       let code = subst (λ z. HasCode P W R m z new) (sym k.2) b.code in
       copy_typed m k.0 new g k.1 (subst (λ z. HasTypes R m z new) (sym k.2) b.types) code
-      (λ i. this_class m k.0 b.node k.1 (ap is_some (body_some k.0.body code.code code.old_code).1) i b.stands ∙ ap Some (sym b.owner)) ys body
+      (λ i. this_class m k.0 b.at.node k.1 (ap is_some (body_some k.0.body code.code code.old_code).1) i b.at.stands ∙ ap Some (sym b.at.owner_is)) ys body
 
   head_typed : (g n m : ℕ) (new : PlainMethod) → IsHead P Q F H W T n m new → IsTypedMethod W g new
   unfolding IsTypedMethod

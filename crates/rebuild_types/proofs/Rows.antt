@@ -54,13 +54,7 @@ module _ {P Q : Plain} {F : Facts} {H : Hierarchy} {W : Plain} (K : Known P Q F 
       record {
         number = x.0;
         found = x.1.found;
-        old = old.method;
-        old_stands = old.stands;
-        slot = s.0;
-        of_slot = old.slot;
-        signature =
-            i.slot;
-        slot_stands = i.stands;
+        was = record { old = old.method; old_stands = old.stands; slot = s.0; of_slot = old.slot; signature = i.slot; slot_stands = i.stands };
         types = x.1.types;
       }
 

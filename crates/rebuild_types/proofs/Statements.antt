@@ -35,6 +35,14 @@ pub fits_some : (P : Plain) (s : Static) (t : Option Ty) → fits_in P s (or_not
 fits_some P s None e = absurd (false≢true e)
 fits_some P s (Some u) e = refl
 
+-- what holds of each item of four lists holds of each item of each
+pub four : {X : Type 0} {H : X → Type 0} (a b c d : List X) → ((x : X) → Contains (a ++ b ++ c ++ d) x → H x)
+    → ((x : X) → Contains a x → H x) × ((x : X) → Contains b x → H x) × ((x : X) → Contains c x → H x) × ((x : X) → Contains d x → H x)
+four a b c d h =
+    let three = left (a ++ b ++ c) d h in
+    let two = left (a ++ b) c three in
+    (left a b two, right a b two, right (a ++ b) c three, right (a ++ b ++ c) d h)
+
 module _ (A : CopiedBody) where
   open A use {body as B, written as W, renaming as R, renewed as N, env as h, sees}
   open B use {program as Q, formed, number as m, method as k, stands}
@@ -175,16 +183,13 @@ module _ (A : CopiedBody) where
     again_st l sc (print t n None) y ty fo st (m_print m_none) = t_print_line
     again_st l sc (print t n (Some e)) y (t_print te pr) (f_print or (f_some fe)) st (m_print (m_some {d = d} me)) =
         let a = again A false sc e d te fe st me in t_print a.typed (ap is_printable a.type ∙ printable_kept (C (row_at e)) (old e) ∙ pr)
-    again_st l sc (choose t no_other) y ty fo st mx = elim fo [ ]
-    again_st l sc (choose t (otherwise xs)) y ty fo st mx = elim fo [ ]
     again_st l sc (choose t (arm e xs more)) y (t_choose ty) (f_choose fo) st (m_choose {b = b} ma) = t_choose (again_arms l sc (arm e xs more) b ty fo st ma)
+    again_st l sc (choose t none) y ty fo st mx = elim fo [ ]
     again_st l sc (loop t is_while head test step code) y (t_loop th tt1 ts tb) (f_loop of one two fh ft fs fb) st
         (m_loop {other = other} {last = last} {code = written} {d = d} mh me ms mb) =
-        let three = left (sts head ++ if_there test ++ sts step) (sts code) st in
-        let both = left (sts head ++ if_there test) (sts step) three in
-        t_loop (again_sts _ _ head other th fh (left (sts head) (if_there test) both) mh) (tested _ test d tt1 ft (right (sts head) (if_there test) both) me)
-        (again_sts _ _ step last ts fs (right (sts head ++ if_there test) (sts step) three) ms)
-        (again_sts _ _ code written tb fb (right (sts head ++ if_there test ++ sts step) (sts code) st) mb)
+        let part = four (sts head) (if_there test) (sts step) (sts code) st in
+        t_loop (again_sts _ _ head other th fh part.0 mh) (tested _ test d tt1 ft part.1 me) (again_sts _ _ step last ts fs part.2 ms)
+        (again_sts _ _ code written tb fb part.3 mb)
     again_st l sc (return t None) y (t_return_nothing r) fo st (m_return m_none) =
         t_return_nothing (sees.result ∙ ap (retyped_if (R.row_type (result_in k.slot m))) r)
     again_st l sc (return t (Some e)) y (t_return {u = u} te r fit) (f_return (f_some fe)) st (m_return (m_some {d = d} me)) =

@@ -12,7 +12,7 @@ use Rattle.flow_rules.specs.declared.items.ColumnItem.{ColumnItem}
 use Rattle.flow_rules.specs.declared.items.ColumnItem.TheVariants as column
 use Rattle.flow_rules.specs.Facts.{numbers}
 use Rattle.rebuild_model.specs.Renaming.{Places, renaming_of, retyped_if}
-use Rattle.rebuild_model.specs.Members.{slot_types, StandsAt, IsField, IsBody}
+use Rattle.rebuild_model.specs.Members.{slot_types, StandsAt, HasOldSlot, IsField, IsBody}
 
 module _ (P Q : Plain) (F : Facts) (H : Hierarchy) (W : Plain) (T : Places) where
   -- the type of a row's node
@@ -35,17 +35,12 @@ module _ (P Q : Plain) (F : Facts) (H : Hierarchy) (W : Plain) (T : Places) wher
   pub record OffersMethod (r m : ℕ) : Type 0 where
     pub number : ℕ
     pub found : slot_of W (type_of_row r) ((renaming_of P Q H T).method_name m) ≡ Some number
-    pub old : PlainMethod
-    pub old_stands : slice_get P.methods m ≡ Some old
-    pub slot : ℕ
-    pub of_slot : old.slot ≡ Some slot
-    pub signature : PlainSlot
-    pub slot_stands : slice_get P.slots slot ≡ Some signature
+    pub was : HasOldSlot P m
     pub types : signature_of_slot W number
         ≡ Some (record {
-          params = slot_types (renaming_of P Q H T) slot signature.params;
+          params = slot_types (renaming_of P Q H T) was.slot was.signature.params;
           result =
-              retyped_if ((renaming_of P Q H T).row_type (item.Return slot)) signature.result;
+              retyped_if ((renaming_of P Q H T).row_type (item.Return was.slot)) was.signature.result;
         })
 
   -- the body stands there or above

@@ -17,7 +17,7 @@ use Rattle.rebuild_model.specs.Matches.{MatchesIf, MatchesTarget, MatchesSt, Mat
 use Rattle.rebuild_types.proofs.Walk.{copying}
 use Rattle.twin_runs.specs.Twins.{SameIf, same_none, same_some, SameTarget, SameSt, SameSts, SameArms}
 use Rattle.twin_runs.specs.Twins.{same_to_local, same_to_static, same_to_own, same_to_field, same_to_element, same_declare, same_block, same_assign, same_act, same_print, same_choose, same_loop, same_return, same_break, same_continue, same_no_st, same_st_then, same_no_other, same_otherwise, same_arm}
-use Rattle.rebuild_types.proofs.Statements.{fits_some}
+use Rattle.rebuild_types.proofs.Statements.{fits_some, four}
 use Rattle.same_run.proofs.Walk as walk
 use Rattle.same_run.proofs.Walk.{TwinBody, twin_words}
 use Rattle.run_cover.proofs.Walked.{walked}
@@ -92,17 +92,13 @@ module _ (A : TwinBody) where
     twin_st l sc (print t n None) y ty fo st (m_print m_none) = same_print same_none
     twin_st l sc (print t n (Some e)) y (t_print te pr) (f_print or (f_some fe)) st (m_print (m_some {d = d} me)) = same_print
         (same_some (walk.twin A false sc e d te fe st me))
-    twin_st l sc (choose t no_other) y ty fo st mx = elim fo [ ]
-    twin_st l sc (choose t (otherwise xs)) y ty fo st mx = elim fo [ ]
     twin_st l sc (choose t (arm e xs more)) y (t_choose ty) (f_choose fo) st (m_choose {b = b} ma) = same_choose (twin_arms l sc (arm e xs more) b ty fo st ma)
+    twin_st l sc (choose t none) y ty fo st mx = elim fo [ ]
     twin_st l sc (loop t is_while head test step code) y (t_loop th tt1 ts tb) (f_loop of one two fh ft fs fb) st
         (m_loop {other = other} {last = last} {code = written} {d = d} mh me ms mb) =
-        let three = left (sts head ++ if_there test ++ sts step) (sts code) st in
-        let both = left (sts head ++ if_there test) (sts step) three in
-        same_loop (twin_sts _ _ head other th fh (left (sts head) (if_there test) both) mh)
-        (twin_if _ test d (test_typed test tt1) ft (right (sts head) (if_there test) both) me)
-        (twin_sts _ _ step last ts fs (right (sts head ++ if_there test) (sts step) three) ms)
-        (twin_sts _ _ code written tb fb (right (sts head ++ if_there test ++ sts step) (sts code) st) mb)
+        let part = four (sts head) (if_there test) (sts step) (sts code) st in
+        same_loop (twin_sts _ _ head other th fh part.0 mh) (twin_if _ test d (test_typed test tt1) ft part.1 me)
+        (twin_sts _ _ step last ts fs part.2 ms) (twin_sts _ _ code written tb fb part.3 mb)
     twin_st l sc (return t None) y ty fo st (m_return m_none) = same_return same_none
     twin_st l sc (return t (Some e)) y (t_return te r fit) (f_return (f_some fe)) st (m_return (m_some {d = d} me)) = same_return
         (same_some (walk.twin A false sc e d te fe (left (tree false e) _ st) me))

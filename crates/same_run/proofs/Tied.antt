@@ -194,7 +194,7 @@ module _ {Q : Plain} {F : Facts} {H : Hierarchy} {W : Plain} (K : Known (untagge
             new_body = is;
             types = subst (λ z. HasTypes R d z g.method) same g.is.types;
             code = subst (λ z. HasCode P W R d z g.method) same g.is.code;
-            self = λ i. (g.is.node, g.is.stands, g.is.owner);
+            self = λ i. (g.is.at.node, g.is.at.stands, g.is.at.owner_is);
           };
         }
 

@@ -26,12 +26,15 @@ use flow_rules::RowItem;
 use java_core::{Static, Ty, class_of};
 use java_tree::unplaced::{id, nowhere};
 use java_tree::{Expr, build};
-use kaba_base::{ClassId, MemberId, Name};
+use kaba_base::{ClassId, MemberId, Name, made};
 use std::alloc::AllocError;
 use std::mem::drop;
 
+/// An expression that was written, or that memory is short.
+pub type Written = Result<Expr, AllocError>;
+
 /// A field of `this`.
-pub fn own_field(source: &Source, field: MemberId) -> Result<Expr, AllocError>
+pub fn own_field(source: &Source, field: MemberId) -> Written
     requires { IsFitting source.now.numbering.now source.now.hier.now }
     ensures { IfOk result (λ e. expr_of e ≡ FieldOf (ThisRef written.nowhere) ((renaming source.now).field_name field.0) written.nowhere) }
 {
@@ -45,48 +48,26 @@ pub fn own_field(source: &Source, field: MemberId) -> Result<Expr, AllocError>
 }
 
 /// A field of what an expression of this type gives.
-pub fn field(source: &Source, found: Static, name: &Name, base: Expr) -> Result<Expr, AllocError>
+pub fn field(source: &Source, found: Static, name: &Name, base: Expr) -> Written
     requires { IsSource source.now }
     ensures { IfOk result (λ e. expr_of e ≡ FieldOf (expr_of base) (accessed source.now (static_seen found) name.now) written.nowhere) }
 {
-    match accessed_name(source, found, name) {
-        Ok(name) => build::field(source.alloc, base, name, nowhere()),
-        Err(fault) => {
-            drop(base);
-            Err(fault)
-        }
-    }
+    let name = made!(accessed_name(source, found, name); base);
+    build::field(source.alloc, base, name, nowhere())
 }
 
 /// A call on what an expression of this type gives.
-pub fn call(
-    source: &Source,
-    found: Static,
-    name: &Name,
-    on: Expr,
-    args: Vec<Expr>,
-) -> Result<Expr, AllocError>
+pub fn call(source: &Source, found: Static, name: &Name, on: Expr, args: Vec<Expr>) -> Written
     requires { IsSource source.now }
     ensures { IfOk result (λ e. expr_of e ≡ CallOn (expr_of on) (called source.now
         (types.class_of (static_seen found)) name.now) (exprs args.items) written.nowhere) }
 {
-    match called_name(source, class_of(found), name) {
-        Ok(name) => build::call_on(source.alloc, on, name, args, nowhere()),
-        Err(fault) => {
-            drop(on);
-            drop(args);
-            Err(fault)
-        }
-    }
+    let name = made!(called_name(source, class_of(found), name); on, args);
+    build::call_on(source.alloc, on, name, args, nowhere())
 }
 
 /// A call on `this`, in the body of a class.
-pub fn own_call(
-    source: &Source,
-    class: ClassId,
-    name: &Name,
-    args: Vec<Expr>,
-) -> Result<Expr, AllocError>
+pub fn own_call(source: &Source, class: ClassId, name: &Name, args: Vec<Expr>) -> Written
     requires { IsSource source.now }
     ensures { IfOk result (λ e. expr_of e ≡ CallOn (ThisRef written.nowhere) (called source.now (Some class.0) name.now) (exprs args.items) written.nowhere) }
 {
@@ -101,12 +82,7 @@ pub fn own_call(
 }
 
 /// A call of the method that the superclass of a class has.
-pub fn super_call(
-    source: &Source,
-    class: ClassId,
-    name: &Name,
-    args: Vec<Expr>,
-) -> Result<Expr, AllocError>
+pub fn super_call(source: &Source, class: ClassId, name: &Name, args: Vec<Expr>) -> Written
     requires { IsSource source.now }
     ensures { IfOk result (λ e. expr_of e ≡ SuperCallOf (above source.now class.0 name.now) (exprs args.items) written.nowhere) }
 {
@@ -115,12 +91,7 @@ pub fn super_call(
 }
 
 /// A creation of an object, by the node where its row stands.
-pub fn creation(
-    source: &Source,
-    number: u32,
-    class: ClassId,
-    args: Vec<Expr>,
-) -> Result<Expr, AllocError>
+pub fn creation(source: &Source, number: u32, class: ClassId, args: Vec<Expr>) -> Written
     requires { IsFitting source.now.numbering.now source.now.hier.now }
     ensures { IfOk result (λ e. expr_of e ≡ NewOf (written.id (row_named source.now (row.New number) class.0)) (exprs args.items) written.nowhere) }
 {
@@ -129,44 +100,29 @@ pub fn creation(
 }
 
 /// A creation of an array, by the node where its row stands.
-pub fn array(source: &Source, number: u32, ty: Ty, size: Expr) -> Result<Expr, AllocError>
+pub fn array(source: &Source, number: u32, ty: Ty, size: Expr) -> Written
     requires { IsFitting source.now.numbering.now source.now.hier.now }
     ensures { IfOk result (λ e. expr_of e ≡ NewArrayOf (row_typed source.now (row.New number) ty) (expr_of size) written.nowhere) }
 {
-    match row_type(source, RowItem::New(number as u64), ty) {
-        Ok(ty) => build::new_array(source.alloc, ty, size, nowhere()),
-        Err(fault) => {
-            drop(size);
-            Err(fault)
-        }
-    }
+    let ty = made!(row_type(source, RowItem::New(number as u64), ty); size);
+    build::new_array(source.alloc, ty, size, nowhere())
 }
 
 /// A cast, by the node where its row stands.
-pub fn cast(source: &Source, number: u32, ty: Ty, value: Expr) -> Result<Expr, AllocError>
+pub fn cast(source: &Source, number: u32, ty: Ty, value: Expr) -> Written
     requires { IsFitting source.now.numbering.now source.now.hier.now }
     ensures { IfOk result (λ e. expr_of e ≡ CastOf (row_typed source.now (row.Cast number) ty) (expr_of value) written.nowhere) }
 {
-    match row_type(source, RowItem::Cast(number as u64), ty) {
-        Ok(ty) => build::cast(source.alloc, ty, value, nowhere()),
-        Err(fault) => {
-            drop(value);
-            Err(fault)
-        }
-    }
+    let ty = made!(row_type(source, RowItem::Cast(number as u64), ty); value);
+    build::cast(source.alloc, ty, value, nowhere())
 }
 
 /// `instanceof`, by the node where its row stands.
-pub fn test(source: &Source, number: u32, class: ClassId, value: Expr) -> Result<Expr, AllocError>
+pub fn test(source: &Source, number: u32, class: ClassId, value: Expr) -> Written
     requires { IsFitting source.now.numbering.now source.now.hier.now }
     ensures { IfOk result (λ e. expr_of e ≡ InstanceOfClass (expr_of value) (written.id
         (row_named source.now (row.Test number) class.0)) written.nowhere) }
 {
-    match row_name(source, RowItem::Test(number as u64), class) {
-        Ok(name) => build::instance_of(source.alloc, value, id(name), nowhere()),
-        Err(fault) => {
-            drop(value);
-            Err(fault)
-        }
-    }
+    let name = made!(row_name(source, RowItem::Test(number as u64), class); value);
+    build::instance_of(source.alloc, value, id(name), nowhere())
 }

@@ -76,18 +76,13 @@ fn tries_of_one(
 }
 
 /// The tries of two nodes where the origin of the first is below that of the second.
-fn tries_of_lower(alloc: Global, lower: NodeId, upper: NodeId) -> Result<Vec<Edit>, AllocError>
-    ensures tries { IfOk result (λ v. map try_of v.items ≡ tries_of_lower lower upper) }
+fn tries_of_lower(alloc: Global, x: NodeId, y: NodeId) -> Result<Vec<Edit>, AllocError>
+    ensures tries { IfOk result (λ v. map try_of v.items ≡ tries_of_lower x y) }
     ensures some { IfOk result (λ v. 0 < length v.items) }
-    ensures edits { IfOk result (λ v. (H : Hierarchy) → AreApart H.order lower upper → All (IsTryOf H) v.items) }
+    ensures edits { IfOk result (λ v. (H : Hierarchy) → AreApart H.order x y → All (IsTryOf H) v.items) }
 {
-    let pair = vec![in alloc; lower, upper]?;
-    let tries = vec![in alloc;
-        Edit::Under(lower, upper),
-        Edit::Merge(pair),
-        Edit::Under(upper, lower),
-    ]?;
-    Ok(tries)
+    let pair = vec![in alloc; x, y]?;
+    Ok(vec![in alloc; Edit::Under(x, y), Edit::Merge(pair), Edit::Under(y, x)]?)
 }
 
 /// The tries of two nodes of which one comes from no class, or whose origins are not comparable.
@@ -97,8 +92,7 @@ fn tries_of_others(alloc: Global, x: NodeId, y: NodeId) -> Result<Vec<Edit>, All
     ensures edits { IfOk result (λ v. (H : Hierarchy) → AreApart H.order x y → All (IsTryOf H) v.items) }
 {
     let pair = vec![in alloc; x, y]?;
-    let tries = vec![in alloc; Edit::Merge(pair), Edit::Under(x, y), Edit::Under(y, x)]?;
-    Ok(tries)
+    Ok(vec![in alloc; Edit::Merge(pair), Edit::Under(x, y), Edit::Under(y, x)]?)
 }
 
 /// The tries of two nodes that come from two classes, or from one.

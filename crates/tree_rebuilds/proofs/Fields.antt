@@ -72,10 +72,7 @@ module _ {P Q : Plain} {F : Facts} {pt : PointsTo} {H : Hierarchy} {V : Plain} (
       subst (λ z. IsOldField f z) made (record {
         old = old;
         old_stands = o;
-        node = n;
-        stands = s;
-        instance = refl;
-        owner = sym (node_number P Q F H V G.resolves G.new n i e);
+        at = record { node = n; stands = s; instance = refl; owner_is = sym (node_number P Q F H V G.resolves G.new n i e) };
         name = refl;
         type = type_is P Q F G.facts H G.hierarchy V G.resolves G.new pt G.unbroken (row.Field f) old.ty (field_row P Q G.same G.formed f old o);
       })
@@ -154,7 +151,7 @@ module _ {P Q : Plain} {F : Facts} {pt : PointsTo} {H : Hierarchy} {V : Plain} (
       ∙ s.new_static))) (origin g new e)
 
   pub static_field : (g : ℕ) (new : PlainField) → slice_get U.fields g ≡ Some new → new.is_static ≡ true → (f : ℕ) × IsOldStatic f g
-  static_field g new e h = ⊎_elim (λ z. absurd (false≢true (sym z.1.instance ∙ h))) (λ z. z) (origin g new e)
+  static_field g new e h = ⊎_elim (λ z. absurd (false≢true (sym z.1.at.instance ∙ h))) (λ z. z) (origin g new e)
 
   -- the field of a column is an old one
   old_field : (f n : ℕ) → Stands G (column.Fld f) n → (k : PlainField) × (slice_get P.fields f ≡ Some k)

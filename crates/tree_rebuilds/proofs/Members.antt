@@ -72,18 +72,8 @@ module _ (P : Plain) (R : Renaming) (F : Facts) (H : Hierarchy) where
           let z = when_from (is_headed F H n x && is_first_there F H n c x) (slot_head P R H mods x) h d in
           let w = and_parts (is_headed F H n x) (is_first_there F H n c x) z.0 in
           let y = flat_option_from (first_head P R H mods) (slice_get P.slots x) h z.1 in
-          record {
-            number = c;
-            info = k;
-            info_stands = e;
-            declared = q;
-            slot = x;
-            of_slot = p;
-            at = at;
-            headed = w.0;
-            tree = first_head_from mods x y.0 h
-                y.1 y.2;
-          }
+          let tree = first_head_from mods x y.0 h y.1 y.2 in
+          record { number = c; info = k; info_stands = e; declared = q; slot = x; of_slot = p; at = at; headed = w.0; tree = tree }
 
   heads_has : (mods : List Modifier) (n c s : ℕ) (k : ColumnInfo) (slot : PlainSlot) (m : PlainMethod) → is_declaration k.kind ≡ true → k.slot ≡ Some s
       → is_headed F H n s ≡ true

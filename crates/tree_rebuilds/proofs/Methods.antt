@@ -115,10 +115,12 @@ module _ {P Q : Plain} {F : Facts} {pt : PointsTo} {H : Hierarchy} {V : Plain} (
       record {
         old = old;
         old_stands = o;
-        node = n;
-        stands = s;
-        instance = static_is G at g r;
-        owner = owner_is G at g r ∙ sym (node_number P Q F H V G.resolves G.new n i e);
+        at = record {
+          node = n;
+          stands = s;
+          instance = static_is G at g r;
+          owner_is = owner_is G at g r ∙ sym (node_number P Q F H V G.resolves G.new n i e);
+        };
         name = name_is G at g r;
         types = types_are G at g r (modifier Public ∷ []) (R₀.method_name m) m old o refl;
         code = code_is G at g r match (modifier Public ∷ []) (R₀.method_name m) m old xs o b refl refl (sym st) (λ h. absurd (false≢true (sym st ∙ h)));
@@ -137,12 +139,7 @@ module _ {P Q : Plain} {F : Facts} {pt : PointsTo} {H : Hierarchy} {V : Plain} (
       let sig = ((G.formed.methods t.signature.first t.first t.first_stands).slots s).0 of in
       let same : sig.slot ≡ t.signature = same_Some _ _ (sym sig.stands ∙ t.slot_stands) in
       record {
-        old = old;
-        old_stands = o;
-        slot = s;
-        of_slot = os;
-        signature = t.signature;
-        slot_stands = t.slot_stands;
+        was = record { old = old; old_stands = o; slot = s; of_slot = os; signature = t.signature; slot_stands = t.slot_stands };
         instance = static_is G at g r ∙ ap (λ (h : HeadTree). has_word is_static_word h.mods) (sym t.is) ∙ st;
         owner = owner_is G at g r ∙ ow ∙ sym (node_number P Q F H V G.resolves G.new n i e);
         name = name_is G at g r ∙ ap (λ (h : HeadTree). h.name) (sym t.is)

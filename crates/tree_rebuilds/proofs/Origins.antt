@@ -134,7 +134,7 @@ module _ {P Q : Plain} {F : Facts} {pt : PointsTo} {H : Hierarchy} {V : Plain} (
 
   instance_of : (new : PlainMethod) → ((m : ℕ) × IsOldBody G m new) ⊎
       ((n : ℕ) × (m : ℕ) × (IsOldHead G n m new ⊎ IsOldFiller G n m new)) → new.is_static ≡ false
-  instance_of new z = ⊎_elim (λ b. b.1.instance) (λ b. ⊎_elim (λ h. h.of.instance) (λ f. f.of.instance) b.2) z
+  instance_of new z = ⊎_elim (λ b. b.1.at.instance) (λ b. ⊎_elim (λ h. h.of.instance) (λ f. f.of.instance) b.2) z
 
   pub instance_method : (g : ℕ) (new : PlainMethod) → slice_get U.methods g ≡ Some new → new.is_static ≡ false
       → ((m : ℕ) × IsOldBody G m new) ⊎ ((n : ℕ) × (m : ℕ) × (IsOldHead G n m new ⊎ IsOldFiller G n m new))

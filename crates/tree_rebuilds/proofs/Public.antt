@@ -195,7 +195,7 @@ module _ {P Q : Plain} {F : Facts} {pt : PointsTo} {H : Hierarchy} {V : Plain} (
       let s = (G.formed.methods f k o).slotted (ap (λ (y : PlainMethod). y.is_static) (sym same) ∙ old.instance) in
       let ow : (T G).type_of a ≡ (T G).type_of n = node_number P Q F H V G.resolves G.new a i e ∙ sym (owner_is G x g r) ∙ q.of.owner in
       let one : a ≡ n = nodes_once P Q F H V G.resolves G.new G.formed G.placed G.facts pt G.unbroken a n live q.live ow in
-      absurd (no_body n m f q.of.slot s.0 k q.filled (method_slot G m q.of.slot q.of.old q.of.old_stands q.of.of_slot)
+      absurd (no_body n m f q.of.was.slot s.0 k q.filled (method_slot G m q.of.was.slot q.of.was.old q.of.was.old_stands q.of.was.of_slot)
       (subst (Stands G (column.Def f)) one st) o s.1 (sym (name_is G x g r) ∙ q.of.name))
 
   member_fills : (n i g : ℕ) (x : MethodAt) (m : MemberTree) → is_live H.order n ≡ true → slice_get (tree P Q F H) i ≡ Some (node_tree P Q F H n)

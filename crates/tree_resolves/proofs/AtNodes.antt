@@ -117,22 +117,15 @@ module _ {P Q : Plain} {F : Facts} {pt : PointsTo} {H : Hierarchy} (G : Given P 
           let info = index_at F.columns.items c (record { kind = kind.Is; class = record { 0 = 0 }; slot = None; name = []; label = [] }) k e in
           let kinded : column_kind F c ≡ kind.Dcl = ap (λ (i : ColumnInfo). i.kind) info ∙ declaration_kind k.kind q in
           let slotted : column_slot F c ≡ Some s = ap (λ (i : ColumnInfo). i.slot) info ∙ p in
-          record {
-            kind = kinded;
-            slot = s;
-            of_slot = slotted;
-            at = at;
-            headed = w.0;
-            leading = w.1;
-            offers = record {
-              number = c;
-              kind = ap is_method kinded;
-              slot = slotted;
-              offered = offered_there G n c live at;
-              name = ap (λ (i : HeadTree). i.name) (sym t.is)
-                  ∙ name_is G t.signature.first s c (slot_first s t.signature t.slot_stands) (ap is_method kinded) slotted;
-            };
-          }
+          let offers : Offers n s h.name = record {
+            number = c;
+            kind = ap is_method kinded;
+            slot = slotted;
+            offered = offered_there G n c live at;
+            name = ap (λ (i : HeadTree). i.name) (sym t.is)
+                ∙ name_is G t.signature.first s c (slot_first s t.signature t.slot_stands) (ap is_method kinded) slotted;
+          } in
+          record { kind = kinded; slot = s; of_slot = slotted; at = at; headed = w.0; leading = w.1; offers = offers }
 
   heads_once : (mods : List Modifier) (n c : ℕ) (k : ColumnInfo) → Once SameHead (column_heads P (R P Q F H) F H mods n c k)
   heads_once mods n c k = when_once SameHead (is_declaration k.kind) _ (go k.slot)

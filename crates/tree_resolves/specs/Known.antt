@@ -27,38 +27,27 @@ IsKnownCast O u = (r : Refusal) → IsUnknownCast O u r → ⊥
 module _ (P : Plain) (R : Renaming) (H : Hierarchy) (m : ℕ) (k : PlainMethod) (O : Plain) where
   abbrev mutual
     pub KnownEx : Ex → Type 0
-    KnownEx (number t n) = Unit {0}
-    KnownEx (character t c) = Unit {0}
-    KnownEx (text t u) = Unit {0}
-    KnownEx (truth t b) = Unit {0}
-    KnownEx (null t) = Unit {0}
-    KnownEx (this t) = Unit {0}
-    KnownEx (local t i) = Unit {0}
-    KnownEx (static_field t f) = Unit {0}
-    KnownEx (own_field t f) = Unit {0}
     KnownEx (field t e x) = KnownEx e
     KnownEx (index t e i) = KnownEx e × KnownEx i
     KnownEx (call t e x es) = KnownEx e × KnownExs es
     KnownEx (static_call t d es) = KnownExs es
     KnownEx (super_call t x es) = KnownExs es
+    KnownEx (unary t o e) = KnownEx e
+    KnownEx (binary t o e d) = KnownEx e × KnownEx d
     KnownEx (create t n c es) = IsKnownName O (row_name P H (R.row_type (row.New n)) c) × KnownExs es
     KnownEx (create_array t n v e) = IsKnownType O (written_type P H (R.row_type (row.New n)) v) × KnownEx e
     KnownEx (cast t n v e) = IsKnownCast O (written_type P H (R.row_type (row.Cast n)) v) × KnownEx e
     KnownEx (instance_of t n e c) = IsKnownName O (row_name P H (R.row_type (row.Test n)) c) × KnownEx e
-    KnownEx (unary t o e) = KnownEx e
-    KnownEx (binary t o e d) = KnownEx e × KnownEx d
+    KnownEx e = Unit {0}
 
     pub KnownExs : Exs → Type 0
     KnownExs no_ex = Unit {0}
     KnownExs (ex_then e es) = KnownEx e × KnownExs es
 
   abbrev pub KnownTarget : Target → Type 0
-  KnownTarget (to_local t i) = Unit {0}
-  KnownTarget (to_static t f) = Unit {0}
-  KnownTarget (to_own t f) = Unit {0}
   KnownTarget (to_field t e x) = KnownEx e
   KnownTarget (to_element t e i) = KnownEx e × KnownEx i
-  KnownTarget no_target = Unit {0}
+  KnownTarget b = Unit {0}
 
   -- the type of a variable
   abbrev pub KnownVariable : ℕ → Type 0

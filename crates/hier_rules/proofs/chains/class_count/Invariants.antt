@@ -4,6 +4,6 @@ use Rattle.hier_rules.proofs.chains.class_count.Given as goal
 
 abbrev pub invariant-loop-x : goal.invariant-loop-x
 invariant-loop-x l = record {
-  is : l.count ≡ count_below l.x (is_over l.facts l.hier l.n);
+  is : l.count ≡ count_below l.x (is_over l.nodes.facts.now l.nodes.hier.now l.n);
   most : l.count ≤ l.x;
 }

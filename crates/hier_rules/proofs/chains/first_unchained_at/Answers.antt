@@ -5,6 +5,6 @@ use Rattle.hier_rules.proofs.chains.first_unchained_at.Goals as goal
 
 pub returns-in-Some : goal.returns-in-Some
 returns-in-Some c =
-    let F = c.args.facts.now in
-    let H = c.args.hier.now in
+    let F = c.args.nodes.now.facts.now in
+    let H = c.args.nodes.now.hier.now in
     found_in (length H.order.live) c.loop-x.x (length H.order.live) (unchained F H c.args.n) c.loop-x.invariant c.in-Some.ensures (omega arith)

@@ -4,4 +4,4 @@ use Rattle.hier_rules.specs.Obligations.{unchained}
 use Rattle.hier_rules.proofs.chains.first_unchained_at.Given as goal
 
 abbrev pub invariant-loop-x : goal.invariant-loop-x
-invariant-loop-x l = first_below l.x (λ x. first_below (length l.hier.order.live) (unchained l.facts l.hier l.n x)) ≡ None
+invariant-loop-x l = first_below l.x (λ x. first_below (length l.nodes.hier.now.order.live) (unchained l.nodes.facts.now l.nodes.hier.now l.n x)) ≡ None

@@ -4,4 +4,4 @@ use Rattle.hier_rules.specs.Obligations.{unchained}
 use Rattle.hier_rules.proofs.chains.first_unchained_with.Given as goal
 
 abbrev pub invariant-loop-y : goal.invariant-loop-y
-invariant-loop-y l = first_below l.y (unchained l.facts l.hier l.n l.x) ≡ None
+invariant-loop-y l = first_below l.y (unchained l.nodes.facts.now l.nodes.hier.now l.n l.x) ≡ None

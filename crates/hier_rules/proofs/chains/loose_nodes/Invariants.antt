@@ -5,4 +5,5 @@ use Rattle.hier_rules.specs.Chains.{is_loose}
 use Rattle.hier_rules.proofs.chains.loose_nodes.Given as goal
 
 abbrev pub invariant-loop-n : goal.invariant-loop-n
-invariant-loop-n l = (length l.loose ≡ length l.hier.order.live) × ((x : ℕ) → bit l.loose x ≡ (nat_lt x l.n && is_loose l.facts l.hier x))
+invariant-loop-n l = (length l.loose ≡ length l.nodes.hier.now.order.live)
+    × ((x : ℕ) → bit l.loose x ≡ (nat_lt x l.n && is_loose l.nodes.facts.now l.nodes.hier.now x))
