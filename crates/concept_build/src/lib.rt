@@ -24,7 +24,7 @@ mod stands;
 
 use counts::counts_of;
 use covers::{Given, above};
-use intents::all_items;
+use intents::{Source, all_items};
 use item::item_at;
 use places::places_of;
 use stands::{columns_at, rows_at};
@@ -62,7 +62,13 @@ pub fn concepts(alloc: Global, table: &Table, bound: u32) -> Result<Lattice, Lat
     ensures cause { IfErr result (λ e. IsFaultOf table.now.rows.items table.now.width bound e) }
 {
     let counts = counts_of(alloc, &table.rows, table.width)?;
-    let items = all_items(alloc, &table.rows, &counts, table.width, bound)?;
+    let items = all_items(&Source {
+        alloc,
+        table: &table.rows,
+        counts: &counts,
+        width: table.width,
+        bound,
+    })?;
     let places = places_of(alloc, &items)?;
     let concepts = placed_items(&Given {
         alloc,
