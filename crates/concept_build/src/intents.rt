@@ -7,14 +7,14 @@ ghost use Rattle.concept_build.specs.Given.{IsSource};
 ghost use Rattle.concept_build.specs.Tables.{IsFull};
 ghost use Rattle.concept_build.specs.Lists.{IsFaultOf, lists_of, columns_of, pair_at, AreFound, AreDifferent, Grows, HasMeet, AreNext};
 
-use crate::LatticeFault;
 use crate::counts::Counts;
 use crate::item::{Item, common_columns, item_at, meet_of, sort_items};
 use crate::near::near_rows;
 use crate::places::{is_new, places_of};
+use crate::{LatticeFault, Tried};
 use indexmap::IndexSet;
 use kaba_bits::{BitRow, row_at};
-use std::alloc::{AllocError, Global};
+use std::alloc::Global;
 
 /// The table that concepts are found of, what is counted of it, and how many of them are wanted at the most.
 #[derive(Drop)]
@@ -42,7 +42,7 @@ pub fn all_items(source: &Source) -> Result<Vec<Item>, LatticeFault>
 }
 
 /// All concepts, or one more than the bound of them.
-fn found_items(source: &Source) -> Result<Vec<Item>, AllocError>
+fn found_items(source: &Source) -> Tried<Vec<Item>>
     requires source { IsSource source.now }
     ensures each { IfOk result (λ v. All (λ k. IsConcept source.now.table.now source.now.width k.0 k.1) v.items) }
     ensures differ { IfOk result (λ v. AreDifferent (columns_of v.items)) }
@@ -59,7 +59,7 @@ fn found_items(source: &Source) -> Result<Vec<Item>, AllocError>
 }
 
 /// The concept of all columns.
-fn first_items(source: &Source) -> Result<Vec<Item>, AllocError>
+fn first_items(source: &Source) -> Tried<Vec<Item>>
     requires source { IsSource source.now }
     ensures each { IfOk result (λ v. All (λ k. IsConcept source.now.table.now source.now.width k.0 k.1) v.items) }
     ensures one { IfOk result (λ v. length v.items ≡ 1) }
@@ -78,7 +78,7 @@ fn add_next(
     items: &mut Vec<Item>,
     known: &mut IndexSet<Vec<u32>>,
     k: usize,
-) -> Result<(), AllocError>
+) -> Tried<()>
     requires source { IsSource source.now }
     requires k { k < length items.old.items }
     requires found { AreFound source.now.table.now source.now.width items.old.items (lists_of known.old.keys) }
@@ -104,7 +104,7 @@ fn add_meet(
     known: &mut IndexSet<Vec<u32>>,
     k: usize,
     q: usize,
-) -> Result<(), AllocError>
+) -> Tried<()>
     requires source { IsSource source.now }
     requires k { k < length items.old.items }
     requires q { q < length source.now.table.now }

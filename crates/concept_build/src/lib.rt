@@ -29,6 +29,9 @@ use item::item_at;
 use places::places_of;
 use stands::{columns_at, rows_at};
 
+/// What was made, or that memory was short.
+type Tried<T> = Result<T, AllocError>;
+
 /// Why there is no lattice.
 #[derive(Clone, Copy, Debug, Error)]
 pub enum LatticeFault {
@@ -89,7 +92,7 @@ pub fn one_lattice()
 {}
 
 /// Each concept with what is told of it.
-fn placed_items(given: &Given) -> Result<Vec<Concept>, AllocError>
+fn placed_items(given: &Given) -> Tried<Vec<Concept>>
     requires { IsGiven given.now }
     ensures pairs { IfOk result (λ v. map pair_of v.items ≡ given.now.items.now) }
     ensures placed { IfOk result (λ v. (k : ℕ) (d : Concept) → k < length given.now.items.now
@@ -103,7 +106,7 @@ fn placed_items(given: &Given) -> Result<Vec<Concept>, AllocError>
 }
 
 /// One concept with what is told of it.
-fn placed_item(given: &Given, k: usize) -> Result<Concept, AllocError>
+fn placed_item(given: &Given, k: usize) -> Tried<Concept>
     requires given { IsGiven given.now }
     requires k { k < length given.now.items.now }
     ensures pair { IfOk result (λ x. (d : Pair) → pair_of x ≡ slice_index_or given.now.items.now k d) }

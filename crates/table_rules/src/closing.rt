@@ -9,6 +9,7 @@ ghost use Rattle.table_rules.specs.Closed.{IsTieClosed, IsSiteClosedAt, IsSiteCl
 ghost use Rattle.table_rules.specs.Asked.{is_beyond, IsMet, IsRowAsked, IsRowClosed};
 ghost use Rattle.table_rules.specs.Words.{OnTrue, OnFalse, bit, row, IsStep, InRange, AreSets, IsInRow, IsRawTable, IsEntry, AreEntries, Grow, AreAsked, AreOpen, IsIndex};
 
+use crate::Tried;
 use crate::asked::{Columns, ask_this, columns_of, meet_at};
 use crate::columns::site_at;
 use crate::groups::are_alike;
@@ -17,11 +18,11 @@ use crate::marks::{join_asked, join_rows};
 use crate::turns::grow;
 use fact_model::{Facts, PointsTo, Table, TieInfo};
 use kaba_bits::{BitRow, row_at};
-use std::alloc::{AllocError, Global};
+use std::alloc::Global;
 
 /// The least table that holds the raw one and is closed under T5, T6, T8, T9 and T10. The sets and the raw table are
 /// those of the facts. An error comes only for want of memory.
-pub fn close(alloc: Global, facts: &Facts, pt: &PointsTo, raw: Table) -> Result<Table, AllocError>
+pub fn close(alloc: Global, facts: &Facts, pt: &PointsTo, raw: Table) -> Tried<Table>
     requires facts { InRange facts.now }
     requires sets { AreSets facts.now pt.now }
     requires raw { IsRawTable facts.now raw }
@@ -37,7 +38,7 @@ pub fn close(alloc: Global, facts: &Facts, pt: &PointsTo, raw: Table) -> Result<
 }
 
 /// What the columns ask for, and then the rows. An error comes only for want of memory.
-fn fill(alloc: Global, facts: &Facts, pt: &PointsTo, rows: &mut [BitRow]) -> Result<(), AllocError>
+fn fill(alloc: Global, facts: &Facts, pt: &PointsTo, rows: &mut [BitRow]) -> Tried<()>
     requires facts { InRange facts.now }
     requires sets { AreSets facts.now pt.now }
     requires rows { AreEntries facts.now rows.old }
@@ -60,7 +61,7 @@ fn fill_rows(
     asked: &mut [BitRow],
     both: &mut BitRow,
     rows: &mut [BitRow],
-) -> Result<(), AllocError>
+) -> Tried<()>
     requires facts { InRange facts.now }
     requires sets { AreSets facts.now pt.now }
     requires index { IsIndex facts.now index.now }

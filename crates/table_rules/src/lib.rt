@@ -17,3 +17,7 @@ mod turns;
 
 pub use closing::close;
 pub use raw_table::raw;
+use std::alloc::AllocError;
+
+/// What was made, or that memory was short.
+type Tried<T> = Result<T, AllocError>;

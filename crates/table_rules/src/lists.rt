@@ -2,13 +2,14 @@
 
 ghost use Rattle.fact_model.specs.InRange.{InRange};
 
+use crate::Tried;
 use crate::groups::{Groups, groups_of};
 use crate::index::Index;
 use crate::order::order_of_rows;
 use fact_model::{Facts, PointsTo};
 use kaba_bits::{BitRow, empty_rows, row_at};
 use points_to::{Queue, queue_of, wait};
-use std::alloc::{AllocError, Global};
+use std::alloc::Global;
 
 /// The rows that wait for their turns, the groups that do, by their numbers, and for each column the rows where it was gone over.
 #[derive(Drop)]
@@ -37,7 +38,7 @@ pub fn is_first(lists: &mut Lists, d: u32, r: usize) -> bool {
 }
 
 /// The rows that were noted to have a column. An error comes only for want of memory.
-pub fn holders_of(alloc: Global, lists: &Lists, d: u32) -> Result<Vec<u32>, AllocError> {
+pub fn holders_of(alloc: Global, lists: &Lists, d: u32) -> Tried<Vec<u32>> {
     if d as usize >= lists.holders.len() {
         return Ok(Vec::new(alloc));
     }
@@ -45,7 +46,7 @@ pub fn holders_of(alloc: Global, lists: &Lists, d: u32) -> Result<Vec<u32>, Allo
 }
 
 /// The numbers below a count, in their order. An error comes only for want of memory.
-fn numbers_below(alloc: Global, count: usize) -> Result<Vec<usize>, AllocError> {
+fn numbers_below(alloc: Global, count: usize) -> Tried<Vec<usize>> {
     let mut list = Vec::new(alloc);
     for n in 0..count {
         list.push(n)?;
@@ -54,12 +55,7 @@ fn numbers_below(alloc: Global, count: usize) -> Result<Vec<usize>, AllocError> 
 }
 
 /// A queue of the rows, in which each waits. An error comes only for want of memory.
-fn waiting_rows(
-    alloc: Global,
-    facts: &Facts,
-    index: &Index,
-    rows: &[BitRow],
-) -> Result<Queue, AllocError> {
+fn waiting_rows(alloc: Global, facts: &Facts, index: &Index, rows: &[BitRow]) -> Tried<Queue> {
     let count = facts.rows.len();
     let order = order_of_rows(alloc, facts, index, rows)?;
     let mut queue = queue_of(alloc, order, count)?;
@@ -76,7 +72,7 @@ pub fn all_wait(
     pt: &PointsTo,
     index: &Index,
     rows: &[BitRow],
-) -> Result<Lists, AllocError>
+) -> Tried<Lists>
     requires { InRange facts.now }
 {
     let count = facts.rows.len();

@@ -3,6 +3,7 @@
 ghost use Rattle.std.specs.Prelude.{◌≡◌, ℕ, ◌<◌, length, OnOk};
 ghost use Rattle.table_rules.specs.Words.{OnTrue, InRange, AreSets, IsEntry, AreEntries, AreAsked, AreOpen, IsIndex};
 
+use crate::Tried;
 use crate::asked::{ask_body, meet_at};
 use crate::closing::{join_tie, next_beyond, next_column};
 use crate::columns::this_of;
@@ -14,7 +15,7 @@ use crate::sites::pass_group;
 use fact_model::{Facts, PointsTo};
 use kaba_bits::{BitRow, row_at};
 use points_to::{numbers_at, take, wait};
-use std::alloc::{AllocError, Global};
+use std::alloc::Global;
 
 /// Whether a row is there and has a column.
 fn has(facts: &Facts, rows: &[BitRow], r: u32, d: u32) -> bool
@@ -49,7 +50,7 @@ fn spread(
     rows: &mut [BitRow],
     lists: &mut Lists,
     d: u32,
-) -> Result<(), AllocError>
+) -> Tried<()>
     requires asked { AreAsked facts.now asked.now }
     requires rows { AreEntries facts.now rows.old }
     requires column { d < length facts.now.columns.items }
@@ -118,7 +119,7 @@ fn meet_column(
     lists: &mut Lists,
     r: usize,
     d: u32,
-) -> Result<(), AllocError>
+) -> Tried<()>
     requires index { IsIndex facts.now index.now }
     requires state { AreOpen facts.now asked.old both.old rows.old }
     requires row { r < length facts.now.rows.items }
@@ -142,7 +143,7 @@ fn meet_columns(
     rows: &mut [BitRow],
     lists: &mut Lists,
     r: usize,
-) -> Result<(), AllocError>
+) -> Tried<()>
     requires facts { InRange facts.now }
     requires index { IsIndex facts.now index.now }
     requires state { AreOpen facts.now asked.old both.old rows.old }
@@ -196,7 +197,7 @@ fn pass_body(
     rows: &mut [BitRow],
     lists: &mut Lists,
     v: usize,
-) -> Result<(), AllocError>
+) -> Tried<()>
     requires facts { InRange facts.now }
     requires asked { AreAsked facts.now asked.old }
     requires rows { AreEntries facts.now rows.old }
@@ -222,7 +223,7 @@ fn pass(
     rows: &mut [BitRow],
     lists: &mut Lists,
     v: usize,
-) -> Result<(), AllocError>
+) -> Tried<()>
     requires facts { InRange facts.now }
     requires asked { AreAsked facts.now asked.old }
     requires rows { AreEntries facts.now rows.old }
@@ -247,7 +248,7 @@ fn turn(
     rows: &mut [BitRow],
     lists: &mut Lists,
     r: usize,
-) -> Result<(), AllocError>
+) -> Tried<()>
     requires facts { InRange facts.now }
     requires index { IsIndex facts.now index.now }
     requires state { AreOpen facts.now asked.old both.old rows.old }
@@ -270,7 +271,7 @@ fn next_turn(
     both: &mut BitRow,
     rows: &mut [BitRow],
     lists: &mut Lists,
-) -> Result<bool, AllocError>
+) -> Tried<bool>
     requires facts { InRange facts.now }
     requires sets { AreSets facts.now pt.now }
     requires index { IsIndex facts.now index.now }
@@ -302,7 +303,7 @@ fn run(
     both: &mut BitRow,
     rows: &mut [BitRow],
     lists: &mut Lists,
-) -> Result<(), AllocError>
+) -> Tried<()>
     requires facts { InRange facts.now }
     requires sets { AreSets facts.now pt.now }
     requires index { IsIndex facts.now index.now }
@@ -327,7 +328,7 @@ pub fn grow(
     asked: &mut [BitRow],
     both: &mut BitRow,
     rows: &mut [BitRow],
-) -> Result<(), AllocError>
+) -> Tried<()>
     requires facts { InRange facts.now }
     requires sets { AreSets facts.now pt.now }
     requires index { IsIndex facts.now index.now }
