@@ -4,7 +4,7 @@ ghost use Rattle.std.specs.Prelude.{◌≡◌, ◌<◌, ◌++◌, true, IfOk, On
 ghost use Rattle.std.specs.List.{flat_map};
 ghost use Rattle.flow_rules.specs.Numbered.{number_among, same_row, same_column, same_point, form_sites, listed};
 ghost use Rattle.flow_rules.specs.Parts as plain;
-ghost use Rattle.flow_facts.specs.Words.{part_seen, parts_seen, body_seen, outline_seen};
+ghost use Rattle.flow_facts.specs.Views.{part_seen, parts_seen, body_seen, outline_seen};
 
 use crate::Tried;
 use flow_rules::{

@@ -13,6 +13,7 @@ mod marks;
 mod order;
 mod raw_table;
 mod sites;
+mod state;
 mod turns;
 
 pub use closing::close;

@@ -25,21 +25,28 @@ scan-preserved c =
           (under (Marked new r d) (IsSubset (row c.args.asked.now d) (row new r)) step.result step.ensures.closed)) before;
     }
 
-pub returns-in-None-clause-closed : goal.returns-in-None-clause-closed
-returns-in-None-clause-closed c =
+pub returns-in-None : goal.returns-in-None
+returns-in-None c =
     let are = c.scan.invariant.rows in
     let rows = c.scan.rows in
     let r = c.args.r in
-    skip_all (IsClosedAt c.args.asked.now r rows) (row rows r) c.scan.at
-    (λ k none b. absurd (false≢true (sym none ∙ b))) (length c.args.facts.now.columns.items) c.scan.grew
-    (are.widths r (omega (arith, c.requires.row, are.len))) c.in-None.ensures.least c.scan.invariant.closed
+    record {
+      rows = are;
+      step = c.scan.invariant.step;
+      closed = skip_all (IsClosedAt c.args.asked.now r rows) (row rows r) c.scan.at (λ k none b. absurd (false≢true (sym none ∙ b)))
+          (length c.args.facts.now.columns.items) c.scan.grew (are.widths r (omega (arith, c.requires.row, are.len))) c.in-None.ensures.least
+          c.scan.invariant.closed;
+    }
 
-pub returns-clause-closed : goal.returns-clause-closed
-returns-clause-closed c =
+pub returns : goal.returns
+returns c =
     let are = c.scan.invariant.rows in
     let rows = c.scan.rows in
     let r = c.args.r in
-    skip_all (IsClosedAt c.args.asked.now r rows) (row rows r) c.scan.at
-    (λ k none b. absurd (false≢true (sym none ∙ b))) (length c.args.facts.now.columns.items) c.scan.grew
-    (are.widths r (omega (arith, c.requires.row, are.len))) (λ k low lt. absurd (omega (arith, low, lt, c.scan-test.false, c.len-width.ensures)))
-    c.scan.invariant.closed
+    record {
+      rows = are;
+      step = c.scan.invariant.step;
+      closed = skip_all (IsClosedAt c.args.asked.now r rows) (row rows r) c.scan.at (λ k none b. absurd (false≢true (sym none ∙ b)))
+          (length c.args.facts.now.columns.items) c.scan.grew (are.widths r (omega (arith, c.requires.row, are.len)))
+          (λ k low lt. absurd (omega (arith, low, lt, c.scan-test.false, c.len-width.ensures))) c.scan.invariant.closed;
+    }
