@@ -46,7 +46,8 @@ fn found_items(source: &Source) -> Tried<Vec<Item>>
     requires source { IsSource source.now }
     ensures each { IfOk result (λ v. All (λ k. IsConcept source.now.table.now source.now.width k.0 k.1) v.items) }
     ensures differ { IfOk result (λ v. AreDifferent (columns_of v.items)) }
-    ensures all { IfOk result (λ v. length v.items ≤ source.now.bound → (A B : List Bool) → IsConcept source.now.table.now source.now.width A B → HasIntent v.items B) }
+    ensures all { IfOk result (λ v. length v.items ≤ source.now.bound → (A B : List Bool)
+        → IsConcept source.now.table.now source.now.width A B → HasIntent v.items B) }
 {
     let mut items = first_items(source)?;
     let mut known = places_of(source.alloc, &items)?;

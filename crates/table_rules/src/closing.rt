@@ -129,7 +129,8 @@ pub fn next_beyond(facts: &Facts, plain: &BitRow, rows: &[BitRow], r: usize, at:
     ensures low { IfSome result (λ d. at ≤ d) }
     ensures column { IfSome result (λ d. d < length facts.now.columns.items) }
     ensures entry { IfSome result (IsEntry facts.now r) }
-    ensures least { MatchOption result (IsNoneFrom (is_beyond plain.now rows.now r) at (length facts.now.columns.items)) (IsNoneFrom (is_beyond plain.now rows.now r) at) }
+    ensures least { MatchOption result (IsNoneFrom (is_beyond plain.now rows.now r) at (length facts.now.columns.items))
+        (IsNoneFrom (is_beyond plain.now rows.now r) at) }
 {
     let _ = facts;
     row_at(rows, r).next_beyond(plain, at)
@@ -249,7 +250,8 @@ pub fn next_site(given: &Given, v: usize, at: u32) -> Option<u32>
     ensures low { IfSome result (λ o. at ≤ o) }
     ensures site { IfSome result (λ o. o < length given.now.facts.now.sites.items) }
     ensures member { IfSome result (IsInRow given.now.facts.now v) }
-    ensures least { MatchOption result (IsNoneFrom (bit (row given.now.pt.now.rows.items v)) at (length given.now.facts.now.sites.items)) (λ o. IsNoneFrom (bit (row given.now.pt.now.rows.items v)) at o) }
+    ensures least { MatchOption result (IsNoneFrom (bit (row given.now.pt.now.rows.items v)) at (length given.now.facts.now.sites.items))
+        (λ o. IsNoneFrom (bit (row given.now.pt.now.rows.items v)) at o) }
 {
     row_at(&given.pt.rows, v).next(at)
 }
@@ -261,7 +263,8 @@ fn join_site(given: &Given, rows: &mut [BitRow], v: usize, o: u32) -> bool
     requires row { v < length given.now.facts.now.rows.items }
     requires site { o < length given.now.facts.now.sites.items }
     requires member { IsInRow given.now.facts.now v o }
-    ensures { Gains given.now.facts.now rows.old rows.new result (IsSiteClosedAt given.now.facts.now given.now.pt.now.rows.items v rows.new o) }
+    ensures { Gains given.now.facts.now rows.old rows.new result
+        (IsSiteClosedAt given.now.facts.now given.now.pt.now.rows.items v rows.new o) }
 {
     join_rows(given.facts, rows, v, site_at(given.facts, o).row.0 as usize)
 }
@@ -271,7 +274,8 @@ fn join_sites(given: &Given, rows: &mut [BitRow], v: usize) -> bool
     requires given { IsGiven given.now }
     requires rows { AreEntries given.now.facts.now rows.old }
     requires row { v < length given.now.facts.now.rows.items }
-    ensures { Gains given.now.facts.now rows.old rows.new result (IsSiteClosed given.now.facts.now given.now.pt.now.rows.items rows.new v) }
+    ensures { Gains given.now.facts.now rows.old rows.new result
+        (IsSiteClosed given.now.facts.now given.now.pt.now.rows.items rows.new v) }
 {
     if row_at(rows, v).is_empty() {
         return false;
@@ -295,7 +299,8 @@ fn join_sites(given: &Given, rows: &mut [BitRow], v: usize) -> bool
 fn pass_sites(given: &Given, rows: &mut [BitRow]) -> bool
     requires given { IsGiven given.now }
     requires rows { AreEntries given.now.facts.now rows.old }
-    ensures { Gains given.now.facts.now rows.old rows.new result ((v : ℕ) → v < length given.now.facts.now.rows.items → IsSiteClosed given.now.facts.now given.now.pt.now.rows.items rows.new v) }
+    ensures { Gains given.now.facts.now rows.old rows.new result
+        ((v : ℕ) → v < length given.now.facts.now.rows.items → IsSiteClosed given.now.facts.now given.now.pt.now.rows.items rows.new v) }
 {
     let mut grew = false;
     for v in 0..given.facts.rows.len() {

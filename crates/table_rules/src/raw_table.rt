@@ -7,18 +7,17 @@ ghost use Rattle.points_to.specs.Chains.{AreBodies};
 ghost use Rattle.table_rules.specs.Marks.{IsAccessMarked, IsSuperMarked, IsThisMarked, IsNeedMarked, IsCallMarked, IsMarkMarkedAt, IsMarkMarked, IsTestMarked, IsArrayMarked, AreMarked};
 ghost use Rattle.table_rules.specs.Words.{bit, row, InRange, AreSets, IsRawEntry, IsRawTable, AreRaw, Grow, Marked};
 
-use crate::Tried;
 use crate::columns::{is_mark, site_at, this_of};
 use crate::marks::mark;
 use fact_model::{AccessInfo, CallInfo, ColKind, Facts, PointsTo, SuperInfo, Table, TestInfo};
 use kaba_base::ClassId;
 use kaba_bits::{BitRow, empty_rows, row_at};
 use points_to::{Bodies, bodies_of, find_body};
-use std::alloc::Global;
+use std::alloc::{AllocError, Global};
 
 /// The table with exactly the entries of T1, T2, T3, T4, T7 and T11. The sets are those of the facts. An error comes
 /// only for want of memory.
-pub fn raw(alloc: Global, facts: &Facts, pt: &PointsTo) -> Tried<Table>
+pub fn raw(alloc: Global, facts: &Facts, pt: &PointsTo) -> Result<Table, AllocError>
     requires facts { InRange facts.now }
     requires sets { AreSets facts.now pt.now }
     ensures table { IfOk result (λ t. IsRawTable facts.now t) }

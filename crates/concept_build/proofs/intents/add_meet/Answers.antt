@@ -61,4 +61,5 @@ returns-else-branch-clause-has c =
     let R = row T c.args.q in
     let is = rw (c.item_at.ensures.item nothing, c.deref.ensures.value, c.row_at.ensures) at c.in_ok-columns.ensures in
     let old = rw (c.if-branch.false, is (meet B R) (IsMeet-meet B R)) at c.in_ok-is_new.ensures in
-    meet-known T c.args.source.now.width xs (lists_of c.args.known.now.keys) c.requires.found B R (c.requires.found.each c.args.k nothing c.requires.k).intent.len old.1
+    meet-known T c.args.source.now.width xs (lists_of c.args.known.now.keys) c.requires.found B R
+    (c.requires.found.each c.args.k nothing c.requires.k).intent.len old.1

@@ -33,7 +33,8 @@ add_meet-requires-clause-k c = omega (arith, c.requires.k, c.loop-q.invariant.gr
 
 pub add_meet-requires-clause-q : goal.add_meet-requires-clause-q
 add_meet-requires-clause-q c =
-    subst (All (λ q. q < length c.args.source.now.table.now)) (sym c.deref-q-items.ensures.value) c.in_ok-near.ensures.below c.loop-q.q-index 0 c.loop-q-test.true
+    subst (All (λ q. q < length c.args.source.now.table.now)) (sym c.deref-q-items.ensures.value) c.in_ok-near.ensures.below c.loop-q.q-index 0
+    c.loop-q-test.true
 
 pub loop-q-preserved : goal.loop-q-preserved
 loop-q-preserved c =

@@ -21,5 +21,6 @@ returns-clause-each c =
     let x = c.in_ok-item.item in
     let o = c.in_ok-item.ensures in
     let full : IsFull w x.1 = subst (IsFull w) (sym o.intent) (record { len = c.in_ok-full.ensures.width; bits = c.in_ok-full.ensures.full }) in
-    let is : IsConcept T w x.0 x.1 = full-concept T w x.0 x.1 (IsExtent-all T w c.args.source.now.counts.now.extents x.0 x.1 c.requires.source.counts.extents o.extent) full in
+    let is : IsConcept T w x.0 x.1 = full-concept T w x.0 x.1 (IsExtent-all T w c.args.source.now.counts.now.extents x.0 x.1
+    c.requires.source.counts.extents o.extent) full in
     rw (c.in_ok-push.ensures.items, c.new-items.ensures.items) (All-push (λ (k : Pair). IsConcept T w k.0 k.1) [] x (λ k d lt. absurd (omega (arith, lt))) is)

@@ -58,5 +58,6 @@ returns c =
             | then-loop-k-test+else-len-source w ↦ omega (arith, small, w.if-len-source.false, w.len-in-loop-k.ensures)
             | else-loop-k-test w ↦ omega (arith, w.loop-k-test.false, c.len.ensures)
           ] in
-          reached c.args.source.now.table.now c.args.source.now.width c.loop-k.items.items i.found.each (λ k lt. i.next small k (omega (arith, lt, done))) A B o i.some i.full;
+          reached c.args.source.now.table.now c.args.source.now.width c.loop-k.items.items i.found.each
+          (λ k lt. i.next small k (omega (arith, lt, done))) A B o i.some i.full;
     }

@@ -24,9 +24,11 @@ scan-preserved c =
     }
 
 pub returns-in-None-clause-met : goal.returns-in-None-clause-met
-returns-in-None-clause-met c = all-met c.args.given.now.facts.now c.args.rows.now c.scan.asked c.args.q c.args.given.now.index.now.plain c.scan.at c.requires.state.entries
+returns-in-None-clause-met c = all-met c.args.given.now.facts.now c.args.rows.now c.scan.asked c.args.q c.args.given.now.index.now.plain c.scan.at
+    c.requires.state.entries
     c.requires.given.index.plain c.in-None.ensures.least c.scan.invariant.met
 
 pub returns-clause-met : goal.returns-clause-met
-returns-clause-met c = all-met c.args.given.now.facts.now c.args.rows.now c.scan.asked c.args.q c.args.given.now.index.now.plain c.scan.at c.requires.state.entries
+returns-clause-met c = all-met c.args.given.now.facts.now c.args.rows.now c.scan.asked c.args.q c.args.given.now.index.now.plain c.scan.at
+    c.requires.state.entries
     c.requires.given.index.plain (λ k low lt. absurd (omega (arith, low, lt, c.scan-test.false, c.len-width.ensures))) c.scan.invariant.met
