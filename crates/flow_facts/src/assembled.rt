@@ -21,7 +21,6 @@ use crate::ordered::by_place;
 use crate::stages::{Numbered, Tables, Texts};
 use fact_model::{CallInfo, Facts};
 use java_core::Program;
-use kaba_base::made;
 use std::alloc::Global;
 use std::mem::{drop, replace};
 

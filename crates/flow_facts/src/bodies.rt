@@ -17,7 +17,7 @@ use crate::types::{field_object, object_field};
 use crate::walk::{NOTHING, add, is_accessed, this_operand, variable_operand, walk};
 use flow_rules::{Operand, Part, PointItem, RowItem};
 use java_core::{Method, Program, RArm, RExpr, RStmt};
-use kaba_base::{Place, made};
+use kaba_base::Place;
 use std::alloc::Global;
 
 /// What a static field is.

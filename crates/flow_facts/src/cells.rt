@@ -16,7 +16,7 @@ use crate::ordered::by_place;
 use fact_model::CellInfo;
 use flow_rules::{Column, ColumnItem, RowItem, Site};
 use java_core::{Program, parent_of};
-use kaba_base::{ClassId, ColId, RowId, SiteId, made, put};
+use kaba_base::{ClassId, ColId, RowId, SiteId, put};
 use std::alloc::Global;
 
 /// A field that has a row: its column, its row and its class.

@@ -7,7 +7,6 @@ ghost use Rattle.flow_facts.specs.Words.{part_seen, parts_seen};
 
 use crate::Tried;
 use flow_rules::Part;
-use kaba_base::made;
 
 /// What a part of a body may give.
 pub trait FromPart: Sized {

@@ -14,7 +14,6 @@ use crate::stages::Unordered;
 use crate::ties::add_ties;
 use fact_model::TestInfo;
 use flow_rules::{Body, Part};
-use kaba_base::made;
 use std::mem::drop;
 
 /// The lists that the parts of bodies give.

@@ -14,7 +14,7 @@ use crate::numbering::Numbering;
 use fact_model::{BodyInfo, ColKind, ColumnInfo, RowInfo, SiteInfo};
 use flow_rules::{Column, ColumnItem, Point, PointItem, Row, RowItem, Site};
 use java_core::{Method, Program};
-use kaba_base::{ClassId, ColId, Name, RowId, SiteId, made, put};
+use kaba_base::{ClassId, ColId, Name, RowId, SiteId, put};
 use std::alloc::Global;
 use std::mem::drop;
 

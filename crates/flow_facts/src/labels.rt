@@ -10,7 +10,7 @@ use crate::Tried;
 use crate::by_number::{class_by_number, field_by_number, method_by_number, slot_by_number};
 use flow_rules::{ColumnItem, Row, RowItem, variable_at};
 use java_core::Program;
-use kaba_base::{Name, Place, made};
+use kaba_base::{Name, Place};
 use std::alloc::Global;
 
 /// The name of a parameter or local of a method.

@@ -1,6 +1,36 @@
 //! The facts of a program: its rows, columns, sites and flow points, each numbered by its place, and what the text says of them.
 #![tactic(auto)]
 
+/// What a call made; where it made nothing, what is held is let go, and the function ends with the call's error,
+/// or with the error of the named type that comes from it. It is proved in less time than `?`, which asks how an error
+/// comes from itself.
+macro_rules! made {
+    ($call:expr) => {
+        match $call {
+            Ok(made) => made,
+            Err(fault) => return Err(fault),
+        }
+    };
+    ($call:expr => $fault:ident; $($held:ident),*) => {
+        match $call {
+            Ok(made) => made,
+            Err(fault) => {
+                $(drop($held);)*
+                return Err($fault::from(fault));
+            }
+        }
+    };
+    ($call:expr; $($held:ident),*) => {
+        match $call {
+            Ok(made) => made,
+            Err(fault) => {
+                $(drop($held);)*
+                return Err(fault);
+            }
+        }
+    };
+}
+
 mod assembled;
 mod bodies;
 mod by_number;

@@ -13,7 +13,7 @@ use fact_model::{
     TieInfo,
 };
 use flow_rules::{ColumnItem, Operand, Part, PointItem, RowItem};
-use kaba_base::{ColId, Place, RowId, SiteId, made, put};
+use kaba_base::{ColId, Place, RowId, SiteId, put};
 use std::alloc::Global;
 
 /// A call at its place.

@@ -14,7 +14,7 @@ use crate::Tried;
 use fact_model::ClassInfo;
 use indexmap::IndexSet;
 use java_core::{Class, Field, Local, Method, Program};
-use kaba_base::{ClassId, Name, made, put};
+use kaba_base::{ClassId, Name, put};
 use std::alloc::Global;
 use std::mem::drop;
 

@@ -12,7 +12,7 @@ use flow_rules::{
     number_among, number_of_column, number_of_row,
 };
 use indexmap::IndexSet;
-use kaba_base::{Place, made, put};
+use kaba_base::{Place, put};
 use std::alloc::Global;
 
 /// The items of the rows, the columns and the flow points, and the numbers of the creations that are sites, each in their order.

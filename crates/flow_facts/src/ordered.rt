@@ -9,7 +9,6 @@ use crate::lists::PlacedCall;
 use fact_model::TestInfo;
 use flow_rules::{Column, ColumnItem, Outline, Point, PointAt, PointItem, Row, RowItem, Site};
 use indexmap::IndexSet;
-use kaba_base::made;
 use std::alloc::{AllocError, Global};
 use std::hash::Hash;
 use std::mem::drop;

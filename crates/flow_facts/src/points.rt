@@ -15,7 +15,7 @@ use crate::survey::result_row;
 use crate::walk::variable_row;
 use flow_rules::{Operand, Part, PointAt, PointItem, RowItem};
 use java_core::{Local, Method};
-use kaba_base::{Place, made, put};
+use kaba_base::{Place, put};
 use std::alloc::Global;
 use std::mem::drop;
 

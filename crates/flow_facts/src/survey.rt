@@ -19,7 +19,7 @@ use flow_rules::{
     Body, Column, ColumnItem, ObjectType, Operand, Outline, Part, PointAt, PointItem, Row, RowItem,
 };
 use java_core::{Field, Local, Method, Program};
-use kaba_base::{Place, made, put};
+use kaba_base::{Place, put};
 use std::alloc::{AllocError, Global};
 use std::mem::drop;
 

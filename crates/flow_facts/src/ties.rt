@@ -13,7 +13,6 @@ use crate::survey::result_row;
 use fact_model::TieInfo;
 use flow_rules::{ObjectType, Operand, Part, PointItem, RowItem};
 use java_core::{BinOp, Program, is_subtype};
-use kaba_base::made;
 
 /// Whether it is `this`.
 fn is_this(point: Option<PointItem>) -> bool

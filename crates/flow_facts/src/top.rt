@@ -20,7 +20,7 @@ use flow_rules::{
     Body, Column, Counted, FactsFault, Outline, Point, PointAt, PointItem, Row, Site,
 };
 use java_core::Program;
-use kaba_base::{Name, made};
+use kaba_base::Name;
 use std::alloc::Global;
 use std::hash::Hash;
 use std::mem::drop;

@@ -20,7 +20,7 @@ use crate::types::{
 };
 use flow_rules::{ObjectType, Operand, Part, PointItem, RowItem};
 use java_core::{BinOp, Method, Program, RExpr, super_method};
-use kaba_base::{ClassId, Name, Place, made, put};
+use kaba_base::{ClassId, Name, Place, put};
 
 /// No flow point, no row and no type that a row can have.
 pub const NOTHING: Operand = Operand {

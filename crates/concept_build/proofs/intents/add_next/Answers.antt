@@ -1,4 +1,4 @@
-use Rattle.std.proofs.Common.{◌≡◌, ⊎_elim, ◌<◌, length, get_or, sym, ap, ◌∙◌, subst, arith, All}
+use Rattle.std.proofs.Common.{◌≡◌, ⊎_elim, ◌<◌, length, get_or, sym, ap, ◌∙◌, subst, arith}
 use Rattle.std.proofs.lemmas.Bool.{cases_lt}
 use Rattle.std.proofs.lemmas.List.{get_or_default}
 use Rattle.kaba_bits.specs.Sets.{row}
@@ -33,8 +33,7 @@ add_meet-requires-clause-k c = omega (arith, c.requires.k, c.loop-q.invariant.gr
 
 pub add_meet-requires-clause-q : goal.add_meet-requires-clause-q
 add_meet-requires-clause-q c =
-    subst (All (λ q. q < length c.args.source.now.table.now)) (sym c.deref-q-items.ensures.value) c.in_ok-near.ensures.below c.loop-q.q-index 0
-    c.loop-q-test.true
+    let below = rw (← c.deref-q-items.ensures.value) at c.in_ok-near.ensures.below in below c.loop-q.q-index 0 c.loop-q-test.true
 
 pub loop-q-preserved : goal.loop-q-preserved
 loop-q-preserved c =
