@@ -4,8 +4,9 @@ ghost use Rattle.std.specs.Prelude.{◌≡◌, ◌≢◌, ℕ, ◌<◌, ◌^◌,
 ghost use Rattle.kaba_bits.specs.Sets.{bit, row, HasWidth};
 ghost use Rattle.concept_build.specs.Tables.{AreColumns, listed_rows};
 
+use crate::Tried;
 use kaba_bits::{BitRow, empty_rows, row_at, set_at};
-use std::alloc::{AllocError, Global};
+use std::alloc::Global;
 
 /// For each column the places in a list of rows at which it is had, and the set of all places.
 #[derive(Drop)]
@@ -15,12 +16,7 @@ pub struct Columns {
 }
 
 /// The columns of a list of rows of a table.
-pub fn columns_in(
-    alloc: Global,
-    table: &[BitRow],
-    rows: &[u32],
-    width: u32,
-) -> Result<Columns, AllocError>
+pub fn columns_in(alloc: Global, table: &[BitRow], rows: &[u32], width: u32) -> Tried<Columns>
     requires small { length rows.now < 2 ^ 32 }
     requires widths { HasWidth width table.now }
     requires rows { All (λ q. q < length table.now) rows.now }

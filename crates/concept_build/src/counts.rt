@@ -7,11 +7,12 @@ ghost use Rattle.kaba_bits.specs.Sets.{row, size, rising, HasWidth};
 ghost use Rattle.concept_build.specs.Tables.{AreColumns, AreExamples, IsCounted, listed_rows};
 ghost use Rattle.concept_build.specs.Lists.{lists_of};
 
+use crate::Tried;
 use crate::columns::{Columns, columns_in};
 use crate::places::is_new;
 use indexmap::IndexSet;
 use kaba_bits::{BitRow, row_at};
-use std::alloc::{AllocError, Global};
+use std::alloc::Global;
 
 /// The sizes of the rows, the rows of each column and how many they are, one row of each set of columns,
 /// and the columns of those.
@@ -25,7 +26,7 @@ pub struct Counts {
 }
 
 /// Counts a table.
-pub fn counts_of(alloc: Global, table: &[BitRow], width: u32) -> Result<Counts, AllocError>
+pub fn counts_of(alloc: Global, table: &[BitRow], width: u32) -> Tried<Counts>
     requires rows { length table.now < 2 ^ 32 }
     requires widths { HasWidth width table.now }
     ensures { IfOk result (λ c. IsCounted table.now width c) }
@@ -45,7 +46,7 @@ pub fn counts_of(alloc: Global, table: &[BitRow], width: u32) -> Result<Counts, 
 }
 
 /// How many numbers each set has.
-fn sizes_of(alloc: Global, sets: &[BitRow]) -> Result<Vec<u32>, AllocError>
+fn sizes_of(alloc: Global, sets: &[BitRow]) -> Tried<Vec<u32>>
     ensures { IfOk result (λ v. v.items ≡ map size sets.now) }
 {
     let mut sizes = Vec::new(alloc);
@@ -56,7 +57,7 @@ fn sizes_of(alloc: Global, sets: &[BitRow]) -> Result<Vec<u32>, AllocError>
 }
 
 /// The columns of all rows.
-fn extents_of(alloc: Global, table: &[BitRow], width: u32) -> Result<Columns, AllocError>
+fn extents_of(alloc: Global, table: &[BitRow], width: u32) -> Tried<Columns>
     requires rows { length table.now < 2 ^ 32 }
     requires widths { HasWidth width table.now }
     ensures { IfOk result (AreColumns table.now width) }
@@ -67,7 +68,7 @@ fn extents_of(alloc: Global, table: &[BitRow], width: u32) -> Result<Columns, Al
 }
 
 /// The numbers of all rows, rising.
-fn every_row(alloc: Global, table: &[BitRow]) -> Result<Vec<u32>, AllocError>
+fn every_row(alloc: Global, table: &[BitRow]) -> Tried<Vec<u32>>
     requires { length table.now < 2 ^ 32 }
     ensures below { IfOk result (λ v. All (λ q. q < length table.now) v.items) }
     ensures all { IfOk result (λ v. listed_rows table.now v.items ≡ table.now) }
@@ -81,12 +82,7 @@ fn every_row(alloc: Global, table: &[BitRow]) -> Result<Vec<u32>, AllocError>
 
 /// One row of each set of columns, those of most columns first, since with those the covers are found
 /// with the fewest comparisons.
-fn examples_of(
-    alloc: Global,
-    table: &[BitRow],
-    sizes: &[u32],
-    width: u32,
-) -> Result<Vec<u32>, AllocError>
+fn examples_of(alloc: Global, table: &[BitRow], sizes: &[u32], width: u32) -> Tried<Vec<u32>>
     requires rows { length table.now < 2 ^ 32 }
     requires widths { HasWidth width table.now }
     ensures examples { IfOk result (λ v. AreExamples table.now v.items) }
@@ -98,7 +94,7 @@ fn examples_of(
 }
 
 /// The first row of each set of columns.
-fn distinct_rows(alloc: Global, table: &[BitRow], width: u32) -> Result<Vec<u32>, AllocError>
+fn distinct_rows(alloc: Global, table: &[BitRow], width: u32) -> Tried<Vec<u32>>
     requires rows { length table.now < 2 ^ 32 }
     requires widths { HasWidth width table.now }
     ensures examples { IfOk result (λ v. AreExamples table.now v.items) }

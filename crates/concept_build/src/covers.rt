@@ -6,13 +6,14 @@ ghost use Rattle.fact_model.specs.Concepts.{IsUpperCover, IsWithin};
 ghost use Rattle.concept_build.specs.Given.{IsGiven};
 ghost use Rattle.concept_build.specs.Lists.{extents_of, IsClosure, AreCandidates, IsLeast};
 
+use crate::Tried;
 use crate::counts::Counts;
 use crate::item::{Item, common_columns, item_at};
 use crate::near::near_rows;
 use crate::places::place_of_columns;
 use indexmap::IndexSet;
 use kaba_bits::{BitRow, row_at};
-use std::alloc::{AllocError, Global};
+use std::alloc::Global;
 
 /// What is given for each concept: the table with what is counted of it, all its concepts, and where each stands.
 #[derive(Clone, Copy)]
@@ -26,7 +27,7 @@ pub struct Given<'a> {
 }
 
 /// The numbers of the upper covers of a concept, rising.
-pub fn above(given: &Given, k: usize) -> Result<Vec<u32>, AllocError>
+pub fn above(given: &Given, k: usize) -> Tried<Vec<u32>>
     requires given { IsGiven given.now }
     requires k { k < length given.now.items.now }
     ensures { IfOk result (λ v. ListsBelow (IsUpperCover (extents_of given.now.items.now) k) (length given.now.items.now) v.items) }
@@ -37,7 +38,7 @@ pub fn above(given: &Given, k: usize) -> Result<Vec<u32>, AllocError>
 }
 
 /// The closures with rows that the extent lacks: for each such row one of them is within its closure.
-fn candidates(given: &Given, k: usize) -> Result<Vec<u32>, AllocError>
+fn candidates(given: &Given, k: usize) -> Tried<Vec<u32>>
     requires given { IsGiven given.now }
     requires k { k < length given.now.items.now }
     ensures { IfOk result (λ v. AreCandidates (extents_of given.now.items.now) k (length given.now.table.now) v.items) }
@@ -58,7 +59,7 @@ fn candidates(given: &Given, k: usize) -> Result<Vec<u32>, AllocError>
 
 /// The number of the least extent with the rows of the extent at `k`, and with the row `q`: that of the
 /// columns that the concept at `k` and the row have in common.
-fn closure_at(given: &Given, k: usize, q: usize) -> Result<usize, AllocError>
+fn closure_at(given: &Given, k: usize, q: usize) -> Tried<usize>
     requires given { IsGiven given.now }
     requires k { k < length given.now.items.now }
     requires q { q < length given.now.table.now }
@@ -72,7 +73,7 @@ fn closure_at(given: &Given, k: usize, q: usize) -> Result<usize, AllocError>
 }
 
 /// The numbers of a list that have no other strictly within, each once and rising.
-fn least(alloc: Global, items: &[Item], numbers: &[u32]) -> Result<Vec<u32>, AllocError>
+fn least(alloc: Global, items: &[Item], numbers: &[u32]) -> Tried<Vec<u32>>
     requires widths { (i j : ℕ) → i < length items.now → j < length items.now → length (row (extents_of items.now) i) ≡ length (row (extents_of items.now) j) }
     requires numbers { All (λ i. i < length items.now) numbers.now }
     ensures { IfOk result (λ v. ListsBelow (λ j. Contains numbers.now j × IsLeast (extents_of items.now) numbers.now j) (length items.now) v.items) }

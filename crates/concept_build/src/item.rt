@@ -8,9 +8,10 @@ ghost use Rattle.concept_build.specs.Tables.{IsMeet, HaveAll};
 ghost use Rattle.concept_build.specs.Places.{AreInAll};
 ghost use Rattle.concept_build.specs.Lists.{extents_of, columns_of, AreDifferent, IsBefore};
 
+use crate::Tried;
 use crate::columns::Columns;
 use kaba_bits::{BitRow, row_at};
-use std::alloc::{AllocError, Global};
+use std::alloc::Global;
 use std::cmp::Ordering;
 use std::marker::Model;
 
@@ -38,7 +39,7 @@ impl Model for Item {
 
 impl Item {
     /// An intent with its extent: the rows that have all columns of the intent.
-    pub fn new(alloc: Global, extents: &Columns, intent: BitRow) -> Result<Item, AllocError>
+    pub fn new(alloc: Global, extents: &Columns, intent: BitRow) -> Tried<Item>
         requires len { length intent ≡ length extents.now.sets.items }
         requires widths { HasWidth (length extents.now.all) extents.now.sets.items }
         ensures intent { IfOk result (λ k. k.1 ≡ intent) }
@@ -101,7 +102,7 @@ impl Item {
 }
 
 /// The places that are in all sets of a list.
-fn extent_of(alloc: Global, extents: &Columns, columns: &[u32]) -> Result<BitRow, AllocError>
+fn extent_of(alloc: Global, extents: &Columns, columns: &[u32]) -> Tried<BitRow>
     requires widths { HasWidth (length extents.now.all) extents.now.sets.items }
     requires columns { All (λ c. c < length extents.now.sets.items) columns.now }
     ensures len { IfOk result (λ a. length a ≡ length extents.now.all) }
@@ -118,7 +119,7 @@ fn extent_of(alloc: Global, extents: &Columns, columns: &[u32]) -> Result<BitRow
 const MANY: usize = 64;
 
 /// The columns of an intent that a row has too, rising.
-pub fn common_columns(alloc: Global, item: &Item, with: &BitRow) -> Result<Vec<u32>, AllocError>
+pub fn common_columns(alloc: Global, item: &Item, with: &BitRow) -> Tried<Vec<u32>>
     requires { length item.now.1 ≡ length with.now }
     ensures { IfOk result (λ v. (M : List Bool) → IsMeet M item.now.1 with.now → v.items ≡ rising M) }
 {
@@ -131,7 +132,7 @@ pub fn common_columns(alloc: Global, item: &Item, with: &BitRow) -> Result<Vec<u
 }
 
 /// The intersection of two sets.
-pub fn meet_of(alloc: Global, set: &BitRow, with: &BitRow) -> Result<BitRow, AllocError>
+pub fn meet_of(alloc: Global, set: &BitRow, with: &BitRow) -> Tried<BitRow>
     requires { length set.now ≡ length with.now }
     ensures { IfOk result (λ b. IsMeet b set.now with.now) }
 {
@@ -141,7 +142,7 @@ pub fn meet_of(alloc: Global, set: &BitRow, with: &BitRow) -> Result<BitRow, All
 }
 
 /// The columns of an intent that a row has too, found one by one.
-fn listed_columns(alloc: Global, item: &Item, with: &BitRow) -> Result<Vec<u32>, AllocError>
+fn listed_columns(alloc: Global, item: &Item, with: &BitRow) -> Tried<Vec<u32>>
     requires { length item.now.1 ≡ length with.now }
     ensures { IfOk result (λ v. (M : List Bool) → IsMeet M item.now.1 with.now → v.items ≡ rising M) }
 {
@@ -164,7 +165,7 @@ pub fn item_at(items: &[Item], k: usize) -> &Item
 }
 
 /// Puts different concepts in their order.
-pub fn sort_items(items: &mut Vec<Item>) -> Result<(), AllocError>
+pub fn sort_items(items: &mut Vec<Item>) -> Tried<()>
     requires differ { AreDifferent (columns_of items.old.items) }
     ensures same { IsPermutation items.old.items items.new.items }
     ensures ordered { OnOk result (AllPairs IsBefore items.new.items) }

@@ -24,10 +24,13 @@ mod stands;
 
 use counts::counts_of;
 use covers::{Given, above};
-use intents::all_items;
+use intents::{Source, all_items};
 use item::item_at;
 use places::places_of;
 use stands::{columns_at, rows_at};
+
+/// What was made, or that memory was short.
+type Tried<T> = Result<T, AllocError>;
 
 /// Why there is no lattice.
 #[derive(Clone, Copy, Debug, Error)]
@@ -62,7 +65,13 @@ pub fn concepts(alloc: Global, table: &Table, bound: u32) -> Result<Lattice, Lat
     ensures cause { IfErr result (λ e. IsFaultOf table.now.rows.items table.now.width bound e) }
 {
     let counts = counts_of(alloc, &table.rows, table.width)?;
-    let items = all_items(alloc, &table.rows, &counts, table.width, bound)?;
+    let items = all_items(&Source {
+        alloc,
+        table: &table.rows,
+        counts: &counts,
+        width: table.width,
+        bound,
+    })?;
     let places = places_of(alloc, &items)?;
     let concepts = placed_items(&Given {
         alloc,
@@ -83,7 +92,7 @@ pub fn one_lattice()
 {}
 
 /// Each concept with what is told of it.
-fn placed_items(given: &Given) -> Result<Vec<Concept>, AllocError>
+fn placed_items(given: &Given) -> Tried<Vec<Concept>>
     requires { IsGiven given.now }
     ensures pairs { IfOk result (λ v. map pair_of v.items ≡ given.now.items.now) }
     ensures placed { IfOk result (λ v. (k : ℕ) (d : Concept) → k < length given.now.items.now
@@ -97,7 +106,7 @@ fn placed_items(given: &Given) -> Result<Vec<Concept>, AllocError>
 }
 
 /// One concept with what is told of it.
-fn placed_item(given: &Given, k: usize) -> Result<Concept, AllocError>
+fn placed_item(given: &Given, k: usize) -> Tried<Concept>
     requires given { IsGiven given.now }
     requires k { k < length given.now.items.now }
     ensures pair { IfOk result (λ x. (d : Pair) → pair_of x ≡ slice_index_or given.now.items.now k d) }

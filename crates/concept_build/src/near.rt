@@ -8,19 +8,15 @@ ghost use Rattle.fact_model.specs.Concepts.{IsExtent};
 ghost use Rattle.concept_build.specs.Tables.{IsCounted, AreNear, HasNear, IsMissed};
 ghost use Rattle.concept_build.specs.Places.{ArePassed};
 
+use crate::Tried;
 use crate::counts::Counts;
 use crate::item::{Item, common_columns};
 use kaba_bits::{BitRow, row_at};
-use std::alloc::{AllocError, Global};
+use std::alloc::Global;
 
 /// Rows that the extent of a concept lacks: each other one has no more of the intent than one of these.
 /// Those that have no column that a row found misses are passed over at once, word by word.
-pub fn near_rows(
-    alloc: Global,
-    table: &[BitRow],
-    counts: &Counts,
-    item: &Item,
-) -> Result<Vec<u32>, AllocError>
+pub fn near_rows(alloc: Global, table: &[BitRow], counts: &Counts, item: &Item) -> Tried<Vec<u32>>
     requires widths { HasWidth (length item.now.1) table.now }
     requires extent { IsExtent table.now item.now.0 item.now.1 }
     requires counts { IsCounted table.now (length item.now.1) counts.now }
@@ -42,13 +38,7 @@ pub fn near_rows(
 }
 
 /// Whether an extent lacks a row that has some column of the intent that each row of a list lacks.
-fn is_news(
-    alloc: Global,
-    table: &[BitRow],
-    item: &Item,
-    wide: &[u32],
-    q: u32,
-) -> Result<bool, AllocError>
+fn is_news(alloc: Global, table: &[BitRow], item: &Item, wide: &[u32], q: u32) -> Tried<bool>
     requires widths { HasWidth (length item.now.1) table.now }
     requires rows { length item.now.0 ≡ length table.now }
     requires wide { All (λ m. m < length table.now) wide.now }
@@ -105,7 +95,7 @@ fn pass_over(
     q: u32,
     wide: &mut Vec<u32>,
     left: &mut BitRow,
-) -> Result<(), AllocError>
+) -> Tried<()>
     requires widths { HasWidth (length item.now.1) table.now }
     requires counts { IsCounted table.now (length item.now.1) counts.now }
     requires left { length left.old ≡ length counts.now.examples.items }
@@ -124,12 +114,7 @@ fn pass_over(
 }
 
 /// Keeps those that are in some of the sets of a list.
-fn keep_some(
-    alloc: Global,
-    sets: &[BitRow],
-    listed: &[u32],
-    left: &mut BitRow,
-) -> Result<(), AllocError>
+fn keep_some(alloc: Global, sets: &[BitRow], listed: &[u32], left: &mut BitRow) -> Tried<()>
     requires listed { All (λ c. c < length sets.now) listed.now }
     requires widths { HasWidth (length left.old) sets.now }
     ensures len { OnOk result (length left.new ≡ length left.old) }
@@ -144,7 +129,7 @@ fn keep_some(
 }
 
 /// The columns of an intent that a row lacks, rising.
-fn missed_columns(alloc: Global, item: &Item, row: &BitRow) -> Result<Vec<u32>, AllocError>
+fn missed_columns(alloc: Global, item: &Item, row: &BitRow) -> Tried<Vec<u32>>
     requires { length item.now.1 ≡ length row.now }
     ensures missed { IfOk result (λ v. IsMissed item.now.1 row.now v.items) }
     ensures below { IfOk result (λ v. All (λ c. c < length row.now) v.items) }

@@ -3,12 +3,13 @@
 ghost use Rattle.std.specs.Prelude.{◌≡◌, IfOk};
 ghost use Rattle.concept_build.specs.Lists.{lists_of, columns_of, AreDifferent, IsAddition, IsFound};
 
+use crate::Tried;
 use crate::item::Item;
 use indexmap::IndexSet;
-use std::alloc::{AllocError, Global};
+use std::alloc::Global;
 
 /// Whether a list of columns is new among those known, where it then is the last.
-pub fn is_new(known: &mut IndexSet<Vec<u32>>, columns: Vec<u32>) -> Result<bool, AllocError>
+pub fn is_new(known: &mut IndexSet<Vec<u32>>, columns: Vec<u32>) -> Tried<bool>
     ensures { IfOk result (λ b. IsAddition (lists_of known.old.keys) columns.items (lists_of known.new.keys) b) }
 {
     let (_, added) = known.insert_full(columns)?;
@@ -16,7 +17,7 @@ pub fn is_new(known: &mut IndexSet<Vec<u32>>, columns: Vec<u32>) -> Result<bool,
 }
 
 /// The lists of columns of the concepts, in their order.
-pub fn places_of(alloc: Global, items: &[Item]) -> Result<IndexSet<Vec<u32>>, AllocError>
+pub fn places_of(alloc: Global, items: &[Item]) -> Tried<IndexSet<Vec<u32>>>
     requires { AreDifferent (columns_of items.now) }
     ensures { IfOk result (λ s. lists_of s.keys ≡ columns_of items.now) }
 {

@@ -5,10 +5,11 @@ ghost use Rattle.kaba_bits.specs.Sets.{size, HasWidth, ListsBelow};
 ghost use Rattle.fact_model.specs.Concepts.{IsConcept, RowStands, ColumnStands};
 ghost use Rattle.concept_build.specs.Tables.{column};
 
+use crate::Tried;
 use crate::item::Item;
 use kaba_base::{ColId, RowId};
 use kaba_bits::BitRow;
-use std::alloc::{AllocError, Global};
+use std::alloc::Global;
 
 /// The rows whose columns are exactly the intent, rising.
 pub fn rows_at(
@@ -17,7 +18,7 @@ pub fn rows_at(
     sizes: &[u32],
     item: &Item,
     width: u32,
-) -> Result<Vec<RowId>, AllocError>
+) -> Tried<Vec<RowId>>
     requires rows { length table.now < 2 ^ 32 }
     requires widths { HasWidth width table.now }
     requires sizes { sizes.now ≡ map size table.now }
@@ -55,7 +56,7 @@ pub fn columns_at(
     sizes: &[u32],
     item: &Item,
     width: u32,
-) -> Result<Vec<ColId>, AllocError>
+) -> Tried<Vec<ColId>>
     requires len { length sizes.now ≡ width }
     requires sizes { (c d : ℕ) → c < width → slice_index_or sizes.now c d ≡ size (column table.now c) }
     requires concept { IsConcept table.now width item.now.0 item.now.1 }

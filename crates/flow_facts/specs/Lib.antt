@@ -6,3 +6,4 @@ pub mod Said
 pub mod Owned
 pub mod Walked
 pub mod Holders
+pub mod Words

@@ -1,19 +1,17 @@
 //! The facts over what is numbered.
 
 ghost use Rattle.std.specs.Prelude.{◌≡◌, ◌<◌, List, IfOk, length, map};
-ghost use Rattle.java_core.specs.Trees.{at_place, no_place};
-ghost use Rattle.java_core.specs.Programs.{Plain, program_of};
-ghost use Rattle.java_core.specs.Formed.{IsFormed};
 ghost use Rattle.flow_rules.specs.Facts.{AreNamesOf, IsFactsOf, call_seen};
 ghost use Rattle.flow_rules.specs.Lists.{Numbers};
 ghost use Rattle.flow_rules.specs.Numbered as numbered;
 ghost use Rattle.flow_rules.specs.Ordered.{by_place};
 ghost use Rattle.flow_facts.specs.Gathered.{AreGathered};
 ghost use Rattle.flow_facts.specs.Said.{AreTables, AreTexts, AreOrdered, IsSaid};
-ghost use Rattle.flow_facts.specs.Seen.{numbers_seen, calls_seen};
+ghost use Rattle.flow_facts.specs.Seen.{calls_seen};
 ghost use Rattle.flow_facts.specs.Stages.{IsNumbered};
-ghost use Rattle.flow_facts.specs.Views.{body_seen};
+ghost use Rattle.flow_facts.specs.Words.{no_place, at_place, Plain, program_of, IsFormed, body_seen, numbers_seen};
 
+use crate::Tried;
 use crate::gathering::{Lists, gather};
 use crate::given::Given;
 use crate::infos::{body_infos, column_infos, point_rows, row_infos, site_infos};
@@ -23,18 +21,18 @@ use crate::ordered::by_place;
 use crate::stages::{Numbered, Tables, Texts};
 use fact_model::{CallInfo, Facts};
 use java_core::Program;
-use std::alloc::{AllocError, Global};
+use std::alloc::Global;
 use std::mem::{drop, replace};
 
 /// The calls without their places.
-fn without_places(alloc: Global, calls: Vec<PlacedCall>) -> Result<Vec<CallInfo>, AllocError>
+fn without_places(alloc: Global, calls: Vec<PlacedCall>) -> Tried<Vec<CallInfo>>
     ensures value { IfOk result (λ v. v.items ≡ map (λ c. c.call) calls.items) }
 {
     calls.into_iter().map(|placed| placed.call).collect(alloc)
 }
 
 /// The calls by their place.
-fn calls_in_order(alloc: Global, calls: Vec<PlacedCall>) -> Result<Vec<CallInfo>, AllocError>
+fn calls_in_order(alloc: Global, calls: Vec<PlacedCall>) -> Tried<Vec<CallInfo>>
     ensures value { IfOk result (λ v. map call_seen v.items ≡ map (λ c. c.item) (by_place (λ c. c.place.at) (calls_seen calls.items))) }
 {
     let placed = made!(by_place(calls));
@@ -42,7 +40,7 @@ fn calls_in_order(alloc: Global, calls: Vec<PlacedCall>) -> Result<Vec<CallInfo>
 }
 
 /// Says what each row, column, site and flow point is, and each body.
-fn list_tables(alloc: Global, program: &Program, numbered: &Numbered) -> Result<Tables, AllocError>
+fn list_tables(alloc: Global, program: &Program, numbered: &Numbered) -> Tried<Tables>
     requires { length numbered.now.columns.items < 4294967295 }
     ensures { IfOk result (λ t. AreTables (program_of at_place program.now) numbered.now t) }
 {
@@ -69,7 +67,7 @@ fn list_tables(alloc: Global, program: &Program, numbered: &Numbered) -> Result<
 }
 
 /// Lists the classes, and the names of the text.
-fn list_texts(alloc: Global, program: &Program) -> Result<Texts, AllocError>
+fn list_texts(alloc: Global, program: &Program) -> Tried<Texts>
     ensures { IfOk result (λ t. AreTexts (program_of at_place program.now) t) }
 {
     let classes = made!(class_infos(alloc, program));
@@ -83,7 +81,7 @@ fn list_texts(alloc: Global, program: &Program) -> Result<Texts, AllocError>
 }
 
 /// Puts the tests in the order of their places, and takes the calls out by theirs.
-fn put_in_order(alloc: Global, lists: &mut Lists) -> Result<Vec<CallInfo>, AllocError>
+fn put_in_order(alloc: Global, lists: &mut Lists) -> Tried<Vec<CallInfo>>
     ensures { (N : Numbers) (P : Plain) (bs : List numbered.Body) → AreGathered N P bs lists.old
         → IfOk result (λ calls. AreOrdered N P bs lists.new calls.items) }
 {
@@ -105,7 +103,7 @@ pub struct Said {
 }
 
 /// Says all of what is numbered.
-fn say(alloc: Global, program: &Program, numbered: &Numbered) -> Result<Said, AllocError>
+fn say(alloc: Global, program: &Program, numbered: &Numbered) -> Tried<Said>
     requires formed { IsFormed (program_of no_place program.now) }
     requires numbered { IsNumbered (program_of no_place program.now) (program_of at_place program.now) numbered.now }
     ensures { IfOk result (λ s. IsSaid (program_of no_place program.now) (program_of at_place program.now) numbered.now s) }
@@ -162,7 +160,7 @@ fn assemble(alloc: Global, numbered: Numbered, said: Said) -> Facts
 
 /// The facts over what is numbered in a program.
 #[tactic(none)]
-pub fn facts_over(alloc: Global, program: &Program, numbered: Numbered) -> Result<Facts, AllocError>
+pub fn facts_over(alloc: Global, program: &Program, numbered: Numbered) -> Tried<Facts>
     requires formed { IsFormed (program_of no_place program.now) }
     requires numbered { IsNumbered (program_of no_place program.now) (program_of at_place program.now) numbered }
     ensures ok { IfOk result (λ f. IsFactsOf (program_of no_place program.now) (program_of at_place program.now) f) }

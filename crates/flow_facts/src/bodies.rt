@@ -2,23 +2,23 @@
 
 ghost use Rattle.std.specs.Prelude.{◌≡◌, ℕ, ◌+◌, ◌++◌, ◌∷◌, [], Bool, true, false, List, Option, Some, None, IfOk, OnOk, length};
 ghost use Rattle.java_core.specs.Trees as tree;
-ghost use Rattle.java_core.specs.Trees.{Tag, at_place, no_place, expr_of, value_of, target_of, stmt_of, stmts, arms_seen, else_seen, step_seen, body_seen};
-ghost use Rattle.java_core.specs.Programs.{program_of, method_seen};
-ghost use Rattle.java_core.specs.Formed.{IsFormed};
+ghost use Rattle.java_core.specs.Trees.{Tag, expr_of, value_of, target_of, stmt_of, stmts, arms_seen, else_seen, step_seen, body_seen};
 ghost use Rattle.flow_rules.specs.Labels.{size, size_if, size_put, size_target, size_st, size_sts, size_arms, label, label_if, label_target, label_st, label_sts, label_arms};
 ghost use Rattle.flow_rules.specs.Operands.{operand_of};
 ghost use Rattle.flow_rules.specs.Parts as plain;
 ghost use Rattle.flow_rules.specs.Types.{object_type};
-ghost use Rattle.flow_facts.specs.Views.{parts_seen, static_place, variable_operand};
+ghost use Rattle.flow_facts.specs.Views.{static_place, variable_operand};
 ghost use Rattle.flow_facts.specs.Walked.{IsAdded, IsGained, in_body};
+ghost use Rattle.flow_facts.specs.Words.{no_place, at_place, program_of, method_seen, IsFormed, parts_seen};
 
+use crate::Tried;
 use crate::enclosing::Enclosing;
 use crate::types::{field_object, object_field};
 use crate::walk::{NOTHING, add, is_accessed, this_operand, variable_operand, walk};
 use flow_rules::{Operand, Part, PointItem, RowItem};
 use java_core::{Method, Program, RArm, RExpr, RStmt};
 use kaba_base::Place;
-use std::alloc::{AllocError, Global};
+use std::alloc::Global;
 
 /// What a static field is.
 fn static_place(program: &Program, field: u32) -> Operand
@@ -33,12 +33,7 @@ fn static_place(program: &Program, field: u32) -> Operand
 }
 
 /// Adds the parts of a value that is put in a local or a static field, and of the putting.
-fn walk_set(
-    within: &Enclosing,
-    target: Operand,
-    value: &RExpr,
-    parts: &mut Vec<Part>,
-) -> Result<(), AllocError>
+fn walk_set(within: &Enclosing, target: Operand, value: &RExpr, parts: &mut Vec<Part>) -> Tried<()>
     requires { IsFormed (program_of no_place within.now.program.now) }
     ensures { OnOk result (IsAdded parts.old.items parts.new.items (size (expr_of at_place value.now) + 1)
         (in_body within.now plain.parts false
@@ -57,7 +52,7 @@ fn walk_assign(
     target: &RExpr,
     value: &RExpr,
     parts: &mut Vec<Part>,
-) -> Result<(), AllocError>
+) -> Tried<()>
     requires { IsFormed (program_of no_place within.now.program.now) }
     ensures { OnOk result (IsAdded parts.old.items parts.new.items (size_target (target_of at_place target.now) + size (expr_of at_place value.now) + 1)
         (in_body within.now plain.parts_assign place
@@ -97,11 +92,7 @@ fn walk_assign(
 }
 
 /// Adds the parts of a value that may be missing.
-fn walk_value(
-    within: &Enclosing,
-    value: &Option<RExpr>,
-    parts: &mut Vec<Part>,
-) -> Result<(), AllocError>
+fn walk_value(within: &Enclosing, value: &Option<RExpr>, parts: &mut Vec<Part>) -> Tried<()>
     requires { IsFormed (program_of no_place within.now.program.now) }
     ensures { OnOk result (IsGained within.now parts.old.items parts.new.items size_if plain.parts_if label_if (value_of at_place value.now)) }
 {
@@ -120,7 +111,7 @@ fn walk_local(
     local: u32,
     value: &Option<RExpr>,
     parts: &mut Vec<Part>,
-) -> Result<(), AllocError>
+) -> Tried<()>
     requires { IsFormed (program_of no_place within.now.program.now) }
     ensures grown { OnOk result (length parts.new.items ≡ length parts.old.items + size_put (value_of at_place value.now)) }
     ensures parts { OnOk result ((t : Tag) → parts_seen parts.new.items ≡ parts_seen parts.old.items
@@ -134,11 +125,7 @@ fn walk_local(
 }
 
 /// Adds the parts of a value that is given back.
-fn walk_return(
-    within: &Enclosing,
-    value: &Option<RExpr>,
-    parts: &mut Vec<Part>,
-) -> Result<(), AllocError>
+fn walk_return(within: &Enclosing, value: &Option<RExpr>, parts: &mut Vec<Part>) -> Tried<()>
     requires { IsFormed (program_of no_place within.now.program.now) }
     ensures { OnOk result (IsGained within.now parts.old.items parts.new.items size_put plain.parts_return label_if (value_of at_place value.now)) }
 {
@@ -153,7 +140,7 @@ fn walk_return(
 
 /// Adds the parts of a statement.
 #[cycle(statements)]
-fn walk_stmt(within: &Enclosing, s: &RStmt, parts: &mut Vec<Part>) -> Result<(), AllocError>
+fn walk_stmt(within: &Enclosing, s: &RStmt, parts: &mut Vec<Part>) -> Tried<()>
     requires { IsFormed (program_of no_place within.now.program.now) }
     ensures { OnOk result (IsGained within.now parts.old.items parts.new.items size_st plain.parts_st label_st (stmt_of at_place s.now)) }
 {
@@ -200,11 +187,7 @@ fn walk_stmt(within: &Enclosing, s: &RStmt, parts: &mut Vec<Part>) -> Result<(),
 
 /// Adds the parts of the first or the last part of a `for`.
 #[cycle(statements)]
-fn walk_step(
-    within: &Enclosing,
-    step: &Option<Box<RStmt>>,
-    parts: &mut Vec<Part>,
-) -> Result<(), AllocError>
+fn walk_step(within: &Enclosing, step: &Option<Box<RStmt>>, parts: &mut Vec<Part>) -> Tried<()>
     requires { IsFormed (program_of no_place within.now.program.now) }
     ensures { OnOk result (IsGained within.now parts.old.items parts.new.items size_sts plain.parts_sts label_sts (step_seen at_place step.now)) }
 {
@@ -216,11 +199,7 @@ fn walk_step(
 
 /// Adds the parts of statements.
 #[cycle(statements)]
-fn walk_stmts(
-    within: &Enclosing,
-    body: &Vec<RStmt>,
-    parts: &mut Vec<Part>,
-) -> Result<(), AllocError>
+fn walk_stmts(within: &Enclosing, body: &Vec<RStmt>, parts: &mut Vec<Part>) -> Tried<()>
     requires { IsFormed (program_of no_place within.now.program.now) }
     ensures { OnOk result (IsGained within.now parts.old.items parts.new.items size_sts plain.parts_sts label_sts (stmts at_place body.now.items)) }
 {
@@ -237,7 +216,7 @@ fn walk_arms(
     arms: &Vec<RArm>,
     other: &Option<Vec<RStmt>>,
     parts: &mut Vec<Part>,
-) -> Result<(), AllocError>
+) -> Tried<()>
     requires { IsFormed (program_of no_place within.now.program.now) }
     ensures grown { OnOk result (length parts.new.items + size_arms (else_seen at_place other.now)
         ≡ length parts.old.items + size_arms
@@ -257,12 +236,7 @@ fn walk_arms(
 }
 
 /// The parts of a method's body.
-pub fn parts_of(
-    alloc: Global,
-    program: &Program,
-    m: u64,
-    method: &Method,
-) -> Result<Vec<Part>, AllocError>
+pub fn parts_of(alloc: Global, program: &Program, m: u64, method: &Method) -> Tried<Vec<Part>>
     requires { IsFormed (program_of no_place program.now) }
     ensures value { IfOk result (λ v. parts_seen v.items ≡ plain.parts_of (program_of no_place program.now) m (method_seen at_place method.now)) }
 {

@@ -2,8 +2,8 @@
 
 ghost use Rattle.std.specs.Prelude.{◌≡◌, slice_get};
 ghost use Rattle.std.specs.Option.{option_map};
-ghost use Rattle.java_core.specs.Trees.{at_place, no_place};
-ghost use Rattle.java_core.specs.Programs.{program_of, class_seen, field_seen, method_seen, slot_seen};
+ghost use Rattle.java_core.specs.Programs.{class_seen, field_seen, slot_seen};
+ghost use Rattle.flow_facts.specs.Words.{no_place, at_place, program_of, method_seen};
 
 use java_core::{Class, Field, Method, Program, Slot};
 

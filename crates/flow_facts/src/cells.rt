@@ -2,14 +2,13 @@
 
 ghost use Rattle.std.specs.Prelude.{◌≡◌, ℕ, suc, ◌==◌, ◌<◌, ◌≤◌, ◌++◌, ◌∷◌, [], Some, IfOk, IfSome, MatchOption, OnOk, length, map};
 ghost use Rattle.std.specs.List.{flat_map};
-ghost use Rattle.java_core.specs.Trees.{at_place, no_place};
-ghost use Rattle.java_core.specs.Programs.{program_of};
-ghost use Rattle.java_core.specs.Formed.{IsFormed};
-ghost use Rattle.flow_rules.specs.Ordered.{each, when};
+ghost use Rattle.flow_rules.specs.Ordered.{when};
 ghost use Rattle.flow_rules.specs.Facts.{field_at, fields_of, site_cells};
 ghost use Rattle.flow_facts.specs.Owned.{AreListed, own_of, own_at, upwards, cell_of};
-ghost use Rattle.flow_facts.specs.Seen.{numbers_seen, field_cell_seen, if_there};
+ghost use Rattle.flow_facts.specs.Seen.{field_cell_seen};
+ghost use Rattle.flow_facts.specs.Words.{no_place, at_place, program_of, IsFormed, each, numbers_seen, if_there};
 
+use crate::Tried;
 use crate::given::Given;
 use crate::infos::owner_of;
 use crate::lists::put_if;
@@ -18,7 +17,7 @@ use fact_model::CellInfo;
 use flow_rules::{Column, ColumnItem, RowItem, Site};
 use java_core::{Program, parent_of};
 use kaba_base::{ClassId, ColId, RowId, SiteId, put};
-use std::alloc::{AllocError, Global};
+use std::alloc::Global;
 
 /// A field that has a row: its column, its row and its class.
 #[derive(Clone, Copy)]
@@ -46,7 +45,7 @@ fn field_of(given: &Given, c: u32, item: ColumnItem) -> Option<FieldCell>
 }
 
 /// The fields that have a row, in the order of their columns.
-pub fn fields_of(given: &Given, columns: &Vec<Column>) -> Result<Vec<FieldCell>, AllocError>
+pub fn fields_of(given: &Given, columns: &Vec<Column>) -> Tried<Vec<FieldCell>>
     requires { length columns.now.items < 4294967295 }
     ensures value { IfOk result (λ v. map field_cell_seen v.items
         ≡ fields_of (numbers_seen given.now.numbering.now) (program_of at_place given.now.program.now) columns.now.items) }
@@ -59,7 +58,7 @@ pub fn fields_of(given: &Given, columns: &Vec<Column>) -> Result<Vec<FieldCell>,
 }
 
 /// Empty lists, one for each class.
-fn no_fields(alloc: Global, count: usize) -> Result<Vec<Vec<FieldCell>>, AllocError>
+fn no_fields(alloc: Global, count: usize) -> Tried<Vec<Vec<FieldCell>>>
     ensures count { IfOk result (λ v. length v.items ≡ count) }
     ensures empty { IfOk result (λ v. (c : ℕ) → own_at v.items c ≡ []) }
 {
@@ -72,7 +71,7 @@ fn no_fields(alloc: Global, count: usize) -> Result<Vec<Vec<FieldCell>>, AllocEr
 }
 
 /// Adds a field to those of its class.
-fn add_own(own: &mut Vec<Vec<FieldCell>>, field: FieldCell) -> Result<(), AllocError>
+fn add_own(own: &mut Vec<Vec<FieldCell>>, field: FieldCell) -> Tried<()>
     requires { field.owner.0 < length own.old.items }
     ensures count { OnOk result (length own.new.items ≡ length own.old.items) }
     ensures value { OnOk result ((c : ℕ) → own_at own.new.items c ≡ own_at own.old.items c ++ when (c == field.owner.0) (field_cell_seen field ∷ [])) }
@@ -85,7 +84,7 @@ fn fields_by_class(
     alloc: Global,
     program: &Program,
     fields: &Vec<FieldCell>,
-) -> Result<Vec<Vec<FieldCell>>, AllocError>
+) -> Tried<Vec<Vec<FieldCell>>>
     requires { AreListed (program_of no_place program.now) 0 (map field_cell_seen fields.now.items) }
     ensures { IfOk result (λ v. (c : ℕ) → own_at v.items c ≡ own_of (map field_cell_seen fields.now.items) c) }
 {
@@ -107,7 +106,7 @@ fn fields_in(own: &Vec<Vec<FieldCell>>, class: ClassId) -> &[FieldCell]
 }
 
 /// Adds fields.
-fn add_all(fields: &[FieldCell], found: &mut Vec<FieldCell>) -> Result<(), AllocError>
+fn add_all(fields: &[FieldCell], found: &mut Vec<FieldCell>) -> Tried<()>
     ensures value { OnOk result (map field_cell_seen found.new.items ≡ map field_cell_seen found.old.items ++ map field_cell_seen fields.now) }
 {
     for field in fields {
@@ -117,11 +116,7 @@ fn add_all(fields: &[FieldCell], found: &mut Vec<FieldCell>) -> Result<(), Alloc
 }
 
 /// Adds the fields of one class itself.
-fn add_fields_of(
-    own: &Vec<Vec<FieldCell>>,
-    class: ClassId,
-    found: &mut Vec<FieldCell>,
-) -> Result<(), AllocError>
+fn add_fields_of(own: &Vec<Vec<FieldCell>>, class: ClassId, found: &mut Vec<FieldCell>) -> Tried<()>
     ensures value { OnOk result (map field_cell_seen found.new.items ≡ map field_cell_seen found.old.items ++ own_at own.now.items class.0) }
 {
     let fields = fields_in(own, class);
@@ -134,7 +129,7 @@ fn fields_above(
     program: &Program,
     own: &Vec<Vec<FieldCell>>,
     class: ClassId,
-) -> Result<Vec<FieldCell>, AllocError>
+) -> Tried<Vec<FieldCell>>
     ensures { IfOk result (λ v. map field_cell_seen v.items ≡ upwards (program_of no_place program.now)
         (own_at own.now.items) (suc (length (program_of no_place program.now).classes)) (Some class)) }
 {
@@ -156,7 +151,7 @@ fn fields_above(
 }
 
 /// Adds a cell of an object for each field.
-fn add_cells(i: u32, fields: &Vec<FieldCell>, cells: &mut Vec<CellInfo>) -> Result<(), AllocError>
+fn add_cells(i: u32, fields: &Vec<FieldCell>, cells: &mut Vec<CellInfo>) -> Tried<()>
     ensures { OnOk result (cells.new.items ≡ cells.old.items ++ flat_map (cell_of i) (map field_cell_seen fields.now.items)) }
 {
     for field in fields {
@@ -175,7 +170,7 @@ fn add_site_cells(
     i: u32,
     site: &Site,
     cells: &mut Vec<CellInfo>,
-) -> Result<(), AllocError>
+) -> Tried<()>
     requires formed { IsFormed (program_of no_place program.now) }
     requires listed { AreListed (program_of no_place program.now) 0 (map field_cell_seen fields.now.items) }
     requires own { (c : ℕ) → own_at own.now.items c ≡ own_of (map field_cell_seen fields.now.items) c }
@@ -200,7 +195,7 @@ pub fn cells_of(
     fields: &Vec<FieldCell>,
     sites: &Vec<Site>,
     most: usize,
-) -> Result<Option<Vec<CellInfo>>, AllocError>
+) -> Tried<Option<Vec<CellInfo>>>
     requires formed { IsFormed (program_of no_place program.now) }
     requires listed { AreListed (program_of no_place program.now) 0 (map field_cell_seen fields.now.items) }
     requires few { length sites.now.items < 4294967295 }

@@ -3,11 +3,10 @@
 ghost use Rattle.std.specs.Prelude.{◌≡◌, ℕ};
 ghost use Rattle.std.specs.Option.{option_map};
 ghost use Rattle.kaba_base.specs.declared.Place.{Place};
-ghost use Rattle.java_core.specs.Trees.{Tag, no_place, expr_of};
-ghost use Rattle.java_core.specs.Programs.{program_of, method_seen};
-ghost use Rattle.java_core.specs.Formed.{IsFormed};
+ghost use Rattle.java_core.specs.Trees.{Tag, expr_of};
 ghost use Rattle.java_core.specs.Statics.{static_seen};
 ghost use Rattle.flow_rules.specs.Operands.{object_static, object_field, call_slot, super_slot, type_in, row_of};
+ghost use Rattle.flow_facts.specs.Words.{no_place, program_of, method_seen, IsFormed};
 
 use crate::by_number::method_by_number;
 use crate::types::{object_class, object_field, object_of};

@@ -1,13 +1,10 @@
 //! What the parts of all bodies give to the lists of the facts.
 
 ghost use Rattle.std.specs.Prelude.{IfOk, OnOk, map};
-ghost use Rattle.java_core.specs.Trees.{no_place};
-ghost use Rattle.java_core.specs.Programs.{program_of};
-ghost use Rattle.java_core.specs.Formed.{IsFormed};
-ghost use Rattle.flow_facts.specs.Views.{part_seen, parts_seen, body_seen};
-ghost use Rattle.flow_facts.specs.Seen.{numbers_seen};
 ghost use Rattle.flow_facts.specs.Gathered.{IsPartAdded, ArePartsAdded, AreGathered};
+ghost use Rattle.flow_facts.specs.Words.{no_place, program_of, IsFormed, part_seen, parts_seen, body_seen, numbers_seen};
 
+use crate::Tried;
 use crate::given::Given;
 use crate::lists::{
     PlacedCall, add_accesses, add_calls, add_casts, add_flows, add_loads, add_news, add_stores,
@@ -17,7 +14,6 @@ use crate::stages::Unordered;
 use crate::ties::add_ties;
 use fact_model::TestInfo;
 use flow_rules::{Body, Part};
-use std::alloc::AllocError;
 use std::mem::drop;
 
 /// The lists that the parts of bodies give.
@@ -29,13 +25,7 @@ pub struct Lists {
 }
 
 /// Adds what a part of a method's body gives. The slot is the method's.
-fn add_part(
-    given: &Given,
-    m: u64,
-    slot: Option<u32>,
-    part: &Part,
-    lists: &mut Lists,
-) -> Result<(), AllocError>
+fn add_part(given: &Given, m: u64, slot: Option<u32>, part: &Part, lists: &mut Lists) -> Tried<()>
     requires { IsFormed (program_of no_place given.now.program.now) }
     ensures { OnOk result (IsPartAdded (numbers_seen given.now.numbering.now) (program_of no_place given.now.program.now) m slot
         (part_seen part.now) lists.old lists.new) }
@@ -60,7 +50,7 @@ fn add_parts(
     slot: Option<u32>,
     parts: &Vec<Part>,
     lists: &mut Lists,
-) -> Result<(), AllocError>
+) -> Tried<()>
     requires { IsFormed (program_of no_place given.now.program.now) }
     ensures { OnOk result (ArePartsAdded (numbers_seen given.now.numbering.now) (program_of no_place given.now.program.now) m slot
         (parts_seen parts.now.items) lists.old lists.new) }
@@ -72,7 +62,7 @@ fn add_parts(
 }
 
 /// What the parts of all bodies give.
-pub fn gather(given: &Given, bodies: &Vec<Body>) -> Result<Lists, AllocError>
+pub fn gather(given: &Given, bodies: &Vec<Body>) -> Tried<Lists>
     requires { IsFormed (program_of no_place given.now.program.now) }
     ensures { IfOk result (λ l. AreGathered (numbers_seen given.now.numbering.now) (program_of no_place given.now.program.now)
         (map body_seen bodies.now.items) l) }

@@ -2,13 +2,10 @@
 
 ghost use Rattle.std.specs.Prelude.{◌≡◌, ℕ, ◌+◌, ◌<◌, ◌++◌, ◌∷◌, [], List, Option, Some, None, IfOk, OnOk, length, map, slice_get};
 ghost use Rattle.std.specs.Option.{option_map, option_map_or};
-ghost use Rattle.java_core.specs.Trees.{at_place, no_place};
-ghost use Rattle.java_core.specs.Programs.{Plain, program_of, method_seen};
-ghost use Rattle.java_core.specs.Formed.{IsFormed};
-ghost use Rattle.flow_rules.specs.Ordered.{each};
 ghost use Rattle.flow_rules.specs.Facts.{row_info, site_of_row, this_of_row, column_info, kind_of, owner_of, slot_in, name_in, site_info, field_at, fields_of, field_cell, site_cells, param_points, body_if, column_body, body_seen, class_facts, class_seen, is_holder, variable_names, all_variables};
-ghost use Rattle.flow_facts.specs.Seen.{numbers_seen, if_there};
+ghost use Rattle.flow_facts.specs.Words.{no_place, at_place, Plain, program_of, method_seen, IsFormed, each, numbers_seen, if_there};
 
+use crate::Tried;
 use crate::by_number::{class_by_number, field_by_number, method_by_number};
 use crate::given::Given;
 use crate::labels::{column_label, row_label};
@@ -18,7 +15,7 @@ use fact_model::{BodyInfo, ColKind, ColumnInfo, RowInfo, SiteInfo};
 use flow_rules::{Column, ColumnItem, Point, PointItem, Row, RowItem, Site};
 use java_core::{Method, Program};
 use kaba_base::{ClassId, ColId, Name, RowId, SiteId, put};
-use std::alloc::{AllocError, Global};
+use std::alloc::Global;
 use std::mem::drop;
 
 /// The site of a creation's row.
@@ -48,7 +45,7 @@ fn this_of_row(n: &Numbering, item: RowItem) -> Option<ColId>
 }
 
 /// The rows.
-pub fn row_infos(given: &Given, rows: &Vec<Row>) -> Result<Vec<RowInfo>, AllocError>
+pub fn row_infos(given: &Given, rows: &Vec<Row>) -> Tried<Vec<RowInfo>>
     ensures value { IfOk result (λ v. v.items
         ≡ map (row_info (numbers_seen given.now.numbering.now) (program_of at_place given.now.program.now)) rows.now.items) }
 {
@@ -139,7 +136,7 @@ fn named(program: &Program, item: ColumnItem) -> Option<&Name>
 }
 
 /// The name of what a column stands for.
-fn name_in(alloc: Global, program: &Program, item: ColumnItem) -> Result<Name, AllocError>
+fn name_in(alloc: Global, program: &Program, item: ColumnItem) -> Tried<Name>
     ensures value { IfOk result (λ x. x ≡ name_in (program_of at_place program.now) item) }
 {
     match named(program, item) {
@@ -153,7 +150,7 @@ pub fn column_infos(
     alloc: Global,
     program: &Program,
     columns: &Vec<Column>,
-) -> Result<Vec<ColumnInfo>, AllocError>
+) -> Tried<Vec<ColumnInfo>>
     ensures value { IfOk result (λ v. v.items ≡ map (λ c. column_info (program_of at_place program.now) c.item) columns.now.items) }
 {
     let mut list = Vec::new(alloc);
@@ -177,7 +174,7 @@ pub fn column_infos(
 }
 
 /// The sites.
-pub fn site_infos(alloc: Global, sites: &Vec<Site>) -> Result<Vec<SiteInfo>, AllocError>
+pub fn site_infos(alloc: Global, sites: &Vec<Site>) -> Tried<Vec<SiteInfo>>
     ensures value { IfOk result (λ v. v.items ≡ map site_info sites.now.items) }
 {
     let mut list = Vec::new(alloc);
@@ -189,7 +186,7 @@ pub fn site_infos(alloc: Global, sites: &Vec<Site>) -> Result<Vec<SiteInfo>, All
 }
 
 /// The rows of the flow points.
-pub fn point_rows(alloc: Global, points: &Vec<Point>) -> Result<Vec<RowId>, AllocError>
+pub fn point_rows(alloc: Global, points: &Vec<Point>) -> Tried<Vec<RowId>>
     ensures value { IfOk result (λ v. v.items ≡ map (λ p. record { 0 = p.row }) points.now.items) }
 {
     let mut list = Vec::new(alloc);
@@ -200,7 +197,7 @@ pub fn point_rows(alloc: Global, points: &Vec<Point>) -> Result<Vec<RowId>, Allo
 }
 
 /// The points of the parameters of a method.
-fn param_points(given: &Given, m: u64, method: &Method) -> Result<Vec<Option<u32>>, AllocError>
+fn param_points(given: &Given, m: u64, method: &Method) -> Tried<Vec<Option<u32>>>
     ensures value { (Q : Plain) → IfOk result (λ v. v.items ≡ param_points (numbers_seen given.now.numbering.now) Q m (method_seen at_place method.now)) }
 {
     let mut list = Vec::new(given.alloc);
@@ -214,12 +211,7 @@ fn param_points(given: &Given, m: u64, method: &Method) -> Result<Vec<Option<u32
 }
 
 /// The body of a method, where its `this` is a flow point.
-fn method_body(
-    given: &Given,
-    c: u32,
-    m: u64,
-    method: &Method,
-) -> Result<Option<BodyInfo>, AllocError>
+fn method_body(given: &Given, c: u32, m: u64, method: &Method) -> Tried<Option<BodyInfo>>
     ensures value { (Q : Plain) → IfOk result (λ o. if_there body_seen o
         ≡ body_if (numbers_seen given.now.numbering.now) Q c m (method_seen at_place method.now)
         ((numbers_seen given.now.numbering.now).point (PointItem.This m))) }
@@ -240,7 +232,7 @@ fn method_body(
 }
 
 /// The body of a column, where it has one that is run.
-fn body_of(given: &Given, c: u32, item: ColumnItem) -> Result<Option<BodyInfo>, AllocError>
+fn body_of(given: &Given, c: u32, item: ColumnItem) -> Tried<Option<BodyInfo>>
     ensures value { IfOk result (λ o. if_there body_seen o
         ≡ column_body (numbers_seen given.now.numbering.now) (program_of at_place given.now.program.now) c item) }
 {
@@ -254,7 +246,7 @@ fn body_of(given: &Given, c: u32, item: ColumnItem) -> Result<Option<BodyInfo>, 
 }
 
 /// The bodies, in the order of their columns.
-pub fn body_infos(given: &Given, columns: &Vec<Column>) -> Result<Vec<BodyInfo>, AllocError>
+pub fn body_infos(given: &Given, columns: &Vec<Column>) -> Tried<Vec<BodyInfo>>
     requires { length columns.now.items < 4294967295 }
     ensures value { IfOk result (λ v. map body_seen v.items
         ≡ each (λ c k. column_body (numbers_seen given.now.numbering.now) (program_of at_place given.now.program.now) c k.item) 0

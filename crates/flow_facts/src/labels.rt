@@ -3,15 +3,15 @@
 ghost use Rattle.std.specs.Prelude.{◌≡◌, ℕ, ◌++◌, [], List, Option, Some, None, IfOk, OnOk, codes, string_bytes};
 ghost use Rattle.std.specs.Option.{option_map_or};
 ghost use Rattle.std.specs.Str.{chars};
-ghost use Rattle.java_core.specs.Trees.{at_place};
-ghost use Rattle.java_core.specs.Programs.{program_of};
 ghost use Rattle.flow_rules.specs.Facts.{class_text, member_text, field_text, method_text, variable_name, variable_text, brackets, at_line, row_text, row_label, column_text, first_of};
+ghost use Rattle.flow_facts.specs.Words.{at_place, program_of};
 
+use crate::Tried;
 use crate::by_number::{class_by_number, field_by_number, method_by_number, slot_by_number};
 use flow_rules::{ColumnItem, Row, RowItem, variable_at};
 use java_core::Program;
 use kaba_base::{Name, Place};
-use std::alloc::{AllocError, Global};
+use std::alloc::Global;
 
 /// The name of a parameter or local of a method.
 fn variable_name(program: &Program, method: u64, i: u64) -> Option<&Name>
@@ -27,14 +27,14 @@ fn variable_name(program: &Program, method: u64, i: u64) -> Option<&Name>
 }
 
 /// Adds a text.
-fn add_text(more: &str, text: &mut String) -> Result<(), AllocError>
+fn add_text(more: &str, text: &mut String) -> Tried<()>
     ensures value { OnOk result (string_bytes text.new ≡ string_bytes text.old ++ more.now) }
 {
     text.push_str(more)
 }
 
 /// Adds the name of a class.
-fn add_class(program: &Program, class: u64, text: &mut String) -> Result<(), AllocError>
+fn add_class(program: &Program, class: u64, text: &mut String) -> Tried<()>
     ensures value { OnOk result (string_bytes text.new ≡ string_bytes text.old ++ class_text (program_of at_place program.now) class) }
 {
     match class_by_number(program, class) {
@@ -44,12 +44,7 @@ fn add_class(program: &Program, class: u64, text: &mut String) -> Result<(), All
 }
 
 /// Adds the name of a member with that of its class.
-fn add_member(
-    program: &Program,
-    owner: u64,
-    name: &Name,
-    text: &mut String,
-) -> Result<(), AllocError>
+fn add_member(program: &Program, owner: u64, name: &Name, text: &mut String) -> Tried<()>
     ensures value { OnOk result (string_bytes text.new ≡ string_bytes text.old ++ member_text (program_of at_place program.now) owner name.now) }
 {
     made!(add_class(program, owner, text));
@@ -58,7 +53,7 @@ fn add_member(
 }
 
 /// Adds the name of a field with that of its class.
-fn add_field(program: &Program, field: u64, text: &mut String) -> Result<(), AllocError>
+fn add_field(program: &Program, field: u64, text: &mut String) -> Tried<()>
     ensures value { OnOk result (string_bytes text.new ≡ string_bytes text.old ++ field_text (program_of at_place program.now) field) }
 {
     match field_by_number(program, field) {
@@ -68,7 +63,7 @@ fn add_field(program: &Program, field: u64, text: &mut String) -> Result<(), All
 }
 
 /// Adds the name of a method with that of its class.
-fn add_method(program: &Program, method: u64, text: &mut String) -> Result<(), AllocError>
+fn add_method(program: &Program, method: u64, text: &mut String) -> Tried<()>
     ensures value { OnOk result (string_bytes text.new ≡ string_bytes text.old ++ method_text (program_of at_place program.now) method) }
 {
     match method_by_number(program, method) {
@@ -78,7 +73,7 @@ fn add_method(program: &Program, method: u64, text: &mut String) -> Result<(), A
 }
 
 /// Adds the name of a parameter or local with those of its method and its class.
-fn add_variable(program: &Program, method: u64, i: u64, text: &mut String) -> Result<(), AllocError>
+fn add_variable(program: &Program, method: u64, i: u64, text: &mut String) -> Tried<()>
     ensures value { OnOk result (string_bytes text.new ≡ string_bytes text.old ++ variable_text (program_of at_place program.now) method i) }
 {
     made!(add_method(program, method, text));
@@ -100,7 +95,7 @@ fn first_of(program: &Program, slot: u64) -> u64
 }
 
 /// Adds pairs of square brackets.
-fn add_brackets(count: u32, text: &mut String) -> Result<(), AllocError>
+fn add_brackets(count: u32, text: &mut String) -> Tried<()>
     ensures value { OnOk result (string_bytes text.new ≡ string_bytes text.old ++ brackets count) }
 {
     for i in 0..count {
@@ -111,7 +106,7 @@ fn add_brackets(count: u32, text: &mut String) -> Result<(), AllocError>
 }
 
 /// Adds a line.
-fn add_line(alloc: Global, place: Place, text: &mut String) -> Result<(), AllocError>
+fn add_line(alloc: Global, place: Place, text: &mut String) -> Tried<()>
     ensures value { OnOk result (string_bytes text.new ≡ string_bytes text.old ++ at_line place) }
 {
     made!(add_text("@", text));
@@ -120,12 +115,7 @@ fn add_line(alloc: Global, place: Place, text: &mut String) -> Result<(), AllocE
 }
 
 /// Adds the name of a method with that of its class, and what follows.
-fn add_of_method(
-    program: &Program,
-    method: u64,
-    end: &str,
-    text: &mut String,
-) -> Result<(), AllocError>
+fn add_of_method(program: &Program, method: u64, end: &str, text: &mut String) -> Tried<()>
     ensures value { OnOk result (string_bytes text.new ≡ string_bytes text.old ++ method_text (program_of at_place program.now) method ++ end.now) }
 {
     made!(add_method(program, method, text));
@@ -133,12 +123,7 @@ fn add_of_method(
 }
 
 /// Adds a word and the name of a class.
-fn add_of_class(
-    program: &Program,
-    word: &str,
-    class: u64,
-    text: &mut String,
-) -> Result<(), AllocError>
+fn add_of_class(program: &Program, word: &str, class: u64, text: &mut String) -> Tried<()>
     ensures value { OnOk result (string_bytes text.new ≡ string_bytes text.old ++ (word.now ++ class_text (program_of at_place program.now) class)) }
 {
     made!(add_text(word, text));
@@ -146,13 +131,7 @@ fn add_of_class(
 }
 
 /// Adds the label of a cast or an `instanceof`, which begins with the word.
-fn add_test(
-    alloc: Global,
-    program: &Program,
-    word: &str,
-    row: &Row,
-    text: &mut String,
-) -> Result<(), AllocError>
+fn add_test(alloc: Global, program: &Program, word: &str, row: &Row, text: &mut String) -> Tried<()>
     ensures value { OnOk result (string_bytes text.new ≡ string_bytes text.old
         ++ (word.now ++ class_text (program_of at_place program.now) row.now.ty.class.0 ++ at_line row.now.place)) }
 {
@@ -161,12 +140,7 @@ fn add_test(
 }
 
 /// Adds the label of a creation.
-fn add_creation(
-    alloc: Global,
-    program: &Program,
-    row: &Row,
-    text: &mut String,
-) -> Result<(), AllocError>
+fn add_creation(alloc: Global, program: &Program, row: &Row, text: &mut String) -> Tried<()>
     ensures value { OnOk result (string_bytes text.new ≡ string_bytes text.old ++ (codes "new "
         ++ class_text (program_of at_place program.now) row.now.ty.class.0 ++ brackets row.now.ty.dim ++ at_line row.now.place)) }
 {
@@ -176,12 +150,7 @@ fn add_creation(
 }
 
 /// Adds the label of a row.
-fn add_row_text(
-    alloc: Global,
-    program: &Program,
-    row: &Row,
-    text: &mut String,
-) -> Result<(), AllocError>
+fn add_row_text(alloc: Global, program: &Program, row: &Row, text: &mut String) -> Tried<()>
     ensures value { OnOk result (string_bytes text.new ≡ string_bytes text.old
         ++ row_text (program_of at_place program.now) row.now.item
         (class_text (program_of at_place program.now) row.now.ty.class.0) row.now.ty.dim row.now.place) }
@@ -200,7 +169,7 @@ fn add_row_text(
 }
 
 /// The label of a row.
-pub fn row_label(alloc: Global, program: &Program, row: &Row) -> Result<Name, AllocError>
+pub fn row_label(alloc: Global, program: &Program, row: &Row) -> Tried<Name>
     ensures value { IfOk result (λ x. x ≡ row_label (program_of at_place program.now) row.now) }
 {
     let mut text = String::new(alloc);
@@ -209,7 +178,7 @@ pub fn row_label(alloc: Global, program: &Program, row: &Row) -> Result<Name, Al
 }
 
 /// Adds the name of what a column is of.
-fn add_column_item(program: &Program, item: ColumnItem, text: &mut String) -> Result<(), AllocError>
+fn add_column_item(program: &Program, item: ColumnItem, text: &mut String) -> Tried<()>
     ensures value { OnOk result (string_bytes text.new ++ codes ")" ≡ string_bytes text.old ++ column_text (program_of at_place program.now) item) }
 {
     match item {
@@ -230,7 +199,7 @@ fn add_column_item(program: &Program, item: ColumnItem, text: &mut String) -> Re
 }
 
 /// The label of a column.
-pub fn column_label(alloc: Global, program: &Program, item: ColumnItem) -> Result<Name, AllocError>
+pub fn column_label(alloc: Global, program: &Program, item: ColumnItem) -> Tried<Name>
     ensures value { IfOk result (λ x. x ≡ chars (column_text (program_of at_place program.now) item)) }
 {
     let mut text = String::new(alloc);

@@ -54,6 +54,11 @@ mod top;
 mod types;
 mod walk;
 
+use std::alloc::AllocError;
+
+/// What was made, or that memory was short.
+type Tried<T> = Result<T, AllocError>;
+
 pub use expr_rows::row_of;
 pub use flow_rules::{
     Column, ColumnItem, Counted, FactsFault, ObjectType, PointItem, Row, RowItem, Site,

@@ -1,14 +1,11 @@
 //! What each part of a body gives to each list of the facts.
 
 ghost use Rattle.std.specs.Prelude.{◌≡◌, ℕ, ◌+◌, ◌<◌, ◌++◌, ◌∷◌, [], List, Option, Some, None, IfOk, OnOk, length, map, position};
-ghost use Rattle.java_core.specs.Trees.{no_place};
-ghost use Rattle.java_core.specs.Programs.{program_of};
-ghost use Rattle.java_core.specs.Formed.{IsFormed};
-ghost use Rattle.flow_rules.specs.Ordered.{each};
 ghost use Rattle.flow_rules.specs.Lists.{created, moved, tied, accessed, created_args, moved_args, news_of, flows_of, loads_of, stores_of, calls_of, casts_of, tests_of, accesses_of, supers_of, ties_of, point_at, row_at, row_in};
-ghost use Rattle.flow_facts.specs.Views.{part_seen, parts_seen, body_seen};
-ghost use Rattle.flow_facts.specs.Seen.{numbers_seen, calls_seen, if_there};
+ghost use Rattle.flow_facts.specs.Seen.{calls_seen};
+ghost use Rattle.flow_facts.specs.Words.{no_place, program_of, IsFormed, each, part_seen, parts_seen, body_seen, numbers_seen, if_there};
 
+use crate::Tried;
 use crate::given::Given;
 use crate::numbering::Numbering;
 use fact_model::{
@@ -17,7 +14,7 @@ use fact_model::{
 };
 use flow_rules::{ColumnItem, Operand, Part, PointItem, RowItem};
 use kaba_base::{ColId, Place, RowId, SiteId, put};
-use std::alloc::{AllocError, Global};
+use std::alloc::Global;
 
 /// A call at its place.
 #[derive(Drop)]
@@ -27,7 +24,7 @@ pub struct PlacedCall {
 }
 
 /// Adds an item at the end, where there is one.
-pub fn put_if<T: Drop>(list: &mut Vec<T>, item: Option<T>) -> Result<(), AllocError>
+pub fn put_if<T: Drop>(list: &mut Vec<T>, item: Option<T>) -> Tried<()>
     ensures value { OnOk result (list.new.items ≡ list.old.items ++ if_there (λ x. x) item) }
 {
     match item {
@@ -69,7 +66,7 @@ fn add_created(
     operand: &Operand,
     point: Option<u32>,
     news: &mut Vec<NewInfo>,
-) -> Result<(), AllocError>
+) -> Tried<()>
     ensures value { OnOk result (news.new.items ≡ news.old.items ++ created (numbers_seen n.now) operand.now point) }
 {
     match (point, operand.created) {
@@ -85,11 +82,7 @@ fn add_created(
 }
 
 /// Adds a point whose set goes into another's.
-fn add_moved(
-    from: Option<u32>,
-    to: Option<u32>,
-    flows: &mut Vec<FlowInfo>,
-) -> Result<(), AllocError>
+fn add_moved(from: Option<u32>, to: Option<u32>, flows: &mut Vec<FlowInfo>) -> Tried<()>
     ensures value { OnOk result (flows.new.items ≡ flows.old.items ++ moved from to) }
 {
     match (from, to) {
@@ -99,11 +92,7 @@ fn add_moved(
 }
 
 /// Adds a lower and an upper row.
-pub fn add_tied(
-    lower: Option<u32>,
-    upper: Option<u32>,
-    ties: &mut Vec<TieInfo>,
-) -> Result<(), AllocError>
+pub fn add_tied(lower: Option<u32>, upper: Option<u32>, ties: &mut Vec<TieInfo>) -> Tried<()>
     ensures value { OnOk result (ties.new.items ≡ ties.old.items ++ tied lower upper) }
 {
     match (lower, upper) {
@@ -116,11 +105,7 @@ pub fn add_tied(
 }
 
 /// Adds an access.
-fn add_accessed(
-    row: Option<u32>,
-    column: Option<u32>,
-    accesses: &mut Vec<AccessInfo>,
-) -> Result<(), AllocError>
+fn add_accessed(row: Option<u32>, column: Option<u32>, accesses: &mut Vec<AccessInfo>) -> Tried<()>
     ensures value { OnOk result (accesses.new.items ≡ accesses.old.items ++ accessed row column) }
 {
     match (row, column) {
@@ -138,7 +123,7 @@ fn add_created_args(
     callee: u64,
     args: &Vec<Operand>,
     news: &mut Vec<NewInfo>,
-) -> Result<(), AllocError>
+) -> Tried<()>
     ensures value { OnOk result (news.new.items ≡ news.old.items ++ created_args (numbers_seen n.now) callee args.now.items) }
 {
     for (i, arg) in args.iter().enumerate() {
@@ -153,7 +138,7 @@ fn add_moved_args(
     callee: u64,
     args: &Vec<Operand>,
     flows: &mut Vec<FlowInfo>,
-) -> Result<(), AllocError>
+) -> Tried<()>
     ensures value { OnOk result (flows.new.items ≡ flows.old.items ++ moved_args (numbers_seen n.now) callee args.now.items) }
 {
     for (i, arg) in args.iter().enumerate() {
@@ -164,12 +149,7 @@ fn add_moved_args(
 }
 
 /// Adds the creations that flow into points.
-pub fn add_news(
-    n: &Numbering,
-    m: u64,
-    part: &Part,
-    news: &mut Vec<NewInfo>,
-) -> Result<(), AllocError>
+pub fn add_news(n: &Numbering, m: u64, part: &Part, news: &mut Vec<NewInfo>) -> Tried<()>
     ensures value { OnOk result (news.new.items ≡ news.old.items ++ news_of (numbers_seen n.now) m (part_seen part.now)) }
 {
     match part {
@@ -188,12 +168,7 @@ pub fn add_news(
 }
 
 /// Adds the flows from point to point.
-pub fn add_flows(
-    n: &Numbering,
-    m: u64,
-    part: &Part,
-    flows: &mut Vec<FlowInfo>,
-) -> Result<(), AllocError>
+pub fn add_flows(n: &Numbering, m: u64, part: &Part, flows: &mut Vec<FlowInfo>) -> Tried<()>
     ensures value { OnOk result (flows.new.items ≡ flows.old.items ++ flows_of (numbers_seen n.now) m (part_seen part.now)) }
 {
     match part {
@@ -219,7 +194,7 @@ pub fn add_flows(
 }
 
 /// Adds the reads of fields and elements.
-pub fn add_loads(n: &Numbering, part: &Part, loads: &mut Vec<LoadInfo>) -> Result<(), AllocError>
+pub fn add_loads(n: &Numbering, part: &Part, loads: &mut Vec<LoadInfo>) -> Tried<()>
     ensures value { OnOk result (loads.new.items ≡ loads.old.items ++ loads_of (numbers_seen n.now) (part_seen part.now)) }
 {
     match part {
@@ -251,7 +226,7 @@ pub fn add_loads(n: &Numbering, part: &Part, loads: &mut Vec<LoadInfo>) -> Resul
 }
 
 /// Adds the writes of fields and elements.
-pub fn add_stores(n: &Numbering, part: &Part, stores: &mut Vec<StoreInfo>) -> Result<(), AllocError>
+pub fn add_stores(n: &Numbering, part: &Part, stores: &mut Vec<StoreInfo>) -> Tried<()>
     ensures value { OnOk result (stores.new.items ≡ stores.old.items ++ stores_of (numbers_seen n.now) (part_seen part.now)) }
 {
     match part {
@@ -294,11 +269,7 @@ pub fn add_stores(n: &Numbering, part: &Part, stores: &mut Vec<StoreInfo>) -> Re
 }
 
 /// The flow points of operands.
-fn points_at(
-    alloc: Global,
-    n: &Numbering,
-    operands: &Vec<Operand>,
-) -> Result<Vec<Option<u32>>, AllocError>
+fn points_at(alloc: Global, n: &Numbering, operands: &Vec<Operand>) -> Tried<Vec<Option<u32>>>
     ensures value { IfOk result (λ v. v.items ≡ map (point_at (numbers_seen n.now)) operands.now.items) }
 {
     let mut points = Vec::new(alloc);
@@ -309,7 +280,7 @@ fn points_at(
 }
 
 /// Adds the calls of instance methods.
-pub fn add_calls(given: &Given, part: &Part, calls: &mut Vec<PlacedCall>) -> Result<(), AllocError>
+pub fn add_calls(given: &Given, part: &Part, calls: &mut Vec<PlacedCall>) -> Tried<()>
     ensures value { OnOk result (calls_seen calls.new.items
         ≡ calls_seen calls.old.items ++ calls_of (numbers_seen given.now.numbering.now) (part_seen part.now)) }
 {
@@ -337,7 +308,7 @@ pub fn add_calls(given: &Given, part: &Part, calls: &mut Vec<PlacedCall>) -> Res
 }
 
 /// Adds the casts and `instanceof`, as what passes them.
-pub fn add_casts(n: &Numbering, part: &Part, casts: &mut Vec<CastInfo>) -> Result<(), AllocError>
+pub fn add_casts(n: &Numbering, part: &Part, casts: &mut Vec<CastInfo>) -> Tried<()>
     ensures value { OnOk result (casts.new.items ≡ casts.old.items ++ casts_of (numbers_seen n.now) (part_seen part.now)) }
 {
     match part {
@@ -355,7 +326,7 @@ pub fn add_casts(n: &Numbering, part: &Part, casts: &mut Vec<CastInfo>) -> Resul
 }
 
 /// Adds the casts and `instanceof`, as tests of a row.
-pub fn add_tests(n: &Numbering, part: &Part, tests: &mut Vec<TestInfo>) -> Result<(), AllocError>
+pub fn add_tests(n: &Numbering, part: &Part, tests: &mut Vec<TestInfo>) -> Tried<()>
     ensures value { OnOk result (tests.new.items ≡ tests.old.items ++ tests_of (numbers_seen n.now) (part_seen part.now)) }
 {
     match part {
@@ -381,11 +352,7 @@ pub fn add_tests(n: &Numbering, part: &Part, tests: &mut Vec<TestInfo>) -> Resul
 }
 
 /// Adds the accesses of fields, and the calls by the declaration found statically.
-pub fn add_accesses(
-    n: &Numbering,
-    part: &Part,
-    accesses: &mut Vec<AccessInfo>,
-) -> Result<(), AllocError>
+pub fn add_accesses(n: &Numbering, part: &Part, accesses: &mut Vec<AccessInfo>) -> Tried<()>
     ensures value { OnOk result (accesses.new.items ≡ accesses.old.items ++ accesses_of (numbers_seen n.now) (part_seen part.now)) }
 {
     match part {
@@ -402,12 +369,7 @@ pub fn add_accesses(
 }
 
 /// Adds the super calls, as the `this` of the caller and the body that runs.
-pub fn add_supers(
-    n: &Numbering,
-    m: u64,
-    part: &Part,
-    supers: &mut Vec<SuperInfo>,
-) -> Result<(), AllocError>
+pub fn add_supers(n: &Numbering, m: u64, part: &Part, supers: &mut Vec<SuperInfo>) -> Tried<()>
     ensures value { OnOk result (supers.new.items ≡ supers.old.items ++ supers_of (numbers_seen n.now) m (part_seen part.now)) }
 {
     match part {

@@ -4,17 +4,18 @@ ghost use Rattle.std.specs.Prelude.{◌≡◌, ℕ, ◌<◌, Bool, List, ◌++�
 ghost use Rattle.indexmap.specs.IndexSet.{insert_key};
 ghost use Rattle.std.specs.List.{flat_map, list_any};
 ghost use Rattle.std.specs.Str.{bytes_eq, encode_utf8_all};
-ghost use Rattle.java_core.specs.Trees.{at_place};
-ghost use Rattle.java_core.specs.Programs.{Plain, program_of, class_seen as plain_class, method_seen, local_seen};
-ghost use Rattle.flow_rules.specs.Ordered.{each, once, once_after};
+ghost use Rattle.java_core.specs.Programs.{class_seen as plain_class, local_seen};
+ghost use Rattle.flow_rules.specs.Ordered.{once, once_after};
 ghost use Rattle.flow_rules.specs.Facts.{class_seen, class_facts, is_holder, all_names, all_variables, variable_names};
 ghost use Rattle.flow_facts.specs.Holders.{AreHolders};
+ghost use Rattle.flow_facts.specs.Words.{at_place, Plain, program_of, method_seen, each};
 
+use crate::Tried;
 use fact_model::ClassInfo;
 use indexmap::IndexSet;
 use java_core::{Class, Field, Local, Method, Program};
 use kaba_base::{ClassId, Name, put};
-use std::alloc::{AllocError, Global};
+use std::alloc::Global;
 use std::mem::drop;
 
 /// Marks the class of a member, where the member is static.
@@ -79,7 +80,7 @@ fn mark_members(program: &Program, holders: &mut [bool])
 }
 
 /// For each class, whether it has static members.
-fn holders(alloc: Global, program: &Program) -> Result<Vec<bool>, AllocError>
+fn holders(alloc: Global, program: &Program) -> Tried<Vec<bool>>
     ensures { IfOk result (λ v. AreHolders (program_of at_place program.now) v.items) }
 {
     let mut holders = vec![in alloc; false; program.classes.len()]?;
@@ -88,7 +89,7 @@ fn holders(alloc: Global, program: &Program) -> Result<Vec<bool>, AllocError>
 }
 
 /// A class. `holder` says whether it has static members.
-fn class_info(alloc: Global, class: &Class, holder: bool) -> Result<ClassInfo, AllocError>
+fn class_info(alloc: Global, class: &Class, holder: bool) -> Tried<ClassInfo>
     ensures value { (Q : Plain) (c : ℕ) → holder ≡ is_holder Q c
         → IfOk result (λ x. class_seen x ∷ [] ≡ class_facts Q c (plain_class at_place class.now)) }
 {
@@ -104,11 +105,7 @@ fn class_info(alloc: Global, class: &Class, holder: bool) -> Result<ClassInfo, A
 }
 
 /// The classes, each with whether it has static members.
-fn list_classes(
-    alloc: Global,
-    program: &Program,
-    holders: &[bool],
-) -> Result<Vec<ClassInfo>, AllocError>
+fn list_classes(alloc: Global, program: &Program, holders: &[bool]) -> Tried<Vec<ClassInfo>>
     requires { AreHolders (program_of at_place program.now) holders.now }
     ensures value { IfOk result (λ v. map class_seen v.items
         ≡ each (class_facts (program_of at_place program.now)) 0 (program_of at_place program.now).classes) }
@@ -122,7 +119,7 @@ fn list_classes(
 }
 
 /// The classes.
-pub fn class_infos(alloc: Global, program: &Program) -> Result<Vec<ClassInfo>, AllocError>
+pub fn class_infos(alloc: Global, program: &Program) -> Tried<Vec<ClassInfo>>
     ensures value { IfOk result (λ v. map class_seen v.items
         ≡ each (class_facts (program_of at_place program.now)) 0 (program_of at_place program.now).classes) }
 {
@@ -131,7 +128,7 @@ pub fn class_infos(alloc: Global, program: &Program) -> Result<Vec<ClassInfo>, A
 }
 
 /// Adds a name.
-fn add_name(alloc: Global, name: &Name, names: &mut Vec<Name>) -> Result<(), AllocError>
+fn add_name(alloc: Global, name: &Name, names: &mut Vec<Name>) -> Tried<()>
     ensures value { OnOk result (names.new.items ≡ names.old.items ++ name.now ∷ []) }
 {
     let name = made!(name.copy(alloc));
@@ -139,11 +136,7 @@ fn add_name(alloc: Global, name: &Name, names: &mut Vec<Name>) -> Result<(), All
 }
 
 /// Adds the names of parameters or locals.
-fn add_variables(
-    alloc: Global,
-    locals: &Vec<Local>,
-    names: &mut Vec<Name>,
-) -> Result<(), AllocError>
+fn add_variables(alloc: Global, locals: &Vec<Local>, names: &mut Vec<Name>) -> Tried<()>
     ensures value { OnOk result (names.new.items ≡ names.old.items ++ map (λ v. v.name) (map (local_seen at_place) locals.now.items)) }
 {
     for local in locals {
@@ -153,7 +146,7 @@ fn add_variables(
 }
 
 /// Adds the names of the fields.
-fn add_fields(alloc: Global, program: &Program, names: &mut Vec<Name>) -> Result<(), AllocError>
+fn add_fields(alloc: Global, program: &Program, names: &mut Vec<Name>) -> Tried<()>
     ensures value { OnOk result (names.new.items ≡ names.old.items ++ map (λ f. f.name) (program_of at_place program.now).fields) }
 {
     for field in &program.fields {
@@ -163,7 +156,7 @@ fn add_fields(alloc: Global, program: &Program, names: &mut Vec<Name>) -> Result
 }
 
 /// The names of the fields, parameters and locals.
-pub fn variables(alloc: Global, program: &Program) -> Result<Vec<Name>, AllocError>
+pub fn variables(alloc: Global, program: &Program) -> Tried<Vec<Name>>
     ensures value { IfOk result (λ v. v.items ≡ all_variables (program_of at_place program.now)) }
 {
     let mut names = Vec::new(alloc);
@@ -176,7 +169,7 @@ pub fn variables(alloc: Global, program: &Program) -> Result<Vec<Name>, AllocErr
 }
 
 /// The names of the text: of the types but `Object`, of the fields, and of each method with its parameters and locals.
-fn all_names(alloc: Global, program: &Program) -> Result<Vec<Name>, AllocError>
+fn all_names(alloc: Global, program: &Program) -> Tried<Vec<Name>>
     ensures value { IfOk result (λ v. v.items ≡ all_names (program_of at_place program.now)) }
 {
     let mut names = Vec::new(alloc);
@@ -191,7 +184,7 @@ fn all_names(alloc: Global, program: &Program) -> Result<Vec<Name>, AllocError>
 }
 
 /// Adds the names of the types but `Object`.
-fn add_types(alloc: Global, program: &Program, names: &mut Vec<Name>) -> Result<(), AllocError>
+fn add_types(alloc: Global, program: &Program, names: &mut Vec<Name>) -> Tried<()>
     ensures value { OnOk result (names.new.items ≡ names.old.items ++ map (λ k. k.name) (drop 1 (program_of at_place program.now).classes)) }
 {
     if let [_, rest @ ..] = program.classes.as_slice() {
@@ -203,7 +196,7 @@ fn add_types(alloc: Global, program: &Program, names: &mut Vec<Name>) -> Result<
 }
 
 /// Whether a name is new among those seen, where it then is.
-fn is_new(alloc: Global, seen: &mut IndexSet<String>, name: &Name) -> Result<bool, AllocError>
+fn is_new(alloc: Global, seen: &mut IndexSet<String>, name: &Name) -> Tried<bool>
     ensures added { IfOk result (λ b. b ≡ not (list_any (bytes_eq (encode_utf8_all name.now)) (map string_bytes seen.old.keys))) }
     ensures keys { IfOk result (λ b. map string_bytes seen.new.keys ≡ insert_key bytes_eq (map string_bytes seen.old.keys) (encode_utf8_all name.now)) }
 {
@@ -218,7 +211,7 @@ fn add_word(
     seen: &mut IndexSet<String>,
     name: &Name,
     words: &mut Vec<Name>,
-) -> Result<(), AllocError>
+) -> Tried<()>
     ensures value { OnOk result ((rest : List (List ℕ))
         → words.new.items ++ once_after bytes_eq encode_utf8_all (map string_bytes seen.new.keys) rest
         ≡ words.old.items ++ once_after bytes_eq encode_utf8_all (map string_bytes seen.old.keys)
@@ -231,7 +224,7 @@ fn add_word(
 }
 
 /// The names of the text, each once where it first stands.
-pub fn words(alloc: Global, program: &Program) -> Result<Vec<Name>, AllocError>
+pub fn words(alloc: Global, program: &Program) -> Tried<Vec<Name>>
     ensures value { IfOk result (λ v. v.items ≡ once bytes_eq encode_utf8_all (all_names (program_of at_place program.now))) }
 {
     let mut words = Vec::new(alloc);

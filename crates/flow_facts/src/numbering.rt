@@ -6,13 +6,14 @@ ghost use Rattle.flow_rules.specs.Numbered.{number_among, same_row, same_column,
 ghost use Rattle.flow_rules.specs.Parts as plain;
 ghost use Rattle.flow_facts.specs.Views.{part_seen, parts_seen, body_seen, outline_seen};
 
+use crate::Tried;
 use flow_rules::{
     Body, ColumnItem, Operand, Outline, Part, Point, PointAt, PointItem, RowItem, Site,
     number_among, number_of_column, number_of_row,
 };
 use indexmap::IndexSet;
 use kaba_base::{Place, put};
-use std::alloc::{AllocError, Global};
+use std::alloc::Global;
 
 /// The items of the rows, the columns and the flow points, and the numbers of the creations that are sites, each in their order.
 #[derive(Drop)]
@@ -63,7 +64,7 @@ fn add_site(
     place: Place,
     own: &Operand,
     sites: &mut Vec<Site>,
-) -> Result<(), AllocError>
+) -> Tried<()>
     requires { length rows.now.keys < 4294967295 }
     ensures value { OnOk result (sites.new.items ≡ sites.old.items ++ form_sites (number_among same_row rows.now.keys) (plain.a_creation place true own.now)) }
 {
@@ -86,11 +87,7 @@ fn add_site(
 }
 
 /// Adds the site of a part.
-fn add_part_site(
-    rows: &IndexSet<RowItem>,
-    part: &Part,
-    sites: &mut Vec<Site>,
-) -> Result<(), AllocError>
+fn add_part_site(rows: &IndexSet<RowItem>, part: &Part, sites: &mut Vec<Site>) -> Tried<()>
     requires { length rows.now.keys < 4294967295 }
     ensures value { OnOk result (sites.new.items ≡ sites.old.items ++ form_sites (number_among same_row rows.now.keys) (part_seen part.now)) }
 {
@@ -101,11 +98,7 @@ fn add_part_site(
 }
 
 /// Adds the sites of the creations of a body.
-fn add_sites(
-    rows: &IndexSet<RowItem>,
-    parts: &Vec<Part>,
-    sites: &mut Vec<Site>,
-) -> Result<(), AllocError>
+fn add_sites(rows: &IndexSet<RowItem>, parts: &Vec<Part>, sites: &mut Vec<Site>) -> Tried<()>
     requires { length rows.now.keys < 4294967295 }
     ensures value { OnOk result (sites.new.items ≡ sites.old.items
         ++ flat_map (form_sites (number_among same_row rows.now.keys)) (parts_seen parts.now.items)) }
@@ -117,11 +110,7 @@ fn add_sites(
 }
 
 /// The sites of the creations of all bodies.
-pub fn all_sites(
-    alloc: Global,
-    rows: &IndexSet<RowItem>,
-    bodies: &Vec<Body>,
-) -> Result<Vec<Site>, AllocError>
+pub fn all_sites(alloc: Global, rows: &IndexSet<RowItem>, bodies: &Vec<Body>) -> Tried<Vec<Site>>
     requires { length rows.now.keys < 4294967295 }
     ensures value { IfOk result (λ v. v.items
         ≡ flat_map (λ b. flat_map (form_sites (number_among same_row rows.now.keys)) b.parts)
@@ -135,11 +124,7 @@ pub fn all_sites(
 }
 
 /// Adds a flow point that has a row.
-fn add_point(
-    rows: &IndexSet<RowItem>,
-    point: &PointAt,
-    into: &mut Vec<Point>,
-) -> Result<(), AllocError>
+fn add_point(rows: &IndexSet<RowItem>, point: &PointAt, into: &mut Vec<Point>) -> Tried<()>
     requires { length rows.now.keys < 4294967295 }
     ensures value { OnOk result (into.new.items ≡ into.old.items ++ listed (number_among same_row rows.now.keys) point.now) }
 {
@@ -153,11 +138,7 @@ fn add_point(
 }
 
 /// Adds those that have a row.
-fn add_listed(
-    rows: &IndexSet<RowItem>,
-    points: &Vec<PointAt>,
-    into: &mut Vec<Point>,
-) -> Result<(), AllocError>
+fn add_listed(rows: &IndexSet<RowItem>, points: &Vec<PointAt>, into: &mut Vec<Point>) -> Tried<()>
     requires { length rows.now.keys < 4294967295 }
     ensures value { OnOk result (into.new.items ≡ into.old.items ++ flat_map (listed (number_among same_row rows.now.keys)) points.now.items) }
 {
@@ -173,7 +154,7 @@ pub fn all_points(
     rows: &IndexSet<RowItem>,
     statics: &Vec<PointAt>,
     outlines: &Vec<Outline>,
-) -> Result<Vec<Point>, AllocError>
+) -> Tried<Vec<Point>>
     requires { length rows.now.keys < 4294967295 }
     ensures value { IfOk result (λ v. v.items ≡ flat_map (listed (number_among same_row rows.now.keys))
         statics.now.items ++ flat_map (λ o. flat_map (listed (number_among same_row rows.now.keys)) o.points)

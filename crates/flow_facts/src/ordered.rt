@@ -3,6 +3,7 @@
 ghost use Rattle.std.specs.Prelude.{◌≡◌, ℕ, ◌<◌, IfOk, IfSome, Option, List, length, map, position};
 ghost use Rattle.flow_rules.specs.Ordered.{by_place, once};
 
+use crate::Tried;
 use crate::cells::FieldCell;
 use crate::lists::PlacedCall;
 use fact_model::TestInfo;
@@ -86,7 +87,7 @@ impl HasPlace for FieldCell {
 }
 
 /// The list by its places; what stands at one place stays in its order.
-pub fn by_place<T: HasPlace>(mut items: Vec<T>) -> Result<Vec<T>, AllocError>
+pub fn by_place<T: HasPlace>(mut items: Vec<T>) -> Tried<Vec<T>>
 where
     T: Drop,
     ensures value { IfOk result (λ v. v.items ≡ by_place T.at items.items) }
@@ -147,7 +148,7 @@ pub struct Listed<T, K: Eq + Hash> {
 pub fn once<K: Eq + Hash + Copy + Drop, T: HasKey<K> + Copy>(
     alloc: Global,
     all: &Vec<T>,
-) -> Result<Listed<T, K>, AllocError>
+) -> Tried<Listed<T, K>>
     ensures items { IfOk result (λ l. l.items.items ≡ once K.eq T.key all.now.items) }
     ensures keys { IfOk result (λ l. l.keys.keys ≡ map T.key (once K.eq T.key all.now.items)) }
 {
@@ -166,7 +167,7 @@ pub fn once<K: Eq + Hash + Copy + Drop, T: HasKey<K> + Copy>(
 pub fn once_by_place<K: Eq + Hash + Copy + Drop, T: HasPlace + HasKey<K> + Copy + Drop>(
     alloc: Global,
     all: Vec<T>,
-) -> Result<Listed<T, K>, AllocError>
+) -> Tried<Listed<T, K>>
     ensures items { IfOk result (λ l. l.items.items ≡ once K.eq T.key (by_place T.at all.items)) }
     ensures keys { IfOk result (λ l. l.keys.keys ≡ map T.key (once K.eq T.key (by_place T.at all.items))) }
 {

@@ -2,13 +2,13 @@
 
 ghost use Rattle.std.specs.Prelude.{◌≡◌, ◌+◌, ◌<◌, ◌^◌, ◌++◌, IfOk, OnOk, length, map};
 ghost use Rattle.std.specs.List.{flat_map};
-ghost use Rattle.java_core.specs.Trees.{at_place};
-ghost use Rattle.java_core.specs.Programs.{Plain, method_seen, local_seen};
-ghost use Rattle.flow_rules.specs.Ordered.{by_place, each};
+ghost use Rattle.java_core.specs.Programs.{local_seen};
+ghost use Rattle.flow_rules.specs.Ordered.{by_place};
 ghost use Rattle.flow_rules.specs.Parts as plain;
 ghost use Rattle.flow_rules.specs.Numbered.{own_point, form_points, variable_points, method_points};
-ghost use Rattle.flow_facts.specs.Views.{parts_seen};
+ghost use Rattle.flow_facts.specs.Words.{at_place, Plain, method_seen, each, parts_seen};
 
+use crate::Tried;
 use crate::from_part::{FromPart, add_from};
 use crate::ordered::by_place;
 use crate::survey::result_row;
@@ -16,11 +16,11 @@ use crate::walk::variable_row;
 use flow_rules::{Operand, Part, PointAt, PointItem, RowItem};
 use java_core::{Local, Method};
 use kaba_base::{Place, put};
-use std::alloc::{AllocError, Global};
+use std::alloc::Global;
 use std::mem::drop;
 
 /// Adds what may be the flow point of a form itself.
-fn add_own_point(points: &mut Vec<PointAt>, place: Place, own: Operand) -> Result<(), AllocError>
+fn add_own_point(points: &mut Vec<PointAt>, place: Place, own: Operand) -> Tried<()>
     ensures value { OnOk result (points.new.items ≡ points.old.items ++ own_point place own.point own.row own.ty) }
 {
     match (own.point, own.row, own.ty) {
@@ -33,7 +33,7 @@ fn add_own_point(points: &mut Vec<PointAt>, place: Place, own: Operand) -> Resul
 impl FromPart for PointAt {
     ghost given = { form_points };
 
-    fn add(part: &Part, points: &mut Vec<PointAt>) -> Result<(), AllocError> {
+    fn add(part: &Part, points: &mut Vec<PointAt>) -> Tried<()> {
         match part {
             Part::Load(place, _, _, own)
             | Part::Element(place, _, own)
@@ -48,7 +48,7 @@ impl FromPart for PointAt {
 }
 
 /// What may be flow points among the expressions of a body, by their place.
-fn form_points(alloc: Global, parts: &Vec<Part>) -> Result<Vec<PointAt>, AllocError>
+fn form_points(alloc: Global, parts: &Vec<Part>) -> Tried<Vec<PointAt>>
     ensures value { IfOk result (λ v. v.items ≡ by_place (λ p. p.place.at) (flat_map form_points (parts_seen parts.now.items))) }
 {
     let mut points = Vec::new(alloc);
@@ -63,7 +63,7 @@ fn add_variable_points(
     locals: &Vec<Local>,
     first: usize,
     points: &mut Vec<PointAt>,
-) -> Result<(), AllocError>
+) -> Tried<()>
     requires { first + length locals.now.items < 2 ^ 64 }
     ensures value { OnOk result (points.new.items ≡ points.old.items
         ++ each (variable_points m (method_seen at_place method.now)) first
@@ -86,7 +86,7 @@ pub fn method_points(
     m: usize,
     method: &Method,
     parts: &Vec<Part>,
-) -> Result<Vec<PointAt>, AllocError>
+) -> Tried<Vec<PointAt>>
     ensures value { (P Q : Plain) → parts_seen parts.now.items
         ≡ plain.parts_of P m (method_seen at_place method.now)
         → IfOk result (λ v. v.items ≡ method_points P Q m (method_seen at_place method.now)) }

@@ -1,15 +1,13 @@
 //! What is numbered: the rows, the columns and what may be flow points, in the order of the program.
 
 ghost use Rattle.std.specs.Prelude.{◌≡◌, ℕ, ◌+◌, ◌<◌, ◌^◌, ◌++◌, ◌∷◌, [], List, Option, Some, None, IfOk, OnOk, length, map};
-ghost use Rattle.java_core.specs.Trees.{at_place, no_place};
-ghost use Rattle.java_core.specs.Programs.{Plain, program_of, method_seen, local_seen, field_seen};
-ghost use Rattle.java_core.specs.Formed.{IsFormed};
-ghost use Rattle.flow_rules.specs.Ordered.{each};
+ghost use Rattle.java_core.specs.Programs.{local_seen, field_seen};
 ghost use Rattle.flow_rules.specs.Parts as plain;
 ghost use Rattle.flow_rules.specs.Numbered.{row_if, own_row, form_rows, mark, array_mark, form_columns, is_first, field_rows, this_rows, result_rows, variable_rows, method_rows, field_columns, method_columns, static_points, body_at, outline_if, bodies_of};
 ghost use Rattle.flow_rules.specs.Operands.{result_in};
-ghost use Rattle.flow_facts.specs.Views.{parts_seen, outline_seen, body_seen};
+ghost use Rattle.flow_facts.specs.Words.{no_place, at_place, Plain, program_of, method_seen, IsFormed, each, parts_seen, body_seen, outline_seen};
 
+use crate::Tried;
 use crate::bodies::parts_of;
 use crate::by_number::slot_by_number;
 use crate::from_part::{FromPart, add_from};
@@ -26,12 +24,7 @@ use std::alloc::{AllocError, Global};
 use std::mem::drop;
 
 /// Adds a row, where there is a type that a row can have.
-fn add_row(
-    rows: &mut Vec<Row>,
-    item: RowItem,
-    place: Place,
-    ty: Option<ObjectType>,
-) -> Result<(), AllocError>
+fn add_row(rows: &mut Vec<Row>, item: RowItem, place: Place, ty: Option<ObjectType>) -> Tried<()>
     ensures value { OnOk result (rows.new.items ≡ rows.old.items ++ row_if item place ty) }
 {
     match ty {
@@ -41,7 +34,7 @@ fn add_row(
 }
 
 /// Adds the row of a form itself.
-fn add_own_row(rows: &mut Vec<Row>, place: Place, own: Operand) -> Result<(), AllocError>
+fn add_own_row(rows: &mut Vec<Row>, place: Place, own: Operand) -> Tried<()>
     ensures value { OnOk result (rows.new.items ≡ rows.old.items ++ own_row place own.row own.ty) }
 {
     match own.row {
@@ -54,7 +47,7 @@ fn add_own_row(rows: &mut Vec<Row>, place: Place, own: Operand) -> Result<(), Al
 impl FromPart for Row {
     ghost given = { form_rows };
 
-    fn add(part: &Part, rows: &mut Vec<Row>) -> Result<(), AllocError> {
+    fn add(part: &Part, rows: &mut Vec<Row>) -> Tried<()> {
         match part {
             Part::New(place, _, own) | Part::Test(place, _, own) => add_own_row(rows, *place, *own),
             _ => Ok(()),
@@ -83,7 +76,7 @@ fn add_variable_rows(
     locals: &Vec<Local>,
     first: usize,
     rows: &mut Vec<Row>,
-) -> Result<(), AllocError>
+) -> Tried<()>
     requires { first + length locals.now.items < 2 ^ 64 }
     ensures value { OnOk result (rows.new.items ≡ rows.old.items
         ++ each (variable_rows (program_of no_place program.now) (program_of at_place program.now) m
@@ -109,7 +102,7 @@ fn add_method_rows(
     method: &Method,
     parts: &Vec<Part>,
     rows: &mut Vec<Row>,
-) -> Result<(), AllocError>
+) -> Tried<()>
     requires { parts_seen parts.now.items ≡ plain.parts_of (program_of no_place program.now) m (method_seen at_place method.now) }
     ensures value { OnOk result (rows.new.items ≡ rows.old.items ++ method_rows
         (program_of no_place program.now) (program_of at_place program.now) m
@@ -140,11 +133,7 @@ pub fn result_row(m: u64, slot: Option<u32>) -> RowItem
 }
 
 /// Adds the mark of a type.
-fn add_mark(
-    columns: &mut Vec<Column>,
-    place: Place,
-    ty: Option<ObjectType>,
-) -> Result<(), AllocError>
+fn add_mark(columns: &mut Vec<Column>, place: Place, ty: Option<ObjectType>) -> Tried<()>
     ensures value { OnOk result (columns.new.items ≡ columns.old.items ++ mark place ty) }
 {
     match ty {
@@ -160,7 +149,7 @@ fn add_mark(
 impl FromPart for Column {
     ghost given = { form_columns };
 
-    fn add(part: &Part, columns: &mut Vec<Column>) -> Result<(), AllocError> {
+    fn add(part: &Part, columns: &mut Vec<Column>) -> Tried<()> {
         match part {
             Part::New(place, _, own) => match own.ty {
                 Some(ty) if ty.dim != 0 => add_mark(columns, *place, own.ty),
@@ -178,7 +167,7 @@ fn add_method_columns(
     method: &Method,
     parts: &Vec<Part>,
     columns: &mut Vec<Column>,
-) -> Result<(), AllocError>
+) -> Tried<()>
     ensures value { (P Q : Plain) → parts_seen parts.now.items
         ≡ plain.parts_of P m (method_seen at_place method.now)
         → OnOk result (columns.new.items ≡ columns.old.items ++ method_columns P Q m
@@ -196,7 +185,7 @@ fn add_method_columns(
 }
 
 /// Adds the rows, the columns and the points of the fields.
-fn survey_fields(program: &Program, survey: &mut Surveyed) -> Result<(), AllocError>
+fn survey_fields(program: &Program, survey: &mut Surveyed) -> Tried<()>
     ensures rows { OnOk result (survey.new.rows.items ≡ survey.old.rows.items ++ each field_rows 0 (map (field_seen at_place) program.now.fields.items)) }
     ensures columns { OnOk result (survey.new.columns.items ≡ survey.old.columns.items ++ each field_columns 0
         (map (field_seen at_place) program.now.fields.items)) }
@@ -212,7 +201,7 @@ fn survey_fields(program: &Program, survey: &mut Surveyed) -> Result<(), AllocEr
 }
 
 /// Adds the row, the column and the point of a field.
-fn survey_field(f: usize, field: &Field, survey: &mut Surveyed) -> Result<(), AllocError>
+fn survey_field(f: usize, field: &Field, survey: &mut Surveyed) -> Tried<()>
     ensures rows { OnOk result (survey.new.rows.items ≡ survey.old.rows.items ++ field_rows f (field_seen at_place field.now)) }
     ensures columns { OnOk result (survey.new.columns.items ≡ survey.old.columns.items ++ field_columns f (field_seen at_place field.now)) }
     ensures statics { OnOk result (survey.new.statics.items ≡ survey.old.statics.items ++ static_points f (field_seen at_place field.now)) }
@@ -237,7 +226,7 @@ fn survey_method(
     m: usize,
     method: &Method,
     survey: &mut Surveyed,
-) -> Result<(), AllocError>
+) -> Tried<()>
     requires { IsFormed (program_of no_place program.now) }
     ensures rows { OnOk result (survey.new.rows.items ≡ survey.old.rows.items ++ method_rows
         (program_of no_place program.now) (program_of at_place program.now) m
@@ -271,7 +260,7 @@ fn survey_method(
 
 /// What is numbered in a program, in its order.
 #[tactic(auto, unfolding(flow_rules::specs::Numbered::bodies_of))]
-pub fn survey(alloc: Global, program: &Program) -> Result<Surveyed, AllocError>
+pub fn survey(alloc: Global, program: &Program) -> Tried<Surveyed>
     requires { IsFormed (program_of no_place program.now) }
     ensures rows { IfOk result (λ s. s.rows.items ≡ each field_rows 0 (program_of at_place program.now).fields
         ++ each (method_rows (program_of no_place program.now) (program_of at_place program.now)) 0

@@ -2,13 +2,10 @@
 
 ghost use Rattle.std.specs.Prelude.{◌≡◌, ℕ, ◌++◌, List, Option, Some, None, OnOk};
 ghost use Rattle.std.specs.Option.{is_some};
-ghost use Rattle.java_core.specs.Trees.{no_place};
-ghost use Rattle.java_core.specs.Programs.{Plain, program_of};
-ghost use Rattle.java_core.specs.Formed.{IsFormed};
 ghost use Rattle.flow_rules.specs.Lists.{left_is_lower, pair_ties, test_ties, is_left_lower, narrower, same_type, slot_ties, method_ties, param_row, ties_of, is_this, is_comparison};
-ghost use Rattle.flow_facts.specs.Views.{part_seen};
-ghost use Rattle.flow_facts.specs.Seen.{numbers_seen};
+ghost use Rattle.flow_facts.specs.Words.{no_place, Plain, program_of, IsFormed, part_seen, numbers_seen};
 
+use crate::Tried;
 use crate::by_number::method_by_number;
 use crate::lists::{add_tied, row_at, row_in};
 use crate::numbering::Numbering;
@@ -16,7 +13,6 @@ use crate::survey::result_row;
 use fact_model::TieInfo;
 use flow_rules::{ObjectType, Operand, Part, PointItem, RowItem};
 use java_core::{BinOp, Program, is_subtype};
-use std::alloc::AllocError;
 
 /// Whether it is `this`.
 fn is_this(point: Option<PointItem>) -> bool
@@ -83,7 +79,7 @@ fn add_pair(
     left: &Operand,
     right: &Operand,
     ties: &mut Vec<TieInfo>,
-) -> Result<(), AllocError>
+) -> Tried<()>
     requires { IsFormed (program_of no_place program.now) }
     ensures value { OnOk result (ties.new.items ≡ ties.old.items ++ pair_ties (numbers_seen n.now)
         (program_of no_place program.now) left.now right.now left.now.ty right.now.ty) }
@@ -105,7 +101,7 @@ fn add_test(
     operand: &Operand,
     own: &Operand,
     ties: &mut Vec<TieInfo>,
-) -> Result<(), AllocError>
+) -> Tried<()>
     requires { IsFormed (program_of no_place program.now) }
     ensures value { OnOk result (ties.new.items ≡ ties.old.items ++ test_ties (numbers_seen n.now)
         (program_of no_place program.now) operand.now own.now operand.now.ty own.now.ty) }
@@ -139,7 +135,7 @@ fn add_slot_args(
     slot: u64,
     args: &Vec<Operand>,
     ties: &mut Vec<TieInfo>,
-) -> Result<(), AllocError>
+) -> Tried<()>
     ensures value { (P : Plain) → OnOk result (ties.new.items ≡ ties.old.items ++ slot_ties (numbers_seen n.now) P slot args.now.items) }
 {
     for (i, arg) in args.iter().enumerate() {
@@ -155,7 +151,7 @@ fn add_method_args(
     callee: u64,
     args: &Vec<Operand>,
     ties: &mut Vec<TieInfo>,
-) -> Result<(), AllocError>
+) -> Tried<()>
     ensures value { OnOk result (ties.new.items ≡ ties.old.items ++ method_ties (numbers_seen n.now) (program_of no_place program.now) callee args.now.items) }
 {
     for (i, arg) in args.iter().enumerate() {
@@ -173,7 +169,7 @@ pub fn add_ties(
     slot: Option<u32>,
     part: &Part,
     ties: &mut Vec<TieInfo>,
-) -> Result<(), AllocError>
+) -> Tried<()>
     requires { IsFormed (program_of no_place program.now) }
     ensures value { OnOk result (ties.new.items ≡ ties.old.items ++ ties_of (numbers_seen n.now)
         (program_of no_place program.now) m slot (part_seen part.now)) }

@@ -2,15 +2,11 @@
 
 ghost use Rattle.std.specs.Prelude.{◌≡◌, ◌+◌, ◌++◌, ◌<◌, ◌≤◌, None, IfOk, IfErr, OnOk, length, map};
 ghost use Rattle.std.specs.Option.{option_map};
-ghost use Rattle.java_core.specs.Trees.{at_place, no_place};
-ghost use Rattle.java_core.specs.Programs.{program_of};
-ghost use Rattle.java_core.specs.Formed.{IsFormed};
 ghost use Rattle.flow_rules.specs.Numbered.{rows_of, columns_of, sites_of, points_of, bodies_of, field_rows, method_rows, field_columns, method_columns, static_points, outline_if};
 ghost use Rattle.flow_rules.specs.Facts.{AreNamesOf, IsFactsOf, IsRefused, IsWithin, first_interface, numbers, cells_of, too_many, IsOver};
-ghost use Rattle.flow_rules.specs.Ordered.{by_place, each, once};
+ghost use Rattle.flow_rules.specs.Ordered.{by_place, once};
 ghost use Rattle.flow_facts.specs.Stages.{IsAbove, IsListed, IsTable, IsFlow, IsNumbered};
-ghost use Rattle.flow_facts.specs.Seen.{numbers_seen};
-ghost use Rattle.flow_facts.specs.Views.{body_seen, outline_seen};
+ghost use Rattle.flow_facts.specs.Words.{no_place, at_place, program_of, IsFormed, each, body_seen, outline_seen, numbers_seen};
 
 use crate::assembled::facts_over;
 use crate::cells::{cells_of, fields_of};

@@ -2,11 +2,9 @@
 
 ghost use Rattle.std.specs.Prelude.{◌≡◌, Option, Some, None, slice_get, option_and_then};
 ghost use Rattle.std.specs.Option.{option_map};
-ghost use Rattle.java_core.specs.Trees.{at_place, no_place};
-ghost use Rattle.java_core.specs.Programs.{program_of, method_seen};
-ghost use Rattle.java_core.specs.Formed.{IsFormed};
 ghost use Rattle.flow_rules.specs.Operands.{object_of, object_if, object_class, object_field, call_slot, call_declaration};
 ghost use Rattle.flow_rules.specs.Types.{field_object, slot_object, method_object, variable_object, element_object};
+ghost use Rattle.flow_facts.specs.Words.{no_place, at_place, program_of, method_seen, IsFormed};
 
 use crate::by_number::{field_by_number, method_by_number, slot_by_number};
 use flow_rules::ObjectType;

@@ -1,17 +1,17 @@
 //! The parts of an expression.
 
 ghost use Rattle.std.specs.Prelude.{◌≡◌, ℕ, ◌+◌, ◌<◌, ◌++◌, ◌∷◌, [], Bool, true, false, List, Option, Some, None, IfOk, OnOk, length, map, option_and_then};
-ghost use Rattle.java_core.specs.Trees.{at_place, no_place, Ex, Exs, expr_of, exprs};
-ghost use Rattle.java_core.specs.Programs.{program_of, method_seen};
-ghost use Rattle.java_core.specs.Formed.{IsFormed};
+ghost use Rattle.java_core.specs.Trees.{Ex, Exs, expr_of, exprs};
 ghost use Rattle.java_core.specs.Classes.{super_method, slot_of_method};
 ghost use Rattle.flow_rules.specs.Labels.{size, sizes, label, label_all};
 ghost use Rattle.flow_rules.specs.Operands.{operand_of, operands_of, this_operand, class_object, variable_row, object_field, call_slot, call_declaration};
 ghost use Rattle.flow_rules.specs.Types.{object_type};
-ghost use Rattle.flow_facts.specs.Views.{part_seen, parts_seen, load_operand, call_operand, static_operand, super_operand, variable_operand};
+ghost use Rattle.flow_facts.specs.Views.{load_operand, call_operand, static_operand, super_operand, variable_operand};
 ghost use Rattle.flow_facts.specs.Walked.{IsAdded, IsMade, IsWalked, AreWalked, args_from, parts_from, call_from};
 ghost use Rattle.flow_rules.specs.Parts as plain;
+ghost use Rattle.flow_facts.specs.Words.{no_place, at_place, program_of, method_seen, IsFormed, part_seen, parts_seen};
 
+use crate::Tried;
 use crate::by_number::method_by_number;
 use crate::enclosing::Enclosing;
 use crate::types::{
@@ -21,7 +21,6 @@ use crate::types::{
 use flow_rules::{ObjectType, Operand, Part, PointItem, RowItem};
 use java_core::{BinOp, Method, Program, RExpr, super_method};
 use kaba_base::{ClassId, Name, Place, put};
-use std::alloc::AllocError;
 
 /// No flow point, no row and no type that a row can have.
 pub const NOTHING: Operand = Operand {
@@ -120,7 +119,7 @@ pub fn is_accessed(e: &RExpr) -> bool
 }
 
 /// Adds a part.
-pub fn add(parts: &mut Vec<Part>, part: Part) -> Result<(), AllocError>
+pub fn add(parts: &mut Vec<Part>, part: Part) -> Tried<()>
     ensures { OnOk result (IsAdded parts.old.items parts.new.items 1 (part_seen part ∷ [])) }
 {
     put(parts, part)
@@ -138,12 +137,7 @@ fn fill(parts: &mut Vec<Part>, at: usize, part: Part)
 
 /// Adds the parts of an expression, and gives what it is. `used` says whether a creation there is a flow point.
 #[cycle(walk)]
-pub fn walk(
-    within: &Enclosing,
-    used: bool,
-    e: &RExpr,
-    parts: &mut Vec<Part>,
-) -> Result<Operand, AllocError>
+pub fn walk(within: &Enclosing, used: bool, e: &RExpr, parts: &mut Vec<Part>) -> Tried<Operand>
     requires { IsFormed (program_of no_place within.now.program.now) }
     ensures { IfOk result (λ o. IsWalked (program_of no_place within.now.program.now) within.now.number (method_seen at_place within.now.method.now)
         used (expr_of at_place e.now) parts.old.items parts.new.items o) }
@@ -287,7 +281,7 @@ fn add_load(
     base: Operand,
     name: &Name,
     parts: &mut Vec<Part>,
-) -> Result<Operand, AllocError>
+) -> Tried<Operand>
     requires { IsFormed (program_of no_place within.now.program.now) }
     ensures { IfOk result (λ o. IsMade parts.old.items parts.new.items 1
         (plain.a_load place base (object_field (program_of no_place within.now.program.now) base.ty name.now)
@@ -314,7 +308,7 @@ fn walk_all(
     used: bool,
     args: &Vec<RExpr>,
     parts: &mut Vec<Part>,
-) -> Result<Vec<Operand>, AllocError>
+) -> Tried<Vec<Operand>>
     requires { IsFormed (program_of no_place within.now.program.now) }
     ensures { IfOk result (λ o. AreWalked (program_of no_place within.now.program.now) within.now.number (method_seen at_place within.now.method.now) used
         (exprs at_place args.now.items) parts.old.items parts.new.items o.items) }
@@ -336,7 +330,7 @@ fn add_call(
     name: &Name,
     args: &Vec<RExpr>,
     parts: &mut Vec<Part>,
-) -> Result<Operand, AllocError>
+) -> Tried<Operand>
     requires { IsFormed (program_of no_place within.now.program.now) }
     ensures { IfOk result (λ o. IsMade parts.old.items parts.new.items (1 + sizes (exprs at_place args.now.items))
         (call_from (program_of no_place within.now.program.now) within.now.number (method_seen at_place within.now.method.now) place base name.now
@@ -380,7 +374,7 @@ fn add_static_call(
     callee: u32,
     args: &Vec<RExpr>,
     parts: &mut Vec<Part>,
-) -> Result<Operand, AllocError>
+) -> Tried<Operand>
     requires { IsFormed (program_of no_place within.now.program.now) }
     ensures { IfOk result (λ o. IsMade parts.old.items parts.new.items (1 + sizes (exprs at_place args.now.items))
         (plain.a_static_call place callee (args_from (program_of no_place within.now.program.now) within.now.number (method_seen at_place within.now.method.now)
@@ -412,7 +406,7 @@ fn add_super_call(
     name: &Name,
     args: &Vec<RExpr>,
     parts: &mut Vec<Part>,
-) -> Result<Operand, AllocError>
+) -> Tried<Operand>
     requires { IsFormed (program_of no_place within.now.program.now) }
     ensures { IfOk result (λ o. IsMade parts.old.items parts.new.items (1 + sizes (exprs at_place args.now.items))
         (plain.a_super_call place (super_method (program_of no_place within.now.program.now) within.now.method.now.owner.0 name.now)

@@ -6,13 +6,14 @@ ghost use Rattle.serde_json.specs.View.{view, items_of};
 ghost use Rattle.serde_json.specs.Written.{has_float, compact_text};
 ghost use Rattle.lattice_view.specs.Json.{numbers_data, names_data, concept_parts, concept_data, lattice_parts, lattice_data, lattice_json};
 
+use crate::Tried;
 use crate::text::{column_numbers, row_numbers};
 use fact_model::{ColumnInfo, Concept, Facts, Lattice, RowInfo};
 use serde_json::{Value, json};
-use std::alloc::{AllocError, Global};
+use std::alloc::Global;
 
 /// The line.
-pub fn line_of(alloc: Global, facts: &Facts, lattice: &Lattice) -> Result<String, AllocError>
+pub fn line_of(alloc: Global, facts: &Facts, lattice: &Lattice) -> Tried<String>
     ensures { IfOk result (λ s. string_bytes s ≡ lattice_json facts.now lattice.now) }
 {
     let value = lattice_value(alloc, facts, lattice)?;
@@ -20,7 +21,7 @@ pub fn line_of(alloc: Global, facts: &Facts, lattice: &Lattice) -> Result<String
 }
 
 /// A value in one line.
-fn in_one_line(alloc: Global, value: &Value) -> Result<String, AllocError>
+fn in_one_line(alloc: Global, value: &Value) -> Tried<String>
     requires { has_float (view value.now) ≡ false }
     ensures { IfOk result (λ s. string_bytes s ≡ compact_text (view value.now) ++ codes "\n") }
 {
@@ -30,7 +31,7 @@ fn in_one_line(alloc: Global, value: &Value) -> Result<String, AllocError>
 }
 
 /// The lattice as a value.
-fn lattice_value(alloc: Global, facts: &Facts, lattice: &Lattice) -> Result<Value, AllocError>
+fn lattice_value(alloc: Global, facts: &Facts, lattice: &Lattice) -> Tried<Value>
     ensures { IfOk result (λ v. view v ≡ lattice_data facts.now lattice.now) }
 {
     let columns = column_names(alloc, &facts.columns)?;
@@ -40,19 +41,14 @@ fn lattice_value(alloc: Global, facts: &Facts, lattice: &Lattice) -> Result<Valu
     Ok(value)
 }
 
-fn lattice_object(
-    alloc: Global,
-    columns: Value,
-    concepts: Value,
-    rows: Value,
-) -> Result<Value, AllocError>
+fn lattice_object(alloc: Global, columns: Value, concepts: Value, rows: Value) -> Tried<Value>
     ensures { IfOk result (λ v. view v ≡ lattice_parts (view columns) (view concepts) (view rows)) }
 {
     json!(in alloc; {"columns": columns, "concepts": concepts, "rows": rows})
 }
 
 /// The labels of the columns.
-fn column_names(alloc: Global, columns: &[ColumnInfo]) -> Result<Value, AllocError>
+fn column_names(alloc: Global, columns: &[ColumnInfo]) -> Tried<Value>
     ensures { IfOk result (λ v. view v ≡ names_data (map (λ c. c.label) columns.now)) }
 {
     let mut names = Vec::new(alloc);
@@ -63,7 +59,7 @@ fn column_names(alloc: Global, columns: &[ColumnInfo]) -> Result<Value, AllocErr
 }
 
 /// The labels of the rows.
-fn row_names(alloc: Global, rows: &[RowInfo]) -> Result<Value, AllocError>
+fn row_names(alloc: Global, rows: &[RowInfo]) -> Tried<Value>
     ensures { IfOk result (λ v. view v ≡ names_data (map (λ r. r.label) rows.now)) }
 {
     let mut names = Vec::new(alloc);
@@ -74,7 +70,7 @@ fn row_names(alloc: Global, rows: &[RowInfo]) -> Result<Value, AllocError>
 }
 
 /// The concepts.
-fn concepts_value(alloc: Global, concepts: &[Concept]) -> Result<Value, AllocError>
+fn concepts_value(alloc: Global, concepts: &[Concept]) -> Tried<Value>
     ensures { IfOk result (λ v. view v ≡ array (items_of (map concept_data concepts.now))) }
 {
     let mut values = Vec::new(alloc);
@@ -85,7 +81,7 @@ fn concepts_value(alloc: Global, concepts: &[Concept]) -> Result<Value, AllocErr
 }
 
 /// A concept.
-fn concept_value(alloc: Global, concept: &Concept) -> Result<Value, AllocError>
+fn concept_value(alloc: Global, concept: &Concept) -> Tried<Value>
     ensures { IfOk result (λ v. view v ≡ concept_data concept.now) }
 {
     let above = numbers_value(alloc, &concept.above)?;
@@ -101,14 +97,14 @@ fn concept_object(
     columns: Value,
     rows: Value,
     size: u32,
-) -> Result<Value, AllocError>
+) -> Tried<Value>
     ensures { IfOk result (λ v. view v ≡ concept_parts (view above) (view columns) (view rows) size) }
 {
     json!(in alloc; {"above": above, "columns": columns, "rows": rows, "size": size})
 }
 
 /// A list of numbers.
-fn numbers_value(alloc: Global, numbers: &[u32]) -> Result<Value, AllocError>
+fn numbers_value(alloc: Global, numbers: &[u32]) -> Tried<Value>
     ensures { IfOk result (λ v. view v ≡ numbers_data numbers.now) }
 {
     let mut values = Vec::new(alloc);

@@ -4,12 +4,13 @@ ghost use Rattle.std.specs.Prelude.{◌≡◌, ◌++◌, ◌<◌, IfOk, OnOk, le
 ghost use Rattle.std.specs.Str.{encode_utf8_all};
 ghost use Rattle.lattice_view.specs.Table.{marks_text, row_text, rows_text, column_text, columns_text, table_text};
 
+use crate::Tried;
 use fact_model::{ColumnInfo, Facts, RowInfo, Table};
 use kaba_bits::BitRow;
-use std::alloc::{AllocError, Global};
+use std::alloc::Global;
 
 /// The lines.
-pub fn table_text(alloc: Global, facts: &Facts, table: &Table) -> Result<String, AllocError>
+pub fn table_text(alloc: Global, facts: &Facts, table: &Table) -> Tried<String>
     requires rows { length table.now.rows.items ≡ length facts.now.rows.items }
     ensures { IfOk result (λ s. string_bytes s ≡ table_text facts.now table.now) }
 {
@@ -24,12 +25,7 @@ pub fn table_text(alloc: Global, facts: &Facts, table: &Table) -> Result<String,
 }
 
 /// Adds the lines of rows.
-fn add_rows(
-    alloc: Global,
-    text: &mut String,
-    rows: &[RowInfo],
-    sets: &[BitRow],
-) -> Result<(), AllocError>
+fn add_rows(alloc: Global, text: &mut String, rows: &[RowInfo], sets: &[BitRow]) -> Tried<()>
     requires rows { length sets.now ≡ length rows.now }
     ensures { OnOk result (string_bytes text.new ≡ string_bytes text.old ++ rows_text 0 rows.now sets.now) }
 {
@@ -40,13 +36,7 @@ fn add_rows(
 }
 
 /// Adds the line of one row.
-fn add_row(
-    alloc: Global,
-    text: &mut String,
-    k: usize,
-    row: &RowInfo,
-    set: &BitRow,
-) -> Result<(), AllocError>
+fn add_row(alloc: Global, text: &mut String, k: usize, row: &RowInfo, set: &BitRow) -> Tried<()>
     ensures { OnOk result (string_bytes text.new ≡ string_bytes text.old ++ row_text k row.now set.now) }
 {
     let columns = set.rising(alloc)?;
@@ -58,7 +48,7 @@ fn add_row(
 }
 
 /// Adds the columns of a row.
-fn add_marks(text: &mut String, columns: &[u32]) -> Result<(), AllocError>
+fn add_marks(text: &mut String, columns: &[u32]) -> Tried<()>
     ensures { OnOk result (string_bytes text.new ≡ string_bytes text.old ++ marks_text columns.now) }
 {
     for column in columns {
@@ -68,7 +58,7 @@ fn add_marks(text: &mut String, columns: &[u32]) -> Result<(), AllocError>
 }
 
 /// Adds the lines of columns.
-fn add_columns(text: &mut String, columns: &[ColumnInfo]) -> Result<(), AllocError>
+fn add_columns(text: &mut String, columns: &[ColumnInfo]) -> Tried<()>
     ensures { OnOk result (string_bytes text.new ≡ string_bytes text.old ++ columns_text 0 columns.now) }
 {
     for k in 0..columns.len() {
@@ -78,7 +68,7 @@ fn add_columns(text: &mut String, columns: &[ColumnInfo]) -> Result<(), AllocErr
 }
 
 /// Adds the line of one column.
-fn add_column(text: &mut String, k: usize, column: &ColumnInfo) -> Result<(), AllocError>
+fn add_column(text: &mut String, k: usize, column: &ColumnInfo) -> Tried<()>
     ensures { OnOk result (string_bytes text.new ≡ string_bytes text.old ++ column_text k column.now) }
 {
     let label = column.label.as_str();

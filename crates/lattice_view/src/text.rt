@@ -3,13 +3,14 @@
 ghost use Rattle.std.specs.Prelude.{◌≡◌, ◌++◌, map, IfOk, OnOk, string_bytes};
 ghost use Rattle.lattice_view.specs.Text.{concept_text, concepts_text, lattice_text};
 
+use crate::Tried;
 use crate::lists::add_part;
 use fact_model::{Concept, Lattice};
 use kaba_base::{ColId, RowId};
-use std::alloc::{AllocError, Global};
+use std::alloc::Global;
 
 /// The lines.
-pub fn lattice_text(alloc: Global, lattice: &Lattice) -> Result<String, AllocError>
+pub fn lattice_text(alloc: Global, lattice: &Lattice) -> Tried<String>
     ensures { IfOk result (λ s. string_bytes s ≡ lattice_text lattice.now) }
 {
     let count = lattice.concepts.len();
@@ -20,7 +21,7 @@ pub fn lattice_text(alloc: Global, lattice: &Lattice) -> Result<String, AllocErr
 }
 
 /// Adds the lines of concepts.
-fn add_concepts(alloc: Global, text: &mut String, concepts: &[Concept]) -> Result<(), AllocError>
+fn add_concepts(alloc: Global, text: &mut String, concepts: &[Concept]) -> Tried<()>
     ensures { OnOk result (string_bytes text.new ≡ string_bytes text.old ++ concepts_text 0 concepts.now) }
 {
     for k in 0..concepts.len() {
@@ -30,12 +31,7 @@ fn add_concepts(alloc: Global, text: &mut String, concepts: &[Concept]) -> Resul
 }
 
 /// Adds the line of one concept.
-fn add_concept(
-    alloc: Global,
-    text: &mut String,
-    k: usize,
-    concept: &Concept,
-) -> Result<(), AllocError>
+fn add_concept(alloc: Global, text: &mut String, k: usize, concept: &Concept) -> Tried<()>
     ensures { OnOk result (string_bytes text.new ≡ string_bytes text.old ++ concept_text k concept.now) }
 {
     let columns = column_numbers(alloc, &concept.columns)?;
@@ -51,14 +47,14 @@ fn add_concept(
 }
 
 /// The numbers of columns.
-pub fn column_numbers(alloc: Global, columns: &[ColId]) -> Result<Vec<u32>, AllocError>
+pub fn column_numbers(alloc: Global, columns: &[ColId]) -> Tried<Vec<u32>>
     ensures { IfOk result (λ v. v.items ≡ map (λ c. c.0) columns.now) }
 {
     columns.iter().map(|c| c.0).collect(alloc)
 }
 
 /// The numbers of rows.
-pub fn row_numbers(alloc: Global, rows: &[RowId]) -> Result<Vec<u32>, AllocError>
+pub fn row_numbers(alloc: Global, rows: &[RowId]) -> Tried<Vec<u32>>
     ensures { IfOk result (λ v. v.items ≡ map (λ r. r.0) rows.now) }
 {
     rows.iter().map(|r| r.0).collect(alloc)

@@ -2,11 +2,12 @@
 
 ghost use Rattle.std.specs.Prelude.{◌<◌};
 
+use crate::Tried;
 use kaba_base::{MemShelf, MemSink, read_file, write_all};
-use std::alloc::{AllocError, Global};
+use std::alloc::Global;
 
 /// A shelf with one file, whose second and third calls fail.
-fn shelf(alloc: Global) -> Result<MemShelf, AllocError> {
+fn shelf(alloc: Global) -> Tried<MemShelf> {
     let mut files = Vec::new(alloc);
     let bytes = Vec::from_slice(alloc, b"ab")?;
     files.push((String::from_str(alloc, "f")?, bytes))?;
@@ -25,7 +26,7 @@ fn add_read(
     shelf: &mut MemShelf,
     name: &str,
     limit: u32,
-) -> Result<(), AllocError>
+) -> Tried<()>
     requires { limit < 4294967295 }
 {
     let file = String::from_str(alloc, name)?;
@@ -39,7 +40,7 @@ fn add_read(
 }
 
 /// Reads of a file that is there and of one that is not.
-pub fn add_reads(alloc: Global, text: &mut String) -> Result<(), AllocError> {
+pub fn add_reads(alloc: Global, text: &mut String) -> Tried<()> {
     let mut shelf = shelf(alloc)?;
     for (name, limit) in [
         ("f", 2),
@@ -56,7 +57,7 @@ pub fn add_reads(alloc: Global, text: &mut String) -> Result<(), AllocError> {
 }
 
 /// What the next write gives, all bytes taken so far, how many calls there were and how many failed.
-fn add_write(text: &mut String, sink: &mut MemSink, piece: &str) -> Result<(), AllocError> {
+fn add_write(text: &mut String, sink: &mut MemSink, piece: &str) -> Tried<()> {
     let word = match write_all(sink, piece.as_bytes()) {
         Ok(()) => "taken",
         Err(_) => "failed",
@@ -70,7 +71,7 @@ fn add_write(text: &mut String, sink: &mut MemSink, piece: &str) -> Result<(), A
 }
 
 /// Writes to a sink with room for 13 bytes that takes two a call, whose fifth call takes nothing and whose seventh fails.
-pub fn add_writes(alloc: Global, text: &mut String) -> Result<(), AllocError> {
+pub fn add_writes(alloc: Global, text: &mut String) -> Tried<()> {
     let mut sink = MemSink::new(alloc, 13, 2)?;
     sink.zeros.push(5)?;
     sink.fails.push(7)?;

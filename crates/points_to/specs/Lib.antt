@@ -1,6 +1,7 @@
 pub mod Sound
 pub mod Closed
 pub mod Work
+pub mod Called
 pub mod Listed
 pub mod Rounds
 pub mod Chains

@@ -20,7 +20,7 @@ pub struct Found {
 }
 
 /// What the sets are found by: the facts with their index, and what they ask for.
-#[derive(Clone, Copy)]
+#[derive(Drop)]
 pub struct Given<'a> {
     pub alloc: Global,
     pub facts: &'a Facts,

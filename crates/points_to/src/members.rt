@@ -77,12 +77,12 @@ fn arguments(alloc: Global, facts: &Facts) -> Result<Vec<Write>, AllocError>
 pub fn writes(alloc: Global, facts: &Facts) -> Result<Vec<Write>, AllocError>
     ensures { IfOk result (λ v. v.items ≡ asked_writes facts.now) }
 {
+    let arguments = arguments(alloc, facts)?;
     let stores = facts.stores.iter().map(|x| Write {
         base: x.base,
         member: Member::Field(x.column),
         value: x.value,
     });
-    let arguments = arguments(alloc, facts)?;
     stores.chain(arguments.into_iter()).collect(alloc)
 }
 

@@ -91,7 +91,7 @@ fn gather_site(
     ensures sites { OnOk result (union.new.sites ≡ slice_set union.old.sites o true) }
     ensures whole { OnOk result (IsWhole given.now.facts.now sets.now union.old → IsWhole given.now.facts.now sets.now union.new) }
 {
-    list_targets(given.facts, given.index, list, union.member, o)?;
+    list_targets(given, list, union.member, o)?;
     union.sites.set(o);
     hold_all(given.facts, sets, &mut union.held, list);
     Ok(())

@@ -68,7 +68,7 @@ fn run_site(
     ensures step { IfOk result (IsStep sets.old sets.new) }
     ensures closed { IfOk result (λ grew. OnFalse grew (IsRunAt given.now.facts.now sets.new x.slot o)) }
 {
-    list_targets(given.facts, given.index, list, Member::This(x.slot), o)?;
+    list_targets(given, list, Member::This(x.slot), o)?;
     Ok(put_all(given.facts, sets, grown, list, o))
 }
 

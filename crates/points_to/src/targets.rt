@@ -1,16 +1,16 @@
 //! The sets of a member of a site.
 
 ghost use Rattle.std.specs.Prelude.{◌≡◌, ℕ, ◌+◌, ◌<◌, ◌↔◌, [], length, All, Contains, Some, IsTrue, OnOk};
-ghost use Rattle.fact_model.specs.Items.{site_class};
-ghost use Rattle.fact_model.specs.Classes.{finds};
-ghost use Rattle.fact_model.specs.InRange.{InRange};
 ghost use Rattle.fact_model.specs.Flowing.{IsCell, point_at};
-ghost use Rattle.points_to.specs.Listed.{IsIndex, HasBody};
-ghost use Rattle.points_to.specs.Work.{IsCellNode, IsBodyNode, AreTargets, slot_of, body_node};
+ghost use Rattle.points_to.specs.Called.{IsCalled, IsCalledNode};
+ghost use Rattle.points_to.specs.Listed.{HasBody};
+ghost use Rattle.points_to.specs.Words.{InRange, IsGiven};
+ghost use Rattle.points_to.specs.Work.{IsCellNode, AreTargets, slot_of, body_node};
 ghost use Rattle.points_to.specs.declared.work.Member.TheVariants.{Field};
 
 use crate::bodies::find_body;
-use crate::index::{Index, body_at, cell_at, numbers_at};
+use crate::found::Given;
+use crate::index::{body_at, cell_at, numbers_at};
 use crate::work::{Member, site_at};
 use fact_model::{BodyInfo, CellInfo, Facts};
 use kaba_base::ColId;
@@ -92,30 +92,31 @@ fn body_node(member: Member, body: &BodyInfo) -> Option<u32>
     }
 }
 
+/// The body that is looked for: the column that the class of a site runs for a slot, and which member of it.
+#[derive(Drop)]
+pub struct Called {
+    pub member: Member,
+    pub slot: u32,
+    pub site: u32,
+    pub column: u32,
+}
+
 /// The member of a body, where that is the one of the column. An error comes only for want of memory.
-fn add_body(
-    facts: &Facts,
-    list: &mut Vec<usize>,
-    member: Member,
-    slot: u32,
-    o: u32,
-    d: ColId,
-    b: usize,
-) -> Result<(), AllocError>
-    requires finds { finds facts.now (site_class facts.now o) slot ≡ Some d.0 }
-    requires sound { All (IsBodyNode facts.now member slot o) list.old.items }
-    ensures sound { OnOk result (All (IsBodyNode facts.now member slot o) list.new.items) }
+fn add_body(facts: &Facts, list: &mut Vec<usize>, x: &Called, b: usize) -> Result<(), AllocError>
+    requires called { IsCalled facts.now x.now }
+    requires sound { All (IsCalledNode facts.now x.now) list.old.items }
+    ensures sound { OnOk result (All (IsCalledNode facts.now x.now) list.new.items) }
     ensures kept { OnOk result ((n : ℕ) → Contains list.old.items n → Contains list.new.items n) }
-    ensures here { OnOk result (HasBody facts.now member d.0 list.new.items b) }
+    ensures here { OnOk result (HasBody facts.now x.now.member x.now.column list.new.items b) }
 {
     if b >= facts.bodies.len() {
         return Ok(());
     }
     let body = body_at(facts, b);
-    if body.column.0 != d.0 {
+    if body.column.0 != x.column {
         return Ok(());
     }
-    match body_node(member, body) {
+    match body_node(x.member, body) {
         Some(n) => list.push(n as usize)?,
         None => {}
     }
@@ -126,43 +127,46 @@ fn add_body(
 fn add_bodies(
     facts: &Facts,
     list: &mut Vec<usize>,
-    member: Member,
-    slot: u32,
-    o: u32,
-    d: ColId,
+    x: &Called,
     bodies: &[usize],
 ) -> Result<(), AllocError>
-    requires finds { finds facts.now (site_class facts.now o) slot ≡ Some d.0 }
-    requires sound { All (IsBodyNode facts.now member slot o) list.old.items }
-    ensures sound { OnOk result (All (IsBodyNode facts.now member slot o) list.new.items) }
-    ensures here { OnOk result (All (HasBody facts.now member d.0 list.new.items) bodies.now) }
+    requires called { IsCalled facts.now x.now }
+    requires sound { All (IsCalledNode facts.now x.now) list.old.items }
+    ensures sound { OnOk result (All (IsCalledNode facts.now x.now) list.new.items) }
+    ensures here { OnOk result (All (HasBody facts.now x.now.member x.now.column list.new.items) bodies.now) }
 {
     for b in bodies {
-        add_body(facts, list, member, slot, o, d, *b)?;
+        add_body(facts, list, x, *b)?;
     }
     Ok(())
 }
 
 /// The member of the body that the class of a site runs for a slot. An error comes only for want of memory.
 fn add_found(
-    facts: &Facts,
-    index: &Index,
+    given: &Given,
     list: &mut Vec<usize>,
     member: Member,
     slot: u32,
     o: u32,
 ) -> Result<(), AllocError>
-    requires facts { InRange facts.now }
-    requires index { IsIndex facts.now index.now }
-    requires site { o < length facts.now.sites.items }
+    requires given { IsGiven given.now }
+    requires site { o < length given.now.facts.now.sites.items }
     requires empty { list.old.items ≡ [] }
     requires slot { slot_of member ≡ Some slot }
-    ensures { OnOk result (AreTargets facts.now member o list.new.items) }
+    ensures { OnOk result (AreTargets given.now.facts.now member o list.new.items) }
 {
-    match find_body(facts, &index.chains, site_at(facts, o).class, slot) {
+    let facts = given.facts;
+    match find_body(facts, &given.index.chains, site_at(facts, o).class, slot) {
         Some(d) => {
-            let bodies = numbers_at(&index.bodies, d.0 as usize);
-            add_bodies(facts, list, member, slot, o, d, bodies)?;
+            let bodies = numbers_at(&given.index.bodies, d.0 as usize);
+            let (site, column) = (o, d.0);
+            let called = Called {
+                member,
+                slot,
+                site,
+                column,
+            };
+            add_bodies(facts, list, &called, bodies)?;
             Ok(())
         }
         None => Ok(()),
@@ -171,39 +175,41 @@ fn add_found(
 
 /// The cell of a site at a column. An error comes only for want of memory.
 fn add_field(
-    facts: &Facts,
-    index: &Index,
+    given: &Given,
     list: &mut Vec<usize>,
     column: Option<ColId>,
     o: u32,
 ) -> Result<(), AllocError>
-    requires facts { InRange facts.now }
-    requires index { IsIndex facts.now index.now }
+    requires given { IsGiven given.now }
     requires empty { list.old.items ≡ [] }
-    ensures { OnOk result (AreTargets facts.now (Field column) o list.new.items) }
+    ensures { OnOk result (AreTargets given.now.facts.now (Field column) o list.new.items) }
 {
-    add_cells(facts, list, column, o, numbers_at(&index.cells, o as usize))?;
+    add_cells(
+        given.facts,
+        list,
+        column,
+        o,
+        numbers_at(&given.index.cells, o as usize),
+    )?;
     Ok(())
 }
 
 /// The sets of a member of a site. An error comes only for want of memory.
 pub fn list_targets(
-    facts: &Facts,
-    index: &Index,
+    given: &Given,
     list: &mut Vec<usize>,
     member: Member,
     o: u32,
 ) -> Result<(), AllocError>
-    requires facts { InRange facts.now }
-    requires index { IsIndex facts.now index.now }
-    requires site { o < length facts.now.sites.items }
-    ensures { OnOk result (AreTargets facts.now member o list.new.items) }
+    requires given { IsGiven given.now }
+    requires site { o < length given.now.facts.now.sites.items }
+    ensures { OnOk result (AreTargets given.now.facts.now member o list.new.items) }
 {
     list.clear();
     match member {
-        Member::Field(column) => add_field(facts, index, list, column, o),
-        Member::This(slot) => add_found(facts, index, list, member, slot, o),
-        Member::Parameter(slot, _) => add_found(facts, index, list, member, slot, o),
-        Member::Returned(slot) => add_found(facts, index, list, member, slot, o),
+        Member::Field(column) => add_field(given, list, column, o),
+        Member::This(slot) => add_found(given, list, member, slot, o),
+        Member::Parameter(slot, _) => add_found(given, list, member, slot, o),
+        Member::Returned(slot) => add_found(given, list, member, slot, o),
     }
 }

@@ -127,7 +127,7 @@ pub fn flush(
     'scan: while at < width {
         match pending.sites.next(at) {
             Some(o) => {
-                list_targets(given.facts, given.index, list, pending.member, o)?;
+                list_targets(given, list, pending.member, o)?;
                 let more = write_into(given, sets, grown, pending, list, o)?;
                 grew |= more;
                 at = o + 1;

@@ -6,7 +6,7 @@ use Rattle.std.proofs.lemmas.Bool.{cases_lt, false≢true}
 use Rattle.std.proofs.lemmas.List.{get_or_past}
 use Rattle.std.proofs.lemmas.List.Elements.{All-contains}
 use Rattle.derivations.proofs.Derivations.{derivable_by, derivable_least}
-use Rattle.kaba_bits.specs.Sets.{row, HasWidth, IsStep}
+use Rattle.kaba_bits.specs.Sets.{bit, row, HasWidth, IsStep, IsNoneFrom}
 use Rattle.kaba_bits.proofs.SetLemmas.{bit-below}
 use Rattle.kaba_base.specs.declared.ColId.{ColId}
 use Rattle.fact_model.specs.Items.{site_row, row_this}
@@ -21,8 +21,9 @@ use Rattle.fact_model.specs.declared.sets.Table.{Table}
 use Rattle.fact_model.proofs.RangeLemmas.{member-below}
 use Rattle.fact_model.proofs.OrderLemmas.{column-above, body-own}
 use Rattle.table_rules.specs.Marks.{Marked, AreEntries}
-use Rattle.table_rules.specs.Closed.{RowFlows, ColumnFlows, IsTieClosed, IsSiteClosed, AreClosed}
-use Rattle.table_rules.specs.Asked.{AreAsked, IsRowAsked, IsRowClosed}
+use Rattle.points_to.proofs.LoopLemmas.{skip_all}
+use Rattle.table_rules.specs.Closed.{Gains, RowFlows, ColumnFlows, IsTieClosed, IsSiteClosed, AreClosed}
+use Rattle.table_rules.specs.Asked.{AreAsked, IsRowAsked, IsClosedAt, IsRowClosed}
 use Rattle.table_rules.proofs.RawLemmas.{sized}
 
 -- an entry is in a row and in a column of the table
@@ -56,6 +57,17 @@ module _ (F : Facts) where
 pub under : (M X : Type 0) (g : Bool) → OnFalse g X → OnFalse g (M → X)
 under M X true h = tt
 under M X false h = λ m. h
+
+-- a row has what its columns ask for, where it has what those before a number do, and none from there on
+pub row_closed : (F : Facts) (asked old rows : List (List Bool)) (r at : ℕ) (g : Bool) → r < length F.rows.items → AreEntries F rows → IsStep old rows g
+    → IsNoneFrom (bit (row rows r)) at (length F.columns.items) → OnFalse g ((d : ℕ) → d < at → IsClosedAt asked r rows d)
+    → Gains F old rows g (IsRowClosed asked rows r)
+row_closed F asked old rows r at g lt are step none before = record {
+  rows = are;
+  step = step;
+  closed = skip_all (IsClosedAt asked r rows) (row rows r) at (λ k out b. absurd (false≢true (sym out ∙ b))) (length F.columns.items) g
+      (are.widths r (omega (arith, lt, are.len))) none before;
+}
 
 module _ (F : Facts) (sets asked rows : List (List Bool)) (are : AreEntries F rows) (flows : AreAsked F asked) where
   -- a table whose rows have what their columns ask for is closed, where all was asked for

@@ -1,12 +1,13 @@
 -- Tables that are closed under one rule, or under all.
 use Rattle.std.specs.Prelude.{◌≡◌, ℕ, ◌<◌, Bool, true, List, length, All, Some}
-use Rattle.kaba_bits.specs.Sets.{bit, row, IsSubset}
+use Rattle.std.specs.Bool.{OnFalse}
+use Rattle.kaba_bits.specs.Sets.{bit, row, IsSubset, IsStep}
 use Rattle.kaba_base.specs.declared.ColId.{ColId}
 use Rattle.fact_model.specs.Items.{site_row, row_this}
 use Rattle.fact_model.specs.Entries.{IsEntry, IsDeclaredBy, Hides}
 use Rattle.fact_model.specs.declared.facts.Facts.{Facts}
 use Rattle.fact_model.specs.declared.facts.TieInfo.{TieInfo}
-use Rattle.table_rules.specs.Marks.{Marked}
+use Rattle.table_rules.specs.Marks.{Marked, AreEntries}
 
 -- each column that the row v must have, the row r must have
 abbrev pub RowFlows : Facts → ℕ → ℕ → Type 0
@@ -33,3 +34,9 @@ pub record AreClosed (F : Facts) (sets rows : List (List Bool)) : Type 0 where
   pub ties : All (IsTieClosed rows) F.ties.items
   pub sites : (v : ℕ) → v < length F.rows.items → IsSiteClosed F sets rows v
   pub hidden : (q r d c : ℕ) → Hides F d c → Marked rows q d → Marked rows q c → Marked rows r d → Marked rows r c
+
+-- after a step the rows have only entries that hold; where it says that nothing was new, they are as they were, and P holds
+pub record Gains (F : Facts) (old new : List (List Bool)) (grew : Bool) (P : Type 0) : Type 0 where
+  pub rows : AreEntries F new
+  pub step : IsStep old new grew
+  pub closed : OnFalse grew P

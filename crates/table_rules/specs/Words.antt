@@ -9,3 +9,4 @@ pub use Rattle.points_to.specs.Above.{IsAboveRow}
 pub use Rattle.table_rules.specs.Above.{AreAbove}
 pub use Rattle.table_rules.specs.Marks.{Marked, AreRaw, AreEntries, Grow}
 pub use Rattle.table_rules.specs.Asked.{AreAsked, AreHidden, AreOpen, HaveMethods, IsIndex, IsMethod}
+pub use Rattle.table_rules.specs.State.{IsGiven, IsOpen}

@@ -4,13 +4,14 @@ ghost use Rattle.std.specs.Prelude.{◌≡◌, ℕ, ◌<◌, length, IfOk};
 ghost use Rattle.fact_model.specs.InRange.{InRange};
 ghost use Rattle.table_rules.specs.Above.{AreAbove};
 
+use crate::Tried;
 use fact_model::Facts;
 use kaba_bits::BitRow;
 use points_to::classes_above;
-use std::alloc::{AllocError, Global};
+use std::alloc::Global;
 
 /// For each column the classes at or above its class. An error comes only for want of memory.
-pub fn above_of(alloc: Global, facts: &Facts) -> Result<Vec<BitRow>, AllocError>
+pub fn above_of(alloc: Global, facts: &Facts) -> Tried<Vec<BitRow>>
     requires { InRange facts.now }
     ensures { IfOk result (λ v. AreAbove facts.now (length facts.now.columns.items) v.items) }
 {

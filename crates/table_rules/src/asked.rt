@@ -6,6 +6,7 @@ ghost use Rattle.table_rules.specs.Closed.{ColumnFlows};
 ghost use Rattle.table_rules.specs.Asked.{ArePairs, HaveAll, IsNoted, IsMetAt, IsThisAsked};
 ghost use Rattle.table_rules.specs.Words.{bit, row, IsSubset, InRange, IsEntry, IsDeclaredBy, Hides, Marked, AreEntries, Grow, column_at, row_this, IsAboveRow, AreAbove, AreAsked, AreHidden, HaveMethods, IsMethod};
 
+use crate::Tried;
 use crate::above::above_of;
 use crate::columns::{hides, is_declared_by, is_method, slot_of, this_of};
 use crate::index::{methods_of, place_of};
@@ -13,7 +14,7 @@ use fact_model::Facts;
 use kaba_base::ColId;
 use kaba_bits::{BitRow, empty_rows, join_with, row_at, set_at};
 use points_to::numbers_at;
-use std::alloc::{AllocError, Global};
+use std::alloc::Global;
 
 /// For each column those that the rows with it must have, and those that it hides.
 #[derive(Drop)]
@@ -188,7 +189,7 @@ fn note_columns(
 }
 
 /// The columns that bodies ask for and those that columns hide. An error comes only for want of memory.
-pub fn columns_of(alloc: Global, facts: &Facts) -> Result<Columns, AllocError>
+pub fn columns_of(alloc: Global, facts: &Facts) -> Tried<Columns>
     requires { InRange facts.now }
     ensures asked { IfOk result (λ x. AreAsked facts.now x.asked.items) }
     ensures hidden { IfOk result (λ x. AreHidden facts.now x.hidden.items) }

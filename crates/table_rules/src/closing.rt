@@ -5,15 +5,18 @@ ghost use Rattle.std.specs.Prelude.{◌≡◌, ℕ, ◌<◌, ◌≤◌, ◌-◌,
 ghost use Rattle.kaba_bits.specs.Sets.{IsNoneFrom};
 ghost use Rattle.fact_model.specs.InOrder.{InOrder, ColumnsStandAbove, BodiesAreOwn};
 ghost use Rattle.fact_model.specs.Entries.{IsTable};
-ghost use Rattle.table_rules.specs.Closed.{IsTieClosed, IsSiteClosedAt, IsSiteClosed, AreClosed};
+ghost use Rattle.table_rules.specs.Closed.{Gains, IsTieClosed, IsSiteClosedAt, IsSiteClosed, AreClosed};
 ghost use Rattle.table_rules.specs.Asked.{is_beyond, IsMet, IsRowAsked, IsRowClosed};
-ghost use Rattle.table_rules.specs.Words.{OnTrue, OnFalse, bit, row, IsStep, InRange, AreSets, IsInRow, IsRawTable, IsEntry, AreEntries, Grow, AreAsked, AreOpen, IsIndex};
+ghost use Rattle.table_rules.specs.Words.{OnTrue, OnFalse, bit, row, IsStep, InRange, AreSets, IsInRow, IsRawTable, IsEntry, AreEntries, Grow, AreAsked, AreOpen, IsGiven, IsOpen};
 
+use crate::Tried;
 use crate::asked::{Columns, ask_this, columns_of, meet_at};
 use crate::columns::site_at;
 use crate::groups::are_alike;
-use crate::index::{Index, index_of};
+use crate::index::index_of;
+use crate::lists::all_wait;
 use crate::marks::{join_asked, join_rows};
+use crate::state::{Given, State};
 use crate::turns::grow;
 use fact_model::{Facts, PointsTo, Table, TieInfo};
 use kaba_bits::{BitRow, row_at};
@@ -31,92 +34,77 @@ pub fn close(alloc: Global, facts: &Facts, pt: &PointsTo, raw: Table) -> Result<
     ensures above { IfOk result (λ t. InOrder facts.now → ColumnsStandAbove facts.now t) }
     ensures own { IfOk result (λ t. InOrder facts.now → BodiesAreOwn facts.now t) }
 {
-    let Table { width, mut rows } = raw;
-    fill(alloc, facts, pt, &mut rows)?;
+    let Table { width, rows } = raw;
+    let rows = filled(alloc, facts, pt, rows)?;
     Ok(Table { width, rows })
 }
 
 /// What the columns ask for, and then the rows. An error comes only for want of memory.
-fn fill(alloc: Global, facts: &Facts, pt: &PointsTo, rows: &mut [BitRow]) -> Result<(), AllocError>
+fn filled(alloc: Global, facts: &Facts, pt: &PointsTo, rows: Vec<BitRow>) -> Tried<Vec<BitRow>>
     requires facts { InRange facts.now }
     requires sets { AreSets facts.now pt.now }
-    requires rows { AreEntries facts.now rows.old }
-    ensures rows { OnOk result (AreEntries facts.now rows.new) }
-    ensures closed { OnOk result (AreClosed facts.now pt.now.rows.items rows.new) }
+    requires rows { AreEntries facts.now rows.items }
+    ensures rows { IfOk result (λ v. AreEntries facts.now v.items) }
+    ensures closed { IfOk result (λ v. AreClosed facts.now pt.now.rows.items v.items) }
 {
-    let Columns { mut asked, hidden } = columns_of(alloc, facts)?;
+    let Columns { asked, hidden } = columns_of(alloc, facts)?;
     let index = index_of(alloc, facts, hidden)?;
-    let mut both = BitRow::new(alloc, facts.columns.len() as u32)?;
-    fill_rows(alloc, facts, pt, &index, &mut asked, &mut both, rows)?;
-    Ok(())
+    let given = Given {
+        facts,
+        pt,
+        index: &index,
+    };
+    let both = BitRow::new(alloc, facts.columns.len() as u32)?;
+    let lists = all_wait(alloc, &given, &rows)?;
+    let mut state = State {
+        asked,
+        both,
+        rows,
+        lists,
+    };
+    fill(&given, &mut state)?;
+    let State { rows, .. } = state;
+    Ok(rows)
 }
 
 /// What the worklist finds, and then turns over everything. An error comes only for want of memory.
-fn fill_rows(
-    alloc: Global,
-    facts: &Facts,
-    pt: &PointsTo,
-    index: &Index,
-    asked: &mut [BitRow],
-    both: &mut BitRow,
-    rows: &mut [BitRow],
-) -> Result<(), AllocError>
-    requires facts { InRange facts.now }
-    requires sets { AreSets facts.now pt.now }
-    requires index { IsIndex facts.now index.now }
-    requires state { AreOpen facts.now asked.old both.old rows.old }
-    ensures rows { OnOk result (AreEntries facts.now rows.new) }
-    ensures closed { OnOk result (AreClosed facts.now pt.now.rows.items rows.new) }
+fn fill(given: &Given, state: &mut State) -> Tried<()>
+    requires given { IsGiven given.now }
+    requires state { IsOpen given.now state.old }
+    ensures rows { OnOk result (AreEntries given.now.facts.now state.new.rows.items) }
+    ensures closed { OnOk result (AreClosed given.now.facts.now given.now.pt.now.rows.items state.new.rows.items) }
 {
-    grow(alloc, facts, pt, index, asked, both, rows)?;
-    run_rounds(facts, pt, index, asked, both, rows);
+    grow(given, state)?;
+    run_rounds(given, &mut state.asked, &mut state.both, &mut state.rows);
     Ok(())
 }
 
 /// Turns over everything, until nothing is new.
-fn run_rounds(
-    facts: &Facts,
-    pt: &PointsTo,
-    index: &Index,
-    asked: &mut [BitRow],
-    both: &mut BitRow,
-    rows: &mut [BitRow],
-)
-    requires facts { InRange facts.now }
-    requires sets { AreSets facts.now pt.now }
-    requires index { IsIndex facts.now index.now }
-    requires state { AreOpen facts.now asked.old both.old rows.old }
-    ensures state { AreOpen facts.now asked.new both.new rows.new }
-    ensures closed { AreClosed facts.now pt.now.rows.items rows.new }
+fn run_rounds(given: &Given, asked: &mut [BitRow], both: &mut BitRow, rows: &mut [BitRow])
+    requires given { IsGiven given.now }
+    requires state { AreOpen given.now.facts.now asked.old both.old rows.old }
+    ensures state { AreOpen given.now.facts.now asked.new both.new rows.new }
+    ensures closed { AreClosed given.now.facts.now given.now.pt.now.rows.items rows.new }
 {
     loop {
-        if !round(facts, pt, index, asked, both, rows) {
+        if !round(given, asked, both, rows) {
             return;
         }
     }
 }
 
 /// Everything once, and whether anything was new.
-fn round(
-    facts: &Facts,
-    pt: &PointsTo,
-    index: &Index,
-    asked: &mut [BitRow],
-    both: &mut BitRow,
-    rows: &mut [BitRow],
-) -> bool
-    requires facts { InRange facts.now }
-    requires sets { AreSets facts.now pt.now }
-    requires index { IsIndex facts.now index.now }
-    requires state { AreOpen facts.now asked.old both.old rows.old }
-    ensures state { AreOpen facts.now asked.new both.new rows.new }
+fn round(given: &Given, asked: &mut [BitRow], both: &mut BitRow, rows: &mut [BitRow]) -> bool
+    requires given { IsGiven given.now }
+    requires state { AreOpen given.now.facts.now asked.old both.old rows.old }
+    ensures state { AreOpen given.now.facts.now asked.new both.new rows.new }
     ensures step { IsStep rows.old rows.new result }
-    ensures closed { OnFalse result (AreClosed facts.now pt.now.rows.items rows.new) }
+    ensures closed { OnFalse result (AreClosed given.now.facts.now given.now.pt.now.rows.items rows.new) }
 {
-    ask_rows(facts, index, rows, asked, both);
-    let columns = close_rows(facts, asked, rows);
-    let ties = pass_ties(facts, rows);
-    let sites = pass_sites(facts, pt, rows);
+    ask_rows(given, rows, asked, both);
+    let columns = close_rows(given.facts, asked, rows);
+    let ties = pass_ties(given.facts, rows);
+    let sites = pass_sites(given, rows);
     columns | ties | sites
 }
 
@@ -141,29 +129,23 @@ pub fn next_beyond(facts: &Facts, plain: &BitRow, rows: &[BitRow], r: usize, at:
     ensures low { IfSome result (λ d. at ≤ d) }
     ensures column { IfSome result (λ d. d < length facts.now.columns.items) }
     ensures entry { IfSome result (IsEntry facts.now r) }
-    ensures least { MatchOption result (IsNoneFrom (is_beyond plain.now rows.now r) at (length facts.now.columns.items)) (IsNoneFrom (is_beyond plain.now rows.now r) at) }
+    ensures least { MatchOption result (IsNoneFrom (is_beyond plain.now rows.now r) at (length facts.now.columns.items))
+        (IsNoneFrom (is_beyond plain.now rows.now r) at) }
 {
     let _ = facts;
     row_at(rows, r).next_beyond(plain, at)
 }
 
 /// T10: what a row has, and its columns hide, is asked for.
-fn meet_row(
-    facts: &Facts,
-    index: &Index,
-    rows: &[BitRow],
-    asked: &mut [BitRow],
-    both: &mut BitRow,
-    q: usize,
-)
-    requires facts { InRange facts.now }
-    requires index { IsIndex facts.now index.now }
-    requires state { AreOpen facts.now asked.old both.old rows.now }
-    requires row { q < length facts.now.rows.items }
-    ensures state { AreOpen facts.now asked.new both.new rows.now }
+fn meet_row(given: &Given, rows: &[BitRow], asked: &mut [BitRow], both: &mut BitRow, q: usize)
+    requires given { IsGiven given.now }
+    requires state { AreOpen given.now.facts.now asked.old both.old rows.now }
+    requires row { q < length given.now.facts.now.rows.items }
+    ensures state { AreOpen given.now.facts.now asked.new both.new rows.now }
     ensures grows { Grow asked.old asked.new }
-    ensures met { IsMet facts.now rows.now asked.new q }
+    ensures met { IsMet given.now.facts.now rows.now asked.new q }
 {
+    let (facts, index) = (given.facts, given.index);
     let width = facts.columns.len() as u32;
     let mut at = 0;
     'scan: while at < width {
@@ -177,37 +159,16 @@ fn meet_row(
     }
 }
 
-/// T6 and T10: what a row has, where it is a `this` or its columns hide that, is asked for.
-fn ask_row(
-    facts: &Facts,
-    index: &Index,
-    rows: &[BitRow],
-    asked: &mut [BitRow],
-    both: &mut BitRow,
-    q: usize,
-)
-    requires facts { InRange facts.now }
-    requires index { IsIndex facts.now index.now }
-    requires state { AreOpen facts.now asked.old both.old rows.now }
-    requires row { q < length facts.now.rows.items }
-    ensures state { AreOpen facts.now asked.new both.new rows.now }
-    ensures grows { Grow asked.old asked.new }
-    ensures asked { IsRowAsked facts.now rows.now asked.new q }
+/// T6 and T10 for each row: what it has, where it is a `this` or its columns hide that, is asked for.
+fn ask_rows(given: &Given, rows: &[BitRow], asked: &mut [BitRow], both: &mut BitRow)
+    requires given { IsGiven given.now }
+    requires state { AreOpen given.now.facts.now asked.old both.old rows.now }
+    ensures state { AreOpen given.now.facts.now asked.new both.new rows.now }
+    ensures asked { (q : ℕ) → q < length given.now.facts.now.rows.items → IsRowAsked given.now.facts.now rows.now asked.new q }
 {
-    meet_row(facts, index, rows, asked, both, q);
-    ask_this(facts, rows, asked, q);
-}
-
-/// T6 and T10 for each row.
-fn ask_rows(facts: &Facts, index: &Index, rows: &[BitRow], asked: &mut [BitRow], both: &mut BitRow)
-    requires facts { InRange facts.now }
-    requires index { IsIndex facts.now index.now }
-    requires state { AreOpen facts.now asked.old both.old rows.now }
-    ensures state { AreOpen facts.now asked.new both.new rows.now }
-    ensures asked { (q : ℕ) → q < length facts.now.rows.items → IsRowAsked facts.now rows.now asked.new q }
-{
-    for q in 0..facts.rows.len() {
-        ask_row(facts, index, rows, asked, both, q);
+    for q in 0..given.facts.rows.len() {
+        meet_row(given, rows, asked, both, q);
+        ask_this(given.facts, rows, asked, q);
     }
 }
 
@@ -217,9 +178,7 @@ fn close_row(facts: &Facts, asked: &[BitRow], rows: &mut [BitRow], r: usize) -> 
     requires asked { AreAsked facts.now asked.now }
     requires rows { AreEntries facts.now rows.old }
     requires row { r < length facts.now.rows.items }
-    ensures rows { AreEntries facts.now rows.new }
-    ensures step { IsStep rows.old rows.new result }
-    ensures closed { OnFalse result (IsRowClosed asked.now rows.new r) }
+    ensures { Gains facts.now rows.old rows.new result (IsRowClosed asked.now rows.new r) }
 {
     let width = facts.columns.len() as u32;
     let mut grew = false;
@@ -249,9 +208,7 @@ fn close_rows(facts: &Facts, asked: &[BitRow], rows: &mut [BitRow]) -> bool
     requires facts { InRange facts.now }
     requires asked { AreAsked facts.now asked.now }
     requires rows { AreEntries facts.now rows.old }
-    ensures rows { AreEntries facts.now rows.new }
-    ensures step { IsStep rows.old rows.new result }
-    ensures closed { OnFalse result ((r : ℕ) → r < length facts.now.rows.items → IsRowClosed asked.now rows.new r) }
+    ensures { Gains facts.now rows.old rows.new result ((r : ℕ) → r < length facts.now.rows.items → IsRowClosed asked.now rows.new r) }
 {
     let mut grew = false;
     for r in 0..facts.rows.len() {
@@ -268,9 +225,7 @@ pub fn join_tie(facts: &Facts, rows: &mut [BitRow], x: TieInfo) -> bool
     requires facts { InRange facts.now }
     requires rows { AreEntries facts.now rows.old }
     requires tie { Contains facts.now.ties.items x }
-    ensures rows { AreEntries facts.now rows.new }
-    ensures step { IsStep rows.old rows.new result }
-    ensures closed { OnFalse result (IsTieClosed rows.new x) }
+    ensures { Gains facts.now rows.old rows.new result (IsTieClosed rows.new x) }
 {
     join_rows(facts, rows, x.upper.0 as usize, x.lower.0 as usize)
 }
@@ -279,9 +234,7 @@ pub fn join_tie(facts: &Facts, rows: &mut [BitRow], x: TieInfo) -> bool
 fn pass_ties(facts: &Facts, rows: &mut [BitRow]) -> bool
     requires facts { InRange facts.now }
     requires rows { AreEntries facts.now rows.old }
-    ensures rows { AreEntries facts.now rows.new }
-    ensures step { IsStep rows.old rows.new result }
-    ensures closed { OnFalse result (All (IsTieClosed rows.new) facts.now.ties.items) }
+    ensures { Gains facts.now rows.old rows.new result (All (IsTieClosed rows.new) facts.now.ties.items) }
 {
     let mut grew = false;
     for x in &facts.ties {
@@ -291,54 +244,49 @@ fn pass_ties(facts: &Facts, rows: &mut [BitRow]) -> bool
 }
 
 /// The least site in the set of a row from one on.
-pub fn next_site(facts: &Facts, pt: &PointsTo, v: usize, at: u32) -> Option<u32>
-    requires facts { InRange facts.now }
-    requires sets { AreSets facts.now pt.now }
-    requires row { v < length facts.now.rows.items }
+pub fn next_site(given: &Given, v: usize, at: u32) -> Option<u32>
+    requires given { IsGiven given.now }
+    requires row { v < length given.now.facts.now.rows.items }
     ensures low { IfSome result (λ o. at ≤ o) }
-    ensures site { IfSome result (λ o. o < length facts.now.sites.items) }
-    ensures member { IfSome result (IsInRow facts.now v) }
-    ensures least { MatchOption result (IsNoneFrom (bit (row pt.now.rows.items v)) at (length facts.now.sites.items)) (λ o. IsNoneFrom (bit (row pt.now.rows.items v)) at o) }
+    ensures site { IfSome result (λ o. o < length given.now.facts.now.sites.items) }
+    ensures member { IfSome result (IsInRow given.now.facts.now v) }
+    ensures least { MatchOption result (IsNoneFrom (bit (row given.now.pt.now.rows.items v)) at (length given.now.facts.now.sites.items))
+        (λ o. IsNoneFrom (bit (row given.now.pt.now.rows.items v)) at o) }
 {
-    let _ = facts;
-    row_at(&pt.rows, v).next(at)
+    row_at(&given.pt.rows, v).next(at)
 }
 
 /// T9 for one row and one site.
-fn join_site(facts: &Facts, pt: &PointsTo, rows: &mut [BitRow], v: usize, o: u32) -> bool
-    requires facts { InRange facts.now }
-    requires sets { AreSets facts.now pt.now }
-    requires rows { AreEntries facts.now rows.old }
-    requires row { v < length facts.now.rows.items }
-    requires site { o < length facts.now.sites.items }
-    requires member { IsInRow facts.now v o }
-    ensures rows { AreEntries facts.now rows.new }
-    ensures step { IsStep rows.old rows.new result }
-    ensures closed { OnFalse result (IsSiteClosedAt facts.now pt.now.rows.items v rows.new o) }
+fn join_site(given: &Given, rows: &mut [BitRow], v: usize, o: u32) -> bool
+    requires given { IsGiven given.now }
+    requires rows { AreEntries given.now.facts.now rows.old }
+    requires row { v < length given.now.facts.now.rows.items }
+    requires site { o < length given.now.facts.now.sites.items }
+    requires member { IsInRow given.now.facts.now v o }
+    ensures { Gains given.now.facts.now rows.old rows.new result
+        (IsSiteClosedAt given.now.facts.now given.now.pt.now.rows.items v rows.new o) }
 {
-    join_rows(facts, rows, v, site_at(facts, o).row.0 as usize)
+    join_rows(given.facts, rows, v, site_at(given.facts, o).row.0 as usize)
 }
 
 /// T9 for one row.
-fn join_sites(facts: &Facts, pt: &PointsTo, rows: &mut [BitRow], v: usize) -> bool
-    requires facts { InRange facts.now }
-    requires sets { AreSets facts.now pt.now }
-    requires rows { AreEntries facts.now rows.old }
-    requires row { v < length facts.now.rows.items }
-    ensures rows { AreEntries facts.now rows.new }
-    ensures step { IsStep rows.old rows.new result }
-    ensures closed { OnFalse result (IsSiteClosed facts.now pt.now.rows.items rows.new v) }
+fn join_sites(given: &Given, rows: &mut [BitRow], v: usize) -> bool
+    requires given { IsGiven given.now }
+    requires rows { AreEntries given.now.facts.now rows.old }
+    requires row { v < length given.now.facts.now.rows.items }
+    ensures { Gains given.now.facts.now rows.old rows.new result
+        (IsSiteClosed given.now.facts.now given.now.pt.now.rows.items rows.new v) }
 {
     if row_at(rows, v).is_empty() {
         return false;
     }
-    let width = facts.sites.len() as u32;
+    let width = given.facts.sites.len() as u32;
     let mut grew = false;
     let mut at = 0;
     'scan: while at < width {
-        match next_site(facts, pt, v, at) {
+        match next_site(given, v, at) {
             Some(o) => {
-                grew |= join_site(facts, pt, rows, v, o);
+                grew |= join_site(given, rows, v, o);
                 at = o + 1;
             }
             None => return grew,
@@ -348,17 +296,15 @@ fn join_sites(facts: &Facts, pt: &PointsTo, rows: &mut [BitRow], v: usize) -> bo
 }
 
 /// T9: a site in the set of a row has all columns of the row.
-fn pass_sites(facts: &Facts, pt: &PointsTo, rows: &mut [BitRow]) -> bool
-    requires facts { InRange facts.now }
-    requires sets { AreSets facts.now pt.now }
-    requires rows { AreEntries facts.now rows.old }
-    ensures rows { AreEntries facts.now rows.new }
-    ensures step { IsStep rows.old rows.new result }
-    ensures closed { OnFalse result ((v : ℕ) → v < length facts.now.rows.items → IsSiteClosed facts.now pt.now.rows.items rows.new v) }
+fn pass_sites(given: &Given, rows: &mut [BitRow]) -> bool
+    requires given { IsGiven given.now }
+    requires rows { AreEntries given.now.facts.now rows.old }
+    ensures { Gains given.now.facts.now rows.old rows.new result
+        ((v : ℕ) → v < length given.now.facts.now.rows.items → IsSiteClosed given.now.facts.now given.now.pt.now.rows.items rows.new v) }
 {
     let mut grew = false;
-    for v in 0..facts.rows.len() {
-        grew |= join_sites(facts, pt, rows, v);
+    for v in 0..given.facts.rows.len() {
+        grew |= join_sites(given, rows, v);
     }
     grew
 }

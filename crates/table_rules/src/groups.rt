@@ -4,10 +4,11 @@ ghost use Rattle.std.specs.Prelude.{◌≡◌, ◌<◌, length};
 ghost use Rattle.std.specs.Bool.{OnTrue};
 ghost use Rattle.kaba_bits.specs.Sets.{row};
 
+use crate::Tried;
 use fact_model::PointsTo;
 use kaba_bits::{BitRow, row_at};
 use points_to::{empty, is_same_set, note, numbers_at};
-use std::alloc::{AllocError, Global};
+use std::alloc::Global;
 
 /// The group of each row, and the rows of each group, which is named by the first of them.
 #[derive(Drop)]
@@ -61,7 +62,7 @@ fn find(rows: &[BitRow], list: &[usize], v: usize) -> Option<usize> {
 
 /// The group of a row, where one was found before. The groups found so far are listed by the sums of their sets. An error comes only for want of
 /// memory.
-fn found_group(rows: &[BitRow], sums: &mut [Vec<usize>], v: usize) -> Result<usize, AllocError> {
+fn found_group(rows: &[BitRow], sums: &mut [Vec<usize>], v: usize) -> Tried<usize> {
     if v >= rows.len() || sums.len() == 0 {
         return Ok(v);
     }
@@ -76,7 +77,7 @@ fn found_group(rows: &[BitRow], sums: &mut [Vec<usize>], v: usize) -> Result<usi
 }
 
 /// The groups of the rows. An error comes only for want of memory.
-pub fn groups_of(alloc: Global, pt: &PointsTo) -> Result<Groups, AllocError> {
+pub fn groups_of(alloc: Global, pt: &PointsTo) -> Tried<Groups> {
     let count = pt.rows.len();
     let mut sums = empty(alloc, count)?;
     let mut members = empty(alloc, count)?;

@@ -5,11 +5,12 @@ ghost use Rattle.points_to.specs.Listed.{KeepNumbers};
 ghost use Rattle.table_rules.specs.Asked.{place_of, IsPlain};
 ghost use Rattle.table_rules.specs.Words.{InRange, AreHidden, HaveMethods, IsIndex};
 
+use crate::Tried;
 use crate::columns::{is_method, slot_of};
 use fact_model::Facts;
 use kaba_bits::{BitRow, row_at};
 use points_to::{empty, note};
-use std::alloc::{AllocError, Global};
+use std::alloc::Global;
 
 /// The rows that are the `this` of a body, by its column, the ties by their upper row, the columns that each hides, and
 /// those that hide none.
@@ -33,7 +34,7 @@ pub fn place_of(count: usize, slot: Option<u32>) -> usize
 }
 
 /// One column, where it is that of a method. An error comes only for want of memory.
-fn note_method(facts: &Facts, lists: &mut [Vec<usize>], c: u32) -> Result<(), AllocError>
+fn note_method(facts: &Facts, lists: &mut [Vec<usize>], c: u32) -> Tried<()>
     requires column { c < length facts.now.columns.items }
     requires count { length lists.old ≡ length facts.now.columns.items }
     requires before { HaveMethods facts.now lists.old c }
@@ -49,7 +50,7 @@ fn note_method(facts: &Facts, lists: &mut [Vec<usize>], c: u32) -> Result<(), Al
 }
 
 /// Each column that is that of a method. An error comes only for want of memory.
-fn note_methods(facts: &Facts, lists: &mut [Vec<usize>]) -> Result<(), AllocError>
+fn note_methods(facts: &Facts, lists: &mut [Vec<usize>]) -> Tried<()>
     requires facts { InRange facts.now }
     requires count { length lists.old ≡ length facts.now.columns.items }
     ensures { OnOk result (HaveMethods facts.now lists.new (length facts.now.columns.items)) }
@@ -61,7 +62,7 @@ fn note_methods(facts: &Facts, lists: &mut [Vec<usize>]) -> Result<(), AllocErro
 }
 
 /// The columns of methods by their slot. An error comes only for want of memory.
-pub fn methods_of(alloc: Global, facts: &Facts) -> Result<Vec<Vec<usize>>, AllocError>
+pub fn methods_of(alloc: Global, facts: &Facts) -> Tried<Vec<Vec<usize>>>
     requires { InRange facts.now }
     ensures count { IfOk result (λ v. length v.items ≡ length facts.now.columns.items) }
     ensures methods { IfOk result (λ v. HaveMethods facts.now v.items (length facts.now.columns.items)) }
@@ -72,7 +73,7 @@ pub fn methods_of(alloc: Global, facts: &Facts) -> Result<Vec<Vec<usize>>, Alloc
 }
 
 /// The rows that are a `this`, by their body. An error comes only for want of memory.
-fn these_of(alloc: Global, facts: &Facts) -> Result<Vec<Vec<usize>>, AllocError> {
+fn these_of(alloc: Global, facts: &Facts) -> Tried<Vec<Vec<usize>>> {
     let mut lists = empty(alloc, facts.columns.len())?;
     for v in 0..facts.rows.len() {
         if let Some(d) = facts.rows[v].this_of {
@@ -83,7 +84,7 @@ fn these_of(alloc: Global, facts: &Facts) -> Result<Vec<Vec<usize>>, AllocError>
 }
 
 /// The ties by their upper row. An error comes only for want of memory.
-fn ties_of(alloc: Global, facts: &Facts) -> Result<Vec<Vec<usize>>, AllocError> {
+fn ties_of(alloc: Global, facts: &Facts) -> Tried<Vec<Vec<usize>>> {
     let mut lists = empty(alloc, facts.rows.len())?;
     for i in 0..facts.ties.len() {
         note(&mut lists, facts.ties[i].upper.0 as usize, i)?;
@@ -104,7 +105,7 @@ fn note_plain(facts: &Facts, hidden: &[BitRow], plain: &mut BitRow, d: u32)
 }
 
 /// The columns that hide none. An error comes only for want of memory.
-fn plain_of(alloc: Global, facts: &Facts, hidden: &[BitRow]) -> Result<BitRow, AllocError>
+fn plain_of(alloc: Global, facts: &Facts, hidden: &[BitRow]) -> Tried<BitRow>
     requires facts { InRange facts.now }
     requires hidden { AreHidden facts.now hidden.now }
     ensures { IfOk result (λ x. IsPlain facts.now x) }
@@ -118,7 +119,7 @@ fn plain_of(alloc: Global, facts: &Facts, hidden: &[BitRow]) -> Result<BitRow, A
 }
 
 /// The index of the facts. An error comes only for want of memory.
-pub fn index_of(alloc: Global, facts: &Facts, hidden: Vec<BitRow>) -> Result<Index, AllocError>
+pub fn index_of(alloc: Global, facts: &Facts, hidden: Vec<BitRow>) -> Tried<Index>
     requires facts { InRange facts.now }
     requires hidden { AreHidden facts.now hidden.items }
     ensures { IfOk result (λ x. IsIndex facts.now x) }

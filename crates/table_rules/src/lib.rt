@@ -13,7 +13,12 @@ mod marks;
 mod order;
 mod raw_table;
 mod sites;
+mod state;
 mod turns;
 
 pub use closing::close;
 pub use raw_table::raw;
+use std::alloc::AllocError;
+
+/// What was made, or that memory was short.
+type Tried<T> = Result<T, AllocError>;

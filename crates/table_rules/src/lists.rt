@@ -1,18 +1,21 @@
 //! What the worklist keeps: the rows that wait, the groups of rows that do, and where a column was gone over.
 
-ghost use Rattle.fact_model.specs.InRange.{InRange};
+ghost use Rattle.table_rules.specs.Words.{IsGiven};
 
+use crate::Tried;
 use crate::groups::{Groups, groups_of};
 use crate::index::Index;
 use crate::order::order_of_rows;
-use fact_model::{Facts, PointsTo};
+use crate::state::Given;
+use fact_model::Facts;
 use kaba_bits::{BitRow, empty_rows, row_at};
 use points_to::{Queue, queue_of, wait};
-use std::alloc::{AllocError, Global};
+use std::alloc::Global;
 
 /// The rows that wait for their turns, the groups that do, by their numbers, and for each column the rows where it was gone over.
 #[derive(Drop)]
 pub struct Lists {
+    alloc: Global,
     pub rows: Queue,
     pub groups: Groups,
     pub waiting: Queue,
@@ -37,15 +40,15 @@ pub fn is_first(lists: &mut Lists, d: u32, r: usize) -> bool {
 }
 
 /// The rows that were noted to have a column. An error comes only for want of memory.
-pub fn holders_of(alloc: Global, lists: &Lists, d: u32) -> Result<Vec<u32>, AllocError> {
+pub fn holders_of(lists: &Lists, d: u32) -> Tried<Vec<u32>> {
     if d as usize >= lists.holders.len() {
-        return Ok(Vec::new(alloc));
+        return Ok(Vec::new(lists.alloc));
     }
-    row_at(&lists.holders, d as usize).rising(alloc)
+    row_at(&lists.holders, d as usize).rising(lists.alloc)
 }
 
 /// The numbers below a count, in their order. An error comes only for want of memory.
-fn numbers_below(alloc: Global, count: usize) -> Result<Vec<usize>, AllocError> {
+fn numbers_below(alloc: Global, count: usize) -> Tried<Vec<usize>> {
     let mut list = Vec::new(alloc);
     for n in 0..count {
         list.push(n)?;
@@ -54,12 +57,7 @@ fn numbers_below(alloc: Global, count: usize) -> Result<Vec<usize>, AllocError> 
 }
 
 /// A queue of the rows, in which each waits. An error comes only for want of memory.
-fn waiting_rows(
-    alloc: Global,
-    facts: &Facts,
-    index: &Index,
-    rows: &[BitRow],
-) -> Result<Queue, AllocError> {
+fn waiting_rows(alloc: Global, facts: &Facts, index: &Index, rows: &[BitRow]) -> Tried<Queue> {
     let count = facts.rows.len();
     let order = order_of_rows(alloc, facts, index, rows)?;
     let mut queue = queue_of(alloc, order, count)?;
@@ -70,20 +68,16 @@ fn waiting_rows(
 }
 
 /// Each row waits. An error comes only for want of memory.
-pub fn all_wait(
-    alloc: Global,
-    facts: &Facts,
-    pt: &PointsTo,
-    index: &Index,
-    rows: &[BitRow],
-) -> Result<Lists, AllocError>
-    requires { InRange facts.now }
+pub fn all_wait(alloc: Global, given: &Given, rows: &[BitRow]) -> Tried<Lists>
+    requires { IsGiven given.now }
 {
+    let facts = given.facts;
     let count = facts.rows.len();
-    let groups = groups_of(alloc, pt)?;
+    let groups = groups_of(alloc, given.pt)?;
     let numbers = numbers_below(alloc, count)?;
     Ok(Lists {
-        rows: waiting_rows(alloc, facts, index, rows)?,
+        alloc,
+        rows: waiting_rows(alloc, facts, given.index, rows)?,
         groups,
         waiting: queue_of(alloc, numbers, count)?,
         holders: empty_rows(alloc, facts.columns.len(), count as u32)?,

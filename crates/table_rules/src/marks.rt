@@ -1,8 +1,8 @@
 //! What adds to a table, where the rules say so.
 
 ghost use Rattle.std.specs.Prelude.{◌≡◌, ℕ, ◌<◌, true, length};
-ghost use Rattle.table_rules.specs.Closed.{RowFlows};
-ghost use Rattle.table_rules.specs.Words.{OnFalse, bit, row, IsSubset, IsStep, IsRawEntry, IsEntry, AreRaw, AreEntries, Grow, Marked, AreAsked};
+ghost use Rattle.table_rules.specs.Closed.{Gains, RowFlows};
+ghost use Rattle.table_rules.specs.Words.{bit, row, IsSubset, IsRawEntry, IsEntry, AreRaw, AreEntries, Grow, Marked, AreAsked};
 
 use fact_model::Facts;
 use kaba_bits::{BitRow, join, join_with, row_at, set_at};
@@ -26,9 +26,7 @@ pub fn join_rows(facts: &Facts, rows: &mut [BitRow], from: usize, into: usize) -
     requires from { from < length facts.now.rows.items }
     requires into { into < length facts.now.rows.items }
     requires flows { RowFlows facts.now from into }
-    ensures rows { AreEntries facts.now rows.new }
-    ensures step { IsStep rows.old rows.new result }
-    ensures closed { OnFalse result (IsSubset (row rows.new from) (row rows.new into)) }
+    ensures { Gains facts.now rows.old rows.new result (IsSubset (row rows.new from) (row rows.new into)) }
 {
     join(rows, from, into)
 }
@@ -39,9 +37,7 @@ pub fn join_columns(facts: &Facts, rows: &mut [BitRow], columns: &BitRow, into: 
     requires into { into < length facts.now.rows.items }
     requires width { length columns.now ≡ length facts.now.columns.items }
     requires entries { (c : ℕ) → bit columns.now c ≡ true → IsEntry facts.now into c }
-    ensures rows { AreEntries facts.now rows.new }
-    ensures step { IsStep rows.old rows.new result }
-    ensures closed { OnFalse result (IsSubset columns.now (row rows.new into)) }
+    ensures { Gains facts.now rows.old rows.new result (IsSubset columns.now (row rows.new into)) }
 {
     join_with(rows, into, columns)
 }
@@ -53,9 +49,7 @@ pub fn join_asked(facts: &Facts, asked: &[BitRow], rows: &mut [BitRow], r: usize
     requires row { r < length facts.now.rows.items }
     requires column { d < length facts.now.columns.items }
     requires entry { IsEntry facts.now r d }
-    ensures rows { AreEntries facts.now rows.new }
-    ensures step { IsStep rows.old rows.new result }
-    ensures closed { OnFalse result (IsSubset (row asked.now d) (row rows.new r)) }
+    ensures { Gains facts.now rows.old rows.new result (IsSubset (row asked.now d) (row rows.new r)) }
 {
     join_columns(facts, rows, row_at(asked, d as usize), r)
 }

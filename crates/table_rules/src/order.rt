@@ -1,13 +1,14 @@
 //! The order in which rows have their turns: each after those that pass on to it, where no way leads back.
 
+use crate::Tried;
 use crate::index::Index;
 use fact_model::Facts;
 use kaba_bits::{BitRow, row_at};
 use points_to::{empty, note, numbers_at, order_of};
-use std::alloc::{AllocError, Global};
+use std::alloc::Global;
 
 /// Which rows are those of sites. An error comes only for want of memory.
-fn site_rows(alloc: Global, facts: &Facts) -> Result<Vec<bool>, AllocError> {
+fn site_rows(alloc: Global, facts: &Facts) -> Tried<Vec<bool>> {
     let mut marks = vec![in alloc; false; facts.rows.len()]?;
     for site in &facts.sites {
         let row = site.row.0 as usize;
@@ -19,7 +20,7 @@ fn site_rows(alloc: Global, facts: &Facts) -> Result<Vec<bool>, AllocError> {
 }
 
 /// The upper row of each tie, by the lower. An error comes only for want of memory.
-fn note_ties(facts: &Facts, before: &mut [Vec<usize>]) -> Result<(), AllocError> {
+fn note_ties(facts: &Facts, before: &mut [Vec<usize>]) -> Tried<()> {
     for tie in &facts.ties {
         note(before, tie.lower.0 as usize, tie.upper.0 as usize)?;
     }
@@ -27,7 +28,7 @@ fn note_ties(facts: &Facts, before: &mut [Vec<usize>]) -> Result<(), AllocError>
 }
 
 /// These rows, by the row that they pass on to. An error comes only for want of memory.
-fn note_each(before: &mut [Vec<usize>], row: usize, list: &[usize]) -> Result<(), AllocError> {
+fn note_each(before: &mut [Vec<usize>], row: usize, list: &[usize]) -> Tried<()> {
     for other in list {
         note(before, row, *other)?;
     }
@@ -41,7 +42,7 @@ fn note_bodies(
     before: &mut [Vec<usize>],
     row: usize,
     columns: &BitRow,
-) -> Result<(), AllocError> {
+) -> Tried<()> {
     let list = columns.rising(alloc)?;
     for d in &list {
         note_each(before, row, numbers_at(&index.these, *d as usize))?;
@@ -56,7 +57,7 @@ fn before_of(
     index: &Index,
     rows: &[BitRow],
     sites: &[bool],
-) -> Result<Vec<Vec<usize>>, AllocError> {
+) -> Tried<Vec<Vec<usize>>> {
     let mut before = empty(alloc, facts.rows.len())?;
     note_ties(facts, &mut before)?;
     for row in 0..rows.len() {
@@ -74,7 +75,7 @@ pub fn order_of_rows(
     facts: &Facts,
     index: &Index,
     rows: &[BitRow],
-) -> Result<Vec<usize>, AllocError> {
+) -> Tried<Vec<usize>> {
     let sites = site_rows(alloc, facts)?;
     let before = before_of(alloc, facts, index, rows, &sites)?;
     order_of(alloc, &before, &sites)

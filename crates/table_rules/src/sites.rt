@@ -2,100 +2,71 @@
 
 ghost use Rattle.std.specs.Prelude.{◌≡◌, ◌<◌, length};
 ghost use Rattle.table_rules.specs.Gathered.{HaveAllSites};
-ghost use Rattle.table_rules.specs.Words.{InRange, AreSets, IsInRow, AreEntries};
+ghost use Rattle.table_rules.specs.Words.{IsInRow, AreEntries, IsGiven, IsOpen};
 
 use crate::closing::next_site;
 use crate::columns::site_at;
 use crate::groups::{are_alike, members_of};
-use crate::lists::{Lists, wake};
+use crate::lists::wake;
 use crate::marks::join_columns;
-use fact_model::{Facts, PointsTo};
+use crate::state::{Given, State};
 use kaba_bits::{BitRow, row_at};
 
 /// What a row of a group has beside what is gathered of the others.
-fn gather_row(
-    facts: &Facts,
-    pt: &PointsTo,
-    rows: &[BitRow],
-    both: &mut BitRow,
-    group: usize,
-    v: usize,
-)
-    requires sets { AreSets facts.now pt.now }
-    requires rows { AreEntries facts.now rows.now }
-    requires both { HaveAllSites facts.now group both.old }
-    ensures { HaveAllSites facts.now group both.new }
+fn gather_row(given: &Given, rows: &[BitRow], both: &mut BitRow, group: usize, v: usize)
+    requires given { IsGiven given.now }
+    requires rows { AreEntries given.now.facts.now rows.now }
+    requires both { HaveAllSites given.now.facts.now group both.old }
+    ensures { HaveAllSites given.now.facts.now group both.new }
 {
-    let _ = facts;
-    if are_alike(&pt.rows, v, group) {
+    if are_alike(&given.pt.rows, v, group) {
         both.or_into(row_at(rows, v));
     }
 }
 
 /// What the rows of a group have.
-fn gather(
-    facts: &Facts,
-    pt: &PointsTo,
-    rows: &[BitRow],
-    both: &mut BitRow,
-    group: usize,
-    list: &[usize],
-)
-    requires sets { AreSets facts.now pt.now }
-    requires rows { AreEntries facts.now rows.now }
-    requires width { length both.old ≡ length facts.now.columns.items }
-    ensures { HaveAllSites facts.now group both.new }
+fn gather(given: &Given, rows: &[BitRow], both: &mut BitRow, group: usize, list: &[usize])
+    requires given { IsGiven given.now }
+    requires rows { AreEntries given.now.facts.now rows.now }
+    requires width { length both.old ≡ length given.now.facts.now.columns.items }
+    ensures { HaveAllSites given.now.facts.now group both.new }
 {
     both.clear();
     for v in list {
-        gather_row(facts, pt, rows, both, group, *v);
+        gather_row(given, rows, both, group, *v);
     }
 }
 
 /// T9: what is gathered of a group, into the row of a site of its set.
-fn give_site(
-    facts: &Facts,
-    rows: &mut [BitRow],
-    lists: &mut Lists,
-    both: &BitRow,
-    group: usize,
-    o: u32,
-)
-    requires facts { InRange facts.now }
-    requires rows { AreEntries facts.now rows.old }
-    requires both { HaveAllSites facts.now group both.now }
-    requires site { o < length facts.now.sites.items }
-    requires member { IsInRow facts.now group o }
-    ensures { AreEntries facts.now rows.new }
+fn give_site(given: &Given, state: &mut State, group: usize, o: u32)
+    requires given { IsGiven given.now }
+    requires state { IsOpen given.now state.old }
+    requires both { HaveAllSites given.now.facts.now group state.old.both }
+    requires site { o < length given.now.facts.now.sites.items }
+    requires member { IsInRow given.now.facts.now group o }
+    ensures state { IsOpen given.now state.new }
+    ensures both { state.new.both ≡ state.old.both }
 {
-    let row = site_at(facts, o).row.0 as usize;
-    if join_columns(facts, rows, both, row) {
-        wake(lists, row);
+    let row = site_at(given.facts, o).row.0 as usize;
+    if join_columns(given.facts, &mut state.rows, &state.both, row) {
+        wake(&mut state.lists, row);
     }
 }
 
 /// T9: what is gathered of a group, into the row of each site of its set.
-fn give_sites(
-    facts: &Facts,
-    pt: &PointsTo,
-    rows: &mut [BitRow],
-    lists: &mut Lists,
-    both: &BitRow,
-    group: usize,
-)
-    requires facts { InRange facts.now }
-    requires sets { AreSets facts.now pt.now }
-    requires rows { AreEntries facts.now rows.old }
-    requires row { group < length facts.now.rows.items }
-    requires both { HaveAllSites facts.now group both.now }
-    ensures { AreEntries facts.now rows.new }
+fn give_sites(given: &Given, state: &mut State, group: usize)
+    requires given { IsGiven given.now }
+    requires state { IsOpen given.now state.old }
+    requires both { HaveAllSites given.now.facts.now group state.old.both }
+    requires row { group < length given.now.facts.now.rows.items }
+    ensures { IsOpen given.now state.new }
 {
-    let width = facts.sites.len() as u32;
+    let width = given.facts.sites.len() as u32;
     let mut at = 0;
     'scan: while at < width {
-        match next_site(facts, pt, group, at) {
+        match next_site(given, group, at) {
             Some(o) => {
-                give_site(facts, rows, lists, both, group, o);
+                give_site(given, state, group, o);
                 at = o + 1;
             }
             None => return,
@@ -104,31 +75,15 @@ fn give_sites(
 }
 
 /// T9: what the rows of a group have, into the row of each site of their set.
-pub fn pass_group(
-    facts: &Facts,
-    pt: &PointsTo,
-    both: &mut BitRow,
-    rows: &mut [BitRow],
-    lists: &mut Lists,
-    group: usize,
-)
-    requires facts { InRange facts.now }
-    requires sets { AreSets facts.now pt.now }
-    requires width { length both.old ≡ length facts.now.columns.items }
-    requires rows { AreEntries facts.now rows.old }
-    requires row { group < length facts.now.rows.items }
-    ensures width { length both.new ≡ length facts.now.columns.items }
-    ensures rows { AreEntries facts.now rows.new }
+pub fn pass_group(given: &Given, state: &mut State, group: usize)
+    requires given { IsGiven given.now }
+    requires state { IsOpen given.now state.old }
+    requires row { group < length given.now.facts.now.rows.items }
+    ensures { IsOpen given.now state.new }
 {
-    gather(
-        facts,
-        pt,
-        rows,
-        both,
-        group,
-        members_of(&lists.groups, group),
-    );
-    if !both.is_empty() {
-        give_sites(facts, pt, rows, lists, both, group);
+    let list = members_of(&state.lists.groups, group);
+    gather(given, &state.rows, &mut state.both, group, list);
+    if !state.both.is_empty() {
+        give_sites(given, state, group);
     }
 }

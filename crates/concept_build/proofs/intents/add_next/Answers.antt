@@ -1,4 +1,4 @@
-use Rattle.std.proofs.Common.{◌≡◌, ⊎_elim, ◌<◌, length, get_or, sym, ap, ◌∙◌, subst, arith, All}
+use Rattle.std.proofs.Common.{◌≡◌, ⊎_elim, ◌<◌, length, get_or, sym, ap, ◌∙◌, subst, arith}
 use Rattle.std.proofs.lemmas.Bool.{cases_lt}
 use Rattle.std.proofs.lemmas.List.{get_or_default}
 use Rattle.kaba_bits.specs.Sets.{row}
@@ -11,7 +11,7 @@ use Rattle.concept_build.proofs.intents.add_next.Goals as goal
 
 pub near_rows-requires-clause-widths : goal.near_rows-requires-clause-widths
 near_rows-requires-clause-widths c =
-    rw (c.item_at.ensures.item nothing, c.deref.ensures.value, (c.requires.found.each c.args.k nothing c.requires.k).intent.len) c.requires.widths
+    rw (c.item_at.ensures.item nothing, c.deref.ensures.value, (c.requires.found.each c.args.k nothing c.requires.k).intent.len) c.requires.source.widths
 
 pub near_rows-requires-clause-extent : goal.near_rows-requires-clause-extent
 near_rows-requires-clause-extent c =
@@ -19,7 +19,7 @@ near_rows-requires-clause-extent c =
 
 pub near_rows-requires-clause-counts : goal.near_rows-requires-clause-counts
 near_rows-requires-clause-counts c =
-    rw (c.item_at.ensures.item nothing, c.deref.ensures.value, (c.requires.found.each c.args.k nothing c.requires.k).intent.len) c.requires.counts
+    rw (c.item_at.ensures.item nothing, c.deref.ensures.value, (c.requires.found.each c.args.k nothing c.requires.k).intent.len) c.requires.source.counts
 
 pub loop-q-init : goal.loop-q-init
 loop-q-init c = record {
@@ -33,11 +33,11 @@ add_meet-requires-clause-k c = omega (arith, c.requires.k, c.loop-q.invariant.gr
 
 pub add_meet-requires-clause-q : goal.add_meet-requires-clause-q
 add_meet-requires-clause-q c =
-    subst (All (λ q. q < length c.args.table.now)) (sym c.deref-q-items.ensures.value) c.in_ok-near.ensures.below c.loop-q.q-index 0 c.loop-q-test.true
+    let below = rw (← c.deref-q-items.ensures.value) at c.in_ok-near.ensures.below in below c.loop-q.q-index 0 c.loop-q-test.true
 
 pub loop-q-preserved : goal.loop-q-preserved
 loop-q-preserved c =
-    let T = c.args.table.now in
+    let T = c.args.source.now.table.now in
     let first = c.args.items.now.items in
     let old = c.loop-q.items.items in
     let new = c.add_meet.new.items.items in
@@ -61,7 +61,7 @@ loop-q-preserved c =
 
 pub returns : goal.returns
 returns c =
-    let T = c.args.table.now in
+    let T = c.args.source.now.table.now in
     let first = c.args.items.now.items in
     let new = c.loop-q.items.items in
     let k = c.args.k in

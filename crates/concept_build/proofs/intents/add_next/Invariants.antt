@@ -5,7 +5,7 @@ use Rattle.concept_build.proofs.intents.add_next.Given as goal
 
 abbrev pub invariant-loop-q : goal.invariant-loop-q
 invariant-loop-q l = record {
-  found : AreFound l.table l.width l.items.items (lists_of l.known.keys);
+  found : AreFound l.source.table.now l.source.width l.items.items (lists_of l.known.keys);
   grows : Grows l.fn.items.items l.items.items;
-  has : (i d : ℕ) → i < l.q-index → HasMeet l.items.items (pair_at l.fn.items.items l.k).1 (row l.table (slice_index_or l.q-items i d));
+  has : (i d : ℕ) → i < l.q-index → HasMeet l.items.items (pair_at l.fn.items.items l.k).1 (row l.source.table.now (slice_index_or l.q-items i d));
 }

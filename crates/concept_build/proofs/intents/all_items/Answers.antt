@@ -10,12 +10,12 @@ returns-clause-all c =
     let p = c.in_ok-sort_items.ensures.same in
     let len = length_permutation xs ys p in
     record {
-      concepts = AreConcepts-sorted c.args.table.now c.args.width xs ys p c.in_ok-items.ensures.each c.in_ok-sort_items.ensures.ordered;
-      complete = λ A B o. HasIntent-permutation xs ys B p (c.in_ok-items.ensures.all (omega (arith, len, c.if-len-bound.false, c.len.ensures)) A B o);
+      concepts = AreConcepts-sorted c.args.source.now.table.now c.args.source.now.width xs ys p c.in_ok-items.ensures.each c.in_ok-sort_items.ensures.ordered;
+      complete = λ A B o. HasIntent-permutation xs ys B p (c.in_ok-items.ensures.all (omega (arith, len, c.if-len-source.false, c.len.ensures)) A B o);
     }
 
-pub returns-then-len-bound : goal.returns-then-len-bound
-returns-then-len-bound c =
+pub returns-then-len-source : goal.returns-then-len-source
+returns-then-len-source c =
     let xs = c.in_ok-items.items.items in
     let ys = c.sort_items.new.items.items in
     record {
@@ -25,9 +25,9 @@ returns-then-len-bound c =
         refl,
         record {
           list = ys;
-          concepts = AreConcepts-sorted c.args.table.now c.args.width xs ys c.in_ok-sort_items.ensures.same c.in_ok-items.ensures.each
+          concepts = AreConcepts-sorted c.args.source.now.table.now c.args.source.now.width xs ys c.in_ok-sort_items.ensures.same c.in_ok-items.ensures.each
               c.in_ok-sort_items.ensures.ordered;
-          more = omega (arith, c.if-len-bound.true, c.len.ensures);
+          more = omega (arith, c.if-len-source.true, c.len.ensures);
         },
       );
     }

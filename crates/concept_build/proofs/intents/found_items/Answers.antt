@@ -8,7 +8,7 @@ use Rattle.concept_build.specs.Lists.{AreNext}
 use Rattle.concept_build.proofs.GrowLemmas.{AreNext-grows}
 use Rattle.concept_build.proofs.ReachLemmas.{reached}
 use Rattle.concept_build.proofs.intents.found_items.Goals as goal
-use Rattle.concept_build.proofs.intents.found_items.Goals.{then-loop-k-test+else-len-bound, else-loop-k-test}
+use Rattle.concept_build.proofs.intents.found_items.Goals.{then-loop-k-test+else-len-source, else-loop-k-test}
 
 pub places_of-requires : goal.places_of-requires
 places_of-requires c =
@@ -29,7 +29,7 @@ loop-k-init c = record {
 
 pub loop-k-preserved : goal.loop-k-preserved
 loop-k-preserved c =
-    let T = c.args.table.now in
+    let T = c.args.source.now.table.now in
     let old = c.loop-k.items.items in
     let new = c.add_next.new.items.items in
     let k = c.loop-k.k in
@@ -38,7 +38,7 @@ loop-k-preserved c =
     record {
       found = o.found;
       some = omega (arith, i.some, o.grows.len);
-      full = subst (λ (x : Pair). IsFull c.args.width x.1) (sym (o.grows.same 0 i.some)) i.full;
+      full = subst (λ (x : Pair). IsFull c.args.source.now.width x.1) (sym (o.grows.same 0 i.some)) i.full;
       next = λ small m lt.
           ⊎_elim
           (λ less. AreNext-grows T old new m (omega (arith, less)) o.grows (i.next (omega (arith, small, o.grows.len)) m less))
@@ -55,8 +55,9 @@ returns c =
       all = λ small A B o.
           let done : length c.loop-k.items.items ≤ c.loop-k.k =
           elim c.loop-k-test.branch [
-            | then-loop-k-test+else-len-bound w ↦ omega (arith, small, w.if-len-bound.false, w.len-in-loop-k.ensures)
+            | then-loop-k-test+else-len-source w ↦ omega (arith, small, w.if-len-source.false, w.len-in-loop-k.ensures)
             | else-loop-k-test w ↦ omega (arith, w.loop-k-test.false, c.len.ensures)
           ] in
-          reached c.args.table.now c.args.width c.loop-k.items.items i.found.each (λ k lt. i.next small k (omega (arith, lt, done))) A B o i.some i.full;
+          reached c.args.source.now.table.now c.args.source.now.width c.loop-k.items.items i.found.each
+          (λ k lt. i.next small k (omega (arith, lt, done))) A B o i.some i.full;
     }

@@ -10,7 +10,7 @@ loop-b-preserved c =
     let k = c.loop-b.b-index in
     let step = c.in_ok-add_body.ensures in
     let lt : k < length xs = grind (arith, common_steps) in
-    let P = HasBody c.args.facts.now c.args.member c.args.d.0 in
+    let P = HasBody c.args.facts.now c.args.x.now.member c.args.x.now.column in
     record {
       sound = step.sound;
       here = within_more (P c.loop-b.list.items) (P c.add_body.new.list.items) xs k 0 lt (λ b h body is e n at. step.kept n (h body is e n at))

@@ -4,6 +4,6 @@ use Rattle.table_rules.proofs.closing.ask_rows.Given as goal
 
 abbrev pub invariant-loop-q : goal.invariant-loop-q
 invariant-loop-q l = record {
-  state : AreOpen l.facts l.asked l.both l.rows;
-  asked : (k : ℕ) → k < l.q → IsRowAsked l.facts l.rows l.asked k;
+  state : AreOpen l.given.facts.now l.asked l.both l.rows;
+  asked : (k : ℕ) → k < l.q → IsRowAsked l.given.facts.now l.rows l.asked k;
 }

@@ -1,11 +1,11 @@
-use Rattle.std.proofs.Common.{length, ◌∙◌, sym, arith}
+use Rattle.std.proofs.Common.{◌∙◌, sym, arith}
 use Rattle.std.proofs.lemmas.Bool.{false≢true}
 use Rattle.kaba_bits.specs.Sets.{row, IsSubset}
 use Rattle.kaba_bits.proofs.StepLemmas.{IsStep-then, closed_below, closed-both}
-use Rattle.points_to.proofs.LoopLemmas.{skip_to, skip_all}
+use Rattle.points_to.proofs.LoopLemmas.{skip_to}
 use Rattle.table_rules.specs.Marks.{Marked}
 use Rattle.table_rules.specs.Asked.{IsClosedAt}
-use Rattle.table_rules.proofs.CloseLemmas.{under}
+use Rattle.table_rules.proofs.CloseLemmas.{under, row_closed}
 use Rattle.table_rules.proofs.closing.close_row.Goals as goal
 
 pub scan-preserved : goal.scan-preserved
@@ -25,21 +25,14 @@ scan-preserved c =
           (under (Marked new r d) (IsSubset (row c.args.asked.now d) (row new r)) step.result step.ensures.closed)) before;
     }
 
-pub returns-in-None-clause-closed : goal.returns-in-None-clause-closed
-returns-in-None-clause-closed c =
-    let are = c.scan.invariant.rows in
-    let rows = c.scan.rows in
-    let r = c.args.r in
-    skip_all (IsClosedAt c.args.asked.now r rows) (row rows r) c.scan.at
-    (λ k none b. absurd (false≢true (sym none ∙ b))) (length c.args.facts.now.columns.items) c.scan.grew
-    (are.widths r (omega (arith, c.requires.row, are.len))) c.in-None.ensures.least c.scan.invariant.closed
+pub returns-in-None : goal.returns-in-None
+returns-in-None c =
+    let i = c.scan.invariant in
+    row_closed c.args.facts.now c.args.asked.now c.args.rows.now c.scan.rows c.args.r c.scan.at c.scan.grew c.requires.row i.rows i.step
+    c.in-None.ensures.least i.closed
 
-pub returns-clause-closed : goal.returns-clause-closed
-returns-clause-closed c =
-    let are = c.scan.invariant.rows in
-    let rows = c.scan.rows in
-    let r = c.args.r in
-    skip_all (IsClosedAt c.args.asked.now r rows) (row rows r) c.scan.at
-    (λ k none b. absurd (false≢true (sym none ∙ b))) (length c.args.facts.now.columns.items) c.scan.grew
-    (are.widths r (omega (arith, c.requires.row, are.len))) (λ k low lt. absurd (omega (arith, low, lt, c.scan-test.false, c.len-width.ensures)))
-    c.scan.invariant.closed
+pub returns : goal.returns
+returns c =
+    let i = c.scan.invariant in
+    row_closed c.args.facts.now c.args.asked.now c.args.rows.now c.scan.rows c.args.r c.scan.at c.scan.grew c.requires.row i.rows i.step
+    (λ k low lt. absurd (omega (arith, low, lt, c.scan-test.false, c.len-width.ensures))) i.closed

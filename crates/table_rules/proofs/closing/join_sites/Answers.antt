@@ -6,20 +6,20 @@ use Rattle.points_to.proofs.LoopLemmas.{skip_to}
 use Rattle.table_rules.specs.Closed.{IsSiteClosedAt}
 use Rattle.table_rules.proofs.closing.join_sites.Goals as goal
 
-pub returns-then-is_empty-clause-closed : goal.returns-then-is_empty-clause-closed
-returns-then-is_empty-clause-closed c =
+pub returns-then-is_empty : goal.returns-then-is_empty
+returns-then-is_empty c =
     let empty = rw c.row_at.ensures at (c.if-is_empty.ensures.empty.0 refl) in
-    λ o lt m k h. absurd (false≢true (sym (empty k) ∙ h))
+    record { rows = c.requires.rows; step = refl; closed = λ o lt m k h. absurd (false≢true (sym (empty k) ∙ h)) }
 
 pub scan-preserved : goal.scan-preserved
 scan-preserved c =
-    let sets = c.args.pt.now.rows.items in
+    let sets = c.args.given.now.pt.now.rows.items in
     let v = c.args.v in
     let old = c.scan.rows in
     let step = c.join_site-grew in
     let new = step.new.rows in
     let o = c.in-Some.o in
-    let P = IsSiteClosedAt c.args.facts.now sets v in
+    let P = IsSiteClosedAt c.args.given.now.facts.now sets v in
     let before = skip_to (P old) (row sets v) c.scan.at (λ k none b. absurd (false≢true (sym none ∙ b))) o c.scan.grew c.in-Some.ensures.least
     c.scan.invariant.closed in
     record {

@@ -7,9 +7,9 @@ use Rattle.table_rules.proofs.closing.join_sites.Given as goal
 
 abbrev pub invariant-scan : goal.invariant-scan
 invariant-scan l = record {
-  rows : AreEntries l.facts l.rows;
+  rows : AreEntries l.given.facts.now l.rows;
   step : IsStep l.fn.rows l.rows l.grew;
-  closed : OnFalse l.grew ((k : ℕ) → k < l.at → IsSiteClosedAt l.facts l.pt.rows.items l.v l.rows k);
+  closed : OnFalse l.grew ((k : ℕ) → k < l.at → IsSiteClosedAt l.given.facts.now l.given.pt.now.rows.items l.v l.rows k);
 }
 
 abbrev pub decreases-scan : goal.decreases-scan

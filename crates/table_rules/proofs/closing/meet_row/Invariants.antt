@@ -5,9 +5,9 @@ use Rattle.table_rules.proofs.closing.meet_row.Given as goal
 
 abbrev pub invariant-scan : goal.invariant-scan
 invariant-scan l = record {
-  state : AreOpen l.facts l.asked l.both l.rows;
+  state : AreOpen l.given.facts.now l.asked l.both l.rows;
   grows : Grow l.fn.asked l.asked;
-  met : (d : ℕ) → d < l.at → IsMetAt l.facts l.rows l.asked l.q d;
+  met : (d : ℕ) → d < l.at → IsMetAt l.given.facts.now l.rows l.asked l.q d;
 }
 
 abbrev pub decreases-scan : goal.decreases-scan

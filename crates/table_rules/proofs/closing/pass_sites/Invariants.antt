@@ -7,7 +7,7 @@ use Rattle.table_rules.proofs.closing.pass_sites.Given as goal
 
 abbrev pub invariant-loop-v : goal.invariant-loop-v
 invariant-loop-v l = record {
-  rows : AreEntries l.facts l.rows;
+  rows : AreEntries l.given.facts.now l.rows;
   step : IsStep l.fn.rows l.rows l.grew;
-  closed : OnFalse l.grew ((k : ℕ) → k < l.v → IsSiteClosed l.facts l.pt.rows.items l.rows k);
+  closed : OnFalse l.grew ((k : ℕ) → k < l.v → IsSiteClosed l.given.facts.now l.given.pt.now.rows.items l.rows k);
 }

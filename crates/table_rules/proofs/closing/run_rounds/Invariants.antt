@@ -4,7 +4,7 @@ use Rattle.table_rules.specs.Asked.{AreOpen}
 use Rattle.table_rules.proofs.closing.run_rounds.Given as goal
 
 abbrev pub invariant-loop : goal.invariant-loop
-invariant-loop l = AreOpen l.facts l.asked l.both l.rows
+invariant-loop l = AreOpen l.given.facts.now l.asked l.both l.rows
 
 abbrev pub decreases-loop : goal.decreases-loop
-decreases-loop l = length l.rows * length l.facts.columns.items - total l.rows
+decreases-loop l = length l.rows * length l.given.facts.now.columns.items - total l.rows

@@ -6,10 +6,10 @@ use Rattle.table_rules.proofs.sites.gather_row.Goals as goal
 
 pub returns-then-are_alike : goal.returns-then-are_alike
 returns-then-are_alike c =
-    let F = c.args.facts.now in
+    let F = c.args.given.now.facts.now in
     let v = c.args.v in
     let group = c.args.group in
-    let sets = c.requires.sets in
+    let sets = c.requires.given.sets in
     let old = c.args.both.now in
     let extra = row c.args.rows.now v in
     let same = rw c.deref.ensures.value at c.if-are_alike.ensures.same in

@@ -1,9 +1,9 @@
 use Rattle.std.proofs.Common.{◌-◌}
-use Rattle.table_rules.specs.Marks.{AreEntries}
+use Rattle.table_rules.specs.State.{IsOpen}
 use Rattle.table_rules.proofs.turns.begin.Given as goal
 
 abbrev pub invariant-scan : goal.invariant-scan
-invariant-scan l = AreEntries l.facts l.rows
+invariant-scan l = IsOpen l.given l.state
 
 abbrev pub decreases-scan : goal.decreases-scan
 decreases-scan l = l.width - l.at
