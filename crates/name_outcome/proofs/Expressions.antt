@@ -1,7 +1,7 @@
 -- What the names of an expression mean, or which condition holds in it: the walk over the tree tells it.
 use Rattle.std.proofs.Common.{◌≡◌, ℕ, suc, Bool, true, false, List, [], ◌∷◌, ◌++◌, Option, Some, None, Result, Err, refl, sym, ap, ◌∙◌, ◌||◌, subst}
 use Rattle.std.specs.Prelude.{slice_get, ◌==◌, if◌then◌else◌}
-use Rattle.std.specs.Option.{is_some}
+use Rattle.std.specs.Option.{is_some, option_map}
 use Rattle.std.proofs.lemmas.Bool.{eqb-true, false≢true, eqb-false}
 use Rattle.kaba_base.specs.declared.Place.{Place}
 use Rattle.java_tree.specs.declared.Id.{Id}
@@ -25,7 +25,7 @@ use Rattle.name_outcome.specs.Names.{asked, type_of}
 use Rattle.name_outcome.specs.Tables.{Table, nearest_field, own_method, method_met}
 use Rattle.name_rules.specs.Meanings.{local_of}
 use Rattle.name_outcome.specs.Tables as table
-use Rattle.name_outcome.specs.Expressions.{cast_base, cast_type, in_own, in_instance, field_use, field_at, field_named, local_named, name_meaning, is_variable, class_unless, class_before, static_field_at, static_field_in, static_field_of, static_method_at, static_method_in, static_method_of, called_instance, method_use, method_at, method_named, call_meaning, called, in_body, ex_last, field_walk, Receiver, receiver, called_on, walk, walk_all}
+use Rattle.name_outcome.specs.Expressions.{cast_base, cast_type, in_own, in_instance, field_use, field_at, field_named, local_named, name_meaning, is_variable, class_unless, class_before, static_at, static_member, is_static_field, is_static_method, static_field_of, static_method_of, called_instance, method_use, method_at, method_named, call_meaning, in_body, ex_last, field_walk, Receiver, receiver, called_on, walk, walk_all}
 use Rattle.name_rules.specs.Meanings.{class_named, MeansCast, MeansCastBase, to_int, to_boolean, to_char, to_class, bound_names, is_class_name, IsStaticFieldOf, IsStaticMethodOf, IsNearestField, IsMet}
 use Rattle.name_rules.specs.Resolves.{Counts, no_number, next_number, ResolvesTo, r_number, r_character, r_text, r_truth, r_null, r_this, r_local, r_static_field, r_own_field, r_class_field, r_field, r_index, r_own_static_call, r_own_call, r_static_call, r_call, r_super_call, r_create, r_create_array, r_cast, r_instance_of, r_unary, r_binary, AllResolve, r_no_more, r_and_more}
 use Rattle.name_rules.specs.Conditions.{IsUnknownCast, no_such_cast, FaultIn, this_in_static, no_variable, static_above, own_in_static, no_class_of_field, no_static_field, in_base, in_array, in_index, no_method, static_method_above, call_in_static, in_arguments, no_class_of_call, no_static_method, in_receiver, in_call_arguments, super_in_static, in_super_arguments, no_class_of_new, in_new_arguments, no_type_of_array, in_size, no_type_of_cast, in_cast, no_class_of_test, in_tested, in_operand, in_left, in_right, FaultInOne, in_first, in_later}
@@ -85,11 +85,11 @@ module _ (t : Table) (O : Plain) (sees : Sees t O) where
       → ((k : ℕ) → class_named O c.name ≡ Some k → ((f : ℕ) → IsStaticFieldOf O k n f → ⊥) → F (Unknown n p))
       → Tells (λ f. (k : ℕ) × (class_named O c.name ≡ Some k) × IsStaticFieldOf O k n f) F (static_field_of t c n p)
   static_field-tells c n p F no_class no_field =
-      in_class-tells c (λ k f. IsStaticFieldOf O k n f) F (λ k. static_field_in t n p (table.own_field t k n)) no_class
+      in_class-tells c (λ k f. IsStaticFieldOf O k n f) F (λ k. static_member n p (is_static_field t) (table.own_field t k n)) no_class
       (λ k e. in_class k e (table.own_field t k n) refl)
     where
       in_class : (k : ℕ) → class_named O c.name ≡ Some k → (o : Option ℕ) → table.own_field t k n ≡ o
-          → Tells (λ f. (k : ℕ) × (class_named O c.name ≡ Some k) × IsStaticFieldOf O k n f) F (static_field_in t n p o)
+          → Tells (λ f. (k : ℕ) × (class_named O c.name ≡ Some k) × IsStaticFieldOf O k n f) F (static_member n p (is_static_field t) o)
       in_class k e None h = no_field k e
           (λ f s. absurd (cc (let a : own_field_of O k n ≡ None = sym (sees.own k n) ∙ h in let b : own_field_of O k n ≡ Some f = s.own in sym a
           ∙ b)))
@@ -102,7 +102,7 @@ module _ (t : Table) (O : Plain) (sees : Sees t O) where
           s = sees.own_stands k n f own_is
 
           at : (o : Option Field) → slice_get t.fields f ≡ o → Tells (λ f. (k : ℕ) × (class_named O c.name ≡ Some k) × IsStaticFieldOf O k n f) F
-              (static_field_at n p f o)
+              (static_at n p f (option_map (λ (x : Field). x.is_static) o))
           at None g = absurd (cc (sym g ∙ s.seen_stands))
           at (Some x) g = used x.is_static refl
             where
@@ -119,11 +119,11 @@ module _ (t : Table) (O : Plain) (sees : Sees t O) where
       → ((k : ℕ) → class_named O c.name ≡ Some k → ((m : ℕ) → IsStaticMethodOf O k n m → ⊥) → F (Unknown n p))
       → Tells (λ m. (k : ℕ) × (class_named O c.name ≡ Some k) × IsStaticMethodOf O k n m) F (static_method_of t c n p)
   static_method-tells c n p F no_class no_member =
-      in_class-tells c (λ k m. IsStaticMethodOf O k n m) F (λ k. static_method_in t n p (own_method t k n)) no_class
+      in_class-tells c (λ k m. IsStaticMethodOf O k n m) F (λ k. static_member n p (is_static_method t) (own_method t k n)) no_class
       (λ k e. in_class k e (own_method t k n) refl)
     where
       in_class : (k : ℕ) → class_named O c.name ≡ Some k → (o : Option ℕ) → own_method t k n ≡ o
-          → Tells (λ m. (k : ℕ) × (class_named O c.name ≡ Some k) × IsStaticMethodOf O k n m) F (static_method_in t n p o)
+          → Tells (λ m. (k : ℕ) × (class_named O c.name ≡ Some k) × IsStaticMethodOf O k n m) F (static_member n p (is_static_method t) o)
       in_class k e None h = no_member k e (λ m s. absurd (cc (sym h ∙ sees.own_only k n m s)))
       in_class k e (Some m) h = at (slice_get t.headings m) refl
         where
@@ -131,7 +131,7 @@ module _ (t : Table) (O : Plain) (sees : Sees t O) where
           own = sees.own_found k n m h
 
           at : (o : Option Heading) → slice_get t.headings m ≡ o → Tells (λ m. (k : ℕ) × (class_named O c.name ≡ Some k) × IsStaticMethodOf O k n m) F
-              (static_method_at n p m o)
+              (static_at n p m (option_map (λ (x : Heading). x.is_static) o))
           at None g = absurd (cc (sym g ∙ own.at.seen_stands))
           at (Some x) g = used x.is_static refl
             where
@@ -203,9 +203,9 @@ module _ (t : Table) (O : Plain) (sees : Sees t O) where
     class-before _ = refl
 
     -- a call by a simple name
-    abbrev pub Calls : List ℕ → Place → Expressions → Option ℕ → Type 0
-    Calls n p es o = (xs : Exs) → AllResolve O here scope es xs → ResolvesTo O here scope (CallOf n es p) (called o n xs p)
-        × (numbers (called o n xs p) ≡ numbers_all xs)
+    abbrev pub Calls : List ℕ → Place → Expressions → Receiver → Type 0
+    Calls n p es o = (xs : Exs) → AllResolve O here scope es xs → ResolvesTo O here scope (CallOf n es p) (called_on o n xs p)
+        × (numbers (called_on o n xs p) ≡ numbers_all xs)
 
     pub call-tells : (n : List ℕ) (p : Place) (es : Expressions) →
         Tells (Calls n p es) (FaultIn O here (bound_names scope) (CallOf n es p)) (call_meaning t here n p)

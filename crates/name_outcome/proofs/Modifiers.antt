@@ -16,18 +16,10 @@ use Rattle.name_rules.specs.declared.parts.Kind.{Kind}
 use Rattle.name_rules.specs.declared.parts.Kind.TheVariants as kinds
 use Rattle.name_outcome.specs.declared.parts.Flags.{Flags}
 use Rattle.name_outcome.specs.Classes.{no_flags, is_taken, noted, flag, flags_of}
-use Rattle.name_rules.specs.Outline.{has_word, is_public_word, is_private_word, is_abstract_word, is_static_word}
+use Rattle.name_rules.specs.Outline.{has_word, is_public_word, is_protected_word, is_private_word, is_abstract_word, is_static_word, is_final_word}
 use Rattle.name_rules.specs.Conditions.{ConditionAt, HasModifiers, disagree, is_unfit, modifiers_disagree, modifier_unfit}
 use Rattle.name_outcome.proofs.Sees.{Tells, turn, same_some}
 use Rattle.name_outcome.proofs.Runs.{run-tells, stands-at, earlier-stands, push-cases}
-
-abbrev pub is_protected_word : Keyword → Bool
-is_protected_word keys.Protected = true
-is_protected_word _ = false
-
-abbrev pub is_final_word : Keyword → Bool
-is_final_word keys.Final = true
-is_final_word _ = false
 
 -- which modifiers stand there, and what disagrees with one of them
 pub record FlagsAre (mods : List Modifier) (f : Flags) : Type 0 where

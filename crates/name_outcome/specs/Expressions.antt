@@ -1,5 +1,6 @@
 -- Which expression a tree is once its names are resolved, or the first of its faults.
 use Rattle.std.specs.Prelude.{ℕ, suc, ◌||◌, ◌==◌, Bool, true, false, List, Option, Some, None, is_some, Result, Ok, Err, if◌then◌else◌, slice_get}
+use Rattle.std.specs.Option.{option_map}
 use Rattle.kaba_base.specs.declared.Place.{Place}
 use Rattle.java_tree.specs.declared.Id.{Id}
 use Rattle.java_tree.specs.declared.TypeName.{TypeName}
@@ -76,57 +77,64 @@ abbrev pub class_before : Table → Here → List Bound → Expression → Optio
 class_before t here scope (NameRef n p) = class_unless (is_variable t here scope n) n p
 class_before t here scope _ = None
 
-abbrev pub static_field_at : List ℕ → Place → ℕ → Option Field → Result ℕ Refusal
-static_field_at n p f None = Err (Unknown n p)
-static_field_at n p f (Some x) = in_own x.is_static n p f
+-- a static member by its number, where it stands, and whether it is static
+abbrev pub static_at : List ℕ → Place → ℕ → Option Bool → Result ℕ Refusal
+static_at n p k None = Err (Unknown n p)
+static_at n p k (Some static) = in_own static n p k
 
-abbrev pub static_field_in : Table → List ℕ → Place → Option ℕ → Result ℕ Refusal
-static_field_in t n p None = Err (Unknown n p)
-static_field_in t n p (Some f) = static_field_at n p f (slice_get t.fields f)
+abbrev pub static_member : List ℕ → Place → (ℕ → Option Bool) → Option ℕ → Result ℕ Refusal
+static_member n p is_static None = Err (Unknown n p)
+static_member n p is_static (Some k) = static_at n p k (is_static k)
 
--- a static field that the class itself declares
+abbrev pub is_static_field : Table → ℕ → Option Bool
+is_static_field t f = option_map (λ x. x.is_static) (slice_get t.fields f)
+
+abbrev pub is_static_method : Table → ℕ → Option Bool
+is_static_method t m = option_map (λ x. x.is_static) (slice_get t.headings m)
+
+-- a static field or method that the class itself declares
 abbrev pub static_field_of : Table → Id → List ℕ → Place → Result ℕ Refusal
-static_field_of t c n p = with (asked t.known c.name c.place) (λ k. static_field_in t n p (table.own_field t k n))
+static_field_of t c n p = with (asked t.known c.name c.place) (λ k. static_member n p (is_static_field t) (table.own_field t k n))
 
-abbrev pub static_method_at : List ℕ → Place → ℕ → Option Heading → Result ℕ Refusal
-static_method_at n p m None = Err (Unknown n p)
-static_method_at n p m (Some x) = in_own x.is_static n p m
-
-abbrev pub static_method_in : Table → List ℕ → Place → Option ℕ → Result ℕ Refusal
-static_method_in t n p None = Err (Unknown n p)
-static_method_in t n p (Some m) = static_method_at n p m (slice_get t.headings m)
-
--- a static method that the class itself declares
 abbrev pub static_method_of : Table → Id → List ℕ → Place → Result ℕ Refusal
-static_method_of t c n p = with (asked t.known c.name c.place) (λ k. static_method_in t n p (own_method t k n))
+static_method_of t c n p = with (asked t.known c.name c.place) (λ k. static_member n p (is_static_method t) (own_method t k n))
+
+-- what a call is on: an object, `this`, the superclass's part of `this`, or nothing where it is of this static method
+pub data Receiver : Type 0 where
+  an_object : Ex → Receiver
+  on_this : Receiver
+  on_super : Receiver
+  no_object : ℕ → Receiver
+
+abbrev pub called_on : Receiver → List ℕ → Exs → Place → Ex
+called_on (an_object e) n es p = call (at_place p) e n es
+called_on on_this n es p = call (at_place p) (this (at_place p)) n es
+called_on on_super n es p = super_call (at_place p) n es
+called_on (no_object m) n es p = static_call (at_place p) m es
 
 -- a call by a simple name: of this static method, or of an instance method on `this`
-abbrev pub called_static : Bool → List ℕ → Place → ℕ → Result (Option ℕ) Refusal
-called_static true n p m = Ok (Some m)
+abbrev pub called_static : Bool → List ℕ → Place → ℕ → Result Receiver Refusal
+called_static true n p m = Ok (no_object m)
 called_static false n p m = Err (Unknown n p)
 
-abbrev pub called_instance : Bool → Place → Result (Option ℕ) Refusal
+abbrev pub called_instance : Bool → Place → Result Receiver Refusal
 called_instance true p = Err (NotInProfile ThisInStatic p)
-called_instance false p = Ok None
+called_instance false p = Ok on_this
 
-abbrev pub method_use : Here → List ℕ → Place → ℕ → Bool → Bool → Result (Option ℕ) Refusal
+abbrev pub method_use : Here → List ℕ → Place → ℕ → Bool → Bool → Result Receiver Refusal
 method_use here n p m true own = called_static own n p m
 method_use here n p m false own = called_instance here.is_static p
 
-abbrev pub method_at : Here → List ℕ → Place → ℕ → Option Heading → Result (Option ℕ) Refusal
+abbrev pub method_at : Here → List ℕ → Place → ℕ → Option Heading → Result Receiver Refusal
 method_at here n p m None = Err (Unknown n p)
 method_at here n p m (Some x) = method_use here n p m x.is_static (x.owner == here.owner)
 
-abbrev pub method_named : Table → Here → List ℕ → Place → Option ℕ → Result (Option ℕ) Refusal
+abbrev pub method_named : Table → Here → List ℕ → Place → Option ℕ → Result Receiver Refusal
 method_named t here n p None = Err (Unknown n p)
 method_named t here n p (Some m) = method_at here n p m (slice_get t.headings m)
 
-unfoldable pub call_meaning : Table → Here → List ℕ → Place → Result (Option ℕ) Refusal
+unfoldable pub call_meaning : Table → Here → List ℕ → Place → Result Receiver Refusal
 call_meaning t here n p = method_named t here n p (method_met t here.owner n)
-
-abbrev pub called : Option ℕ → List ℕ → Exs → Place → Ex
-called (Some m) n es p = static_call (at_place p) m es
-called None n es p = call (at_place p) (this (at_place p)) n es
 
 -- `this` or `super`: nothing in a static method
 abbrev pub in_body : {A : Type 0} → Here → Place → Result A Refusal → Result A Refusal
@@ -151,18 +159,10 @@ abbrev pub field_walk : Table → ℕ → List ℕ → Place → Option Id → W
 field_walk t k n p None w = made (λ e. field (at_place p) e n) w
 field_walk t k n p (Some c) w = with (static_field_of t c n p) (λ f. Ok (static_field (at_place p) f, k))
 
--- what a call is on: an object, or nothing where it is of this static method
-pub data Receiver : Type 0 where
-  an_object : Ex → Receiver
-  no_object : ℕ → Receiver
-
+-- what a call on an expression is on
 abbrev pub receiver : Table → ℕ → List ℕ → Place → Option Id → Walked → Result (Receiver × ℕ) Refusal
 receiver t k n p None w = with w (λ x. Ok (an_object x.0, x.1))
 receiver t k n p (Some c) w = with (static_method_of t c n p) (λ m. Ok (no_object m, k))
-
-abbrev pub called_on : Receiver → List ℕ → Exs → Place → Ex
-called_on (an_object e) n es p = call (at_place p) e n es
-called_on (no_object m) n es p = static_call (at_place p) m es
 
 module _ (t : Table) (here : Here) (scope : List Bound) where
   abbrev mutual
@@ -176,10 +176,10 @@ module _ (t : Table) (here : Here) (scope : List Bound) where
     walk k (NameRef n p) = with (name_meaning t here scope n p) (λ e. Ok (e, k))
     walk k (FieldOf e n p) = field_walk t k n p (class_before t here scope e) (walk k e)
     walk k (IndexOf e i p) = with (walk k e) (λ x. made (index (at_place p) x.0) (walk x.1 i))
-    walk k (CallOf n es p) = with (call_meaning t here n p) (λ m. after (walk_all no_ex k es) (λ xs. called m n xs p))
+    walk k (CallOf n es p) = with (call_meaning t here n p) (λ r. after (walk_all no_ex k es) (λ xs. called_on r n xs p))
     walk k (CallOn e n es p) = with (receiver t k n p (class_before t here scope e) (walk k e))
         (λ r. after (walk_all no_ex r.1 es) (λ xs. called_on r.0 n xs p))
-    walk k (SuperCallOf n es p) = in_body here p (after (walk_all no_ex k es) (super_call (at_place p) n))
+    walk k (SuperCallOf n es p) = in_body here p (after (walk_all no_ex k es) (λ xs. called_on on_super n xs p))
     walk k (NewOf c es p) = with (asked t.known c.name c.place) (λ d. after (walk_all no_ex (suc k) es) (create (at_place p) k d))
     walk k (NewArrayOf u e p) = with (type_of t.known u) (λ u. made (create_array (at_place p) k u) (walk (suc k) e))
     walk k (CastOf u e p) = with (cast_type t u) (λ u. made (cast (at_place p) k u) (walk (suc k) e))

@@ -21,7 +21,7 @@ use Rattle.name_rules.specs.declared.Refusal.TheVariants.{Unknown, Twice, Loop, 
 use Rattle.name_rules.specs.declared.parts.Here.{Here}
 use Rattle.name_rules.specs.declared.parts.Kind.{Kind}
 use Rattle.name_rules.specs.declared.parts.Kind.TheVariants as kinds
-use Rattle.name_rules.specs.Outline.{FieldAt, MethodAt, is_private, has_word, is_abstract_word, outline, fields_in, methods_in, types_in, is_text_type, is_type_name, is_known, name_of, place_of, mods_of, parent_named, faces_named}
+use Rattle.name_rules.specs.Outline.{FieldAt, MethodAt, is_private, has_word, is_public_word, is_protected_word, is_private_word, is_abstract_word, is_static_word, is_final_word, outline, fields_in, methods_in, types_in, is_text_type, is_type_name, is_known, name_of, place_of, mods_of, parent_named, faces_named}
 use Rattle.name_rules.specs.Meanings.{type_names, class_named, is_bound, is_class_name, IsStaticFieldOf, IsStaticMethodOf, IsNearestField, IsMet}
 use Rattle.name_rules.specs.Asked.{Asks}
 use Rattle.name_rules.specs.Resolves.{here_of}
@@ -175,28 +175,21 @@ module _ (O : Plain) (here : Here) where
 
 -- two modifiers that cannot stand together, a second one behind a first: the same twice, or `abstract` with `static` or `private`
 abbrev pub disagree : Keyword → Keyword → Bool
-disagree keys.Public keys.Public = true
-disagree keys.Protected keys.Protected = true
-disagree keys.Private keys.Private = true
-disagree keys.Abstract keys.Abstract = true
-disagree keys.Static keys.Static = true
-disagree keys.Final keys.Final = true
-disagree keys.Abstract keys.Static = true
-disagree keys.Abstract keys.Private = true
-disagree keys.Static keys.Abstract = true
-disagree keys.Private keys.Abstract = true
-disagree _ _ = false
+disagree keys.Public w = is_public_word w
+disagree keys.Protected w = is_protected_word w
+disagree keys.Private w = is_private_word w || is_abstract_word w
+disagree keys.Abstract w = is_abstract_word w || (is_static_word w || is_private_word w)
+disagree keys.Static w = is_static_word w || is_abstract_word w
+disagree keys.Final w = is_final_word w
+disagree _ w = false
 
 -- a modifier that cannot stand there: `static` on a class or interface, `abstract` on a field, any but `public` and `abstract` in an interface
 abbrev pub is_unfit : Kind → Keyword → Bool
-is_unfit kinds.Class keys.Static = true
-is_unfit kinds.Interface keys.Static = true
-is_unfit kinds.Field keys.Abstract = true
-is_unfit kinds.Head keys.Protected = true
-is_unfit kinds.Head keys.Private = true
-is_unfit kinds.Head keys.Static = true
-is_unfit kinds.Head keys.Final = true
-is_unfit _ _ = false
+is_unfit kinds.Class w = is_static_word w
+is_unfit kinds.Interface w = is_static_word w
+is_unfit kinds.Field w = is_abstract_word w
+is_unfit kinds.Head w = (is_protected_word w || is_private_word w) || (is_static_word w || is_final_word w)
+is_unfit kinds.Method w = false
 
 -- where modifiers stand, and before what
 abbrev pub kind_of : DeclTree → Kind

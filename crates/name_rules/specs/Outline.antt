@@ -58,6 +58,10 @@ abbrev pub is_public_word : Keyword → Bool
 is_public_word keys.Public = true
 is_public_word _ = false
 
+abbrev pub is_protected_word : Keyword → Bool
+is_protected_word keys.Protected = true
+is_protected_word _ = false
+
 abbrev pub is_private_word : Keyword → Bool
 is_private_word keys.Private = true
 is_private_word _ = false
@@ -69,6 +73,10 @@ is_abstract_word _ = false
 abbrev pub is_static_word : Keyword → Bool
 is_static_word keys.Static = true
 is_static_word _ = false
+
+abbrev pub is_final_word : Keyword → Bool
+is_final_word keys.Final = true
+is_final_word _ = false
 
 -- whether a modifier of a list passes the test
 abbrev pub has_word : (Keyword → Bool) → List Modifier → Bool

@@ -1,5 +1,6 @@
 pub mod Rows
 pub mod Lists
+pub mod MemberLemmas
 pub mod StatementRows
 pub mod Steps
 pub mod MetLemmas

@@ -3,7 +3,7 @@ use Rattle.std.proofs.Common.{◌≡◌, ℕ, zero, suc, ◌+◌, ◌*◌, ◌<�
 use Rattle.std.specs.Prelude.{slice_get, IfOk, if◌then◌else◌}
 use Rattle.std.specs.Option.{option_map}
 use Rattle.std.proofs.lemmas.Bool.{cases_lt, eq-eqb, false≢true, false_from_ne_true}
-use Rattle.std.proofs.lemmas.List.{drop_all}
+use Rattle.std.proofs.lemmas.List.{drop_all, length-append}
 use Rattle.std.proofs.lemmas.Option.{slice_get-map}
 use Rattle.std.specs.declared.vec.Vec.{Vec}
 use Rattle.std.specs.declared.alloc.Global.{Global}
@@ -38,6 +38,10 @@ pushed_cases [] x y (suc k) e = absurd (cc e)
 pushed_cases (z ∷ xs) x y zero e = inl e
 pushed_cases (z ∷ xs) x y (suc k) e = ⊎_elim (λ h. inl h) (λ h. inr (ap suc h.0, h.1)) (pushed_cases xs x y k e)
 
+-- as many as before, and one
+counted : {A : Type 0} (old : List A) (x : A) {new : List A} {n : ℕ} → length old ≡ n → new ≡ old ++ x ∷ [] → length new ≡ n + 1
+counted old x count push = omega (arith, count, ap length push, length-append old (x ∷ []))
+
 module _ (rows : List (List Bool)) (all : List Heading) where
   pub passed : (list : List ℕ) (blocks : List (List Bool)) → AreBlocks rows all list blocks → (k c place : ℕ) → k * 64 ≡ place → PassesOver blocks k c
       → first_among (λ h. is_above rows c h.owner) all (drop (place + 64) list) ≡ first_among (λ h. is_above rows c h.owner) all (drop place list)
@@ -60,14 +64,17 @@ module _ (rows : List (List Bool)) (all : List Heading) where
         (cases_lt i (from + k));
   }
 
-  pub blocks-more : (list : List ℕ) (old new : List (List Bool)) (r : List Bool) → AreBlocks rows all list old → IsBlock rows all list (length old * 64) 64 r
-      → new ≡ old ++ r ∷ [] → AreBlocks rows all list new
-  blocks-more list old new r b one push = record {
-    each = λ k s e. ⊎_elim
-        (λ h. b.each k s h)
-        (λ h. subst (λ z. IsBlock rows all list (z * 64) 64 s) (sym h.0) (subst (λ z. IsBlock rows all list (length old * 64) 64 z) (sym h.1) one))
-        (pushed_cases old r s k (subst (λ l. slice_get l k ≡ Some s) push e));
-  }
+  pub blocks-more : (list : List ℕ) (old new : List (List Bool)) (r : List Bool) {n : ℕ} → (length old ≡ n) × AreBlocks rows all list old
+      → IsBlock rows all list (n * 64) 64 r → new ≡ old ++ r ∷ [] → (length new ≡ n + 1) × AreBlocks rows all list new
+  blocks-more list old new r {n = n} b one push = (
+    counted old r b.0 push,
+    record {
+      each = λ k s e. ⊎_elim
+          (λ h. b.1.each k s h)
+          (λ h. subst (λ z. IsBlock rows all list (z * 64) 64 s) (sym (h.0 ∙ b.0)) (subst (λ z. IsBlock rows all list (n * 64) 64 z) (sym h.1) one))
+          (pushed_cases old r s k (subst (λ l. slice_get l k ≡ Some s) push e));
+    },
+  )
 
   begun-first : (l : List ℕ) (at : ℕ) → slice_get l 0 ≡ Some at → begun_at l at ≡ l
   begun-first [] at e = absurd (cc e)
@@ -85,12 +92,16 @@ module _ (rows : List (List Bool)) (all : List Heading) where
         let name : h.name ≡ n = cc same in
         subst (λ l. AreBlocks rows all l v.items) (ap (λ z. begun_at (spots_of spots z) at) name ∙ begun-first (spots_of spots n) at e) b
 
-    pub names-more : (old new : List (Vec BitRow Global)) (v : Vec BitRow Global) → AreBlocksOf rows all spots old
-        → ((n : List ℕ) → slice_get (spots_of spots n) 0 ≡ Some (length old) → AreBlocks rows all (spots_of spots n) v.items)
-        → new ≡ old ++ v ∷ [] → AreBlocksOf rows all spots new
-    names-more old new v b one push = record {
-      each = λ n f w first e. ⊎_elim
-          (λ h. b.each n f w first h)
-          (λ h. subst (λ z. AreBlocks rows all (spots_of spots n) z.items) (sym h.1) (one n (subst (λ z. slice_get (spots_of spots n) 0 ≡ Some z) h.0 first)))
-          (pushed_cases old v w f (subst (λ l. slice_get l f ≡ Some w) push e));
-    }
+    pub names-more : (old new : List (Vec BitRow Global)) (v : Vec BitRow Global) {k : ℕ} → (length old ≡ k) × AreBlocksOf rows all spots old
+        → ((n : List ℕ) → slice_get (spots_of spots n) 0 ≡ Some k → AreBlocks rows all (spots_of spots n) v.items)
+        → new ≡ old ++ v ∷ [] → (length new ≡ k + 1) × AreBlocksOf rows all spots new
+    names-more old new v b one push = (
+      counted old v b.0 push,
+      record {
+        each = λ n f w first e. ⊎_elim
+            (λ h. b.1.each n f w first h)
+            (λ h. subst (λ z. AreBlocks rows all (spots_of spots n) z.items) (sym h.1)
+            (one n (subst (λ z. slice_get (spots_of spots n) 0 ≡ Some z) (h.0 ∙ b.0) first)))
+            (pushed_cases old v w f (subst (λ l. slice_get l f ≡ Some w) push e));
+      },
+    )

@@ -1,5 +1,6 @@
 -- What a row of resolved trees is, read as the items of its vector; and what the tree of a form with a list is.
-use Rattle.std.proofs.Common.{◌≡◌, ℕ, subst, Result, Ok, List, [], ◌∷◌, ◌++◌, Option, Some, None, refl, sym, ap, ◌∙◌}
+use Rattle.std.proofs.Common.{◌≡◌, ℕ, subst, Result, Ok, Err, false, List, [], ◌∷◌, ◌++◌, Option, Some, None, refl, sym, ap, ◌∙◌}
+use Rattle.std.specs.Prelude.{if◌then◌else◌}
 use Rattle.java_core.specs.declared.RExpr.{RExpr}
 use Rattle.java_core.specs.declared.RExpr.TheBlock.{hidden-the_row-RExpr-0}
 use Rattle.java_core.specs.Trees.{at_place, Ex, ex_then, no_ex, expr_of, exprs_of, exprs}
@@ -12,12 +13,15 @@ use Rattle.std.specs.declared.vec.Vec.{Vec}
 use Rattle.kaba_base.specs.declared.Place.{Place}
 use Rattle.java_tree.specs.declared.Id.{Id}
 use Rattle.std.specs.declared.alloc.Global.{Global}
+use Rattle.name_rules.specs.declared.Form.TheVariants.{ThisInStatic}
 use Rattle.name_rules.specs.declared.Refusal.{Refusal}
+use Rattle.name_rules.specs.declared.Refusal.TheVariants.{NotInProfile}
 use Rattle.name_rules.specs.declared.parts.Bound.{Bound}
 use Rattle.name_rules.specs.declared.parts.Here.{Here}
 use Rattle.name_outcome.specs.Tables.{Table}
-use Rattle.name_outcome.specs.Answers.{Gives, with}
-use Rattle.name_outcome.specs.Expressions.{ex_last, Receiver, receiver, class_before, called_on, after, walk, walk_all}
+use Rattle.name_outcome.specs.Answers.{Gives}
+use Rattle.name_outcome.specs.Expressions.{ex_last, Receiver, on_super, receiver, class_before, call_meaning, called_on, after, walk, walk_all}
+use Rattle.resolved_bodies.proofs.Steps.{follows}
 
 pub exprs_vec : (v : _) → exprs_of at_place (hidden-the_row-RExpr-0 v) ≡ exprs at_place v.items
 exprs_vec = core_rows.exprs_vec at_place
@@ -48,12 +52,24 @@ pub carry : {A : Type 0} (f : A → Ex × ℕ) (r : Result A Refusal) (t : Table
     → Gives f r (walk t h scope k y) → Gives f r (walk t h scope k x)
 carry f r t h scope k e g = subst (λ z. Gives f r (walk t h scope k z)) (sym e) g
 
--- a call on something: what it is on, and then the call
+-- a call: what it is on, and then the call
 pub on_given : {A : Type 0} (f : A → Ex × ℕ) (r : Result A Refusal) (t : Table) (h : Here) (scope : List Bound) (k j : ℕ) (on : Receiver)
     {x e d : tree.Expression} {n : List ℕ} {es : tree.Expressions} {p : Place} → x ≡ tree.CallOn e n es p → d ≡ e →
     receiver t k n p (class_before t h scope d) (walk t h scope k d) ≡ Ok (on, j)
     → Gives f r (after (walk_all t h scope no_ex j es) (λ xs. called_on on n xs p)) → Gives f r (walk t h scope k x)
-on_given f r t h scope k j on {e = e} {n = n} {es = es} {p = p} shown same given g =
-    carry f r t h scope k shown
-    (subst (λ w. Gives f r (with w (λ r. after (walk_all t h scope no_ex r.1 es) (λ xs. called_on r.0 n xs p)))) (sym given
-    ∙ ap (λ d. receiver t k n p (class_before t h scope d) (walk t h scope k d)) same) g)
+on_given f r t h scope k j on {n = n} {es = es} {p = p} shown same given g =
+    carry f r t h scope k shown (follows f r (λ r. after (walk_all t h scope no_ex r.1 es) (λ xs. called_on r.0 n xs p))
+    (ap (λ d. receiver t k n p (class_before t h scope d) (walk t h scope k d)) (sym same) ∙ given) g)
+
+pub own_given : {A : Type 0} (f : A → Ex × ℕ) (r : Result A Refusal) (t : Table) (h : Here) (scope : List Bound) (k : ℕ) (on : Receiver)
+    {x : tree.Expression} {n : List ℕ} {es : tree.Expressions} {p : Place} → x ≡ tree.CallOf n es p → call_meaning t h n p ≡ Ok on
+    → Gives f r (after (walk_all t h scope no_ex k es) (λ xs. called_on on n xs p)) → Gives f r (walk t h scope k x)
+own_given f r t h scope k on {n = n} {es = es} {p = p} shown given g =
+    carry f r t h scope k shown (follows f r (λ r. after (walk_all t h scope no_ex k es) (λ xs. called_on r n xs p)) given g)
+
+pub super_given : {A : Type 0} (f : A → Ex × ℕ) (r : Result A Refusal) (t : Table) (h : Here) (scope : List Bound) (k : ℕ)
+    {x : tree.Expression} {n : List ℕ} {es : tree.Expressions} {p : Place} → x ≡ tree.SuperCallOf n es p → h.is_static ≡ false
+    → Gives f r (after (walk_all t h scope no_ex k es) (λ xs. called_on on_super n xs p)) → Gives f r (walk t h scope k x)
+super_given f r t h scope k {n = n} {es = es} {p = p} shown on g =
+    let go = after (walk_all t h scope no_ex k es) (λ xs. called_on on_super n xs p) in
+    carry f r t h scope k shown (subst (λ b. Gives f r (if b then Err (NotInProfile ThisInStatic p) else go)) (sym on) g)

@@ -14,9 +14,9 @@ use Rattle.name_outcome.specs.Tables.{Table}
 use Rattle.name_rules.specs.declared.parts.Bound.{Bound}
 use Rattle.name_rules.specs.declared.parts.Here.{Here}
 use Rattle.name_outcome.specs.Answers.{with, IsRefused, Gives}
-use Rattle.name_outcome.specs.Statements.{State, walk_expr, walk_st, walk_sts, walk_arm, walk_arms, walk_else, walk_value, walk_optional, st_last, arm_last, ending, kept}
+use Rattle.name_outcome.specs.Statements.{State, Stepped, walk_expr, walk_st, walk_sts, walk_arm, walk_arms, walk_else, walk_value, walk_optional, st_last, arm_last, ending, kept}
 use Rattle.resolved_bodies.proofs.StatementRows.{stmts_push, arms_push}
-use Rattle.resolved_bodies.proofs.Steps.{passes}
+use Rattle.resolved_bodies.proofs.Steps.{passes, follows}
 use Rattle.std.proofs.Common.{subst}
 use Rattle.kaba_base.proofs.ListLemmas.{drop_at}
 
@@ -109,7 +109,7 @@ pub if_given : {A : Type 0} (f : A → St × List Bound × State) (r : Result A 
     → Gives f r (walk_st t h inside scope k x)
 if_given f r t h inside scope k j a {other = other} {p = p} shown given g =
     carry_st f r t h inside scope k shown
-    (subst (λ w. Gives f r (with w (λ a. kept (walk_else t h inside scope a.1 other) scope (λ o. choose (at_place p) (ending a.0 o))))) (sym given) g)
+    (follows f r (λ a. kept (walk_else t h inside scope a.1 other) scope (λ o. choose (at_place p) (ending a.0 o))) given g)
 
 -- a `for`: its head, and then its body
 pub for_given : {A : Type 0} (f : A → St × List Bound × State) (r : Result A Refusal) (t : Table) (h : Here) (inside : Bool)
@@ -119,13 +119,12 @@ pub for_given : {A : Type 0} (f : A → St × List Bound × State) (r : Result A
     walk_optional t h inside inner k u ≡ Ok a → walk_value t h a.1 a.2 v ≡ Ok b → walk_optional t h inside a.1 b.1 w ≡ Ok c →
     Gives f r (kept (walk_sts t h true no_st c.1 c.2 ss) scope (loop (at_place p) false a.0 b.0 c.0)) → Gives f r (walk_st t h inside scope k x)
 for_given f r t h inside scope inner k a b c {u = u} {w = w} {v = v} {ss = ss} {p = p} shown same first test last g =
+    let run : Sts × List Bound × State → Option Ex × State → Sts × List Bound × State → Stepped = λ a b c.
+    kept (walk_sts t h true no_st c.1 c.2 ss) scope (loop (at_place p) false a.0 b.0 c.0) in
     carry_st f r t h inside scope k shown
-    (subst (λ o. Gives f r (with o (λ a. with (walk_value t h a.1 a.2 v) (λ b. with (walk_optional t h inside a.1 b.1 w)
-    (λ c. kept (walk_sts t h true no_st c.1 c.2 ss) scope (loop (at_place p) false a.0 b.0 c.0)))))) (sym first
-    ∙ ap (λ i. walk_optional t h inside i k u) same)
-    (subst (λ o. Gives f r (with o (λ b. with (walk_optional t h inside a.1 b.1 w) (λ c. kept (walk_sts t h true no_st c.1 c.2 ss) scope
-    (loop (at_place p) false a.0 b.0 c.0))))) (sym test)
-    (subst (λ o. Gives f r (with o (λ c. kept (walk_sts t h true no_st c.1 c.2 ss) scope (loop (at_place p) false a.0 b.0 c.0)))) (sym last) g)))
+    (follows f r (λ a. with (walk_value t h a.1 a.2 v) (λ b. with (walk_optional t h inside a.1 b.1 w) (run a b)))
+    (ap (λ i. walk_optional t h inside i k u) (sym same) ∙ first)
+    (follows f r (λ b. with (walk_optional t h inside a.1 b.1 w) (run a b)) test (follows f r (run a b) last g)))
 
 -- a fault of its last part
 pub for_fault : (r : Refusal) (t : Table) (h : Here) (inside : Bool) (scope inner : List Bound) (k : State) (a : Sts × List Bound × State)

@@ -1,2 +1,3 @@
 pub mod Met
 pub mod Views
+pub mod Members

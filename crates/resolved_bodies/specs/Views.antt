@@ -3,20 +3,27 @@ use Rattle.std.specs.Prelude.{map}
 use Rattle.java_core.specs.Trees.{at_place, expr_of}
 use Rattle.java_core.specs.Programs.{local_seen, method_seen}
 use Rattle.name_outcome.specs.Tables.{Table}
-use Rattle.name_outcome.specs.Expressions.{Receiver, an_object, no_object}
+use Rattle.name_outcome.specs.Expressions.{Receiver, an_object, on_this, on_super, no_object}
 use Rattle.name_outcome.specs.Statements.{State}
 use Rattle.name_outcome.specs.Resolved.{Methods}
 use Rattle.resolved_bodies.specs.declared.declarations.Tables.{Tables}
-use Rattle.resolved_bodies.specs.declared.exprs.Callee.{Callee}
-use Rattle.resolved_bodies.specs.declared.exprs.Callee.TheVariants as callee
+use Rattle.resolved_bodies.specs.declared.declarations.Site.{Site}
+use Rattle.resolved_bodies.specs.declared.meanings.Callee.{Callee}
+use Rattle.resolved_bodies.specs.declared.meanings.Callee.TheVariants as callee
 use Rattle.resolved_bodies.specs.declared.locals.Body.{Body}
 use Rattle.resolved_bodies.specs.declared.bodies.Written.{Written}
 
 abbrev pub table_of : Tables → Table
 table_of t = record { known = t.known; parents = t.parents.items; above = t.above; fields = t.fields.items; headings = t.headings.items }
 
+-- what is declared, where a part of a body stands
+abbrev pub table_at : Site → Table
+table_at s = table_of s.tables.now
+
 abbrev pub receiver_of : Callee → Receiver
-receiver_of (callee.Object e) = an_object (expr_of at_place e)
+receiver_of (callee.Object e) = an_object (expr_of at_place e.value)
+receiver_of callee.This = on_this
+receiver_of callee.Super = on_super
 receiver_of (callee.Static m) = no_object m
 
 abbrev pub state_of : Body → State

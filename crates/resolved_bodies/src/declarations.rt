@@ -1,7 +1,7 @@
 //! All declarations.
 #![tactic(auto)]
 
-ghost use Rattle.std.specs.Prelude.{map};
+ghost use Rattle.std.specs.Prelude.{◌≡◌, map, true};
 ghost use Rattle.java_core.specs.Tables.{AreFieldTables};
 ghost use Rattle.name_outcome.specs.Tables.{field_in, method_in};
 ghost use Rattle.name_tables.specs.Owned.{AreOwned};
@@ -12,7 +12,9 @@ use java_core::{Field, FieldTables, Hierarchy};
 use kaba_base::ClassId;
 use kaba_bits::BitRow;
 use name_outcome::Heading;
+use name_rules::Here;
 use name_tables::{Owned, Spots, Types};
+use std::alloc::Global;
 
 /// All declarations, without the bodies of methods. The number of each is its place in its list.
 #[derive(Drop)]
@@ -39,4 +41,26 @@ pub struct Tables {
     ghost above_found: { AreFieldTables parents.items fields.items field_tables },
     ghost own_found: { AreOwned (method_in headings.items) own_methods },
     ghost methods_found: { AreSpots (map (λ h. h.name) headings.items) method_spots },
+}
+
+/// Where a part of a body stands: what is declared, the class and kind of the body, and whether a loop is about the part.
+/// What is made stands in the memory of `alloc`.
+#[derive(Drop)]
+pub struct Site<'a> {
+    pub alloc: Global,
+    pub tables: &'a Tables,
+    pub here: Here,
+    pub inside: bool,
+}
+
+/// The same in a loop.
+pub fn in_loop<'a>(site: &Site<'a>) -> Site<'a>
+    ensures { result ≡ record site.now { inside = true } }
+{
+    Site {
+        alloc: site.alloc,
+        tables: site.tables,
+        here: site.here,
+        inside: true,
+    }
 }

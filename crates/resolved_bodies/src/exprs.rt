@@ -2,38 +2,31 @@
 #![tactic(auto)]
 
 ghost use Rattle.std.specs.Prelude.{◌≡◌, ℕ};
-ghost use Rattle.java_tree.specs.Syntax.{expr_of, exprs, CallOf, SuperCallOf, NewOf};
+ghost use Rattle.std.specs.declared.boxed.Box.{Box};
+ghost use Rattle.java_tree.specs.Syntax.{expr_of, exprs, NewOf};
 ghost use Rattle.java_core.specs.Trees as core;
 ghost use Rattle.java_core.specs.Trees.{at_place, Ex, Exs, no_ex};
 ghost use Rattle.java_core.specs.declared.RExpr.{RExpr};
-ghost use Rattle.resolved_bodies.specs.declared.exprs.Callee.{Callee};
+ghost use Rattle.resolved_bodies.specs.declared.meanings.Callee.{Callee};
 ghost use Rattle.std.specs.declared.vec.Vec.{Vec};
 ghost use Rattle.std.specs.declared.alloc.Global.{Global};
 ghost use Rattle.name_outcome.specs.Answers.{Gives};
-ghost use Rattle.resolved_bodies.specs.Views.{table_of};
 ghost use Rattle.name_outcome.specs.Expressions.{class_before, Receiver, receiver, called_on, after, walk, walk_all};
-ghost use Rattle.resolved_bodies.specs.Views.{receiver_of};
+ghost use Rattle.resolved_bodies.specs.Views.{table_at, receiver_of};
 ghost use Rattle.name_rules.specs.Resolves.{un_op, bin_op};
 
-use crate::declarations::Tables;
+use crate::declarations::Site;
 use crate::make;
 use crate::meanings::{
-    call_meaning, cast_type, class_before, name_meaning, next, static_field_of, static_method_of,
+    Callee, call_meaning, cast_type, class_before, name_meaning, next, static_field_of,
+    static_method_of,
 };
 use java_core::{BinOp, Op, RExpr, UnOp};
 use java_lex::Mark;
 use java_tree::{Expr, Id};
-use kaba_base::{MemberId, Name, Place, made};
-use name_rules::{Form, Here, Refusal};
+use kaba_base::{ClassId, MemberId, Name, Place, made};
+use name_rules::{Form, Refusal};
 use name_tables::{Scope, asked, type_of};
-use std::alloc::Global;
-
-/// What a call is on: an object, or nothing where it is of a static method.
-#[derive(Drop)]
-enum Callee {
-    Object(RExpr),
-    Static(u32),
-}
 
 /// The operator of a mark.
 fn un_op(mark: Mark) -> UnOp
@@ -77,16 +70,9 @@ fn bin_op(mark: Mark) -> BinOp
 /// An expression with its names resolved. `number` is the next free number of a creation, a cast or
 /// an `instanceof`.
 #[cycle(exprs)]
-pub fn expr(
-    alloc: Global,
-    tables: &Tables,
-    here: Here,
-    scope: &Scope,
-    number: &mut u32,
-    tree: &Expr,
-) -> Result<RExpr, Refusal>
+pub fn expr(site: &Site, scope: &Scope, number: &mut u32, tree: &Expr) -> Result<RExpr, Refusal>
     ensures given { Gives {A = RExpr} {B = Ex × ℕ} (λ e. (core.expr_of at_place e, number.new)) result
-        (walk (table_of tables.now) here scope.now number.old (expr_of tree.now)) }
+        (walk (table_at site.now) site.now.here scope.now number.old (expr_of tree.now)) }
 {
     match tree {
         Expr::Int { value, place } => Ok(RExpr::Int {
@@ -98,7 +84,7 @@ pub fn expr(
             place: *place,
         }),
         Expr::Str { units, place } => Ok(RExpr::Str {
-            units: units.copy(alloc)?,
+            units: units.copy(site.alloc)?,
             place: *place,
         }),
         Expr::Bool { value, place } => Ok(RExpr::Bool {
@@ -107,28 +93,36 @@ pub fn expr(
         }),
         Expr::Null { place } => Ok(RExpr::Null { place: *place }),
         Expr::This { place } => {
-            if here.is_static {
+            if site.here.is_static {
                 return Err(Refusal::NotInProfile(Form::ThisInStatic, *place));
             }
             Ok(RExpr::This { place: *place })
         }
-        Expr::Name { name, place } => name_meaning(alloc, tables, here, scope, name, *place),
+        Expr::Name { name, place } => name_meaning(site, scope, name, *place),
         Expr::Field { base, name, place } => {
-            if let Some(class) = class_before(alloc, tables, here, scope, base)? {
-                let field = made!(static_field_of(alloc, tables, &class, name, *place); class);
+            if let Some(class) = class_before(site, scope, base)? {
+                let field = made!(static_field_of(site, &class, name, *place); class);
                 return Ok(RExpr::Static {
                     field: MemberId(field),
                     place: *place,
                 });
             }
-            let base = expr(alloc, tables, here, scope, number, base)?;
-            let name = made!(name.copy(alloc) => Refusal; base);
-            Ok(make::field(alloc, base, name, *place)?)
+            let base = boxed(site, scope, number, base)?;
+            let name = made!(name.copy(site.alloc) => Refusal; base);
+            Ok(RExpr::Field {
+                base,
+                name,
+                place: *place,
+            })
         }
         Expr::Index { base, at, place } => {
-            let base = expr(alloc, tables, here, scope, number, base)?;
-            let at = made!(expr(alloc, tables, here, scope, number, at); base);
-            Ok(make::index(alloc, base, at, *place)?)
+            let base = boxed(site, scope, number, base)?;
+            let at = made!(boxed(site, scope, number, at); base);
+            Ok(RExpr::Index {
+                base,
+                at,
+                place: *place,
+            })
         }
         Expr::Call {
             base,
@@ -136,43 +130,67 @@ pub fn expr(
             args,
             place,
         } => match base {
-            None => simple_call(alloc, tables, here, scope, number, name, args, *place),
+            None => {
+                let on = call_meaning(site, name, *place)?;
+                applied(site, scope, number, on, name, args, *place)
+            }
             Some(base) => {
-                let on = callee_of(alloc, tables, here, scope, number, base, name, *place)?;
-                applied(alloc, tables, here, scope, number, on, name, args, *place)
+                let on = callee_of(site, scope, number, base, name, *place)?;
+                applied(site, scope, number, on, name, args, *place)
             }
         },
         Expr::SuperCall { name, args, place } => {
-            super_call(alloc, tables, here, scope, number, name, args, *place)
+            if site.here.is_static {
+                return Err(Refusal::NotInProfile(Form::ThisInStatic, *place));
+            }
+            applied(site, scope, number, Callee::Super, name, args, *place)
         }
-        Expr::New { class, args, place } => {
-            new_object(alloc, tables, here, scope, number, class, args, *place)
-        }
+        Expr::New { class, args, place } => { new_object(site, scope, number, class, args, *place) }
         Expr::NewArray { ty, size, place } => {
-            let ty = type_of(alloc, &tables.known, ty)?;
+            let ty = type_of(site.alloc, &site.tables.known, ty)?;
             let own = next(number)?;
-            let size = expr(alloc, tables, here, scope, number, size)?;
-            Ok(make::create_array(alloc, own, ty, size, *place)?)
+            let size = boxed(site, scope, number, size)?;
+            Ok(RExpr::NewArray {
+                number: own,
+                ty,
+                size,
+                place: *place,
+            })
         }
         Expr::Cast { ty, value, place } => {
-            let ty = cast_type(alloc, tables, ty)?;
+            let ty = cast_type(site, ty)?;
             let own = next(number)?;
-            let value = expr(alloc, tables, here, scope, number, value)?;
-            Ok(make::cast(alloc, own, ty, value, *place)?)
+            let value = boxed(site, scope, number, value)?;
+            Ok(RExpr::Cast {
+                number: own,
+                ty,
+                value,
+                place: *place,
+            })
         }
         Expr::InstanceOf {
             value,
             class,
             place,
         } => {
-            let value = expr(alloc, tables, here, scope, number, value)?;
-            let class = made!(asked(alloc, &tables.known, &class.name, class.place); value);
+            let value = boxed(site, scope, number, value)?;
+            let class =
+                made!(asked(site.alloc, &site.tables.known, &class.name, class.place); value);
             let own = made!(next(number); value);
-            Ok(make::instance_of(alloc, own, value, class, *place)?)
+            Ok(RExpr::InstanceOf {
+                number: own,
+                value,
+                class: ClassId(class),
+                place: *place,
+            })
         }
         Expr::Unary { mark, value, place } => {
-            let value = expr(alloc, tables, here, scope, number, value)?;
-            Ok(make::unary(alloc, un_op(*mark), value, *place)?)
+            let value = boxed(site, scope, number, value)?;
+            Ok(RExpr::Unary {
+                op: un_op(*mark),
+                value,
+                place: *place,
+            })
         }
         Expr::Binary {
             mark,
@@ -180,46 +198,32 @@ pub fn expr(
             right,
             place,
         } => {
-            let left = expr(alloc, tables, here, scope, number, left)?;
-            let right = made!(expr(alloc, tables, here, scope, number, right); left);
-            Ok(make::binary(alloc, bin_op(*mark), left, right, *place)?)
+            let left = boxed(site, scope, number, left)?;
+            let right = made!(boxed(site, scope, number, right); left);
+            Ok(RExpr::Binary {
+                op: bin_op(*mark),
+                left,
+                right,
+                place: *place,
+            })
         }
     }
 }
 
-/// `name(args)`
+/// The same, as a part of another.
 #[cycle(exprs)]
-fn simple_call(
-    alloc: Global,
-    tables: &Tables,
-    here: Here,
-    scope: &Scope,
-    number: &mut u32,
-    name: &Name,
-    args: &Vec<Expr>,
-    place: Place,
-) -> Result<RExpr, Refusal>
-    ensures given { Gives {A = RExpr} {B = Ex × ℕ} (λ e. (core.expr_of at_place e, number.new)) result
-        (walk (table_of tables.now) here scope.now number.old
-        (CallOf name.now (exprs args.now.items) place)) }
+fn boxed(site: &Site, scope: &Scope, number: &mut u32, tree: &Expr) -> Result<Box<RExpr>, Refusal>
+    ensures given { Gives {A = Box RExpr Global} {B = Ex × ℕ} (λ e. (core.expr_of at_place e.value, number.new)) result
+        (walk (table_at site.now) site.now.here scope.now number.old (expr_of tree.now)) }
 {
-    let method = call_meaning(alloc, tables, here, name, place)?;
-    let args = all(alloc, tables, here, scope, number, args)?;
-    match method {
-        Some(method) => Ok(make::static_call(method, args, place)),
-        None => {
-            let name = made!(name.copy(alloc) => Refusal; args);
-            Ok(make::call(name, args, place))
-        }
-    }
+    let expr = expr(site, scope, number, tree)?;
+    Ok(Box::new(site.alloc, expr)?)
 }
 
 /// What `base.name(..)` is called on.
 #[cycle(exprs)]
 fn callee_of(
-    alloc: Global,
-    tables: &Tables,
-    here: Here,
+    site: &Site,
     scope: &Scope,
     number: &mut u32,
     base: &Expr,
@@ -227,25 +231,23 @@ fn callee_of(
     place: Place,
 ) -> Result<Callee, Refusal>
     ensures given { Gives {A = Callee} {B = Receiver × ℕ} (λ c. (receiver_of c, number.new)) result
-        (receiver (table_of tables.now) number.old name.now place
-        (class_before (table_of tables.now) here scope.now (expr_of base.now))
-        (walk (table_of tables.now) here scope.now number.old (expr_of base.now))) }
+        (receiver (table_at site.now) number.old name.now place
+        (class_before (table_at site.now) site.now.here scope.now (expr_of base.now))
+        (walk (table_at site.now) site.now.here scope.now number.old (expr_of base.now))) }
 {
-    match class_before(alloc, tables, here, scope, base)? {
+    match class_before(site, scope, base)? {
         Some(class) => {
-            let method = made!(static_method_of(alloc, tables, &class, name, place); class);
+            let method = made!(static_method_of(site, &class, name, place); class);
             Ok(Callee::Static(method))
         }
-        None => Ok(Callee::Object(expr(alloc, tables, here, scope, number, base)?)),
+        None => Ok(Callee::Object(boxed(site, scope, number, base)?)),
     }
 }
 
 /// The call of `name` on it.
 #[cycle(exprs)]
 fn applied(
-    alloc: Global,
-    tables: &Tables,
-    here: Here,
+    site: &Site,
     scope: &Scope,
     number: &mut u32,
     on: Callee,
@@ -254,47 +256,18 @@ fn applied(
     place: Place,
 ) -> Result<RExpr, Refusal>
     ensures given { Gives {A = RExpr} {B = Ex × ℕ} (λ e. (core.expr_of at_place e, number.new)) result
-        (after (walk_all (table_of tables.now) here scope.now no_ex number.old (exprs args.now.items))
+        (after (walk_all (table_at site.now) site.now.here scope.now no_ex number.old (exprs args.now.items))
         (λ xs. called_on (receiver_of on) name.now xs place)) }
 {
-    let name = made!(name.copy(alloc) => Refusal; on);
-    let args = made!(all(alloc, tables, here, scope, number, args); on, name);
-    match on {
-        Callee::Static(method) => Ok(make::static_call(method, args, place)),
-        Callee::Object(base) => Ok(make::call_on(alloc, base, name, args, place)?),
-    }
-}
-
-/// `super.name(args)`
-#[cycle(exprs)]
-fn super_call(
-    alloc: Global,
-    tables: &Tables,
-    here: Here,
-    scope: &Scope,
-    number: &mut u32,
-    name: &Name,
-    args: &Vec<Expr>,
-    place: Place,
-) -> Result<RExpr, Refusal>
-    ensures given { Gives {A = RExpr} {B = Ex × ℕ} (λ e. (core.expr_of at_place e, number.new)) result
-        (walk (table_of tables.now) here scope.now number.old
-        (SuperCallOf name.now (exprs args.now.items) place)) }
-{
-    if here.is_static {
-        return Err(Refusal::NotInProfile(Form::ThisInStatic, place));
-    }
-    let args = all(alloc, tables, here, scope, number, args)?;
-    let name = made!(name.copy(alloc) => Refusal; args);
-    Ok(make::super_call(name, args, place))
+    let name = made!(name.copy(site.alloc) => Refusal; on);
+    let args = made!(all(site, scope, number, args); on, name);
+    Ok(make::call(on, name, args, place))
 }
 
 /// `new class(args)`
 #[cycle(exprs)]
 fn new_object(
-    alloc: Global,
-    tables: &Tables,
-    here: Here,
+    site: &Site,
     scope: &Scope,
     number: &mut u32,
     class: &Id,
@@ -302,12 +275,12 @@ fn new_object(
     place: Place,
 ) -> Result<RExpr, Refusal>
     ensures given { Gives {A = RExpr} {B = Ex × ℕ} (λ e. (core.expr_of at_place e, number.new)) result
-        (walk (table_of tables.now) here scope.now number.old
+        (walk (table_at site.now) site.now.here scope.now number.old
         (NewOf class.now (exprs args.now.items) place)) }
 {
-    let class = asked(alloc, &tables.known, &class.name, class.place)?;
+    let class = asked(site.alloc, &site.tables.known, &class.name, class.place)?;
     let own = next(number)?;
-    let args = all(alloc, tables, here, scope, number, args)?;
+    let args = all(site, scope, number, args)?;
     Ok(make::create(own, class, args, place))
 }
 
@@ -315,20 +288,17 @@ fn new_object(
 #[cycle(exprs)]
 #[tactic(auto, using(crate::proofs::Rows::exprs_push))]
 fn all(
-    alloc: Global,
-    tables: &Tables,
-    here: Here,
+    site: &Site,
     scope: &Scope,
     number: &mut u32,
     list: &Vec<Expr>,
 ) -> Result<Vec<RExpr>, Refusal>
-    ensures given { Gives {A = Vec RExpr Global} {B = Exs × ℕ}
-        (λ v. (core.exprs at_place v.items, number.new)) result
-        (walk_all (table_of tables.now) here scope.now no_ex number.old (exprs list.now.items)) }
+    ensures given { Gives {A = Vec RExpr Global} {B = Exs × ℕ} (λ v. (core.exprs at_place v.items, number.new)) result
+        (walk_all (table_at site.now) site.now.here scope.now no_ex number.old (exprs list.now.items)) }
 {
-    let mut done = Vec::new(alloc);
+    let mut done = Vec::new(site.alloc);
     for one in list {
-        done.push(expr(alloc, tables, here, scope, number, one)?)?;
+        done.push(expr(site, scope, number, one)?)?;
     }
     Ok(done)
 }

@@ -13,34 +13,24 @@ ghost use Rattle.java_core.specs.declared.RStmt.{RStmt};
 ghost use Rattle.java_core.specs.declared.RArm.{RArm};
 ghost use Rattle.name_rules.specs.declared.parts.Bound.{Bound};
 ghost use Rattle.name_outcome.specs.Answers.{Gives};
-ghost use Rattle.resolved_bodies.specs.Views.{table_of};
 ghost use Rattle.name_outcome.specs.Statements.{State, kept, ending, walk_arm, walk_st, walk_sts, walk_arms, walk_else, walk_optional};
-ghost use Rattle.resolved_bodies.specs.Views.{state_of};
+ghost use Rattle.resolved_bodies.specs.Views.{table_at, state_of};
 
-use crate::declarations::Tables;
+use crate::declarations::{Site, in_loop};
 use crate::locals::{Body, declaration, part, value};
 use crate::make;
 use java_core::{RArm, RExpr, RStmt};
 use java_tree::{Arm, Expr, Stmt};
 use kaba_base::{Place, made};
-use name_rules::{Form, Here, Refusal};
+use name_rules::{Form, Refusal};
 use name_tables::Scope;
-use std::alloc::Global;
 
-/// A statement. `inside` says whether a loop is about it.
+/// A statement.
 #[cycle(stmts)]
-fn stmt(
-    alloc: Global,
-    tables: &Tables,
-    here: Here,
-    inside: bool,
-    scope: &mut Scope,
-    body: &mut Body,
-    tree: &Stmt,
-) -> Result<RStmt, Refusal>
+fn stmt(site: &Site, scope: &mut Scope, body: &mut Body, tree: &Stmt) -> Result<RStmt, Refusal>
     ensures given { Gives {A = RStmt} {B = St × List Bound × State}
         (λ s. (core.stmt_of at_place s, scope.new, state_of body.new)) result
-        (walk_st (table_of tables.now) here inside scope.old (state_of body.old) (stmt_of tree.now)) }
+        (walk_st (table_at site.now) site.now.here site.now.inside scope.old (state_of body.old) (stmt_of tree.now)) }
 {
     match tree {
         Stmt::Local {
@@ -49,17 +39,15 @@ fn stmt(
             value,
             place,
             ..
-        } => declaration(alloc, tables, here, scope, body, ty, name, value, *place),
-        Stmt::Block { items, place } => {
-            block(alloc, tables, here, inside, scope, body, items, *place)
-        }
+        } => declaration(site, scope, body, ty, name, value, *place),
+        Stmt::Block { items, place } => { block(site, scope, body, items, *place) }
         Stmt::Assign {
             target,
             value,
             place,
-        } => assign(alloc, tables, here, scope, body, target, value, *place),
+        } => assign(site, scope, body, target, value, *place),
         Stmt::Do { call, place } => {
-            let call = part(alloc, tables, here, scope, body, call)?;
+            let call = part(site, scope, body, call)?;
             Ok(RStmt::Do {
                 call,
                 place: *place,
@@ -70,20 +58,20 @@ fn stmt(
             value: shown,
             place,
         } => {
-            let value = value(alloc, tables, here, scope, body, shown)?;
+            let value = value(site, scope, body, shown)?;
             Ok(RStmt::Print {
                 newline: *newline,
                 value,
                 place: *place,
             })
         }
-        Stmt::If { arms, other, place } => {
-            match all_arms(alloc, tables, here, inside, scope, body, arms) {
-                Ok(done) => {
-                    choice(
-                        alloc, tables, here, inside, scope, body, done, other, *place,
-                    )
-                }
+        Stmt::If {
+            arms: list,
+            other,
+            place,
+        } => {
+            match arms(site, scope, body, list) {
+                Ok(done) => { choice(site, scope, body, done, other, *place) }
                 Err(refusal) => Err(refusal),
             }
         }
@@ -91,7 +79,7 @@ fn stmt(
             test,
             body: run,
             place,
-        } => while_loop(alloc, tables, here, scope, body, test, run, *place),
+        } => while_loop(site, scope, body, test, run, *place),
         Stmt::For {
             first,
             test,
@@ -99,15 +87,11 @@ fn stmt(
             body: run,
             place,
         } => {
-            let mut inner = Scope::within(alloc, &*scope);
-            let first = optional(alloc, tables, here, inside, &mut inner, body, first)?;
-            let test = value(alloc, tables, here, &inner, body, test)?;
-            match optional(alloc, tables, here, inside, &mut inner, body, step) {
-                Ok(last) => {
-                    for_body(
-                        alloc, tables, here, &inner, body, first, test, last, run, *place,
-                    )
-                }
+            let mut inner = Scope::within(site.alloc, &*scope);
+            let first = optional(site, &mut inner, body, first)?;
+            let test = value(site, &inner, body, test)?;
+            match optional(site, &mut inner, body, step) {
+                Ok(last) => { for_body(site, &inner, body, first, test, last, run, *place) }
                 Err(refusal) => {
                     drop(first);
                     drop(test);
@@ -120,20 +104,20 @@ fn stmt(
             value: given,
             place,
         } => {
-            let value = value(alloc, tables, here, scope, body, given)?;
+            let value = value(site, scope, body, given)?;
             Ok(RStmt::Return {
                 value,
                 place: *place,
             })
         }
         Stmt::Break { place } => {
-            if !inside {
+            if !site.inside {
                 return Err(Refusal::NotInProfile(Form::BreakOutside, *place));
             }
             Ok(RStmt::Break { place: *place })
         }
         Stmt::Continue { place } => {
-            if !inside {
+            if !site.inside {
                 return Err(Refusal::NotInProfile(Form::BreakOutside, *place));
             }
             Ok(RStmt::Continue { place: *place })
@@ -144,9 +128,7 @@ fn stmt(
 /// An assignment.
 #[tactic(auto, using(crate::proofs::StatementRows::target_shown))]
 fn assign(
-    alloc: Global,
-    tables: &Tables,
-    here: Here,
+    site: &Site,
     scope: &Scope,
     body: &mut Body,
     target: &Expr,
@@ -155,11 +137,11 @@ fn assign(
 ) -> Result<RStmt, Refusal>
     ensures given { Gives {A = RStmt} {B = St × List Bound × State}
         (λ s. (core.stmt_of at_place s, scope.now, state_of body.new)) result
-        (walk_st (table_of tables.now) here true scope.now (state_of body.old)
+        (walk_st (table_at site.now) site.now.here true scope.now (state_of body.old)
         (AssignOf (expr_of target.now) (expr_of value.now) place)) }
 {
-    let target = part(alloc, tables, here, scope, body, target)?;
-    let value = made!(part(alloc, tables, here, scope, body, value); target);
+    let target = part(site, scope, body, target)?;
+    let value = made!(part(site, scope, body, value); target);
     Ok(RStmt::Assign {
         target,
         value,
@@ -170,10 +152,7 @@ fn assign(
 /// `{ items }`
 #[cycle(stmts)]
 fn block(
-    alloc: Global,
-    tables: &Tables,
-    here: Here,
-    inside: bool,
+    site: &Site,
     scope: &Scope,
     body: &mut Body,
     items: &Vec<Stmt>,
@@ -181,10 +160,10 @@ fn block(
 ) -> Result<RStmt, Refusal>
     ensures given { Gives {A = RStmt} {B = St × List Bound × State}
         (λ s. (core.stmt_of at_place s, scope.now, state_of body.new)) result
-        (walk_st (table_of tables.now) here inside scope.now (state_of body.old)
+        (walk_st (table_at site.now) site.now.here site.now.inside scope.now (state_of body.old)
         (BlockOf (stmts items.now.items) place)) }
 {
-    let items = statements(alloc, tables, here, inside, scope, body, items)?;
+    let items = statements(site, scope, body, items)?;
     Ok(make::block(items, place))
 }
 
@@ -192,10 +171,7 @@ fn block(
 #[cycle(stmts)]
 #[tactic(auto, using(crate::proofs::StatementRows::arms_ending))]
 fn choice(
-    alloc: Global,
-    tables: &Tables,
-    here: Here,
-    inside: bool,
+    site: &Site,
     scope: &Scope,
     body: &mut Body,
     arms: Vec<RArm>,
@@ -204,20 +180,18 @@ fn choice(
 ) -> Result<RStmt, Refusal>
     ensures given { Gives {A = RStmt} {B = St × List Bound × State}
         (λ s. (core.stmt_of at_place s, scope.now, state_of body.new)) result
-        (kept (walk_else (table_of tables.now) here inside scope.now (state_of body.old)
+        (kept (walk_else (table_at site.now) site.now.here site.now.inside scope.now (state_of body.old)
         (else_seen other.now)) scope.now
         (λ o. choose (at_place place) (ending (core.arms_seen at_place arms.items no_other) o))) }
 {
-    let other = made!(otherwise(alloc, tables, here, inside, scope, body, other); arms);
+    let other = made!(otherwise(site, scope, body, other); arms);
     Ok(make::choose(arms, other, place))
 }
 
 /// A `while`.
 #[cycle(stmts)]
 fn while_loop(
-    alloc: Global,
-    tables: &Tables,
-    here: Here,
+    site: &Site,
     scope: &Scope,
     body: &mut Body,
     test: &Expr,
@@ -226,20 +200,18 @@ fn while_loop(
 ) -> Result<RStmt, Refusal>
     ensures given { Gives {A = RStmt} {B = St × List Bound × State}
         (λ s. (core.stmt_of at_place s, scope.now, state_of body.new)) result
-        (walk_st (table_of tables.now) here true scope.now (state_of body.old)
+        (walk_st (table_at site.now) site.now.here true scope.now (state_of body.old)
         (WhileOf (expr_of test.now) (stmts run.now.items) place)) }
 {
-    let test = part(alloc, tables, here, scope, body, test)?;
-    let run = made!(statements(alloc, tables, here, true, scope, body, run); test);
+    let test = part(site, scope, body, test)?;
+    let run = made!(statements(&in_loop(site), scope, body, run); test);
     Ok(make::while_loop(test, run, place))
 }
 
 /// A `for` with this head; the scope of its first part ends with it.
 #[cycle(stmts)]
 fn for_body(
-    alloc: Global,
-    tables: &Tables,
-    here: Here,
+    site: &Site,
     inner: &Scope,
     body: &mut Body,
     first: Option<Box<RStmt>>,
@@ -250,35 +222,32 @@ fn for_body(
 ) -> Result<RStmt, Refusal>
     ensures given { (outer : List Bound) → Gives {A = RStmt} {B = St × List Bound × State}
         (λ s. (core.stmt_of at_place s, outer, state_of body.new)) result
-        (kept (walk_sts (table_of tables.now) here true no_st inner.now (state_of body.old)
+        (kept (walk_sts (table_at site.now) site.now.here true no_st inner.now (state_of body.old)
         (stmts run.now.items)) outer (loop (at_place place) false (core.step_seen at_place first)
         (core.value_of at_place test) (core.step_seen at_place step))) }
 {
-    let run = made!(statements(alloc, tables, here, true, inner, body, run); first, test, step);
+    let run = made!(statements(&in_loop(site), inner, body, run); first, test, step);
     Ok(make::for_loop(first, test, step, run, place))
 }
 
 /// The first or the last part of a `for`.
 #[cycle(stmts)]
 fn optional(
-    alloc: Global,
-    tables: &Tables,
-    here: Here,
-    inside: bool,
+    site: &Site,
     scope: &mut Scope,
     body: &mut Body,
     tree: &Option<Box<Stmt>>,
 ) -> Result<Option<Box<RStmt>>, Refusal>
     ensures given { Gives {A = Option (Box RStmt Global)} {B = Sts × List Bound × State}
         (λ s. (core.step_seen at_place s, scope.new, state_of body.new)) result
-        (walk_optional (table_of tables.now) here inside scope.old (state_of body.old)
+        (walk_optional (table_at site.now) site.now.here site.now.inside scope.old (state_of body.old)
         (boxed_step tree.now)) }
 {
     match tree {
         None => Ok(None),
         Some(tree) => {
-            let stmt = stmt(alloc, tables, here, inside, scope, body, tree)?;
-            Ok(Some(Box::new(alloc, stmt)?))
+            let stmt = stmt(site, scope, body, tree)?;
+            Ok(Some(Box::new(site.alloc, stmt)?))
         }
     }
 }
@@ -286,65 +255,46 @@ fn optional(
 /// An `else`.
 #[cycle(stmts)]
 fn otherwise(
-    alloc: Global,
-    tables: &Tables,
-    here: Here,
-    inside: bool,
+    site: &Site,
     scope: &Scope,
     body: &mut Body,
     tree: &Option<Vec<Stmt>>,
 ) -> Result<Option<Vec<RStmt>>, Refusal>
     ensures given { Gives {A = Option (Vec RStmt Global)} {B = Arms × State}
         (λ o. (core.else_seen at_place o, state_of body.new)) result
-        (walk_else (table_of tables.now) here inside scope.now (state_of body.old)
+        (walk_else (table_at site.now) site.now.here site.now.inside scope.now (state_of body.old)
         (else_seen tree.now)) }
 {
     match tree {
         None => Ok(None),
-        Some(list) => Ok(Some(statements(alloc, tables, here, inside, scope, body, list)?)),
+        Some(list) => Ok(Some(statements(site, scope, body, list)?)),
     }
 }
 
 /// An arm of an `if`.
 #[cycle(stmts)]
-fn arm(
-    alloc: Global,
-    tables: &Tables,
-    here: Here,
-    inside: bool,
-    scope: &Scope,
-    body: &mut Body,
-    tree: &Arm,
-) -> Result<RArm, Refusal>
+fn arm(site: &Site, scope: &Scope, body: &mut Body, tree: &Arm) -> Result<RArm, Refusal>
     ensures given { Gives {A = RArm} {B = Ex × Sts × State}
         (λ a. (core.expr_of at_place a.test, core.stmts at_place a.body.items, state_of body.new)) result
-        (walk_arm (table_of tables.now) here inside scope.now (state_of body.old)
+        (walk_arm (table_at site.now) site.now.here site.now.inside scope.now (state_of body.old)
         (expr_of tree.now.test) (stmts tree.now.body.items)) }
 {
-    let test = part(alloc, tables, here, scope, body, &tree.test)?;
-    let run = made!(statements(alloc, tables, here, inside, scope, body, &tree.body); test);
+    let test = part(site, scope, body, &tree.test)?;
+    let run = made!(statements(site, scope, body, &tree.body); test);
     Ok(RArm { test, body: run })
 }
 
 /// The arms of an `if`.
 #[cycle(stmts)]
-fn all_arms(
-    alloc: Global,
-    tables: &Tables,
-    here: Here,
-    inside: bool,
-    scope: &Scope,
-    body: &mut Body,
-    list: &Vec<Arm>,
-) -> Result<Vec<RArm>, Refusal>
+fn arms(site: &Site, scope: &Scope, body: &mut Body, list: &Vec<Arm>) -> Result<Vec<RArm>, Refusal>
     ensures given { Gives {A = Vec RArm Global} {B = Arms × State}
         (λ v. (core.arms_seen at_place v.items no_other, state_of body.new)) result
-        (walk_arms (table_of tables.now) here inside no_other scope.now (state_of body.old)
+        (walk_arms (table_at site.now) site.now.here site.now.inside no_other scope.now (state_of body.old)
         (arms_seen list.now.items)) }
 {
-    let mut done = Vec::new(alloc);
+    let mut done = Vec::new(site.alloc);
     for one in list {
-        match arm(alloc, tables, here, inside, scope, body, one) {
+        match arm(site, scope, body, one) {
             Ok(arm) => done.push(arm)?,
             Err(refusal) => return Err(refusal),
         }
@@ -355,23 +305,20 @@ fn all_arms(
 /// Statements one after the other: their locals leave the scope at the end.
 #[cycle(stmts)]
 pub fn statements(
-    alloc: Global,
-    tables: &Tables,
-    here: Here,
-    inside: bool,
+    site: &Site,
     scope: &Scope,
     body: &mut Body,
     list: &Vec<Stmt>,
 ) -> Result<Vec<RStmt>, Refusal>
     ensures given { Gives {A = Vec RStmt Global} {B = Sts × State}
         (λ v. (core.stmts at_place v.items, state_of body.new)) result
-        (walk_sts (table_of tables.now) here inside no_st scope.now (state_of body.old)
+        (walk_sts (table_at site.now) site.now.here site.now.inside no_st scope.now (state_of body.old)
         (stmts list.now.items)) }
 {
-    let mut inner = Scope::within(alloc, &*scope);
-    let mut done = Vec::new(alloc);
+    let mut inner = Scope::within(site.alloc, &*scope);
+    let mut done = Vec::new(site.alloc);
     for one in list {
-        done.push(stmt(alloc, tables, here, inside, &mut inner, body, one)?)?;
+        done.push(stmt(site, &mut inner, body, one)?)?;
     }
     Ok(done)
 }

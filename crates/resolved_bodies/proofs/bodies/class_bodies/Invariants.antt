@@ -8,5 +8,5 @@ use Rattle.resolved_bodies.proofs.bodies.class_bodies.Given as goal
 
 -- the methods so far, and then the rest
 abbrev pub invariant-loop-member : goal.invariant-loop-member
-invariant-loop-member l = run (body_step (table_of l.tables) l.owner) (methods_seen l.written) (members (drop l.member-index l.member-items))
-    ≡ run (body_step (table_of l.tables) l.owner) (methods_seen l.fn.written) (members l.list.items)
+invariant-loop-member l = run (body_step (table_of l.owner.tables.now) l.owner.number) (methods_seen l.written) (members (drop l.member-index l.member-items))
+    ≡ run (body_step (table_of l.owner.tables.now) l.owner.number) (methods_seen l.fn.written) (members l.list.items)

@@ -8,5 +8,5 @@ use Rattle.resolved_bodies.proofs.bodies.interface_bodies.Given as goal
 
 -- the methods so far, and then the rest
 abbrev pub invariant-loop-head : goal.invariant-loop-head
-invariant-loop-head l = run (head_body_step (table_of l.tables) l.owner) (methods_seen l.written) (heads (drop l.head-index l.head-items))
-    ≡ run (head_body_step (table_of l.tables) l.owner) (methods_seen l.fn.written) (heads l.list.items)
+invariant-loop-head l = run (head_body_step (table_of l.owner.tables.now) l.owner.number) (methods_seen l.written) (heads (drop l.head-index l.head-items))
+    ≡ run (head_body_step (table_of l.owner.tables.now) l.owner.number) (methods_seen l.fn.written) (heads l.list.items)

@@ -8,5 +8,5 @@ use Rattle.resolved_bodies.proofs.bodies.methods_of.Given as goal
 
 -- the methods so far, and then the rest
 abbrev pub invariant-loop-decl : goal.invariant-loop-decl
-invariant-loop-decl l = run (decl_bodies (table_of l.tables)) (l.owner, methods_seen l.written) (decls (drop l.decl-index l.list))
+invariant-loop-decl l = run (decl_bodies (table_of l.tables)) (l.number, methods_seen l.written) (decls (drop l.decl-index l.list))
     ≡ run (decl_bodies (table_of l.tables)) (1, ([], 0)) (decls l.list)

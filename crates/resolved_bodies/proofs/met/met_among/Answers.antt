@@ -1,4 +1,4 @@
-use Rattle.std.proofs.Common.{◌≡◌, ◌+◌, ◌*◌, ◌/◌, ◌∙◌, arith}
+use Rattle.std.proofs.Common.{◌≡◌, ◌*◌, ◌/◌, ◌∙◌, arith}
 use Rattle.resolved_bodies.proofs.MetLemmas.{passed}
 use Rattle.resolved_bodies.proofs.met.met_among.Goals as goal
 

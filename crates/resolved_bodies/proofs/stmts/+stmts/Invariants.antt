@@ -4,23 +4,23 @@ use Rattle.java_tree.specs.Size.{stmt_size, stmts_size, arms_size, else_size, st
 use Rattle.java_tree.specs.Arms.{arm_size}
 use Rattle.java_core.specs.Trees as core
 use Rattle.java_core.specs.Trees.{at_place, no_st, no_other}
-use Rattle.resolved_bodies.specs.Views.{table_of}
+use Rattle.resolved_bodies.specs.Views.{table_at}
 use Rattle.name_outcome.specs.Statements.{walk_sts, walk_arms}
 use Rattle.resolved_bodies.specs.Views.{state_of}
 use Rattle.resolved_bodies.proofs.stmts.+stmts.Given as goal
 
 -- what the arms so far and the rest resolve to is what all resolve to
-abbrev pub invariant-all_arms-loop-one : goal.invariant-all_arms-loop-one
-invariant-all_arms-loop-one l =
-    walk_arms (table_of l.tables) l.here l.inside (core.arms_seen at_place l.done.items no_other) l.scope (state_of l.body)
+abbrev pub invariant-arms-loop-one : goal.invariant-arms-loop-one
+invariant-arms-loop-one l =
+    walk_arms (table_at l.site) l.site.here l.site.inside (core.arms_seen at_place l.done.items no_other) l.scope (state_of l.body)
     (arms_seen (drop l.one-index l.one-items))
-    ≡ walk_arms (table_of l.tables) l.here l.inside no_other l.scope (state_of l.fn.body) (arms_seen l.list.items)
+    ≡ walk_arms (table_at l.site) l.site.here l.site.inside no_other l.scope (state_of l.fn.body) (arms_seen l.list.items)
 
 -- what the statements so far and the rest resolve to is what all resolve to
 abbrev pub invariant-statements-loop-one : goal.invariant-statements-loop-one
 invariant-statements-loop-one l =
-    walk_sts (table_of l.tables) l.here l.inside (core.stmts at_place l.done.items) l.inner (state_of l.body) (stmts (drop l.one-index l.one-items))
-    ≡ walk_sts (table_of l.tables) l.here l.inside no_st l.scope (state_of l.fn.body) (stmts l.list.items)
+    walk_sts (table_at l.site) l.site.here l.site.inside (core.stmts at_place l.done.items) l.inner (state_of l.body) (stmts (drop l.one-index l.one-items))
+    ≡ walk_sts (table_at l.site) l.site.here l.site.inside no_st l.scope (state_of l.fn.body) (stmts l.list.items)
 
 abbrev pub decreases-stmt : goal.decreases-stmt
 decreases-stmt l = 4 * stmt_size (stmt_of l.tree.now)
@@ -46,8 +46,8 @@ decreases-otherwise l = 4 * else_size (else_seen l.tree.now) + 2
 abbrev pub decreases-arm : goal.decreases-arm
 decreases-arm l = 4 * arm_size l.tree.now
 
-abbrev pub decreases-all_arms : goal.decreases-all_arms
-decreases-all_arms l = 4 * arms_size (arms_seen l.list.now.items) + 1
+abbrev pub decreases-arms : goal.decreases-arms
+decreases-arms l = 4 * arms_size (arms_seen l.list.now.items) + 1
 
 abbrev pub decreases-statements : goal.decreases-statements
 decreases-statements l = 4 * stmts_size (stmts l.list.now.items) + 1
