@@ -1,5 +1,5 @@
 -- Statements with lists, as their plain trees.
-use Rattle.std.proofs.Common.{◌≡◌, true, false, Option, Some, Result, Ok, sym, ap, ◌∙◌}
+use Rattle.std.proofs.Common.{◌≡◌, true, false, List, Option, Some, Result, Ok, sym, ap, ◌∙◌}
 use Rattle.std.specs.declared.vec.Vec.{Vec}
 use Rattle.std.specs.declared.boxed.Box.{Box}
 use Rattle.std.specs.declared.alloc.Global.{Global}
@@ -10,10 +10,15 @@ use Rattle.java_core.specs.declared.RArm.{RArm}
 use Rattle.java_core.specs.Trees.{no_st, block, choose, loop, at_place, expr_of, value_of, stmt_of, stmts, arms_seen, else_seen, step_seen}
 use Rattle.java_core.specs.Programs.{Plain}
 use Rattle.java_core.specs.Types.{Env}
+use Rattle.java_core.proofs.StatementSize.{sts_size}
 use Rattle.java_core.proofs.Rows.{stmts_vec, if_as, for_as}
 use Rattle.java_check.specs.declared.CheckFault.{CheckFault}
 use Rattle.java_check.specs.StatementOutcome.{test_answer, condition_answer, st_answer, sts_answer}
 use Rattle.java_check.proofs.Arguments.{and_then-ok}
+
+-- statements that are held have the size of what they are
+pub held_size : {held list : List RStmt} → held ≡ list → sts_size (stmts at_place held) ≡ sts_size (stmts at_place list)
+held_size e = ap (λ (xs : List RStmt). sts_size (stmts at_place xs)) e
 
 pub block_seen : {s : RStmt} (v : Vec RStmt Global) (p : Place) → s ≡ Block v p → stmt_of at_place s ≡ block (at_place p) (stmts at_place v.items)
 block_seen v p h = ap (stmt_of at_place) h ∙ ap (block (at_place p)) (stmts_vec at_place v)

@@ -4,9 +4,12 @@ use Rattle.std.specs.Option.{option_map_or, is_some}
 use Rattle.std.specs.Int.{bit_at}
 use Rattle.kaba_base.specs.declared.ClassId.{ClassId}
 use Rattle.java_core.specs.declared.Method.{Method}
-use Rattle.java_core.specs.Programs.{Plain, PlainMethod}
+use Rattle.java_core.specs.Trees.{no_place}
+use Rattle.java_core.specs.Programs.{Plain, PlainMethod, program_of}
+use Rattle.java_core.specs.Formed.{IsFormed}
 use Rattle.java_core.specs.Classes.{parent_of, faces_of, has_slot, below, nearest_declaration, is_concrete, is_interface}
 use Rattle.java_check.specs.ClassOutcome.{method_rule}
+use Rattle.java_check.specs.declared.tables.Batch.{Batch}
 use Rattle.java_check.specs.declared.tables.Asked.{Asked}
 use Rattle.java_check.specs.declared.tables.Asked.TheVariants.{Bodied, Bare, Public, Hidden, Faced}
 use Rattle.java_check.specs.declared.slots.Found.{Found}
@@ -58,6 +61,11 @@ says P q c s m = option_map_or (λ k. has_slot c s k && answers P q k) (slice_ge
 -- the methods of 64 slots are among these
 abbrev pub AreListed : Plain → ℕ → List ℕ → Type 0
 AreListed P b ms = (m i : ℕ) (k : PlainMethod) → slice_get P.methods m ≡ Some k → i < 64 → k.slot ≡ Some (64 * b + i) → Contains ms m
+
+-- a formed program, and each of its methods that has one of the 64 slots is listed
+pub record IsBatch (b : Batch) : Type 0 where
+  pub formed : IsFormed (program_of no_place b.p.now)
+  pub listed : AreListed (program_of no_place b.p.now) b.number b.list.now
 
 -- the word of the superclass, or another one where there is none
 abbrev pub parent_word : Plain → List ℕ → ℕ → ℕ → ℕ

@@ -6,11 +6,11 @@ ghost use Rattle.java_core.specs.Programs.{program_of};
 ghost use Rattle.java_core.specs.Owned.{AreOwned};
 ghost use Rattle.java_core.specs.Formed.{IsFormed};
 ghost use Rattle.java_check.specs.ClassOutcome.{class_rule};
-ghost use Rattle.java_check.specs.SlotOutcome.{batch_place, method_batch, AreListed, AreFound, are_apart, is_clear, IsFineFor, is_bare, has_bare};
+ghost use Rattle.java_check.specs.SlotOutcome.{batch_place, method_batch, AreListed, IsBatch, AreFound, are_apart, is_clear, IsFineFor, is_bare, has_bare};
 
 use crate::classes::is_interface;
 use crate::expressions::is_concrete;
-use crate::tables::{Asked, above_table, nearest_table, word_at};
+use crate::tables::{Asked, Batch, above_table, nearest_table, word_at};
 use java_core::{Method, Program, listed_under, note_under};
 use kaba_base::ClassId;
 use std::alloc::{AllocError, Global};
@@ -76,40 +76,15 @@ fn has_bare(p: &Program, list: &[usize]) -> bool
 }
 
 /// What the classes have of 64 slots; `AllocError` where memory is short.
-fn found_for(
-    alloc: Global,
-    p: &Program,
-    order: &[u32],
-    list: &[usize],
-    batch: usize,
-) -> Result<Found, AllocError>
-    requires formed { IsFormed (program_of no_place p.now) }
-    requires listed { AreListed (program_of no_place p.now) batch list.now }
-    ensures { IfOk result (λ found. AreFound (program_of no_place p.now) batch found) }
+fn found_for(batch: &Batch) -> Result<Found, AllocError>
+    requires { IsBatch batch.now }
+    ensures { IfOk result (λ found. AreFound (program_of no_place batch.now.p.now) batch.now.number found) }
 {
     Ok(Found {
-        bare: nearest_table(
-            alloc,
-            p,
-            order,
-            list,
-            batch,
-            Asked::Bodied,
-            Asked::Bare,
-            false,
-        )?,
-        hidden: nearest_table(
-            alloc,
-            p,
-            order,
-            list,
-            batch,
-            Asked::Public,
-            Asked::Hidden,
-            true,
-        )?,
-        offered: above_table(alloc, p, order, list, batch, Asked::Bare)?,
-        faced: above_table(alloc, p, order, list, batch, Asked::Faced)?,
+        bare: nearest_table(batch, Asked::Bodied, Asked::Bare, false)?,
+        hidden: nearest_table(batch, Asked::Public, Asked::Hidden, true)?,
+        offered: above_table(batch, Asked::Bare)?,
+        faced: above_table(batch, Asked::Faced)?,
     })
 }
 
@@ -163,7 +138,13 @@ fn fine_for(
     if !has_bare(p, list) {
         return Ok(until);
     }
-    let found = found_for(alloc, p, order, list, batch)?;
+    let found = found_for(&Batch {
+        alloc,
+        p,
+        order,
+        list,
+        number: batch,
+    })?;
     Ok(clear_until(p, &found, until))
 }
 

@@ -8,12 +8,23 @@ ghost use Rattle.java_core.specs.Programs.{program_of, method_seen, PlainMethod}
 ghost use Rattle.java_core.specs.Classes as classes;
 ghost use Rattle.java_core.specs.Classes.{is_slot};
 ghost use Rattle.java_core.specs.Formed.{IsFormed};
-ghost use Rattle.java_check.specs.SlotOutcome.{bit, is_within, has_faces, full, word_at, own_at, answers, says, AreListed, parent_word, is_nearest_at, is_above_at, HasNearest, HasAbove};
+ghost use Rattle.java_check.specs.SlotOutcome.{bit, is_within, has_faces, full, word_at, own_at, answers, says, IsBatch, parent_word, is_nearest_at, is_above_at, HasNearest, HasAbove};
 
 use crate::classes::is_interface;
 use java_core::{Method, Program, faces_of, parent_of};
 use kaba_base::ClassId;
 use std::alloc::{AllocError, Global};
+
+/// The 64 slots from 64 times `number` on, with a list of methods and an order of the classes. What is made stands in the
+/// memory of `alloc`.
+#[derive(Drop)]
+pub(crate) struct Batch<'a> {
+    pub alloc: Global,
+    pub p: &'a Program,
+    pub order: &'a [u32],
+    pub list: &'a [usize],
+    pub number: usize,
+}
 
 /// What is asked of a method.
 #[derive(Clone, Copy)]
@@ -95,19 +106,13 @@ fn set_methods(p: &Program, table: &mut [u64], batch: usize, asked: Asked, list:
 }
 
 /// For each class the slots for which it declares itself what is asked; `AllocError` where memory is short.
-fn own_table(
-    alloc: Global,
-    p: &Program,
-    list: &[usize],
-    batch: usize,
-    asked: Asked,
-) -> Result<Vec<u64>, AllocError>
-    ensures len { IfOk result (λ t. length t.items ≡ length p.now.classes.items) }
-    ensures bits { IfOk result (λ t. (c i : ℕ) → c < length p.now.classes.items → i < 64 → bit (own_at t.items c) i
-        ≡ list_any (λ m. says (program_of no_place p.now) asked c (64 * batch + i) m) list.now) }
+fn own_table(batch: &Batch, asked: Asked) -> Result<Vec<u64>, AllocError>
+    ensures len { IfOk result (λ t. length t.items ≡ length batch.now.p.now.classes.items) }
+    ensures bits { IfOk result (λ t. (c i : ℕ) → c < length batch.now.p.now.classes.items → i < 64 → bit (own_at t.items c) i
+        ≡ list_any (λ m. says (program_of no_place batch.now.p.now) asked c (64 * batch.now.number + i) m) batch.now.list.now) }
 {
-    let mut table = vec![in alloc; 0u64; p.classes.len()]?;
-    set_methods(p, &mut table, batch, asked, list);
+    let mut table = vec![in batch.alloc; 0u64; batch.p.classes.len()]?;
+    set_methods(batch.p, &mut table, batch.number, asked, batch.list);
     Ok(table)
 }
 
@@ -237,27 +242,23 @@ fn base_word(none: bool) -> u64
 
 /// For each class the slots of which the nearest declaration is not what is asked; the same is said of none where there is none.
 pub(crate) fn nearest_table(
-    alloc: Global,
-    p: &Program,
-    order: &[u32],
-    list: &[usize],
-    batch: usize,
+    batch: &Batch,
     asked: Asked,
     other: Asked,
     none: bool,
 ) -> Result<Vec<u64>, AllocError>
-    requires formed { IsFormed (program_of no_place p.now) }
-    requires listed { AreListed (program_of no_place p.now) batch list.now }
-    requires other { (k : PlainMethod) → answers (program_of no_place p.now) other k ≡ not (answers (program_of no_place p.now) asked k) }
-    ensures { IfOk result (λ t. HasNearest (program_of no_place p.now) asked none batch t.items) }
+    requires other { (k : PlainMethod) → answers (program_of no_place batch.now.p.now) other k ≡ not (answers (program_of no_place batch.now.p.now) asked k) }
+    requires batch { IsBatch batch.now }
+    ensures { IfOk result (λ t. HasNearest (program_of no_place batch.now.p.now) asked none batch.now.number t.items) }
 {
-    let having = own_table(alloc, p, list, batch, asked)?;
-    let lacking = own_table(alloc, p, list, batch, other)?;
-    let table = filled_nearest(alloc, p, order, &having, &lacking, base_word(none))?;
-    if is_nearest(p, &table, &having, &lacking, base_word(none)) {
+    let having = own_table(batch, asked)?;
+    let lacking = own_table(batch, other)?;
+    let base = base_word(none);
+    let table = filled_nearest(batch.alloc, batch.p, batch.order, &having, &lacking, base)?;
+    if is_nearest(batch.p, &table, &having, &lacking, base) {
         return Ok(table);
     }
-    Ok(Vec::new(alloc))
+    Ok(Vec::new(batch.alloc))
 }
 
 /// The bits of a class and of what these interfaces have.
@@ -332,22 +333,14 @@ fn is_above(p: &Program, table: &[u64], own: &[u64]) -> bool
 }
 
 /// For each class the slots for which a method that is what is asked stands at or above it; `AllocError` where memory is short.
-pub(crate) fn above_table(
-    alloc: Global,
-    p: &Program,
-    order: &[u32],
-    list: &[usize],
-    batch: usize,
-    asked: Asked,
-) -> Result<Vec<u64>, AllocError>
-    requires formed { IsFormed (program_of no_place p.now) }
-    requires listed { AreListed (program_of no_place p.now) batch list.now }
-    ensures { IfOk result (λ t. HasAbove (program_of no_place p.now) asked batch t.items) }
+pub(crate) fn above_table(batch: &Batch, asked: Asked) -> Result<Vec<u64>, AllocError>
+    requires { IsBatch batch.now }
+    ensures { IfOk result (λ t. HasAbove (program_of no_place batch.now.p.now) asked batch.now.number t.items) }
 {
-    let own = own_table(alloc, p, list, batch, asked)?;
-    let table = filled_above(alloc, p, order, &own)?;
-    if is_above(p, &table, &own) {
+    let own = own_table(batch, asked)?;
+    let table = filled_above(batch.alloc, batch.p, batch.order, &own)?;
+    if is_above(batch.p, &table, &own) {
         return Ok(table);
     }
-    Ok(Vec::new(alloc))
+    Ok(Vec::new(batch.alloc))
 }

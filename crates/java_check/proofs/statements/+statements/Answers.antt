@@ -4,7 +4,7 @@ use Rattle.java_core.specs.Programs.{program_of}
 use Rattle.java_check.specs.Outcome.{env_in}
 use Rattle.java_check.specs.StatementOutcome.{st_answer, sts_answer, arms_answer}
 use Rattle.java_core.proofs.StatementSize.{st_size, sts_size, arms_size, stmt_smaller, arm_smaller, else_smaller}
-use Rattle.java_check.proofs.Forms.{block_seen, if_seen, while_seen, for_seen, while_body, for_body}
+use Rattle.java_check.proofs.Forms.{block_seen, if_seen, while_seen, for_seen, while_body, for_body, held_size}
 use Rattle.java_check.proofs.statements.+statements.Goals as goal
 
 pub check_stmt-returns-in-Block : goal.check_stmt-returns-in-Block
@@ -42,40 +42,20 @@ check_stmts-check_stmt-requires t c =
     (omega (arith, c.decreases, stmt_smaller at_place c.args.list.now c.loop-s.s-index c.s-item.result c.loop-s-test.true c.s-item.is), c.requires)
 
 pub check_stmt-check_stmts-requires : goal.check_stmt-check_stmts-requires
-check_stmt-check_stmts-requires t c = (
-  omega (
-    arith,
-    c.decreases,
-    ap st_size (block_seen c.in-Block.items c.in-Block.place c.in-Block.is),
-    ap (λ xs. sts_size (stmts at_place xs))
-        c.deref.ensures.value,
-  ),
-  c.requires,
-)
+check_stmt-check_stmts-requires t c =
+    let form = ap st_size (block_seen c.in-Block.items c.in-Block.place c.in-Block.is) in
+    (omega (arith, c.decreases, form, held_size c.deref.ensures.value), c.requires)
 
 pub check_stmt-check_arms-requires : goal.check_stmt-check_arms-requires
-check_stmt-check_arms-requires t c = (
-  omega (
-    arith,
-    c.decreases,
-    ap st_size (if_seen c.in-If.arms c.in-If.other c.in-If.place c.in-If.is),
-    ap
-        (λ xs. arms_size (arms_seen at_place xs (else_seen at_place c.in-If.other))) c.deref-in-If.ensures.value,
-  ),
-  c.requires,
-)
+check_stmt-check_arms-requires t c =
+    let form = ap st_size (if_seen c.in-If.arms c.in-If.other c.in-If.place c.in-If.is) in
+    let arms = ap (λ xs. arms_size (arms_seen at_place xs (else_seen at_place c.in-If.other))) c.deref-in-If.ensures.value in
+    (omega (arith, c.decreases, form, arms), c.requires)
 
 pub check_stmt-check_stmts-requires-in-Ok : goal.check_stmt-check_stmts-requires-in-Ok
-check_stmt-check_stmts-requires-in-Ok t c = (
-  omega (
-    arith,
-    c.decreases,
-    ap st_size (while_seen c.in-While.test c.in-While.items c.in-While.place c.in-While.is),
-    ap
-        (λ xs. sts_size (stmts at_place xs)) c.deref-in-Ok.ensures.value,
-  ),
-  c.requires,
-)
+check_stmt-check_stmts-requires-in-Ok t c =
+    let form = ap st_size (while_seen c.in-While.test c.in-While.items c.in-While.place c.in-While.is) in
+    (omega (arith, c.decreases, form, held_size c.deref-in-Ok.ensures.value), c.requires)
 
 pub check_stmt-check_step-requires : goal.check_stmt-check_step-requires
 check_stmt-check_step-requires t c = (
@@ -90,41 +70,21 @@ check_stmt-check_step-requires-in-For t c = (
 )
 
 pub check_stmt-check_stmts-requires-in-For : goal.check_stmt-check_stmts-requires-in-For
-check_stmt-check_stmts-requires-in-For t c = (
-  omega (
-    arith,
-    c.decreases,
-    ap st_size (for_seen c.in-For.first c.in-For.test c.in-For.step c.in-For.items c.in-For.place c.in-For.is),
-    ap
-        (λ xs. sts_size (stmts at_place xs)) c.deref-in-For.ensures.value,
-  ),
-  c.requires,
-)
+check_stmt-check_stmts-requires-in-For t c =
+    let form = ap st_size (for_seen c.in-For.first c.in-For.test c.in-For.step c.in-For.items c.in-For.place c.in-For.is) in
+    (omega (arith, c.decreases, form, held_size c.deref-in-For.ensures.value), c.requires)
 
 pub check_arms-check_stmts-requires-in-Some : goal.check_arms-check_stmts-requires-in-Some
-check_arms-check_stmts-requires-in-Some t c = (
-  omega (
-    arith,
-    c.decreases,
-    else_smaller at_place c.args.arms.now (else_seen at_place c.args.other.now),
-    ap (λ o. arms_size (else_seen at_place o))
-        c.in-Some.is,
-    ap (λ xs. sts_size (stmts at_place xs)) c.deref-in-Some.ensures.value,
-  ),
-  c.requires,
-)
+check_arms-check_stmts-requires-in-Some t c =
+    let less = else_smaller at_place c.args.arms.now (else_seen at_place c.args.other.now) in
+    let other = ap (λ o. arms_size (else_seen at_place o)) c.in-Some.is in
+    (omega (arith, c.decreases, less, other, held_size c.deref-in-Some.ensures.value), c.requires)
 
 pub check_arms-check_stmts-requires : goal.check_arms-check_stmts-requires
-check_arms-check_stmts-requires t c = (
-  omega (
-    arith,
-    c.decreases,
-    arm_smaller at_place c.args.arms.now (else_seen at_place c.args.other.now) c.loop-arm.arm-index c.arm-item.result
-        c.loop-arm-test.true c.arm-item.is,
-    ap (λ xs. sts_size (stmts at_place xs)) c.deref.ensures.value,
-  ),
-  c.requires,
-)
+check_arms-check_stmts-requires t c =
+    let less = arm_smaller at_place c.args.arms.now (else_seen at_place c.args.other.now) c.loop-arm.arm-index c.arm-item.result c.loop-arm-test.true
+    c.arm-item.is in
+    (omega (arith, c.decreases, less, held_size c.deref.ensures.value), c.requires)
 
 pub check_step-check_stmt-requires : goal.check_step-check_stmt-requires
 check_step-check_stmt-requires t c = (

@@ -6,12 +6,13 @@ use Rattle.java_check.proofs.Upward.{above_found, above_empty}
 use Rattle.java_check.proofs.tables.above_table.Goals as goal
 
 pub returns : goal.returns
-returns c = let e : c.new.result.items ≡ [] = search rules in above_empty (program_of no_place c.args.p.now) c.args.asked c.args.batch c.new.result.items e
+returns c = let e : c.new.result.items ≡ [] = search rules in above_empty (program_of no_place c.args.batch.now.p.now) c.args.asked
+    c.args.batch.now.number c.new.result.items e
 
 pub returns-then-is_above : goal.returns-then-is_above
 returns-then-is_above c =
-    let p = c.args.p.now in
+    let p = c.args.batch.now.p.now in
     let table = c.in_ok-table.table.items in
     let own = c.in_ok-own.own.items in
     let checked : (k : ℕ) → k < length table → is_above_at (program_of no_place p) table own k ≡ true = search rules in
-    above_found p c.requires.formed c.args.batch c.args.list.now c.requires.listed c.args.asked table own c.in_ok-own.ensures.bits checked
+    above_found p c.requires.formed c.args.batch.now.number c.args.batch.now.list.now c.requires.listed c.args.asked table own c.in_ok-own.ensures.bits checked

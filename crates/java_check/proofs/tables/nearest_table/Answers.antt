@@ -6,15 +6,17 @@ use Rattle.java_check.proofs.Upward.{nearest_found, nearest_empty}
 use Rattle.java_check.proofs.tables.nearest_table.Goals as goal
 
 pub returns : goal.returns
-returns c = let e : c.new.result.items ≡ [] = search rules in nearest_empty (program_of no_place c.args.p.now) c.args.asked c.args.none c.args.batch
+returns c = let e : c.new.result.items ≡ [] = search rules in nearest_empty (program_of no_place c.args.batch.now.p.now) c.args.asked c.args.none
+    c.args.batch.now.number
     c.new.result.items e
 
 pub returns-then-is_nearest : goal.returns-then-is_nearest
 returns-then-is_nearest c =
-    let p = c.args.p.now in
+    let p = c.args.batch.now.p.now in
     let table = c.in_ok-table.table.items in
     let having = c.in_ok-having.having.items in
     let lacking = c.in_ok-lacking.lacking.items in
     let checked : (k : ℕ) → k < length table → is_nearest_at (program_of no_place p) table having lacking (cond c.args.none 0 full) k ≡ true = search rules in
-    nearest_found p c.requires.formed c.args.batch c.args.list.now c.requires.listed c.args.asked c.args.other c.args.none c.requires.other table having lacking
+    nearest_found p c.requires.batch.formed c.args.batch.now.number c.args.batch.now.list.now c.requires.batch.listed c.args.asked c.args.other
+    c.args.none c.requires.other table having lacking
     c.in_ok-having.ensures.len c.in_ok-having.ensures.bits c.in_ok-lacking.ensures.bits checked
