@@ -12,9 +12,6 @@ use sets::add_sets;
 use std::alloc::{AllocError, Global};
 use std::io;
 
-/// What was made, or that memory was short.
-type Tried<T> = Result<T, AllocError>;
-
 fn main(rt: HostRuntime) -> io::Result<()> {
     match lines(rt.alloc()) {
         Ok(text) => print!(rt; "{text}"),
@@ -23,7 +20,7 @@ fn main(rt: HostRuntime) -> io::Result<()> {
 }
 
 /// All lines.
-fn lines(alloc: Global) -> Tried<String> {
+fn lines(alloc: Global) -> Result<String, AllocError> {
     let mut text = String::new(alloc);
     add_reads(alloc, &mut text)?;
     add_writes(alloc, &mut text)?;

@@ -3,13 +3,12 @@
 ghost use Rattle.std.specs.Prelude.{◌≡◌, true};
 ghost use Rattle.kaba_order.specs.Orders.{is_live};
 
-use crate::Tried;
 use kaba_base::NodeId;
 use kaba_order::{Order, OrderFault};
-use std::alloc::Global;
+use std::alloc::{AllocError, Global};
 
 /// The pairs of live nodes of which the first is strictly below the second.
-fn add_pairs(text: &mut String, order: &Order) -> Tried<()> {
+fn add_pairs(text: &mut String, order: &Order) -> Result<(), AllocError> {
     text.push_str("pairs:")?;
     for a in 0..order.count() {
         for b in 0..order.count() {
@@ -23,7 +22,7 @@ fn add_pairs(text: &mut String, order: &Order) -> Tried<()> {
 }
 
 /// Why an order stays as it is.
-fn add_fault(text: &mut String, fault: OrderFault) -> Tried<()> {
+fn add_fault(text: &mut String, fault: OrderFault) -> Result<(), AllocError> {
     match fault {
         OrderFault::Cycle(x) => write!(text, "cycle {}\n", x.0),
         OrderFault::Memory => text.push_str("memory\n"),
@@ -31,7 +30,13 @@ fn add_fault(text: &mut String, fault: OrderFault) -> Tried<()> {
 }
 
 /// One node below another, where both are live.
-fn add_under(alloc: Global, text: &mut String, order: &mut Order, n: u32, p: u32) -> Tried<()> {
+fn add_under(
+    alloc: Global,
+    text: &mut String,
+    order: &mut Order,
+    n: u32,
+    p: u32,
+) -> Result<(), AllocError> {
     write!(text, "{n} under {p}: ")?;
     if !order.is_live(NodeId(n)) || !order.is_live(NodeId(p)) {
         return text.push_str("not live\n");
@@ -43,7 +48,13 @@ fn add_under(alloc: Global, text: &mut String, order: &mut Order, n: u32, p: u32
 }
 
 /// One node made of two, where both are live.
-fn add_union(alloc: Global, text: &mut String, order: &mut Order, a: u32, b: u32) -> Tried<()> {
+fn add_union(
+    alloc: Global,
+    text: &mut String,
+    order: &mut Order,
+    a: u32,
+    b: u32,
+) -> Result<(), AllocError> {
     write!(text, "union of {a} and {b}: ")?;
     if !order.is_live(NodeId(a)) || !order.is_live(NodeId(b)) {
         return text.push_str("not live\n");
@@ -56,7 +67,7 @@ fn add_union(alloc: Global, text: &mut String, order: &mut Order, a: u32, b: u32
 }
 
 /// The upper covers of a node, where it is live.
-fn add_covers(alloc: Global, text: &mut String, order: &Order, n: u32) -> Tried<()> {
+fn add_covers(alloc: Global, text: &mut String, order: &Order, n: u32) -> Result<(), AllocError> {
     write!(text, "covers of {n}:")?;
     if order.is_live(NodeId(n)) {
         for b in &order.covers(alloc, NodeId(n))? {
@@ -67,7 +78,7 @@ fn add_covers(alloc: Global, text: &mut String, order: &Order, n: u32) -> Tried<
 }
 
 /// The order in which 0 is below 1, 1 below 3, and 0 below 2, and then changed.
-pub fn add_orders(alloc: Global, text: &mut String) -> Tried<()> {
+pub fn add_orders(alloc: Global, text: &mut String) -> Result<(), AllocError> {
     let mut order = Order::discrete(alloc, 5)?;
     for (n, p) in [(1, 3), (0, 1), (0, 2), (3, 0)] {
         add_under(alloc, text, &mut order, n, p)?;

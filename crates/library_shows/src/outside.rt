@@ -2,12 +2,11 @@
 
 ghost use Rattle.std.specs.Prelude.{◌<◌};
 
-use crate::Tried;
 use kaba_base::{MemShelf, MemSink, read_file, write_all};
-use std::alloc::Global;
+use std::alloc::{AllocError, Global};
 
 /// A shelf with one file, whose second and third calls fail.
-fn shelf(alloc: Global) -> Tried<MemShelf> {
+fn shelf(alloc: Global) -> Result<MemShelf, AllocError> {
     let mut files = Vec::new(alloc);
     let bytes = Vec::from_slice(alloc, b"ab")?;
     files.push((String::from_str(alloc, "f")?, bytes))?;
@@ -26,7 +25,7 @@ fn add_read(
     shelf: &mut MemShelf,
     name: &str,
     limit: u32,
-) -> Tried<()>
+) -> Result<(), AllocError>
     requires { limit < 4294967295 }
 {
     let file = String::from_str(alloc, name)?;
@@ -40,7 +39,7 @@ fn add_read(
 }
 
 /// Reads of a file that is there and of one that is not.
-pub fn add_reads(alloc: Global, text: &mut String) -> Tried<()> {
+pub fn add_reads(alloc: Global, text: &mut String) -> Result<(), AllocError> {
     let mut shelf = shelf(alloc)?;
     for (name, limit) in [
         ("f", 2),
@@ -57,7 +56,7 @@ pub fn add_reads(alloc: Global, text: &mut String) -> Tried<()> {
 }
 
 /// What the next write gives, all bytes taken so far, how many calls there were and how many failed.
-fn add_write(text: &mut String, sink: &mut MemSink, piece: &str) -> Tried<()> {
+fn add_write(text: &mut String, sink: &mut MemSink, piece: &str) -> Result<(), AllocError> {
     let word = match write_all(sink, piece.as_bytes()) {
         Ok(()) => "taken",
         Err(_) => "failed",
@@ -71,7 +70,7 @@ fn add_write(text: &mut String, sink: &mut MemSink, piece: &str) -> Tried<()> {
 }
 
 /// Writes to a sink with room for 13 bytes that takes two a call, whose fifth call takes nothing and whose seventh fails.
-pub fn add_writes(alloc: Global, text: &mut String) -> Tried<()> {
+pub fn add_writes(alloc: Global, text: &mut String) -> Result<(), AllocError> {
     let mut sink = MemSink::new(alloc, 13, 2)?;
     sink.zeros.push(5)?;
     sink.fails.push(7)?;

@@ -3,12 +3,11 @@
 ghost use Rattle.std.specs.Prelude.{◌≡◌, length};
 ghost use Rattle.kaba_bits.specs.Sets.{HasWidth};
 
-use crate::Tried;
 use kaba_bits::{BitRow, copy_rows, empty_rows, join, join_with, row_at, set_at};
-use std::alloc::Global;
+use std::alloc::{AllocError, Global};
 
 /// The numbers of a set.
-fn add_set(alloc: Global, text: &mut String, what: &str, set: &BitRow) -> Tried<()> {
+fn add_set(alloc: Global, text: &mut String, what: &str, set: &BitRow) -> Result<(), AllocError> {
     write!(text, "{what}:")?;
     for i in &set.rising(alloc)? {
         write!(text, " {i}")?;
@@ -30,7 +29,7 @@ fn fill(rows: &mut [BitRow], extra: &BitRow) -> [bool; 4]
 }
 
 /// A family of three sets, and its copy.
-fn add_family(alloc: Global, text: &mut String) -> Tried<()> {
+fn add_family(alloc: Global, text: &mut String) -> Result<(), AllocError> {
     let mut rows = empty_rows(alloc, 3, 5)?;
     let mut extra = BitRow::new(alloc, 5)?;
     extra.set(1);
@@ -45,7 +44,7 @@ fn add_family(alloc: Global, text: &mut String) -> Tried<()> {
 }
 
 /// Two sets, and what each call makes of them.
-pub fn add_sets(alloc: Global, text: &mut String) -> Tried<()> {
+pub fn add_sets(alloc: Global, text: &mut String) -> Result<(), AllocError> {
     let mut low = BitRow::new(alloc, 9)?;
     low.set(1);
     low.set(2);
