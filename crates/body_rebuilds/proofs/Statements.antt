@@ -14,6 +14,7 @@ use Rattle.java_core.specs.Typing.{TypedTarget, TypedTest, TypedSt, TypedSts, Ty
 use Rattle.java_core.specs.Formed as formed_names
 use Rattle.java_core.specs.Formed.{IsHead, of_while, of_for, IsFormed, FormedTarget, FormedOption, FormedSt, FormedSts, FormedArms, variables_of, scope_after_all, is_at_most_one, f_to_local, f_to_static, f_to_field, f_to_element, f_some, f_declare, f_block, f_assign, f_act, f_print, f_choose, f_loop, f_return, f_st_then, f_otherwise, f_arm}
 use Rattle.java_core.specs.Untagged.{bare_tag, bare, bare_if, bare_target, bare_st, bare_sts, bare_arms, untag_method, untagged}
+use Rattle.java_meaning.specs.Paired.{pair_none, pair_some, pair_declare, pair_block, pair_assign, pair_act, pair_print, pair_choose, pair_loop, pair_return, pair_break, pair_continue, pair_no_st, pair_st_then, pair_no_other, pair_otherwise, pair_arm}
 use Rattle.hier_model.specs.Hierarchies.{Hierarchy}
 use Rattle.flow_rules.specs.Operands.{variable_row, type_in}
 use Rattle.flow_rules.specs.Parts.{Part, is_accessed, parts_if, parts_assign, parts_st, parts_arms}
@@ -25,7 +26,7 @@ use Rattle.written_tree.specs.Names.{nowhere, written_type}
 use Rattle.written_tree.specs.Bodies as text
 use Rattle.written_tree.specs.Bodies.{variable_name, loop_tree, field_name, written_if, written_target, written_st, written_sts, written_part, written_arms, written_else}
 use Rattle.rebuild_model.specs.Renaming.{Places, renaming_of, retyped}
-use Rattle.rebuild_model.specs.Matches.{Matches, MatchesIf, MatchesTarget, MatchesSt, MatchesSts, MatchesArms, m_none, m_some, m_to_local, m_to_static, m_to_own, m_to_field, m_to_element, m_declare, m_block, m_assign, m_act, m_print, m_choose, m_loop, m_return, m_break, m_continue, m_no_st, m_st_then, m_no_other, m_otherwise, m_arm}
+use Rattle.rebuild_model.specs.Matches.{Matches, MatchesIf, MatchesTarget, MatchesSt, MatchesSts, MatchesArms, m_to_local, m_to_static, m_to_own, m_to_field, m_to_element}
 use Rattle.body_rebuilds.specs.Known.{KnowsNames}
 use Rattle.body_rebuilds.proofs.Scopes.{Scoped, scoped_more}
 use Rattle.body_rebuilds.proofs.Counted.{counts_split, counts_one, Ends, ends_none, ends_one, ends_join, goes_on}
@@ -69,8 +70,8 @@ module _ (Q : Plain) (H : Hierarchy) (U O : Plain) (T : Places) (K : KnowsNames 
 
     matched_if : (e d : Option Ex) → ((x : Ex) → e ≡ Some x → IsTyped x) → FormedOption P old inner (bare_if e) → Stands (parts_if P (type_in P m k) m k e)
         → ResolvesIf O here bs (written_if P by_node H m old scope (bare_if e)) d → MatchesIf P U R g (bare_if e) (bare_if d)
-    matched_if None d ty fo st r_none = m_none
-    matched_if (Some e) d ty (f_some fe) st (r_some {x = x} r) = m_some (matched false e x (ty e refl) fe st r)
+    matched_if None d ty fo st r_none = pair_none
+    matched_if (Some e) d ty (f_some fe) st (r_some {x = x} r) = pair_some (matched false e x (ty e refl) fe st r)
 
     field_target : (e b : Ex) (x : List ℕ) → is_some (field_in P (static P g (bare e)) x) ≡ true → Copies e b
         → MatchesTarget P U R g (to_field bare_tag (bare e) x) (to_field bare_tag (bare b) (field_name P by_node H m old (static P g (bare e)) x))
@@ -202,7 +203,7 @@ module _ (Q : Plain) (H : Hierarchy) (U O : Plain) (T : Places) (K : KnowsNames 
       (one.0 ∙ sym two.0) (λ cj l r.
       let more = scoped_more old inner scope bs i v s there l.fresh in
       record {
-        matches = m_declare (matched_if (i ∷ inner) (scope ++ i ∷ []) (bound bs v.name i) more e x ty fo st r);
+        matches = pair_declare (matched_if (i ∷ inner) (scope ++ i ∷ []) (bound bs v.name i) more e x ty fo st r);
         ends = ends_one IsRetyped i a b c cb (one.1 ∙ sym two.1) (local_kept bs i v there l);
         after = more;
       }) cc1 l r
@@ -244,20 +245,20 @@ module _ (Q : Plain) (H : Hierarchy) (U O : Plain) (T : Places) (K : KnowsNames 
         (declared inner scope bs q t i (Some e) n.variable y a b c n.declared (one_typed e te) fo (left (tree false e) _ ps) s cb cd
         (subst (λ z. StResolves O here new q bs (text_local scope i (Some e) z) y) n.declared r))
     st l q inner scope bs (block t xs) y a b c (t_block ty) (f_block fo) ps s cb cd (r_block {xs = ys} r) =
-        let z = sts l q inner scope bs xs ys a b c ty fo ps s cb cd r in record { matches = m_block z.0; ends = z.1; after = s }
+        let z = sts l q inner scope bs xs ys a b c ty fo ps s cb cd r in record { matches = pair_block z.0; ends = z.1; after = s }
     st l q inner scope bs (assign t b1 e) y a b c (t_assign tb te fit) (f_assign fb fe) ps s cb cd (r_assign {x = x} {y = d} rb re) =
         let z = assigned inner scope bs s t.place b1 e x d tb te fb fe ps rb re in record
-        { matches = m_assign z.0 z.1; ends = ends_none IsRetyped a b c cb cd; after = s }
+        { matches = pair_assign z.0 z.1; ends = ends_none IsRetyped a b c cb cd; after = s }
     st l q inner scope bs (act t e) y a b c (t_act te) (f_act is fe) ps s cb cd (r_act {x = d} r) =
-        record { matches = m_act (matched inner scope bs s false e d te fe ps r); ends = ends_none IsRetyped a b c cb cd; after = s }
+        record { matches = pair_act (matched inner scope bs s false e d te fe ps r); ends = ends_none IsRetyped a b c cb cd; after = s }
     st l q inner scope bs (print t n None) y a b c ty (f_print or fo) ps s cb cd (r_print {x = d} r) =
-        record { matches = m_print (matched_if inner scope bs s None d none_typed fo ps r); ends = ends_none IsRetyped a b c cb cd; after = s }
+        record { matches = pair_print (matched_if inner scope bs s None d none_typed fo ps r); ends = ends_none IsRetyped a b c cb cd; after = s }
     st l q inner scope bs (print t n (Some e)) y a b c (t_print te pr) (f_print or fo) ps s cb cd (r_print {x = d} r) =
-        record { matches = m_print (matched_if inner scope bs s (Some e) d (one_typed e te) fo ps r); ends = ends_none IsRetyped a b c cb cd; after = s }
+        record { matches = pair_print (matched_if inner scope bs s (Some e) d (one_typed e te) fo ps r); ends = ends_none IsRetyped a b c cb cd; after = s }
     st l q inner scope bs (choose t no_other) y a b c ty fo ps s cb cd r = elim fo [ ]
     st l q inner scope bs (choose t (otherwise xs)) y a b c ty fo ps s cb cd r = elim fo [ ]
     st l q inner scope bs (choose t (arm e xs rest)) y a b c (t_choose ty) (f_choose fo) ps s cb cd (r_choose {xs = ys} r) =
-        let z = arms l q inner scope bs (arm e xs rest) ys a b c ty fo ps s cb cd r in record { matches = m_choose z.0; ends = z.1; after = s }
+        let z = arms l q inner scope bs (arm e xs rest) ys a b c ty fo ps s cb cd r in record { matches = pair_choose z.0; ends = z.1; after = s }
     st l q inner scope bs (loop t is_while head test step code) y a b c (t_loop th tt tp tb) (f_loop of one two fh ft fp fb) ps s cb cd r =
         let three = left (sts_parts head ++ parts_if P (type_in P m k) m k test ++ sts_parts step) (sts_parts code) ps in
         let both = left (sts_parts head ++ parts_if P (type_in P m k) m k test) (sts_parts step) three in
@@ -277,35 +278,35 @@ module _ (Q : Plain) (H : Hierarchy) (U O : Plain) (T : Places) (K : KnowsNames 
         (goes_on IsRetyped o.0 n.0 c (declares_all w.code) p.ends.same n.2) w.code_is in
         let v = matched_if _ _ _ h.after test w.test (test_typed test tt) ft (right (sts_parts head) (parts_if P (type_in P m k) m k test) both) w.test_is in
         record {
-          matches = subst (λ z. MatchesSt P U R g (bare_st (loop t is_while head test step code)) (bare_st z)) (sym w.is) (m_loop h.matches v p.matches d.0);
+          matches = subst (λ z. MatchesSt P U R g (bare_st (loop t is_while head test step code)) (bare_st z)) (sym w.is) (pair_loop h.matches v p.matches d.0);
           ends = ends_join IsRetyped a o.0 n.0 b c (ends_join IsRetyped a o1.0 n1.0 o.0 n.0 h.ends p.ends) d.1;
           after = subst (λ z. Scoped old inner scope z) (sym (loop_scope is_while bs _ _ _ _ y)) s;
         }
     st l q inner scope bs (return t None) y a b c ty (f_return fo) ps s cb cd (r_return {x = d} r) =
-        record { matches = m_return (matched_if inner scope bs s None d none_typed fo ps r); ends = ends_none IsRetyped a b c cb cd; after = s }
+        record { matches = pair_return (matched_if inner scope bs s None d none_typed fo ps r); ends = ends_none IsRetyped a b c cb cd; after = s }
     st l q inner scope bs (return t (Some e)) y a b c (t_return te res fit) (f_return fo) ps s cb cd (r_return {x = d} r) =
         record {
-          matches = m_return (matched_if inner scope bs s (Some e) d (one_typed e te) fo (left (tree false e) _ ps) r);
+          matches = pair_return (matched_if inner scope bs s (Some e) d (one_typed e te) fo (left (tree false e) _ ps) r);
           ends =
               ends_none IsRetyped a b c cb cd;
           after = s;
         }
-    st l q inner scope bs (break t) y a b c ty fo ps s cb cd r_break = record { matches = m_break; ends = ends_none IsRetyped a b c cb cd; after = s }
+    st l q inner scope bs (break t) y a b c ty fo ps s cb cd r_break = record { matches = pair_break; ends = ends_none IsRetyped a b c cb cd; after = s }
     st l q inner scope bs (continue t) y a b c ty fo ps s cb cd r_continue =
-        record { matches = m_continue; ends = ends_none IsRetyped a b c cb cd; after = s }
+        record { matches = pair_continue; ends = ends_none IsRetyped a b c cb cd; after = s }
 
     part : (l q : Bool) (inner scope : List ℕ) (bs : List Bound) (xs ys : Sts) (a b c : ℕ) (p : St → Bool) → is_at_most_one p (bare_sts xs) ≡ true
         → TypedSts P g (bare_sts xs) → FormedSts P old l inner (bare_sts xs)
         → Stands (sts_parts xs) → Scoped old inner scope bs → Counts a (declares_all (bare_sts xs)) b → Counts a (declares_all ys) c
         → PartResolves O here new q bs (written_part P by_node H m old scope (bare_sts xs)) ys
         → AfterPart inner scope bs xs (written_part P by_node H m old scope (bare_sts xs)) ys a b c
-    part l q inner scope bs no_st ys a b c p one ty fo ps s cb cd r_absent = record { matches = m_no_st; ends = ends_none IsRetyped a b c cb cd; after = s }
+    part l q inner scope bs no_st ys a b c p one ty fo ps s cb cd r_absent = record { matches = pair_no_st; ends = ends_none IsRetyped a b c cb cd; after = s }
     part l q inner scope bs (st_then x no_st) ys a b c p one (t_st_then tx txs) (f_st_then fx fxs) ps s cb cd (r_present {x = y} r) =
         let o = counts_split (declares (bare_st x)) [] a b cb in
         let n = counts_split (declares y) [] a c cd in
         let h = st l q inner scope bs x y a o.0 n.0 tx fx (left (parts_st P (type_in P m k) m k x) [] ps) s o.1 n.1 r in
         record {
-          matches = m_st_then h.matches m_no_st;
+          matches = pair_st_then h.matches pair_no_st;
           ends = ends_join IsRetyped a o.0 n.0 b c h.ends
               (ends_none IsRetyped o.0 b c o.2 (goes_on IsRetyped o.0 n.0 c [] h.ends.same n.2));
           after = h.after;
@@ -317,23 +318,23 @@ module _ (Q : Plain) (H : Hierarchy) (U O : Plain) (T : Places) (K : KnowsNames 
         → Counts a (declares_all (bare_sts xs)) b → Counts a (declares_all ys) c
         → StsResolve O here new q bs (written_sts P by_node H m old scope (bare_sts xs)) ys
         → MatchesSts P U R g (bare_sts xs) (bare_sts ys) × Ended a b c
-    sts l q inner scope bs no_st ys a b c ty fo ps s cb cd r_no_statements = (m_no_st, ends_none IsRetyped a b c cb cd)
+    sts l q inner scope bs no_st ys a b c ty fo ps s cb cd r_no_statements = (pair_no_st, ends_none IsRetyped a b c cb cd)
     sts l q inner scope bs (st_then x xs) zs a b c (t_st_then tx txs) (f_st_then fx fxs) ps s cb cd (r_and_then {x = y} {xs = ys} ry rys) =
         let o = counts_split (declares (bare_st x)) (declares_all (bare_sts xs)) a b cb in
         let n = counts_split (declares y) (declares_all ys) a c cd in
         let h = st l q inner scope bs x y a o.0 n.0 tx fx (left (parts_st P (type_in P m k) m k x) (sts_parts xs) ps) s o.1 n.1 ry in
         let z = sts l q _ _ _ xs ys o.0 b c txs fxs (right (parts_st P (type_in P m k) m k x) (sts_parts xs) ps) h.after o.2
         (goes_on IsRetyped o.0 n.0 c (declares_all ys) h.ends.same n.2) rys in
-        (m_st_then h.matches z.0, ends_join IsRetyped a o.0 n.0 b c h.ends z.1)
+        (pair_st_then h.matches z.0, ends_join IsRetyped a o.0 n.0 b c h.ends z.1)
 
     arms : (l q : Bool) (inner scope : List ℕ) (bs : List Bound) (xs ys : Arms) (a b c : ℕ) → TypedArms P g (bare_arms xs)
         → FormedArms P old l inner (bare_arms xs) → Stands (arms_parts xs) → Scoped old inner scope bs
         → Counts a (declares_arms (bare_arms xs)) b → Counts a (declares_arms ys) c
         → ArmsResolve O here new q bs (written_arms P by_node H m old scope (bare_arms xs)) (written_else P by_node H m old scope (bare_arms xs)) ys
         → MatchesArms P U R g (bare_arms xs) (bare_arms ys) × Ended a b c
-    arms l q inner scope bs no_other zs a b c ty fo ps s cb cd r_no_else = (m_no_other, ends_none IsRetyped a b c cb cd)
+    arms l q inner scope bs no_other zs a b c ty fo ps s cb cd r_no_else = (pair_no_other, ends_none IsRetyped a b c cb cd)
     arms l q inner scope bs (otherwise xs) zs a b c (t_otherwise ty) (f_otherwise fo) ps s cb cd (r_else {xs = ys} r) =
-        let z = sts l q inner scope bs xs ys a b c ty fo ps s cb cd r in (m_otherwise z.0, z.1)
+        let z = sts l q inner scope bs xs ys a b c ty fo ps s cb cd r in (pair_otherwise z.0, z.1)
     arms l q inner scope bs (arm e xs rest) zs a b c (t_arm te is txs tm) (f_arm fe fxs fm) ps s cb cd (r_arm {x = d} {xs = ys} {more = others} re rs rm) =
         let both = left (tree false e ++ sts_parts xs) (arms_parts rest) ps in
         let o = counts_split (declares_all (bare_sts xs)) (declares_arms (bare_arms rest)) a b cb in
@@ -341,4 +342,4 @@ module _ (Q : Plain) (H : Hierarchy) (U O : Plain) (T : Places) (K : KnowsNames 
         let h = sts l q inner scope bs xs ys a o.0 n.0 txs fxs (right (tree false e) (sts_parts xs) both) s o.1 n.1 rs in
         let z = arms l q inner scope bs rest others o.0 b c tm fm (right (tree false e ++ sts_parts xs) (arms_parts rest) ps) s o.2
         (goes_on IsRetyped o.0 n.0 c (declares_arms others) h.1.same n.2) rm in
-        (m_arm (matched inner scope bs s false e d te fe (left (tree false e) (sts_parts xs) both) re) h.0 z.0, ends_join IsRetyped a o.0 n.0 b c h.1 z.1)
+        (pair_arm (matched inner scope bs s false e d te fe (left (tree false e) (sts_parts xs) both) re) h.0 z.0, ends_join IsRetyped a o.0 n.0 b c h.1 z.1)

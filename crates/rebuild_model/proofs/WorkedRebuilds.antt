@@ -8,6 +8,7 @@ use Rattle.java_core.specs.Trees.{Tag, no_ex, local, this, call, own_field, fiel
 use Rattle.java_core.specs.Programs.{PlainClass, PlainField, PlainMethod}
 use Rattle.java_core.specs.Classes.{IsSubclass, same_class, through, supers_of, member_field, field_of, below, declaration_of, search_order}
 use Rattle.java_core.specs.Types.{Env, types_of, env_of}
+use Rattle.java_meaning.specs.Paired.{pair_some, pair_declare, pair_act, pair_return, pair_no_st, pair_st_then}
 use Rattle.kaba_order.specs.Orders.{is_live, is_le}
 use Rattle.fact_model.specs.Classes.{is_slot}
 use Rattle.fact_model.specs.declared.facts.Facts.{Facts}
@@ -20,7 +21,7 @@ use Rattle.flow_rules.specs.Parts.{parts_of}
 use Rattle.flow_rules.specs.Numbered.{rows_of, columns_of, row_number, column_number, same_column}
 use Rattle.flow_rules.specs.Facts.{numbers, is_holder}
 use Rattle.rebuild_model.specs.Renaming.{renaming_of, retyped, retyped_if}
-use Rattle.rebuild_model.specs.Matches.{Matches, MatchesSts, IsStaticMethod, m_no_st, m_st_then, m_declare, m_some, m_create, m_no_ex, m_act, m_call, m_local, m_return, m_own_field}
+use Rattle.rebuild_model.specs.Matches.{Matches, MatchesSts, IsStaticMethod, m_create, m_no_ex, m_call, m_local, m_own_field}
 use Rattle.rebuild_model.specs.Members.{HasTypes, new_types, is_headed, is_filled, StandsAt, IsField, IsBody, IsOfSlot, IsHead, IsFiller, IsStaticMethodOf}
 use Rattle.rebuild_model.specs.Rebuilds.{IsNodeType, IsHolderType, AreTypes, AreMembers, AreStatics, Rebuilds}
 use Rattle.rebuild_model.proofs.Worked.{place, an_int, class, object, the_field, method, main, slot, main_code, old, new, listed, the_columns, the_sites, hierarchy, places}
@@ -237,7 +238,7 @@ module _ (others : Facts) where
       old_code = refl;
       new_code = refl;
       locals = refl;
-      matches = m_st_then (m_return (m_some (own_matches (codes "f") name_f))) m_no_st;
+      matches = pair_st_then (pair_return (pair_some (own_matches (codes "f") name_f))) pair_no_st;
     };
   }
 
@@ -275,8 +276,8 @@ module _ (others : Facts) where
 
   main_matches : MatchesSts old new (renaming_of old old hierarchy places) (env_of 1 (main 2 1 (main_code 1))) (main_code 1) (main_code 2)
   main_matches =
-      m_st_then (m_declare (m_some (m_create made_row m_no_ex)))
-      (m_st_then (m_act (call_matches (codes "m") name_m)) m_no_st)
+      pair_st_then (pair_declare (pair_some (m_create made_row m_no_ex)))
+      (pair_st_then (pair_act (call_matches (codes "m") name_m)) pair_no_st)
 
   new_main : IsStaticMethodOf old old facts hierarchy new places 1 2
   unfolding main_same

@@ -5,10 +5,11 @@ use Rattle.std.specs.Option.{is_some}
 use Rattle.java_core.specs.declared.Ty.{Ty}
 use Rattle.java_core.specs.declared.UnOp.{UnOp}
 use Rattle.java_core.specs.declared.BinOp.{BinOp}
-use Rattle.java_core.specs.Trees.{Tag, Ex, Exs, no_ex, ex_then, number, character, text, truth, null, this, local, static_field, own_field, field, index, call, static_call, super_call, create, create_array, cast, instance_of, unary, binary, Target, to_local, to_static, to_own, to_field, to_element, St, Sts, Arms, declare, block, assign, act, print, choose, loop, return, break, continue, no_st, st_then, no_other, otherwise, arm}
+use Rattle.java_core.specs.Trees.{Tag, Ex, Exs, no_ex, ex_then, number, character, text, truth, null, this, local, static_field, own_field, field, index, call, static_call, super_call, create, create_array, cast, instance_of, unary, binary, Target, to_local, to_static, to_own, to_field, to_element, St, Sts, Arms}
 use Rattle.java_core.specs.Programs.{Plain, PlainField, PlainMethod}
 use Rattle.java_core.specs.Classes.{declaration_of, super_method}
 use Rattle.java_core.specs.Types.{Env, class_of, element_of, is_string, field_in, static}
+use Rattle.java_meaning.specs.Paired.{PairedIf, PairedSt, PairedSts, PairedArms}
 use Rattle.flow_rules.specs.declared.items.RowItem.TheVariants as row
 use Rattle.rebuild_model.specs.Renaming.{Renaming, retyped}
 
@@ -73,10 +74,6 @@ module _ (P W : Plain) (R : Renaming) where
         m_no_ex : MatchesAll no_ex no_ex
         m_ex_then : {e d : Ex} {es ds : Exs} → Matches e d → MatchesAll es ds → MatchesAll (ex_then e es) (ex_then d ds)
 
-    pub data MatchesIf : Option Ex → Option Ex → Type 0 where
-      m_none : MatchesIf None None
-      m_some : {e d : Ex} → Matches e d → MatchesIf (Some e) (Some d)
-
     pub data MatchesTarget : Target → Target → Type 0 where
       m_to_local : {t u : Tag} {i : ℕ} → MatchesTarget (to_local t i) (to_local u i)
       m_to_static : {t u : Tag} {f h : ℕ} → IsStaticField f h → MatchesTarget (to_static t f) (to_static u h)
@@ -85,26 +82,14 @@ module _ (P W : Plain) (R : Renaming) where
           → MatchesTarget (to_field t e x) (to_field u d (R.field_name f))
       m_to_element : {t u : Tag} {e d i j : Ex} → Matches e d → Matches i j → MatchesTarget (to_element t e i) (to_element u d j)
 
-    mutual
-      pub data MatchesSt : St → St → Type 0 where
-        m_declare : {t u : Tag} {i : ℕ} {e d : Option Ex} → MatchesIf e d → MatchesSt (declare t i e) (declare u i d)
-        m_block : {t u : Tag} {xs ys : Sts} → MatchesSts xs ys → MatchesSt (block t xs) (block u ys)
-        m_assign : {t u : Tag} {b c : Target} {e d : Ex} → MatchesTarget b c → Matches e d → MatchesSt (assign t b e) (assign u c d)
-        m_act : {t u : Tag} {e d : Ex} → Matches e d → MatchesSt (act t e) (act u d)
-        m_print : {t u : Tag} {n : Bool} {e d : Option Ex} → MatchesIf e d → MatchesSt (print t n e) (print u n d)
-        m_choose : {t u : Tag} {a b : Arms} → MatchesArms a b → MatchesSt (choose t a) (choose u b)
-        m_loop : {t u : Tag} {is_while : Bool} {first step body other last code : Sts} {e d : Option Ex} → MatchesSts first other → MatchesIf e d
-            → MatchesSts step last → MatchesSts body code
-            → MatchesSt (loop t is_while first e step body) (loop u is_while other d last code)
-        m_return : {t u : Tag} {e d : Option Ex} → MatchesIf e d → MatchesSt (return t e) (return u d)
-        m_break : {t u : Tag} → MatchesSt (break t) (break u)
-        m_continue : {t u : Tag} → MatchesSt (continue t) (continue u)
+    abbrev pub MatchesIf : Option Ex → Option Ex → Type 0
+    MatchesIf = PairedIf Matches (λ a b c. MatchesTarget b c)
 
-      pub data MatchesSts : Sts → Sts → Type 0 where
-        m_no_st : MatchesSts no_st no_st
-        m_st_then : {x y : St} {xs ys : Sts} → MatchesSt x y → MatchesSts xs ys → MatchesSts (st_then x xs) (st_then y ys)
+    abbrev pub MatchesSt : St → St → Type 0
+    MatchesSt = PairedSt Matches (λ a b c. MatchesTarget b c)
 
-      pub data MatchesArms : Arms → Arms → Type 0 where
-        m_no_other : MatchesArms no_other no_other
-        m_otherwise : {xs ys : Sts} → MatchesSts xs ys → MatchesArms (otherwise xs) (otherwise ys)
-        m_arm : {e d : Ex} {xs ys : Sts} {a b : Arms} → Matches e d → MatchesSts xs ys → MatchesArms a b → MatchesArms (arm e xs a) (arm d ys b)
+    abbrev pub MatchesSts : Sts → Sts → Type 0
+    MatchesSts = PairedSts Matches (λ a b c. MatchesTarget b c)
+
+    abbrev pub MatchesArms : Arms → Arms → Type 0
+    MatchesArms = PairedArms Matches (λ a b c. MatchesTarget b c)

@@ -11,6 +11,7 @@ use Rattle.java_core.specs.Types.{Static, or_nothing, element_of, is_numeric, is
 use Rattle.java_core.specs.Typing.{Typed, TypedTarget, TypedTest, TypedSt, TypedSts, TypedArms, t_this, t_to_local, t_to_static, t_to_field, t_to_element, t_always, t_test, t_declare, t_declare_as, t_block, t_assign, t_act, t_print_line, t_print, t_choose, t_loop, t_return_nothing, t_return, t_break, t_continue, t_no_st, t_st_then, t_no_other, t_otherwise, t_arm}
 use Rattle.java_core.specs.Formed.{FormedTarget, FormedOption, FormedSt, FormedSts, FormedArms, numbers_below, f_to_own, f_to_field, f_to_element, f_some, f_declare, f_block, f_assign, f_act, f_print, f_choose, f_loop, f_return, f_st_then, f_otherwise, f_arm}
 use Rattle.java_core.specs.Untagged.{bare_if, bare_target, bare_st, bare_sts, bare_arms, untag_method, untagged}
+use Rattle.java_meaning.specs.Paired.{pair_none, pair_some, pair_declare, pair_block, pair_assign, pair_act, pair_print, pair_choose, pair_loop, pair_return, pair_break, pair_continue, pair_no_st, pair_st_then, pair_no_other, pair_otherwise, pair_arm}
 use Rattle.flow_rules.specs.declared.items.RowItem.{RowItem}
 use Rattle.flow_rules.specs.declared.items.RowItem.TheVariants as row
 use Rattle.flow_rules.specs.Operands.{object_of, object_if, object_static, object_field, variable_row, result_in, this_operand, type_in}
@@ -22,7 +23,7 @@ use Rattle.run_cover.proofs.Untagging.{unlabel_sts}
 use Rattle.run_cover.proofs.HasRows.{field_row_of, result_row_of, variable_row_of}
 use Rattle.run_cover.proofs.Types.{of_element}
 use Rattle.rebuild_model.specs.Renaming.{retyped, retyped_if}
-use Rattle.rebuild_model.specs.Matches.{MatchesIf, MatchesTarget, MatchesSt, MatchesSts, MatchesArms, m_none, m_some, m_to_local, m_to_static, m_to_own, m_to_field, m_to_element, m_declare, m_block, m_assign, m_act, m_print, m_choose, m_loop, m_return, m_break, m_continue, m_no_st, m_st_then, m_no_other, m_otherwise, m_arm}
+use Rattle.rebuild_model.specs.Matches.{MatchesIf, MatchesTarget, MatchesSt, MatchesSts, MatchesArms, m_to_local, m_to_static, m_to_own, m_to_field, m_to_element}
 use Rattle.rebuild_types.proofs.Retyped.{retyped_static, HasClass, IsUnder, retyped_or, numeric_kept, boolean_kept, printable_kept, element_kept, some_kept, fits_kept, fits_in_kept}
 use Rattle.rebuild_types.proofs.Asked.{Serves}
 use Rattle.rebuild_types.proofs.Walk as walk
@@ -163,57 +164,57 @@ module _ (A : CopiedBody) where
 
   tested : (sc : List ℕ) (e d : Option Ex) → TypedTest P g (bare_if e) → FormedOption P (untag_method k) sc (bare_if e) → Stands (if_there e)
       → MatchesIf P W R g (bare_if e) d → TypedTest W h d
-  tested sc None d ty fo st m_none = t_always
-  tested sc (Some e) d (t_test te b) (f_some fe) st (m_some {d = c} me) =
+  tested sc None d ty fo st pair_none = t_always
+  tested sc (Some e) d (t_test te b) (f_some fe) st (pair_some {d = c} me) =
       let a = again A false sc e c te fe st me in t_test a.typed (ap is_boolean a.type ∙ boolean_kept (C (row_at e)) (old e) ∙ b)
 
   mutual
     again_st : (l : Bool) (sc : List ℕ) (x y : St) → TypedSt P g (bare_st x) → FormedSt P (untag_method k) l sc (bare_st x)
         → Stands (parts_st P (type_in P m k) m k x) → MatchesSt P W R g (bare_st x) y → TypedSt W h y
-    again_st l sc (declare t i None) y ty fo st (m_declare m_none) = t_declare
-    again_st l sc (declare t i (Some e)) y (t_declare_as te fit) (f_declare new (f_some fe)) st (m_declare {u = u} (m_some {d = d} me)) =
+    again_st l sc (declare t i None) y ty fo st (pair_declare pair_none) = t_declare
+    again_st l sc (declare t i (Some e)) y (t_declare_as te fit) (f_declare new (f_some fe)) st (pair_declare {u = u} (pair_some {d = d} me)) =
         let x = local_target t u i in
         let z = put (i ∷ sc) false (to_local t i) (to_local u i) (Some (variable_row m k i)) e d x te fe (left (tree false e) _ st) me
         (walk.asked A (a_set (O (local t i)) (O e)) [] (right (tree false e) _ st)) fit in
         t_declare_as z.0 z.1
-    again_st l sc (block t xs) y (t_block txs) (f_block fxs) st (m_block {ys = ys} ms) = t_block (again_sts l sc xs ys txs fxs st ms)
-    again_st l sc (assign t b e) y (t_assign tb te fit) (f_assign fb fe) st (m_assign {u = u} {c = c} {d = d} mb me) =
+    again_st l sc (block t xs) y (t_block txs) (f_block fxs) st (pair_block {ys = ys} ms) = t_block (again_sts l sc xs ys txs fxs st ms)
+    again_st l sc (assign t b e) y (t_assign tb te fit) (f_assign fb fe) st (pair_assign {u = u} {c = c} {d = d} mb me) =
         assigned sc t.place b c e d u tb te fit fb fe st mb me
-    again_st l sc (act t e) y (t_act te) (f_act q fe) st (m_act {d = d} me) = t_act (again A false sc e d te fe st me).typed
-    again_st l sc (print t n None) y ty fo st (m_print m_none) = t_print_line
-    again_st l sc (print t n (Some e)) y (t_print te pr) (f_print or (f_some fe)) st (m_print (m_some {d = d} me)) =
+    again_st l sc (act t e) y (t_act te) (f_act q fe) st (pair_act {d = d} me) = t_act (again A false sc e d te fe st me).typed
+    again_st l sc (print t n None) y ty fo st (pair_print pair_none) = t_print_line
+    again_st l sc (print t n (Some e)) y (t_print te pr) (f_print or (f_some fe)) st (pair_print (pair_some {d = d} me)) =
         let a = again A false sc e d te fe st me in t_print a.typed (ap is_printable a.type ∙ printable_kept (C (row_at e)) (old e) ∙ pr)
-    again_st l sc (choose t (arm e xs more)) y (t_choose ty) (f_choose fo) st (m_choose {b = b} ma) = t_choose (again_arms l sc (arm e xs more) b ty fo st ma)
+    again_st l sc (choose t (arm e xs more)) y (t_choose ty) (f_choose fo) st (pair_choose {b = b} ma) = t_choose (again_arms l sc (arm e xs more) b ty fo st ma)
     again_st l sc (choose t none) y ty fo st mx = elim fo [ ]
     again_st l sc (loop t is_while head test step code) y (t_loop th tt1 ts tb) (f_loop of one two fh ft fs fb) st
-        (m_loop {other = other} {last = last} {code = written} {d = d} mh me ms mb) =
+        (pair_loop {other = other} {last = last} {code = written} {d = d} mh me ms mb) =
         let part = four (sts head) (if_there test) (sts step) (sts code) st in
         t_loop (again_sts _ _ head other th fh part.0 mh) (tested _ test d tt1 ft part.1 me) (again_sts _ _ step last ts fs part.2 ms)
         (again_sts _ _ code written tb fb part.3 mb)
-    again_st l sc (return t None) y (t_return_nothing r) fo st (m_return m_none) =
+    again_st l sc (return t None) y (t_return_nothing r) fo st (pair_return pair_none) =
         t_return_nothing (sees.result ∙ ap (retyped_if (R.row_type (result_in k.slot m))) r)
-    again_st l sc (return t (Some e)) y (t_return {u = u} te r fit) (f_return (f_some fe)) st (m_return (m_some {d = d} me)) =
+    again_st l sc (return t (Some e)) y (t_return {u = u} te r fit) (f_return (f_some fe)) st (pair_return (pair_some {d = d} me)) =
         let inner = left (tree false e) _ st in
         let a = again A false sc e d te fe inner me in
         let i = R.row_type (result_in k.slot m) in
         t_return a.typed (sees.result ∙ ap (retyped_if i) r) (subst (λ z. fits W z (retyped i u) ≡ true) (sym a.type)
         (fits_kept P W (old e) u (C (row_at e)) i (classed false sc e te fe inner) (result_classed u r)
         (walk.asked A (a_return (O e)) [] (right (tree false e) _ st)) fit))
-    again_st l sc (break t) y ty fo st m_break = t_break
-    again_st l sc (continue t) y ty fo st m_continue = t_continue
+    again_st l sc (break t) y ty fo st pair_break = t_break
+    again_st l sc (continue t) y ty fo st pair_continue = t_continue
 
     again_sts : (l : Bool) (sc : List ℕ) (xs ys : Sts) → TypedSts P g (bare_sts xs) → FormedSts P (untag_method k) l sc (bare_sts xs)
         → Stands (sts xs) → MatchesSts P W R g (bare_sts xs) ys → TypedSts W h ys
-    again_sts l sc no_st ys ty fo st m_no_st = t_no_st
-    again_sts l sc (st_then x xs) ys (t_st_then tx txs) (f_st_then fx fxs) st (m_st_then {y = y} {ys = zs} mx mxs) =
+    again_sts l sc no_st ys ty fo st pair_no_st = t_no_st
+    again_sts l sc (st_then x xs) ys (t_st_then tx txs) (f_st_then fx fxs) st (pair_st_then {y = y} {ys = zs} mx mxs) =
         t_st_then (again_st l sc x y tx fx (left (parts_st P (type_in P m k) m k x) (sts xs) st) mx)
         (again_sts l _ xs zs txs fxs (right (parts_st P (type_in P m k) m k x) (sts xs) st) mxs)
 
     again_arms : (l : Bool) (sc : List ℕ) (xs ys : Arms) → TypedArms P g (bare_arms xs) → FormedArms P (untag_method k) l sc (bare_arms xs)
         → Stands (parts_arms P (type_in P m k) m k xs) → MatchesArms P W R g (bare_arms xs) ys → TypedArms W h ys
-    again_arms l sc no_other ys ty fo st m_no_other = t_no_other
-    again_arms l sc (otherwise xs) ys (t_otherwise ty) (f_otherwise fo) st (m_otherwise {ys = zs} mx) = t_otherwise (again_sts l sc xs zs ty fo st mx)
-    again_arms l sc (arm e xs more) ys (t_arm te b txs tm) (f_arm fe fxs fm) st (m_arm {d = d} {ys = zs} {b = rest} me mx mm) =
+    again_arms l sc no_other ys ty fo st pair_no_other = t_no_other
+    again_arms l sc (otherwise xs) ys (t_otherwise ty) (f_otherwise fo) st (pair_otherwise {ys = zs} mx) = t_otherwise (again_sts l sc xs zs ty fo st mx)
+    again_arms l sc (arm e xs more) ys (t_arm te b txs tm) (f_arm fe fxs fm) st (pair_arm {d = d} {ys = zs} {b = rest} me mx mm) =
         let both = left (tree false e ++ sts xs) (parts_arms P (type_in P m k) m k more) st in
         let a = again A false sc e d te fe (left (tree false e) (sts xs) both) me in
         t_arm a.typed (ap is_boolean a.type ∙ boolean_kept (C (row_at e)) (old e) ∙ b) (again_sts l sc xs zs txs fxs (right (tree false e) (sts xs) both)

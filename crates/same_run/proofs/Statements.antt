@@ -9,14 +9,15 @@ use Rattle.java_core.specs.Types.{field_type, fits_in, target_type}
 use Rattle.java_core.specs.Typing.{TypedTarget, TypedTest, TypedSt, TypedSts, TypedArms, t_to_field, t_to_element, t_test, t_declare_as, t_block, t_assign, t_act, t_print, t_choose, t_loop, t_return, t_st_then, t_otherwise, t_arm}
 use Rattle.java_core.specs.Formed.{FormedTarget, FormedOption, FormedSt, FormedSts, FormedArms, numbers_below, f_to_own, f_to_field, f_to_element, f_some, f_declare, f_block, f_assign, f_act, f_print, f_choose, f_loop, f_return, f_st_then, f_otherwise, f_arm}
 use Rattle.java_core.specs.Untagged.{bare_if, bare_target, bare_st, bare_sts, bare_arms, untag_method, untagged}
+use Rattle.java_meaning.specs.Paired.{pair_none, pair_some, pair_declare, pair_block, pair_assign, pair_act, pair_print, pair_choose, pair_loop, pair_return, pair_break, pair_continue, pair_no_st, pair_st_then, pair_no_other, pair_otherwise, pair_arm}
 use Rattle.flow_rules.specs.Labels.{label_sts}
 use Rattle.flow_rules.specs.Operands.{object_field, this_operand, type_in}
 use Rattle.flow_rules.specs.Parts.{a_store, an_element_store, is_accessed, parts_if, parts_assign, parts_st, parts_arms, parts_body, parts_of}
 use Rattle.run_cover.proofs.Untagging.{unlabel_sts}
-use Rattle.rebuild_model.specs.Matches.{MatchesIf, MatchesTarget, MatchesSt, MatchesSts, MatchesArms, m_none, m_some, m_to_local, m_to_static, m_to_own, m_to_field, m_to_element, m_declare, m_block, m_assign, m_act, m_print, m_choose, m_loop, m_return, m_break, m_continue, m_no_st, m_st_then, m_no_other, m_otherwise, m_arm}
+use Rattle.rebuild_model.specs.Matches.{MatchesIf, MatchesTarget, MatchesSt, MatchesSts, MatchesArms, m_to_local, m_to_static, m_to_own, m_to_field, m_to_element}
 use Rattle.rebuild_types.proofs.Walk.{copying}
-use Rattle.twin_runs.specs.Twins.{SameIf, same_none, same_some, SameTarget, SameSt, SameSts, SameArms}
-use Rattle.twin_runs.specs.Twins.{same_to_local, same_to_static, same_to_own, same_to_field, same_to_element, same_declare, same_block, same_assign, same_act, same_print, same_choose, same_loop, same_return, same_break, same_continue, same_no_st, same_st_then, same_no_other, same_otherwise, same_arm}
+use Rattle.twin_runs.specs.Twins.{SameIf, SameTarget, SameSt, SameSts, SameArms}
+use Rattle.twin_runs.specs.Twins.{same_to_local, same_to_static, same_to_own, same_to_field, same_to_element}
 use Rattle.rebuild_types.proofs.Statements.{fits_some, four}
 use Rattle.same_run.proofs.Walk as walk
 use Rattle.same_run.proofs.Walk.{TwinBody, twin_words}
@@ -36,8 +37,8 @@ module _ (A : TwinBody) where
 
   twin_if : (sc : List ℕ) (e d : Option Ex) → ((x : Ex) → e ≡ Some x → IsTyped x) → FormedOption P (untag_method k) sc (bare_if e)
       → Stands (parts_if P (type_in P m k) m k e) → MatchesIf P W R g (bare_if e) d → SameIf L M K Made Pair g h e d
-  twin_if sc None d ty fo st m_none = same_none
-  twin_if sc (Some e) d ty (f_some fe) st (m_some {d = c} me) = same_some (walk.twin A false sc e c (ty e refl) fe st me)
+  twin_if sc None d ty fo st pair_none = pair_none
+  twin_if sc (Some e) d ty (f_some fe) st (pair_some {d = c} me) = pair_some (walk.twin A false sc e c (ty e refl) fe st me)
 
   assigned : (sc : List ℕ) (p : Place) (b c : Target) (e d : Ex) → TypedTarget P g (bare_target b) → IsTyped e
       → fits_in P (old e) (target_type P g (bare_target b)) ≡ true → FormedTarget P (untag_method k) sc (bare_target b) → IsFormedEx sc e
@@ -82,44 +83,44 @@ module _ (A : TwinBody) where
     twin_st : (l : Bool) (sc : List ℕ) (x y : St) → TypedSt P g (bare_st x) → FormedSt P (untag_method k) l sc (bare_st x)
         → Stands (parts_st P (type_in P m k) m k x) → MatchesSt P W R g (bare_st x) y
         → SameSt L M K Made Pair g h x y
-    twin_st l sc (declare t i None) y ty fo st (m_declare m_none) = same_declare same_none
-    twin_st l sc (declare t i (Some e)) y (t_declare_as te fit) (f_declare new (f_some fe)) st (m_declare (m_some {d = d} me)) =
-        same_declare (same_some (walk.twin A false (i ∷ sc) e d te fe (left (tree false e) _ st) me))
-    twin_st l sc (block t xs) y (t_block txs) (f_block fxs) st (m_block {ys = ys} ms) = same_block (twin_sts l sc xs ys txs fxs st ms)
+    twin_st l sc (declare t i None) y ty fo st (pair_declare pair_none) = pair_declare pair_none
+    twin_st l sc (declare t i (Some e)) y (t_declare_as te fit) (f_declare new (f_some fe)) st (pair_declare (pair_some {d = d} me)) =
+        pair_declare (pair_some (walk.twin A false (i ∷ sc) e d te fe (left (tree false e) _ st) me))
+    twin_st l sc (block t xs) y (t_block txs) (f_block fxs) st (pair_block {ys = ys} ms) = pair_block (twin_sts l sc xs ys txs fxs st ms)
     twin_st l sc (assign t b e) y (t_assign tb te fit) (f_assign fb fe) st
-        (m_assign {c = c} {d = d} mb me) = let z = assigned sc t.place b c e d tb te fit fb fe st mb me in same_assign z.0 z.1
-    twin_st l sc (act t e) y (t_act te) (f_act q fe) st (m_act {d = d} me) = same_act (walk.twin A false sc e d te fe st me)
-    twin_st l sc (print t n None) y ty fo st (m_print m_none) = same_print same_none
-    twin_st l sc (print t n (Some e)) y (t_print te pr) (f_print or (f_some fe)) st (m_print (m_some {d = d} me)) = same_print
-        (same_some (walk.twin A false sc e d te fe st me))
-    twin_st l sc (choose t (arm e xs more)) y (t_choose ty) (f_choose fo) st (m_choose {b = b} ma) = same_choose (twin_arms l sc (arm e xs more) b ty fo st ma)
+        (pair_assign {c = c} {d = d} mb me) = let z = assigned sc t.place b c e d tb te fit fb fe st mb me in pair_assign z.0 z.1
+    twin_st l sc (act t e) y (t_act te) (f_act q fe) st (pair_act {d = d} me) = pair_act (walk.twin A false sc e d te fe st me)
+    twin_st l sc (print t n None) y ty fo st (pair_print pair_none) = pair_print pair_none
+    twin_st l sc (print t n (Some e)) y (t_print te pr) (f_print or (f_some fe)) st (pair_print (pair_some {d = d} me)) = pair_print
+        (pair_some (walk.twin A false sc e d te fe st me))
+    twin_st l sc (choose t (arm e xs more)) y (t_choose ty) (f_choose fo) st (pair_choose {b = b} ma) = pair_choose (twin_arms l sc (arm e xs more) b ty fo st ma)
     twin_st l sc (choose t none) y ty fo st mx = elim fo [ ]
     twin_st l sc (loop t is_while head test step code) y (t_loop th tt1 ts tb) (f_loop of one two fh ft fs fb) st
-        (m_loop {other = other} {last = last} {code = written} {d = d} mh me ms mb) =
+        (pair_loop {other = other} {last = last} {code = written} {d = d} mh me ms mb) =
         let part = four (sts head) (if_there test) (sts step) (sts code) st in
-        same_loop (twin_sts _ _ head other th fh part.0 mh) (twin_if _ test d (test_typed test tt1) ft part.1 me)
+        pair_loop (twin_sts _ _ head other th fh part.0 mh) (twin_if _ test d (test_typed test tt1) ft part.1 me)
         (twin_sts _ _ step last ts fs part.2 ms) (twin_sts _ _ code written tb fb part.3 mb)
-    twin_st l sc (return t None) y ty fo st (m_return m_none) = same_return same_none
-    twin_st l sc (return t (Some e)) y (t_return te r fit) (f_return (f_some fe)) st (m_return (m_some {d = d} me)) = same_return
-        (same_some (walk.twin A false sc e d te fe (left (tree false e) _ st) me))
-    twin_st l sc (break t) y ty fo st m_break = same_break
-    twin_st l sc (continue t) y ty fo st m_continue = same_continue
+    twin_st l sc (return t None) y ty fo st (pair_return pair_none) = pair_return pair_none
+    twin_st l sc (return t (Some e)) y (t_return te r fit) (f_return (f_some fe)) st (pair_return (pair_some {d = d} me)) = pair_return
+        (pair_some (walk.twin A false sc e d te fe (left (tree false e) _ st) me))
+    twin_st l sc (break t) y ty fo st pair_break = pair_break
+    twin_st l sc (continue t) y ty fo st pair_continue = pair_continue
 
     twin_sts : (l : Bool) (sc : List ℕ) (xs ys : Sts) → TypedSts P g (bare_sts xs) → FormedSts P (untag_method k) l sc (bare_sts xs) → Stands (sts xs)
         → MatchesSts P W R g (bare_sts xs) ys → SameSts L M K Made Pair g h xs ys
-    twin_sts l sc no_st ys ty fo st m_no_st = same_no_st
-    twin_sts l sc (st_then x xs) ys (t_st_then tx txs) (f_st_then fx fxs) st (m_st_then {y = y} {ys = zs} mx mxs) =
-        same_st_then (twin_st l sc x y tx fx (left (parts_st P (type_in P m k) m k x) (sts xs) st) mx)
+    twin_sts l sc no_st ys ty fo st pair_no_st = pair_no_st
+    twin_sts l sc (st_then x xs) ys (t_st_then tx txs) (f_st_then fx fxs) st (pair_st_then {y = y} {ys = zs} mx mxs) =
+        pair_st_then (twin_st l sc x y tx fx (left (parts_st P (type_in P m k) m k x) (sts xs) st) mx)
         (twin_sts l _ xs zs txs fxs (right (parts_st P (type_in P m k) m k x) (sts xs) st) mxs)
 
     twin_arms : (l : Bool) (sc : List ℕ) (xs ys : Arms) → TypedArms P g (bare_arms xs) → FormedArms P (untag_method k) l sc (bare_arms xs)
         → Stands (parts_arms P (type_in P m k) m k xs) → MatchesArms P W R g (bare_arms xs) ys
         → SameArms L M K Made Pair g h xs ys
-    twin_arms l sc no_other ys ty fo st m_no_other = same_no_other
-    twin_arms l sc (otherwise xs) ys (t_otherwise ty) (f_otherwise fo) st (m_otherwise {ys = zs} mx) = same_otherwise (twin_sts l sc xs zs ty fo st mx)
-    twin_arms l sc (arm e xs more) ys (t_arm te b txs tm) (f_arm fe fxs fm) st (m_arm {d = d} {ys = zs} {b = rest} me mx mm) =
+    twin_arms l sc no_other ys ty fo st pair_no_other = pair_no_other
+    twin_arms l sc (otherwise xs) ys (t_otherwise ty) (f_otherwise fo) st (pair_otherwise {ys = zs} mx) = pair_otherwise (twin_sts l sc xs zs ty fo st mx)
+    twin_arms l sc (arm e xs more) ys (t_arm te b txs tm) (f_arm fe fxs fm) st (pair_arm {d = d} {ys = zs} {b = rest} me mx mm) =
         let both = left (tree false e ++ sts xs) (parts_arms P (type_in P m k) m k more) st in
-        same_arm (walk.twin A false sc e d te fe (left (tree false e) (sts xs) both) me) (twin_sts l sc xs zs txs fxs (right (tree false e) (sts xs) both) mx)
+        pair_arm (walk.twin A false sc e d te fe (left (tree false e) (sts xs) both) me) (twin_sts l sc xs zs txs fxs (right (tree false e) (sts xs) both) mx)
         (twin_arms l sc more rest tm fm (right (tree false e ++ sts xs) (parts_arms P (type_in P m k) m k more) st) mm)
 
   -- the copy of a typed body is its twin

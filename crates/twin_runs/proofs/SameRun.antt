@@ -5,13 +5,14 @@ use Rattle.java_core.specs.Trees.{Ex, Exs, this, call, Target, St, Sts, Arms, st
 use Rattle.java_core.specs.Types.{Env}
 use Rattle.java_meaning.specs.Moment.{Value, Number, Truth, CodeUnit, Nothing, Text, Object, Kind, an_object, an_array, Cell, held, bound, self_of, result_of, ran, State, Frame, Ended, Faulted, Going, Wrong, Outcome, stop, Body, Lang}
 use Rattle.java_core.specs.declared.Fault.TheVariants as fault
+use Rattle.java_meaning.specs.Paired.{pair_none, pair_some, pair_declare, pair_block, pair_assign, pair_act, pair_print, pair_choose, pair_loop, pair_return, pair_break, pair_continue, pair_no_st, pair_st_then, pair_no_other, pair_otherwise, pair_arm}
 use Rattle.java_meaning.specs.Values.{default_of, convert, arguments, number_of, text_of, bytes_of, line_end}
 use Rattle.java_meaning.specs.Meaning.{Flow, Next, Broke, Continued, Gave, ToValue, ToFlow, Later, write_local, given, enter, call_object, text_method, call_on, call_static, call_super, after_one, after_turn, value, values, run_test, run_print, run_initial, run_declare, run_return, run_assign, run_one, run_all, run_arms, meaning, words_cell, start, run_in}
 use Rattle.run_cover.specs.Families.{Set}
 use Rattle.run_cover.specs.Watched.{Of}
 use Rattle.run_cover.proofs.Held.{Keeps, of_kept, keeps_same, keeps_on, member_of, plain_of, default_plain}
-use Rattle.twin_runs.specs.Twins.{Link, spot_of, BothPair, SameCall, SameIf, same_none, same_some, Same, SameAll, SameTarget, SameSt, SameSts, SameArms, SameEnv, AreTwins}
-use Rattle.twin_runs.specs.Twins.{same_number, same_character, same_text, same_truth, same_null, same_this, same_local, same_static_field, same_own_field, same_field, same_index, same_call, same_static_call, same_super_call, same_create, same_create_array, same_cast, same_instance_of, same_unary, same_binary, same_no_ex, same_ex_then, same_to_local, same_to_static, same_to_own, same_to_field, same_to_element, same_declare, same_block, same_assign, same_act, same_print, same_choose, same_loop, same_return, same_break, same_continue, same_no_st, same_st_then, same_otherwise, same_arm, same_no_other}
+use Rattle.twin_runs.specs.Twins.{Link, spot_of, BothPair, SameCall, SameIf, Same, SameAll, SameTarget, SameSt, SameSts, SameArms, SameEnv, AreTwins}
+use Rattle.twin_runs.specs.Twins.{same_number, same_character, same_text, same_truth, same_null, same_this, same_local, same_static_field, same_own_field, same_field, same_index, same_call, same_static_call, same_super_call, same_create, same_create_array, same_cast, same_instance_of, same_unary, same_binary, same_no_ex, same_ex_then, same_to_local, same_to_static, same_to_own, same_to_field, same_to_element}
 use Rattle.twin_runs.proofs.Shapes.{same_convert, same_default, same_arguments, same_at}
 use Rattle.twin_runs.proofs.States.{Alike, wrong_first, first_some, second_some, equals_at, equals, shapes, tests, frame, SameValues, same_fields, same_elements, no_cells, more_cells, SameState, HeldIn, held_kept, held_set, KV, KS, KL, KF, kv_on, kf_on, printed, ended, steps, with_cells, cells_at}
 use Rattle.twin_runs.proofs.Moves.{looks, looks_first, looks_all, given_on, static_set, member_read, own_read, field_write, element_read, element_write, object_made, array_made, cast_done, class_tested}
@@ -241,15 +242,15 @@ module _ (L M : Lang) (K : Link) (Made : Option ℕ → Kind → Kind → Type 0
         test_same : {e d : Option Ex} → SameIf L M K Made Pair g h e d → (v : Value) (ls : List Value) (s t : State) (x y z w : State → Outcome) → R s t
             → In g s v ls → KS L M K Made s.cells x z → KS L M K Made s.cells y w
             → Alike (run_test L later e (frame g v ls) s x y) (run_test M next d (frame h v ls) t z w)
-        test_same same_none v ls s t x y z w r i q o = q s t r (keeps_same s.cells)
-        test_same (same_some p) v ls s t x y z w r i q o = value_same p v ls s t _ _ r i
+        test_same pair_none v ls s t x y z w r i q o = q s t r (keeps_same s.cells)
+        test_same (pair_some p) v ls s t x y z w r i q o = value_same p v ls s t _ _ r i
             (λ u s1 t1 r1 k1 o1. tests u s1 t1 x y z w (q s1 t1 r1 k1) (o s1 t1 r1 k1))
 
         print_same : (n : Bool) {e d : Option Ex} → SameIf L M K Made Pair g h e d → (v : Value) (ls : List Value) (s t : State) (k j : State → Outcome) → R s t
             → In g s v ls → KS L M K Made s.cells k j
             → Alike (run_print L later n e (frame g v ls) s k) (run_print M next n d (frame h v ls) t j)
-        print_same n same_none v ls s t k j r i q = q _ _ (printed L M K Made s t (bytes_of [] ++ line_end n) r) (keeps_same s.cells)
-        print_same n (same_some p) v ls s t k j r i q =
+        print_same n pair_none v ls s t k j r i q = q _ _ (printed L M K Made s t (bytes_of [] ++ line_end n) r) (keeps_same s.cells)
+        print_same n (pair_some p) v ls s t k j r i q =
             value_same p v ls s t _ _ r i (λ u s1 t1 r1 k1 o1. equals (text_of s1.strings u) (text_of t1.strings u) s1 t1 _ _ (ap (λ z. text_of z u) r1.strings)
             (λ x.
             q _ _ (printed L M K Made s1 t1 (bytes_of x ++ line_end n) r1) k1))
@@ -257,8 +258,8 @@ module _ (L M : Lang) (K : Link) (Made : Option ℕ → Kind → Kind → Type 0
         initial_same : (x : ℕ) {e d : Option Ex} → SameIf L M K Made Pair g h e d → (v : Value) (ls : List Value) (s t : State) (k j : ToFlow) → R s t
             → In g s v ls → F g h s k j
             → Alike (run_initial L later x e (frame g v ls) s k) (run_initial M next x d (frame h v ls) t j)
-        initial_same x same_none v ls s t k j r i q = q Next v ls s t r (keeps_same s.cells) i
-        initial_same x (same_some p) v ls s t k j r i q =
+        initial_same x pair_none v ls s t k j r i q = q Next v ls s t r (keeps_same s.cells) i
+        initial_same x (pair_some p) v ls s t k j r i q =
             value_same p v ls s t _ _ r i (λ u s1 t1 r1 k1 o1. local_written g h env x u v ls s1 t1 k j r1 (kept_in s s1 v ls k1 i) (on_flow s s1 k j k1 q))
 
         declare_same : (x : ℕ) {e d : Option Ex} → SameIf L M K Made Pair g h e d → (v : Value) (ls : List Value) (s t : State) (k j : ToFlow) → R s t
@@ -277,8 +278,8 @@ module _ (L M : Lang) (K : Link) (Made : Option ℕ → Kind → Kind → Type 0
         return_same : {e d : Option Ex} → SameIf L M K Made Pair g h e d → (v : Value) (ls : List Value) (s t : State) (k j : ToFlow) → R s t → In g s v ls
             → F g h s k j
             → Alike (run_return L later e (frame g v ls) s k) (run_return M next d (frame h v ls) t j)
-        return_same same_none v ls s t k j r i q = q (Gave Nothing) v ls s t r (keeps_same s.cells) i
-        return_same (same_some p) v ls s t k j r i q =
+        return_same pair_none v ls s t k j r i q = q (Gave Nothing) v ls s t r (keeps_same s.cells) i
+        return_same (pair_some p) v ls s t k j r i q =
             value_same p v ls s t _ _ r i (λ u s1 t1 r1 k1 o1. shapes g.result h.result s1 t1 _ _ env.result (λ a b ea eb shape.
             looks L M K Made Pair twins (result_of g.body) (result_of h.body) (convert a u) (convert b u) s1 t1 _ _ r1 (λ m n r2 o2.
             subst (λ z. Alike (k (Gave (convert a u)) (frame g v ls) (record s1 { met = m })) (j (Gave z) (frame h v ls) (record t1 { met = n })))
@@ -318,13 +319,13 @@ module _ (L M : Lang) (K : Link) (Made : Option ℕ → Kind → Kind → Type 0
         mutual
           st_same : {x y : St} → SameSt L M K Made Pair g h x y → (v : Value) (ls : List Value) (s t : State) (k j : ToFlow) → R s t → In g s v ls → F g h s k j
               → Alike (run_one L later x (frame g v ls) s k) (run_one M next y (frame h v ls) t j)
-          st_same (same_declare {i = x} p) v ls s t k j r i q = declare_same x p v ls s t k j r i q
-          st_same (same_block ps) v ls s t k j r i q = sts_same ps v ls s t k j r i q
-          st_same (same_assign b p) v ls s t k j r i q = assign_same b p v ls s t k j r i q
-          st_same (same_act p) v ls s t k j r i q = value_same p v ls s t _ _ r i (λ u s1 t1 r1 k1 o1. q Next v ls s1 t1 r1 k1 (kept_in s s1 v ls k1 i))
-          st_same (same_print {n = n} p) v ls s t k j r i q = print_same n p v ls s t _ _ r i (λ s1 t1 r1 k1. q Next v ls s1 t1 r1 k1 (kept_in s s1 v ls k1 i))
-          st_same (same_choose a) v ls s t k j r i q = arms_same a v ls s t k j r i q
-          st_same (same_loop {t = a} {u = b} {is_while = is_while} {first = first} {step = step} {body = body} {other = other} {last = last}
+          st_same (pair_declare {i = x} p) v ls s t k j r i q = declare_same x p v ls s t k j r i q
+          st_same (pair_block ps) v ls s t k j r i q = sts_same ps v ls s t k j r i q
+          st_same (pair_assign b p) v ls s t k j r i q = assign_same b p v ls s t k j r i q
+          st_same (pair_act p) v ls s t k j r i q = value_same p v ls s t _ _ r i (λ u s1 t1 r1 k1 o1. q Next v ls s1 t1 r1 k1 (kept_in s s1 v ls k1 i))
+          st_same (pair_print {n = n} p) v ls s t k j r i q = print_same n p v ls s t _ _ r i (λ s1 t1 r1 k1. q Next v ls s1 t1 r1 k1 (kept_in s s1 v ls k1 i))
+          st_same (pair_choose a) v ls s t k j r i q = arms_same a v ls s t k j r i q
+          st_same (pair_loop {t = a} {u = b} {is_while = is_while} {first = first} {step = step} {body = body} {other = other} {last = last}
               {code = code} {e = e} {d = d} p1 p2 p3
               p4) v ls s t k j r i q =
               sts_same p1 v ls s t _ _ r i (λ w v1 ls1 s1 t1 r1 k1 i1.
@@ -340,26 +341,26 @@ module _ (L M : Lang) (K : Link) (Made : Option ℕ → Kind → Kind → Type 0
               let q6 = on_flow s5 s6 k j k6 q5 in
               one_done g h w6 v6 ls6 s6 t6 k j _ _ r6 i6 q6
               (more.runs g h env (st_then (loop a is_while no_st e step body) no_st) (st_then (loop b is_while no_st d last code) no_st)
-              (same_st_then (same_loop same_no_st p2 p3 p4) same_no_st) v6 ls6 s6 t6 k j r6 i6 q6))))))
+              (pair_st_then (pair_loop pair_no_st p2 p3 p4) pair_no_st) v6 ls6 s6 t6 k j r6 i6 q6))))))
               (λ s3 t3 r3 k3. q1 Next v1 ls1 s3 t3 r3 k3 (kept_in s1 s3 v1 ls1 k3 i1))))
-          st_same (same_return p) v ls s t k j r i q = return_same p v ls s t k j r i q
-          st_same same_break v ls s t k j r i q = q Broke v ls s t r (keeps_same s.cells) i
-          st_same same_continue v ls s t k j r i q = q Continued v ls s t r (keeps_same s.cells) i
+          st_same (pair_return p) v ls s t k j r i q = return_same p v ls s t k j r i q
+          st_same pair_break v ls s t k j r i q = q Broke v ls s t r (keeps_same s.cells) i
+          st_same pair_continue v ls s t k j r i q = q Continued v ls s t r (keeps_same s.cells) i
 
           sts_same : {xs ys : Sts} → SameSts L M K Made Pair g h xs ys → (v : Value) (ls : List Value) (s t : State) (k j : ToFlow) → R s t → In g s v ls
               → F g h s k j
               → Alike (run_all L later xs (frame g v ls) s k) (run_all M next ys (frame h v ls) t j)
-          sts_same same_no_st v ls s t k j r i q = q Next v ls s t r (keeps_same s.cells) i
-          sts_same (same_st_then p ps) v ls s t k j r i q =
+          sts_same pair_no_st v ls s t k j r i q = q Next v ls s t r (keeps_same s.cells) i
+          sts_same (pair_st_then p ps) v ls s t k j r i q =
               st_same p v ls s t _ _ r i (λ w v1 ls1 s1 t1 r1 k1 i1.
               let q1 = on_flow s s1 k j k1 q in one_done g h w v1 ls1 s1 t1 k j _ _ r1 i1 q1 (sts_same ps v1 ls1 s1 t1 k j r1 i1 q1))
 
           arms_same : {a b : Arms} → SameArms L M K Made Pair g h a b → (v : Value) (ls : List Value) (s t : State) (k j : ToFlow) → R s t → In g s v ls
               → F g h s k j
               → Alike (run_arms L later a (frame g v ls) s k) (run_arms M next b (frame h v ls) t j)
-          arms_same same_no_other v ls s t k j r i q = q Next v ls s t r (keeps_same s.cells) i
-          arms_same (same_otherwise ps) v ls s t k j r i q = sts_same ps v ls s t k j r i q
-          arms_same (same_arm p ps a) v ls s t k j r i q =
+          arms_same pair_no_other v ls s t k j r i q = q Next v ls s t r (keeps_same s.cells) i
+          arms_same (pair_otherwise ps) v ls s t k j r i q = sts_same ps v ls s t k j r i q
+          arms_same (pair_arm p ps a) v ls s t k j r i q =
               value_same p v ls s t _ _ r i (λ u s1 t1 r1 k1 o1.
               let q1 = on_flow s s1 k j k1 q in let i1 = kept_in s s1 v ls k1 i in
               tests u s1 t1 _ _ _ _ (sts_same ps v ls s1 t1 k j r1 i1 q1) (arms_same a v ls s1 t1 k j r1 i1 q1))

@@ -12,12 +12,13 @@ use Rattle.java_core.specs.Trees.{no_ex, number, text, this, local, own_field, f
 use Rattle.java_core.specs.Programs.{Plain, PlainMethod, PlainLocal}
 use Rattle.java_core.specs.Classes.{below, field_of, member_field, search_order, declaration_of, lookup, super_method}
 use Rattle.java_core.specs.Types.{plain_type, class_type, field_in}
+use Rattle.java_meaning.specs.Paired.{pair_some, pair_declare, pair_assign, pair_print, pair_return, pair_no_st, pair_st_then}
 use Rattle.java_meaning.specs.Moment.{Value, Number, Nothing, Object, Kind, an_object, an_array, Cell, own_type, own_class, Spot, touched, Ended, unnoted, Body, Lang}
 use Rattle.java_meaning.specs.Meaning.{words_type, element_type, run_in}
 use Rattle.java_meaning.specs.Languages.{layout, body_with, language_of}
 use Rattle.java_meaning.proofs.Layouts.{places}
 use Rattle.run_cover.specs.Watched.{Of}
-use Rattle.twin_runs.specs.Twins.{shape_of, Link, value_at, same_number, same_text, same_local, same_own_field, same_field, same_index, same_call, same_super_call, same_create, same_create_array, same_cast, same_binary, same_no_ex, same_some, same_to_field, same_to_element, same_declare, same_assign, same_print, same_return, same_no_st, same_st_then, HasPair, SameSts, SameBody, AreTwins}
+use Rattle.twin_runs.specs.Twins.{shape_of, Link, value_at, same_number, same_text, same_local, same_own_field, same_field, same_index, same_call, same_super_call, same_create, same_create_array, same_cast, same_binary, same_no_ex, same_to_field, same_to_element, HasPair, SameSts, SameBody, AreTwins}
 use Rattle.twin_runs.proofs.States.{Alike}
 use Rattle.twin_runs.proofs.SameRun.{same_run}
 use Rattle.java_meaning.proofs.Examples.{tag, variable, class, under, many, main_of, method as method_of}
@@ -259,10 +260,10 @@ same_body i j c d x y xs ys code = record {
 
 bodies_same : (b c : Body) → Pair b c → SameBody old_language new_language link Made Pair b c
 unfolding below field_in member_field field_of search_order declaration_of lookup super_method layout
-bodies_same b c pair_first = same_body 0 2 1 2 (codes "m") (codes "n") _ _ (same_st_then (same_return (same_some (same_own_field
-    (record { new = λ f e. refl; had = λ f e o c k made m. subst (λ z. ((z == 0) && is_first o) ≡ true) (same_Some 0 f e) m })))) same_no_st)
-bodies_same b c pair_second = same_body 1 1 2 3 (codes "m") (codes "n") _ _ (same_st_then (same_return (same_some (same_binary
-    (same_super_call same_no_ex (λ b e. has_pair old_first_body new_first_body b _ pair_first e refl)) same_number))) same_no_st)
+bodies_same b c pair_first = same_body 0 2 1 2 (codes "m") (codes "n") _ _ (pair_st_then (pair_return (pair_some (same_own_field
+    (record { new = λ f e. refl; had = λ f e o c k made m. subst (λ z. ((z == 0) && is_first o) ≡ true) (same_Some 0 f e) m })))) pair_no_st)
+bodies_same b c pair_second = same_body 1 1 2 3 (codes "m") (codes "n") _ _ (pair_st_then (pair_return (pair_some (same_binary
+    (same_super_call same_no_ex (λ b e. has_pair old_first_body new_first_body b _ pair_first e refl)) same_number))) pair_no_st)
 bodies_same b c pair_main = record {
   env = record { locals = refl; result = refl };
   params = refl;
@@ -270,24 +271,24 @@ bodies_same b c pair_main = record {
   plain = main_plain;
   ends = refl;
   code =
-      same_st_then (same_declare (same_some
+      pair_st_then (pair_declare (pair_some
       (same_create same_no_ex (record { made = record { old = refl; new = refl }; values = λ f h. first_values f (only f (Some 0) h) }))))
-      (same_st_then (same_declare (same_some (same_create_array same_number (record { made = record { old = refl; new = refl }; shape = refl }))))
-      (same_st_then (same_assign (same_to_field same_local
+      (pair_st_then (pair_declare (pair_some (same_create_array same_number (record { made = record { old = refl; new = refl }; shape = refl }))))
+      (pair_st_then (pair_assign (same_to_field same_local
       (record { new = λ f e. refl; had = λ f e o c k made m. subst (λ z. ((z == 0) && is_first o) ≡ true) (same_Some 0 f e) m }))
       same_number)
-      (same_st_then (same_assign (same_to_element same_local same_number (λ o q a b k l t u made held e d mo mq. store_made o q a b k l t u made held e d))
+      (pair_st_then (pair_assign (same_to_element same_local same_number (λ o q a b k l t u made held e d mo mq. store_made o q a b k l t u made held e d))
       same_local)
-      (same_st_then (same_declare (same_some (same_cast (same_index same_local same_number) refl (λ e o k l made m. cast_made o k l made))))
-      (same_st_then (same_print (same_some (same_call same_local same_no_ex
+      (pair_st_then (pair_declare (pair_some (same_cast (same_index same_local same_number) refl (λ e o k l made m. cast_made o k l made))))
+      (pair_st_then (pair_print (pair_some (same_call same_local same_no_ex
       (record {
         bodies = λ o c k i b made ei eb m. record { slot = 0; called = refl; runs = call_pair o c k i b made.old made.new ei eb };
         texts = λ m e. absurd (cc);
       }))))
-      (same_st_then (same_print (same_some (same_field same_local
+      (pair_st_then (pair_print (pair_some (same_field same_local
       (record { new = λ f e. absurd (cc); had = λ f e o c k made m. absurd (cc) }) (λ e. e))))
-      (same_st_then (same_print (same_some (same_call same_text same_no_ex
-      (record { bodies = λ o c k i b made ei eb m. absurd (cc); texts = λ m e. e })))) same_no_st)))))));
+      (pair_st_then (pair_print (pair_some (same_call same_text same_no_ex
+      (record { bodies = λ o c k i b made ei eb m. absurd (cc); texts = λ m e. e })))) pair_no_st)))))));
 }
   where
     main_plain : (i a : ℕ) → slice_get (Nothing ∷ Nothing ∷ Nothing ∷ []) i ≡ Some (Object a) → ⊥

@@ -6,10 +6,11 @@ use Rattle.java_core.specs.declared.TyBase.{TyBase}
 use Rattle.java_core.specs.declared.TyBase.TheVariants.{Int, Boolean, Char, Str, Class}
 use Rattle.java_core.specs.declared.UnOp.{UnOp}
 use Rattle.java_core.specs.declared.BinOp.{BinOp}
-use Rattle.java_core.specs.Trees.{Tag, Ex, Exs, no_ex, ex_then, number, character, text, truth, null, this, local, static_field, own_field, field, index, call, static_call, super_call, create, create_array, cast, instance_of, unary, binary, Target, to_local, to_static, to_own, to_field, to_element, St, Sts, Arms, declare, block, assign, act, print, choose, loop, return, break, continue, no_st, st_then, otherwise, arm, no_other}
+use Rattle.java_core.specs.Trees.{Tag, Ex, Exs, no_ex, ex_then, number, character, text, truth, null, this, local, static_field, own_field, field, index, call, static_call, super_call, create, create_array, cast, instance_of, unary, binary, Target, to_local, to_static, to_own, to_field, to_element, St, Sts, Arms}
 use Rattle.java_core.specs.Types.{Env, class_type, StringMethod}
 use Rattle.java_meaning.specs.Moment.{Value, Kind, an_object, an_array, Cell, own_type, Spot, held, bound, self_of, set_static, touched, tested, ran, Body, Lang}
 use Rattle.java_meaning.specs.Meaning.{words_type, element_type, is_number_type, names_length, text_method}
+use Rattle.java_meaning.specs.Paired.{PairedIf, PairedSt, PairedSts, PairedArms}
 use Rattle.run_cover.specs.Families.{ArePlain}
 use Rattle.run_cover.specs.Watched.{Of}
 
@@ -141,10 +142,6 @@ module _ (L M : Lang) (K : Link) (Made : Option ℕ → Kind → Kind → Type 0
         same_no_ex : SameAll no_ex no_ex
         same_ex_then : {e d : Ex} {es ds : Exs} → Same e d → SameAll es ds → SameAll (ex_then e es) (ex_then d ds)
 
-    pub data SameIf : Option Ex → Option Ex → Type 0 where
-      same_none : SameIf None None
-      same_some : {e d : Ex} → Same e d → SameIf (Some e) (Some d)
-
     -- what the value of a is put in
     pub data SameTarget (a : Ex) : Target → Target → Type 0 where
       same_to_local : {t u : Tag} {i : ℕ} → SameTarget a (to_local t i) (to_local u i)
@@ -154,30 +151,17 @@ module _ (L M : Lang) (K : Link) (Made : Option ℕ → Kind → Kind → Type 0
           → SameTarget a (to_field t e x) (to_field u d y)
       same_to_element : {t u : Tag} {e d i j : Ex} → Same e d → Same i j → SameStore e a → SameTarget a (to_element t e i) (to_element u d j)
 
-    mutual
-      pub data SameSt : St → St → Type 0 where
-        same_declare : {t u : Tag} {i : ℕ} {e d : Option Ex} → SameIf e d → SameSt (declare t i e) (declare u i d)
-        same_block : {t u : Tag} {xs ys : Sts} → SameSts xs ys → SameSt (block t xs) (block u ys)
-        same_assign : {t u : Tag} {b c : Target} {e d : Ex} → SameTarget e b c → Same e d → SameSt (assign t b e) (assign u c d)
-        same_act : {t u : Tag} {e d : Ex} → Same e d → SameSt (act t e) (act u d)
-        same_print : {t u : Tag} {n : Bool} {e d : Option Ex} → SameIf e d → SameSt (print t n e) (print u n d)
-        same_choose : {t u : Tag} {a b : Arms} → SameArms a b → SameSt (choose t a) (choose u b)
-        same_loop : {t u : Tag} {is_while : Bool} {first step body other last code : Sts} {e d : Option Ex} → SameSts first other → SameIf e d
-            → SameSts step last
-            → SameSts body code
-            → SameSt (loop t is_while first e step body) (loop u is_while other d last code)
-        same_return : {t u : Tag} {e d : Option Ex} → SameIf e d → SameSt (return t e) (return u d)
-        same_break : {t u : Tag} → SameSt (break t) (break u)
-        same_continue : {t u : Tag} → SameSt (continue t) (continue u)
+    abbrev pub SameIf : Option Ex → Option Ex → Type 0
+    SameIf = PairedIf Same SameTarget
 
-      pub data SameSts : Sts → Sts → Type 0 where
-        same_no_st : SameSts no_st no_st
-        same_st_then : {x y : St} {xs ys : Sts} → SameSt x y → SameSts xs ys → SameSts (st_then x xs) (st_then y ys)
+    abbrev pub SameSt : St → St → Type 0
+    SameSt = PairedSt Same SameTarget
 
-      pub data SameArms : Arms → Arms → Type 0 where
-        same_no_other : SameArms no_other no_other
-        same_otherwise : {xs ys : Sts} → SameSts xs ys → SameArms (otherwise xs) (otherwise ys)
-        same_arm : {e d : Ex} {xs ys : Sts} {a b : Arms} → Same e d → SameSts xs ys → SameArms a b → SameArms (arm e xs a) (arm d ys b)
+    abbrev pub SameSts : Sts → Sts → Type 0
+    SameSts = PairedSts Same SameTarget
+
+    abbrev pub SameArms : Arms → Arms → Type 0
+    SameArms = PairedArms Same SameTarget
 
   -- locals and results differ in their classes alone
   pub record SameEnv (g h : Env) : Type 0 where
