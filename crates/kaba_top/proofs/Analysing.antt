@@ -11,15 +11,16 @@ use Rattle.fact_model.specs.Concepts.{AreMoreThan, IsLatticeOf}
 use Rattle.fact_model.specs.Flowing.{AreSets}
 use Rattle.fact_model.specs.declared.sets.PointsTo.{PointsTo}
 use Rattle.fact_model.specs.declared.sets.Lattice.{Lattice}
+use Rattle.hier_model.specs.Hierarchies.{Hierarchy}
 use Rattle.hier_view.specs.Text.{hierarchy_text}
 use Rattle.edit_script.specs.declared.lines.Line.{Line}
 use Rattle.tree_laws.specs.Kept.{HasNoInterface}
 use Rattle.tree_laws.specs.Reached.{IsReached, begun}
+use Rattle.tree_merge.specs.declared.steps.TreeStep.{TreeStep}
 use Rattle.tree_merge.specs.declared.trees.NoTree.{NoTree}
 use Rattle.tree_view.specs.Lines.{log_text, no_tree_text}
 use Rattle.kaba_top.specs.declared.reply.Reply.{Reply}
 use Rattle.kaba_top.specs.declared.script.Proposal.{Proposal}
-use Rattle.kaba_top.specs.declared.regen.Written.{Written}
 use Rattle.kaba_top.specs.Lines.{Says, Gives, line}
 use Rattle.kaba_top.specs.FactsAnswers.{HasFacts, AnalysisAnswers, LatticeOf, too_many_concepts}
 use Rattle.kaba_top.specs.ScriptAnswers.{HasLattice, ScriptAnswers, start_of, edited}
@@ -82,26 +83,24 @@ shows bound script facts p r is h =
     reply.out.items reply.err.items)) is.is.hierarchy h))
 
 -- the program of a tree is written
-pub regenerated : (bound : ℕ) (script : List ℕ) (program : Program) (facts : Facts) (p : Proposal) (w : Written) (r : Result Reply AllocError)
-    → (is : IsProposal bound script facts p)
-    → IsWritten program facts p.sets p.edited.hier w
-    → IfOk r (λ reply. Gives (edit_status p.edited.refusals.items) w.text.items (p.edited.refusals.items ++ log_text w.log.items) reply.status
-    reply.out.items reply.err.items)
+pub regenerated : (bound : ℕ) (script : List ℕ) (program : Program) (facts : Facts) (p : Proposal) (tree : Hierarchy) (log : List TreeStep) (text : List ℕ)
+    (r : Result Reply AllocError) → (is : IsProposal bound script facts p)
+    → IsWritten program facts p.sets p.edited.hier tree log text
+    → IfOk r (λ reply. Gives (edit_status p.edited.refusals.items) text (p.edited.refusals.items ++ log_text log) reply.status reply.out.items reply.err.items)
     → IfOk r (λ reply. RegenOf bound script program facts reply.status reply.out.items reply.err.items)
-regenerated bound script program facts p w (Err e) is written h = tt
-regenerated bound script program facts p w (Ok reply) is written h = inr (record {
+regenerated bound script program facts p tree log text (Err e) is written h = tt
+regenerated bound script program facts p tree log text (Ok reply) is written h = inr (record {
   has = has_lattice bound script facts p is;
   edits = is.edits;
   are = is.are;
   few = is.few;
   answers = inl (record {
-    log = w.log.items;
-    tree = w.hier;
-    is = subst (λ H. IsTreeOf facts p.sets H w.log.items w.hier) is.is.hierarchy written.is;
-    text = w.text.items;
+    log = log;
+    tree = tree;
+    is = subst (λ H. IsTreeOf facts p.sets H log tree) is.is.hierarchy written.is;
+    text = text;
     written = written.written;
-    gives = subst (λ lines. Gives (edit_status lines) w.text.items (lines ++ log_text w.log.items) reply.status reply.out.items reply.err.items)
-        is.is.refusals h;
+    gives = subst (λ lines. Gives (edit_status lines) text (lines ++ log_text log) reply.status reply.out.items reply.err.items) is.is.refusals h;
   });
 })
 

@@ -14,12 +14,12 @@ use Rattle.edit_script.specs.declared.lines.Line.{Line}
 use Rattle.edit_script.specs.Script.{words_of, IsNone, AreEditsOf, IsFirstBadLine, HasTooManyEdits}
 use Rattle.tree_laws.specs.Kept.{HasNoInterface}
 use Rattle.tree_laws.specs.Reached.{IsReached, begun}
+use Rattle.tree_merge.specs.declared.steps.TreeStep.{TreeStep}
 use Rattle.tree_merge.specs.declared.trees.NoTree.{NoTree}
 use Rattle.kaba_words.specs.Commands.{make, Fits, most_samples, usual_concepts}
 use Rattle.kaba_top.specs.declared.reply.Reply.{Reply}
 use Rattle.kaba_top.specs.declared.reading.Reading.TheVariants as readings
 use Rattle.kaba_top.specs.declared.script.Proposal.{Proposal}
-use Rattle.kaba_top.specs.declared.regen.Written.{Written}
 use Rattle.kaba_top.specs.declared.make.Counts.{Counts}
 use Rattle.kaba_top.specs.Readings.{IsMadeReading}
 use Rattle.kaba_top.specs.ScriptAnswers.{IsNotRun, IsOverBound, start_of}
@@ -90,19 +90,20 @@ never_stuck facts script p fault none is range order no_interface stuck =
     (subst (IsReached facts p.sets p.table p.lattice) (sym (unedited facts script p none is)) begun)
 
 -- and its program was written
-pub made : (program : Program) (facts : Facts) (script : List ℕ) (p : Proposal) (w : Written) (counts : Counts) (r : Result Reply AllocError) → script ≡ []
-    → IsProposal usual_concepts script facts p → IsWritten program facts p.sets p.edited.hier w → counts ≡ counts_of facts p.lattice w.hier w.log.items
-    → IfOk r (λ reply. MadeTextAnswers (WrittenGives counts) w.text.items reply.status reply.out.items reply.err.items)
+pub made : (program : Program) (facts : Facts) (script : List ℕ) (p : Proposal) (tree : Hierarchy) (log : List TreeStep) (text : List ℕ) (counts : Counts)
+    (r : Result Reply AllocError) → script ≡ []
+    → IsProposal usual_concepts script facts p → IsWritten program facts p.sets p.edited.hier tree log text → counts ≡ counts_of facts p.lattice tree log
+    → IfOk r (λ reply. MadeTextAnswers (WrittenGives counts) text reply.status reply.out.items reply.err.items)
     → IfOk r (λ reply. MadeOf program facts reply.status reply.out.items reply.err.items)
-made program facts script p w counts (Err e) none is written same h = tt
-made program facts script p w counts (Ok reply) none is written same h = inr (record {
+made program facts script p tree log text counts (Err e) none is written same h = tt
+made program facts script p tree log text counts (Ok reply) none is written same h = inr (record {
   has = has_lattice usual_concepts script facts p is;
-  log = w.log.items;
-  tree = w.hier;
-  is = subst (λ H. IsTreeOf facts p.sets H w.log.items w.hier) (unedited facts script p none is) written.is;
-  text = w.text.items;
+  log = log;
+  tree = tree;
+  is = subst (λ H. IsTreeOf facts p.sets H log tree) (unedited facts script p none is) written.is;
+  text = text;
   written = written.written;
-  answers = subst (λ c. MadeTextAnswers (WrittenGives c) w.text.items reply.status reply.out.items reply.err.items) same h;
+  answers = subst (λ c. MadeTextAnswers (WrittenGives c) text reply.status reply.out.items reply.err.items) same h;
 })
 
 -- what the words of `make` give of its number

@@ -109,52 +109,45 @@ refused_answers : (K : List ℕ → ℕ → List ℕ → List ℕ → Type 0) (f
 refused_answers K files name status out err (inl m) = inl m
 refused_answers K files name status out err (inr l) = inr (inl l)
 
--- the answers of a command that reads two files, where K are those for their bytes
-abbrev pub ReadsTwo : Cmd → List ℕ → List ℕ → (List ℕ → List ℕ → ℕ → List ℕ → List ℕ → Type 0) → Type 0
-ReadsTwo command file script K = (first second : Files) (status : ℕ) (out err : List ℕ)
-    → FileAnswers (λ bytes. FileAnswers (K bytes) second script) first file status out err → CommandAnswers command first second status out err
-
-abbrev pub NamesTwo : Cmd → List ℕ → List ℕ → Type 0
-NamesTwo command file script = (name : List ℕ) → (name ≡ file) ⊎ (name ≡ script) → Names command name
-
--- the first of two files was read, and the reply is that to the second
-pub two_files : (command : Cmd) (file script : List ℕ) (K : List ℕ → List ℕ → ℕ → List ℕ → List ℕ → Type 0) → ReadsTwo command file script K
-    → NamesTwo command file script
-    → (told told_then : Option Files) (before mid now : ℕ) (bytes : List ℕ) (r : Result Reply AllocError)
-    → told_then ≡ told → before ≤ mid → IsThere told file bytes
-    → IfOk r (λ reply. FileReplies told_then mid now (K bytes) script reply.status reply.out.items reply.err.items)
-    → IfOk r (λ reply. CommandReplies told before now command reply.status reply.out.items reply.err.items)
-two_files command file script K reads names told told_then before mid now bytes (Err e) same later there h = tt
-two_files command file script K reads names told told_then before mid now bytes (Ok reply) same later there (inl a) = inl (record {
-  first = there.files;
-  second = a.first;
-  first_agrees = there.agrees;
-  second_agrees = subst (λ t. Agrees t a.first) same a.first_agrees;
-  answers = reads there.files a.first reply.status reply.out.items reply.err.items
-      (inr (inr (record { bytes = bytes; there = there.there; small = there.small; answers = a.answers })));
-})
-two_files command file script K reads names told told_then before mid now bytes (Ok reply) same later there (inr f) =
-    inr (record { file = script; names = names script (inr refl); fault = record { rose = omega (arith, later, f.rose); says = f.says } })
-
--- the first of two files was not read
-pub no_first_file : (command : Cmd) (file script : List ℕ) (K : List ℕ → List ℕ → ℕ → List ℕ → List ℕ → Type 0) → ReadsTwo command file script K
-    → NamesTwo command file script
-    → (told : Option Files) (before now : ℕ) (status : ℕ) (out err : List ℕ)
-    → IsRefused told file status out err ⊎ IsFault before now file status out err → CommandReplies told before now command status out err
-no_first_file command file script K reads names told before now status out err (inl r) = inl (record {
-  first = r.files;
-  second = r.files;
-  first_agrees = r.agrees;
-  second_agrees = r.agrees;
-  answers = reads r.files r.files status out err (refused_answers (λ bytes. FileAnswers (K bytes) r.files script) r.files file status out err r.refused);
-})
-no_first_file command file script K reads names told before now status out err (inr f) = inr (record { file = file; names = names file (inl refl); fault = f })
-
 -- both commands with a script read two files
-pub reads_shown : (s : Shows) (bound : ℕ) (file script : List ℕ) → ReadsTwo (command_showing s bound file script) file script (ShownAnswers s bound)
-reads_shown shows.Hierarchy bound file script = λ first second status out err h. h
-reads_shown shows.Program bound file script = λ first second status out err h. h
+reads_shown : (s : Shows) (bound : ℕ) (file script : List ℕ) (first second : Files) (status : ℕ) (out err : List ℕ)
+    → FileAnswers (λ bytes. FileAnswers (ShownAnswers s bound bytes) second script) first file status out err
+    → CommandAnswers (command_showing s bound file script) first second status out err
+reads_shown shows.Hierarchy bound file script first second status out err h = h
+reads_shown shows.Program bound file script first second status out err h = h
 
-pub names_shown : (s : Shows) (bound : ℕ) (file script : List ℕ) → NamesTwo (command_showing s bound file script) file script
-names_shown shows.Hierarchy bound file script = λ name h. h
-names_shown shows.Program bound file script = λ name h. h
+names_shown : (s : Shows) (bound : ℕ) (file script name : List ℕ) → (name ≡ file) ⊎ (name ≡ script) → Names (command_showing s bound file script) name
+names_shown shows.Hierarchy bound file script name h = h
+names_shown shows.Program bound file script name h = h
+
+module _ (s : Shows) (bound : ℕ) (file script : List ℕ) where
+  -- the first of the two files was read, and the reply is that to the second
+  pub two_files : (told told_then : Option Files) (before mid now : ℕ) (bytes : List ℕ) (r : Result Reply AllocError)
+      → told_then ≡ told → before ≤ mid → IsThere told file bytes
+      → IfOk r (λ reply. FileReplies told_then mid now (ShownAnswers s bound bytes) script reply.status reply.out.items reply.err.items)
+      → IfOk r (λ reply. CommandReplies told before now (command_showing s bound file script) reply.status reply.out.items reply.err.items)
+  two_files told told_then before mid now bytes (Err e) same later there h = tt
+  two_files told told_then before mid now bytes (Ok reply) same later there (inl a) = inl (record {
+    first = there.files;
+    second = a.first;
+    first_agrees = there.agrees;
+    second_agrees = subst (λ t. Agrees t a.first) same a.first_agrees;
+    answers = reads_shown s bound file script there.files a.first reply.status reply.out.items reply.err.items
+        (inr (inr (record { bytes = bytes; there = there.there; small = there.small; answers = a.answers })));
+  })
+  two_files told told_then before mid now bytes (Ok reply) same later there (inr f) =
+      inr (record { file = script; names = names_shown s bound file script script (inr refl); fault = record { rose = omega (arith, later, f.rose); says = f.says } })
+
+  -- the first of the two files was not read
+  pub no_first_file : (told : Option Files) (before now : ℕ) (status : ℕ) (out err : List ℕ)
+      → IsRefused told file status out err ⊎ IsFault before now file status out err
+      → CommandReplies told before now (command_showing s bound file script) status out err
+  no_first_file told before now status out err (inl r) = inl (record {
+    first = r.files;
+    second = r.files;
+    first_agrees = r.agrees;
+    second_agrees = r.agrees;
+    answers = reads_shown s bound file script r.files r.files status out err
+        (refused_answers (λ bytes. FileAnswers (ShownAnswers s bound bytes) r.files script) r.files file status out err r.refused);
+  })
+  no_first_file told before now status out err (inr f) = inr (record { file = file; names = names_shown s bound file script file (inl refl); fault = f })

@@ -13,6 +13,7 @@ use Rattle.hier_model.specs.Start.{start_from}
 use Rattle.hier_begin.specs.Laws.{AreAnalysed}
 use Rattle.tree_laws.specs.Kept.{HasNoInterface}
 use Rattle.tree_laws.specs.Reached.{IsReached}
+use Rattle.tree_merge.specs.declared.steps.TreeStep.{TreeStep}
 use Rattle.tree_merge.specs.declared.trees.NoTree.{NoTree}
 use Rattle.edit_script.specs.declared.lines.Line.{Line}
 use Rattle.edit_script.specs.Script.{AreEditsOf, most_edits}
@@ -21,7 +22,6 @@ use Rattle.java_write.specs.Written.{IsWrittenText}
 use Rattle.kaba_top.specs.declared.script.Proposal.{Proposal}
 use Rattle.kaba_top.specs.declared.script.Proposed.{Proposed}
 use Rattle.kaba_top.specs.declared.script.Proposed.TheVariants as proposed
-use Rattle.kaba_top.specs.declared.regen.Written.{Written}
 use Rattle.kaba_top.specs.declared.regen.Regenerated.{Regenerated}
 use Rattle.kaba_top.specs.declared.regen.Regenerated.TheVariants as regenerated
 use Rattle.kaba_top.specs.ScriptAnswers.{IsNotRun}
@@ -49,10 +49,10 @@ pub record IsStuck (facts : Facts) (sets : PointsTo) (from : Hierarchy) (fault :
       → IsReached facts sets table lattice from → ⊥
 
 -- the program of a tree of classes was written
-pub record IsWritten (program : Program) (facts : Facts) (sets : PointsTo) (from : Hierarchy) (w : Written) : Type 0 where
-  pub is : IsTreeOf facts sets from w.log.items w.hier
-  pub written : IsWrittenText program facts w.hier w.text.items
+pub record IsWritten (program : Program) (facts : Facts) (sets : PointsTo) (from tree : Hierarchy) (log : List TreeStep) (text : List ℕ) : Type 0 where
+  pub is : IsTreeOf facts sets from log tree
+  pub written : IsWrittenText program facts tree text
 
 abbrev pub IsWrittenOver : Program → Facts → PointsTo → Hierarchy → Regenerated → Type 0
-IsWrittenOver program facts sets from (regenerated.Written w) = IsWritten program facts sets from w
+IsWrittenOver program facts sets from (regenerated.Written tree log text) = IsWritten program facts sets from tree log.items text.items
 IsWrittenOver program facts sets from (regenerated.Stuck fault) = IsStuck facts sets from fault

@@ -9,17 +9,19 @@ ghost use Rattle.kaba_top.specs.Readings.{IsMadeReading};
 
 use crate::analysis::{Analysed, analyse};
 use crate::reading::{Reading, read_program};
-use crate::regen::{Regenerated, Written, regenerate};
+use crate::regen::{Regenerated, regenerate};
 use crate::reply::Reply;
 use crate::run::ran;
 use crate::script::{Proposed, Task, propose};
 use fact_model::{Facts, Lattice};
+use hier_model::Hier;
 use hier_view::live_nodes;
 use java_core::Checked;
 use java_print::print;
 use java_run::{End, Outcome, run};
 use kaba_work::sample;
 use std::alloc::{AllocError, Global};
+use tree_merge::TreeStep;
 
 /// How much there is of what the work on a program comes to.
 #[derive(Drop)]
@@ -64,17 +66,18 @@ fn counts_of(
     alloc: Global,
     facts: &Facts,
     lattice: &Lattice,
-    written: &Written,
+    hier: &Hier,
+    log: &Vec<TreeStep>,
 ) -> Result<Counts, AllocError>
-    ensures { IfOk result (λ counts. counts ≡ counts_of facts.now lattice.now written.now.hier written.now.log.items) }
+    ensures { IfOk result (λ counts. counts ≡ counts_of facts.now lattice.now hier.now log.now.items) }
 {
-    let types = live_nodes(alloc, &written.hier)?;
+    let types = live_nodes(alloc, hier)?;
     Ok(Counts {
         rows: facts.rows.len(),
         columns: facts.columns.len(),
         concepts: lattice.concepts.len(),
         types: types.len(),
-        tree: written.log.len(),
+        tree: log.len(),
     })
 }
 
@@ -155,9 +158,9 @@ fn made_facts(alloc: Global, program: &Checked, facts: &Facts) -> Result<Reply, 
     };
     let edited = proposal.edited;
     match regenerate(alloc, program, facts, &proposal.sets, edited.hier)? {
-        Regenerated::Written(written) => {
-            let counts = counts_of(alloc, facts, &proposal.lattice, &written)?;
-            made_text(alloc, &counts, &written.text)
+        Regenerated::Written { hier, log, text } => {
+            let counts = counts_of(alloc, facts, &proposal.lattice, &hier, &log)?;
+            made_text(alloc, &counts, &text)
         }
         Regenerated::Stuck(_) => unreachable!(),
     }

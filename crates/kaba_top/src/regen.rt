@@ -2,9 +2,7 @@
 #![tactic(auto)]
 
 ghost use Rattle.std.specs.Prelude.{◌≡◌, ◌≤◌, ◌++◌, [], IfOk, length};
-ghost use Rattle.kaba_top.specs.Words.{MeetsEdit, at_place, no_place, program_of, IsTable, AreSets, IsHierarchyOf, AreProgramFacts, HasText, Gives, line, most_bytes, AnalysisAnswers, edit_status, IsTask};
-ghost use Rattle.fact_model.specs.declared.sets.Table.{Table};
-ghost use Rattle.tree_view.specs.Lines.{log_text, no_tree_text};
+ghost use Rattle.kaba_top.specs.Words.{MeetsEdit, at_place, no_place, program_of, Table, IsTable, AreSets, IsHierarchyOf, log_text, no_tree_text, AreProgramFacts, HasText, Gives, line, most_bytes, AnalysisAnswers, edit_status, IsTask};
 ghost use Rattle.kaba_top.specs.RegenAnswers.{RegenOf};
 ghost use Rattle.kaba_top.specs.Answers.{RegenAnswers};
 ghost use Rattle.kaba_top.specs.Proposals.{IsWrittenOver};
@@ -21,21 +19,16 @@ use std::alloc::{AllocError, Global};
 use tree_merge::{NoTree, TreeFault, TreeStep, make_tree};
 use tree_view::{log_text, no_tree_text};
 
-/// The program of a hierarchy whose class nodes are a tree.
-#[derive(Drop)]
-pub struct Written {
-    /// The hierarchy.
-    pub hier: Hier,
-    /// The steps that led to it.
-    pub log: Vec<TreeStep>,
-    /// The text of the program.
-    pub text: Vec<u8>,
-}
-
-/// What a hierarchy comes to: a program over a tree of classes, or a conflict where there is no tree.
+/// What a hierarchy comes to.
 #[derive(Drop)]
 pub enum Regenerated {
-    Written(Written),
+    /// The hierarchy whose class nodes are a tree, the steps that led to it, and the text of its program.
+    Written {
+        hier: Hier,
+        log: Vec<TreeStep>,
+        text: Vec<u8>,
+    },
+    /// A conflict, where there is no tree.
     Stuck(NoTree),
 }
 
@@ -60,11 +53,11 @@ pub fn regenerate(
         Ok(log) => {
             let mut text = Vec::new(alloc);
             write_java(alloc, program, facts, &made, &mut text)?;
-            Ok(Regenerated::Written(Written {
+            Ok(Regenerated::Written {
                 hier: made,
                 log,
                 text,
-            }))
+            })
         }
         Err(TreeFault::NoTree(fault)) => Ok(Regenerated::Stuck(fault)),
         Err(TreeFault::Memory) => Err(AllocError),
@@ -82,15 +75,20 @@ fn told(alloc: Global, refusals: Vec<u8>, log: &[TreeStep]) -> Result<Vec<u8>, A
 }
 
 /// The reply with a program that was written, and the lines of the refused edits and of the log.
-fn written_reply(alloc: Global, refusals: Vec<u8>, written: Written) -> Result<Reply, AllocError>
-    ensures { IfOk result (λ reply. Gives (edit_status refusals.items) written.text.items
-        (refusals.items ++ log_text written.log.items) reply.status reply.out.items reply.err.items) }
+fn written_reply(
+    alloc: Global,
+    refusals: Vec<u8>,
+    log: &Vec<TreeStep>,
+    text: Vec<u8>,
+) -> Result<Reply, AllocError>
+    ensures { IfOk result (λ reply. Gives (edit_status refusals.items) text.items (refusals.items ++ log_text log.now.items) reply.status
+        reply.out.items reply.err.items) }
 {
     let status = edit_status(&refusals);
-    let err = told(alloc, refusals, &written.log)?;
+    let err = told(alloc, refusals, log)?;
     Ok(Reply {
         status,
-        out: written.text,
+        out: text,
         err,
     })
 }
@@ -130,7 +128,7 @@ fn regen_reply(
     };
     let edited = proposal.edited;
     match regenerate(alloc, program, facts, &proposal.sets, edited.hier)? {
-        Regenerated::Written(written) => written_reply(alloc, edited.refusals, written),
+        Regenerated::Written { log, text, .. } => written_reply(alloc, edited.refusals, &log, text),
         Regenerated::Stuck(fault) => stuck(alloc, edited.refusals, &fault),
     }
 }

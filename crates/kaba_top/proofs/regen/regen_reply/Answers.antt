@@ -15,7 +15,8 @@ pub returns-in-Written : goal.returns-in-Written
 returns-in-Written c =
     let F = c.args.facts.now in
     let p = c.in-Edited.proposal in
-    regenerated c.args.task.now.bound c.args.task.now.script.now.items c.args.program.now F p c.in-Written.written c.written_reply.result
+    regenerated c.args.task.now.bound c.args.task.now.script.now.items c.args.program.now F p c.in-Written.hier c.in-Written.log.items
+    c.in-Written.text.items c.written_reply.result
     (subst (IsProposed c.args.task.now.bound c.args.task.now.script.now.items F) c.in-Edited.is c.in_ok-proposal.ensures.proposed)
     (subst (IsWrittenOver c.args.program.now F p.sets p.edited.hier) c.in-Written.is c.in_ok-written.ensures.regenerated)
     c.written_reply.ensures
