@@ -136,7 +136,12 @@ module _ (s : Shows) (bound : ℕ) (file script : List ℕ) where
         (inr (inr (record { bytes = bytes; there = there.there; small = there.small; answers = a.answers })));
   })
   two_files told told_then before mid now bytes (Ok reply) same later there (inr f) =
-      inr (record { file = script; names = names_shown s bound file script script (inr refl); fault = record { rose = omega (arith, later, f.rose); says = f.says } })
+      inr (record {
+        file = script;
+        names = names_shown s bound file script script (inr refl);
+        fault = record
+            { rose = omega (arith, later, f.rose); says = f.says };
+      })
 
   -- the first of the two files was not read
   pub no_first_file : (told : Option Files) (before now : ℕ) (status : ℕ) (out err : List ℕ)

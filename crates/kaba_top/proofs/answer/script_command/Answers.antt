@@ -10,7 +10,8 @@ returns-in-Bytes g c =
     let mid = g.F.Shelf.faults c.fetch_file.new.shelf in
     record {
       replies = two_files c.args.shows c.args.bound (string_bytes c.args.file.now) (string_bytes c.args.script.now) told
-          (g.F.Shelf.files c.fetch_file.new.shelf) before mid (g.F.Shelf.faults c.script_reply.new.shelf) c.in-Bytes.bytes.items c.script_reply.result c.fetch_file.ensures.same c.fetch_file.ensures.later
+          (g.F.Shelf.files c.fetch_file.new.shelf) before mid (g.F.Shelf.faults c.script_reply.new.shelf) c.in-Bytes.bytes.items c.script_reply.result
+          c.fetch_file.ensures.same c.fetch_file.ensures.later
           (subst (IsFetched told before mid (string_bytes c.args.file.now)) c.in-Bytes.is c.in_ok-bytes.ensures.fetched) c.script_reply.ensures.replies;
     }
 
@@ -22,5 +23,6 @@ returns-in-Refused g c =
     let reply = c.in-Refused.reply in
     record {
       replies = no_first_file c.args.shows c.args.bound (string_bytes c.args.file.now) (string_bytes c.args.script.now) told before mid
-          reply.status reply.out.items reply.err.items (subst (IsFetched told before mid (string_bytes c.args.file.now)) c.in-Refused.is c.in_ok-bytes.ensures.fetched);
+          reply.status reply.out.items reply.err.items (subst (IsFetched told before mid (string_bytes c.args.file.now)) c.in-Refused.is
+          c.in_ok-bytes.ensures.fetched);
     }

@@ -24,7 +24,8 @@ returns c =
     let F = c.args.facts.now in
     let p = c.in-Edited.proposal in
     let script = c.new-script.result.items in
-    made c.args.program.now F script p c.in-Written.hier c.in-Written.log.items c.in-Written.text.items c.in_ok-counts-in-Written.counts c.made_text.result c.new-script.ensures.items
+    made c.args.program.now F script p c.in-Written.hier c.in-Written.log.items c.in-Written.text.items c.in_ok-counts-in-Written.counts
+    c.made_text.result c.new-script.ensures.items
     (subst (IsProposed usual_concepts script F) c.in-Edited.is c.in_ok-proposal.ensures.proposed)
     (subst (IsWrittenOver c.args.program.now F p.sets p.edited.hier) c.in-Written.is c.in_ok-written.ensures.regenerated)
     c.in_ok-counts-in-Written.ensures c.made_text.ensures
