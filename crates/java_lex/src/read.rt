@@ -1,37 +1,16 @@
 //! The tokens of a text.
 #![tactic(auto)]
 
-ghost use Rattle.std.specs.Prelude.{◌≡◌, ℕ, ◌+◌, ◌^◌, ◌<◌, ◌≤◌, ◌++◌, ◌∷◌, ◌==◌, length, IfOk, OnOk, vec_len, count_by};
+ghost use Rattle.std.specs.Prelude.{◌≡◌, ℕ, ◌+◌, ◌^◌, ◌<◌, ◌≤◌, ◌++◌, ◌∷◌, [], ◌==◌, length, IfErr, IfOk, OnOk, vec_len, count_by};
 ghost use Rattle.std.specs.Str.{encode_utf8_all, chars};
 ghost use Rattle.std.specs.Char.{len_utf8};
 ghost use Rattle.java_lex.specs.Lexing.{lexed, moved, past, fault_at, start, width, byte_place, Gives, tokens_of};
 ghost use Rattle.java_lex.specs.Piece.{piece_at, reach};
+ghost use Rattle.java_lex.specs.declared.LexFault.TheVariants.{Memory};
 
 use crate::scan::{FaultKind, Piece, first_piece};
 use crate::{LexFault, Place, Token};
-use std::alloc::{AllocError, AllocFailed, Global};
-
-impl From<AllocError> for LexFault {
-    ghost use Rattle.std.specs.Prelude.{◌≡◌};
-    ghost use Rattle.java_lex.specs.declared.LexFault.TheVariants.{Memory};
-
-    ghost from_gives = { λ _ e. e ≡ Memory };
-
-    fn from(_error: AllocError) -> LexFault {
-        LexFault::Memory
-    }
-}
-
-impl<T: Drop> From<AllocFailed<T>> for LexFault {
-    ghost use Rattle.std.specs.Prelude.{◌≡◌};
-    ghost use Rattle.java_lex.specs.declared.LexFault.TheVariants.{Memory};
-
-    ghost from_gives = { λ _ e. e ≡ Memory };
-
-    fn from(_error: AllocFailed<T>) -> LexFault {
-        LexFault::Memory
-    }
-}
+use std::alloc::Global;
 
 /// The fault at its place.
 fn fault_at(kind: FaultKind, place: Place) -> LexFault
@@ -92,7 +71,7 @@ fn read(alloc: Global, chars: &[char]) -> Result<Vec<Token>, LexFault>
                 rest = &rest[n + 1..];
             }
             Piece::Part(kind, n) => {
-                tokens.push(Token { kind, place })?;
+                add(&mut tokens, Token { kind, place })?;
                 place = moved(place, &rest[..n + 1]);
                 rest = &rest[n + 1..];
             }
@@ -104,14 +83,29 @@ fn read(alloc: Global, chars: &[char]) -> Result<Vec<Token>, LexFault>
     Ok(tokens)
 }
 
+/// One token more.
+fn add(tokens: &mut Vec<Token>, token: Token) -> Result<(), LexFault>
+    ensures added { OnOk result (tokens.new.items ≡ tokens.old.items ++ token ∷ []) }
+    ensures memory { IfErr result (λ fault. fault ≡ Memory) }
+{
+    match tokens.push(token) {
+        Ok(()) => Ok(()),
+        Err(_) => Err(LexFault::Memory),
+    }
+}
+
 /// What the characters begin with.
-fn next(alloc: Global, rest: &[char]) -> Result<Piece, AllocError>
+fn next(alloc: Global, rest: &[char]) -> Result<Piece, LexFault>
     requires { 0 < length rest.now }
     ensures value { IfOk result (λ p. p ≡ piece_at rest.now) }
     ensures within { IfOk result (λ p. reach p < length rest.now) }
+    ensures memory { IfErr result (λ fault. fault ≡ Memory) }
 {
     match rest {
-        [first, more @ ..] => first_piece(alloc, *first, more, rest),
+        [first, more @ ..] => match first_piece(alloc, *first, more, rest) {
+            Ok(piece) => Ok(piece),
+            Err(_) => Err(LexFault::Memory),
+        },
         [] => Ok(Piece::Gap(0)),
     }
 }
@@ -150,8 +144,12 @@ fn lex_text(alloc: Global, text: &str) -> Result<Vec<Token>, LexFault>
 }
 
 /// The characters of the text.
-fn decoded(alloc: Global, text: &str) -> Result<Vec<char>, AllocError>
-    ensures { IfOk result (λ v. v.items ≡ chars text.now) }
+fn decoded(alloc: Global, text: &str) -> Result<Vec<char>, LexFault>
+    ensures value { IfOk result (λ v. v.items ≡ chars text.now) }
+    ensures memory { IfErr result (λ fault. fault ≡ Memory) }
 {
-    text.chars().collect(alloc)
+    match text.chars().collect(alloc) {
+        Ok(chars) => Ok(chars),
+        Err(_) => Err(LexFault::Memory),
+    }
 }

@@ -5,11 +5,12 @@ ghost use Rattle.std.specs.Prelude.{[], IfOk};
 ghost use Rattle.kaba_top.specs.Words.{Gives};
 ghost use Rattle.kaba_top.specs.About.{help_text, version_text};
 
+use crate::Tried;
 use crate::reply::Reply;
-use std::alloc::{AllocError, Global};
+use std::alloc::Global;
 
 /// The reply of `--help`: each command, the statuses, and where the documents are.
-pub fn help_reply(alloc: Global) -> Result<Reply, AllocError>
+pub fn help_reply(alloc: Global) -> Tried<Reply>
     ensures gives { IfOk result (λ reply. Gives 0 help_text [] reply.status reply.out.items reply.err.items) }
 {
     let out = Vec::from_slice(
@@ -38,7 +39,7 @@ pub fn help_reply(alloc: Global) -> Result<Reply, AllocError>
 }
 
 /// The reply of `--version`.
-pub fn version_reply(alloc: Global) -> Result<Reply, AllocError>
+pub fn version_reply(alloc: Global) -> Tried<Reply>
     ensures gives { IfOk result (λ reply. Gives 0 version_text [] reply.status reply.out.items reply.err.items) }
 {
     Ok(Reply {

@@ -6,6 +6,7 @@ ghost use Rattle.kaba_top.specs.Words.{InRange, IsTable, Says, most_bytes, TextA
 ghost use Rattle.kaba_top.specs.FactsAnswers.{TableOf, LatticeOf, shown, too_many_concepts};
 ghost use Rattle.kaba_top.specs.Analyses.{IsAnalysis};
 
+use crate::Tried;
 use crate::cause_words::limit_text;
 use crate::reading::{Reading, read_program};
 use crate::reply::Reply;
@@ -26,7 +27,7 @@ pub enum Analysed {
 }
 
 /// The facts of a program, or the reply that it has none.
-pub fn analyse(alloc: Global, program: &Checked) -> Result<Analysed, AllocError>
+pub fn analyse(alloc: Global, program: &Checked) -> Tried<Analysed>
     ensures { IfOk result (λ analysed. IsAnalysis program.now analysed) }
 {
     match facts(alloc, program) {
@@ -46,7 +47,7 @@ pub fn analyse(alloc: Global, program: &Checked) -> Result<Analysed, AllocError>
 }
 
 /// The closed table of the facts.
-fn table_of(alloc: Global, facts: &Facts) -> Result<Table, AllocError>
+fn table_of(alloc: Global, facts: &Facts) -> Tried<Table>
     requires facts { InRange facts.now }
     ensures { IfOk result (λ table. IsTable facts.now table) }
 {
@@ -56,7 +57,7 @@ fn table_of(alloc: Global, facts: &Facts) -> Result<Table, AllocError>
 }
 
 /// The reply with the text of the table.
-fn table_reply(alloc: Global, facts: &Facts) -> Result<Reply, AllocError>
+fn table_reply(alloc: Global, facts: &Facts) -> Tried<Reply>
     requires facts { InRange facts.now }
     ensures { IfOk result (λ reply. TableOf facts.now reply.status reply.out.items reply.err.items) }
 {
@@ -71,7 +72,7 @@ fn table_reply(alloc: Global, facts: &Facts) -> Result<Reply, AllocError>
 }
 
 /// The text of a lattice, or its JSON.
-fn show(alloc: Global, json: bool, facts: &Facts, lattice: &Lattice) -> Result<Vec<u8>, AllocError>
+fn show(alloc: Global, json: bool, facts: &Facts, lattice: &Lattice) -> Tried<Vec<u8>>
     ensures { IfOk result (λ out. out.items ≡ shown json facts.now lattice.now) }
 {
     let mut out = Vec::new(alloc);
@@ -84,7 +85,7 @@ fn show(alloc: Global, json: bool, facts: &Facts, lattice: &Lattice) -> Result<V
 }
 
 /// The reply that there are more concepts than are allowed.
-pub fn too_many_concepts(alloc: Global, bound: u32) -> Result<Reply, AllocError>
+pub fn too_many_concepts(alloc: Global, bound: u32) -> Tried<Reply>
     ensures { IfOk result (λ reply. Says 68 (too_many_concepts bound) reply.status reply.out.items reply.err.items) }
 {
     let text = format!(in alloc; "too many concepts: more than {bound}")?;
@@ -92,7 +93,7 @@ pub fn too_many_concepts(alloc: Global, bound: u32) -> Result<Reply, AllocError>
 }
 
 /// The reply with the lattice, or with how many concepts are allowed.
-fn lattice_reply(alloc: Global, facts: &Facts, json: bool, bound: u32) -> Result<Reply, AllocError>
+fn lattice_reply(alloc: Global, facts: &Facts, json: bool, bound: u32) -> Tried<Reply>
     requires facts { InRange facts.now }
     ensures { IfOk result (λ reply. LatticeOf json bound facts.now reply.status reply.out.items reply.err.items) }
 {
@@ -109,7 +110,7 @@ fn lattice_reply(alloc: Global, facts: &Facts, json: bool, bound: u32) -> Result
 }
 
 /// The reply of `table` for a program.
-fn table_program(alloc: Global, program: &Checked) -> Result<Reply, AllocError>
+fn table_program(alloc: Global, program: &Checked) -> Tried<Reply>
     ensures { IfOk result (λ reply. AnalysisAnswers TableOf program.now reply.status reply.out.items reply.err.items) }
 {
     match analyse(alloc, program)? {
@@ -119,12 +120,7 @@ fn table_program(alloc: Global, program: &Checked) -> Result<Reply, AllocError>
 }
 
 /// The reply of `lattice` for a program.
-fn lattice_program(
-    alloc: Global,
-    program: &Checked,
-    json: bool,
-    bound: u32,
-) -> Result<Reply, AllocError>
+fn lattice_program(alloc: Global, program: &Checked, json: bool, bound: u32) -> Tried<Reply>
     ensures { IfOk result (λ reply. AnalysisAnswers (LatticeOf json bound) program.now reply.status reply.out.items reply.err.items) }
 {
     match analyse(alloc, program)? {
@@ -134,7 +130,7 @@ fn lattice_program(
 }
 
 /// The reply of `table` for the bytes of its file.
-pub fn table_text(alloc: Global, bytes: &Vec<u8>) -> Result<Reply, AllocError>
+pub fn table_text(alloc: Global, bytes: &Vec<u8>) -> Tried<Reply>
     requires small { length bytes.now.items ≤ most_bytes }
     ensures answers { IfOk result (λ reply. TextAnswers (AnalysisAnswers TableOf) bytes.now.items reply.status reply.out.items reply.err.items) }
 {
@@ -145,12 +141,7 @@ pub fn table_text(alloc: Global, bytes: &Vec<u8>) -> Result<Reply, AllocError>
 }
 
 /// The reply of `lattice` for the bytes of its file.
-pub fn lattice_text(
-    alloc: Global,
-    bytes: &Vec<u8>,
-    json: bool,
-    bound: u32,
-) -> Result<Reply, AllocError>
+pub fn lattice_text(alloc: Global, bytes: &Vec<u8>, json: bool, bound: u32) -> Tried<Reply>
     requires small { length bytes.now.items ≤ most_bytes }
     ensures answers { IfOk result (λ reply. TextAnswers (AnalysisAnswers (LatticeOf json bound)) bytes.now.items reply.status reply.out.items reply.err.items) }
 {

@@ -9,6 +9,7 @@ ghost use Rattle.kaba_top.specs.Answers.{CommandReplies, Replies};
 ghost use Rattle.kaba_top.specs.Fetching.{FileReplies, IsFetched};
 ghost use Rattle.kaba_top.specs.Shown.{ShownAnswers, command_showing};
 
+use crate::Tried;
 use crate::about::{help_reply, version_reply};
 use crate::analysis::{lattice_text, table_text};
 use crate::edit::edit_text;
@@ -29,7 +30,7 @@ enum Fetched {
 }
 
 /// The bytes of the file, or the reply that it cannot be read or is too large.
-fn fetch_file<F: Shelf>(alloc: Global, shelf: &mut F, name: &String) -> Result<Fetched, AllocError>
+fn fetch_file<F: Shelf>(alloc: Global, shelf: &mut F, name: &String) -> Tried<Fetched>
     ensures fetched { IfOk result (λ fetched. IsFetched (F.files shelf.old) (F.faults shelf.old) (F.faults shelf.new) (string_bytes name.now) fetched) }
     ensures same { F.files shelf.new ≡ F.files shelf.old }
     ensures later { F.faults shelf.old ≤ F.faults shelf.new }
@@ -54,7 +55,7 @@ fn run_command<F: Shelf>(
     file: &String,
     steps: u32,
     words: &Vec<String>,
-) -> Result<Reply, AllocError>
+) -> Tried<Reply>
     ensures replies { IfOk result (λ reply. CommandReplies (F.files shelf.old) (F.faults shelf.old)
         (F.faults shelf.new) (run (string_bytes file.now) steps (texts words.now.items)) reply.status
         reply.out.items reply.err.items) }
@@ -66,7 +67,7 @@ fn run_command<F: Shelf>(
 }
 
 /// The reply of `table`.
-fn table_command<F: Shelf>(alloc: Global, shelf: &mut F, file: &String) -> Result<Reply, AllocError>
+fn table_command<F: Shelf>(alloc: Global, shelf: &mut F, file: &String) -> Tried<Reply>
     ensures replies { IfOk result (λ reply. CommandReplies (F.files shelf.old) (F.faults shelf.old)
         (F.faults shelf.new) (table (string_bytes file.now)) reply.status reply.out.items reply.err.items) }
 {
@@ -83,7 +84,7 @@ fn lattice_command<F: Shelf>(
     file: &String,
     json: bool,
     bound: u32,
-) -> Result<Reply, AllocError>
+) -> Tried<Reply>
     ensures replies { IfOk result (λ reply. CommandReplies (F.files shelf.old) (F.faults shelf.old)
         (F.faults shelf.new) (lattice json bound (string_bytes file.now)) reply.status reply.out.items
         reply.err.items) }
@@ -102,12 +103,7 @@ enum Shows {
 }
 
 /// The reply of `edit` or `regen` for the bytes of its file and of its script.
-fn shown_text(
-    alloc: Global,
-    shows: Shows,
-    bytes: &Vec<u8>,
-    task: &Task,
-) -> Result<Reply, AllocError>
+fn shown_text(alloc: Global, shows: Shows, bytes: &Vec<u8>, task: &Task) -> Tried<Reply>
     requires small { length bytes.now.items ≤ most_bytes }
     requires task { IsTask task.now }
     ensures answers { IfOk result (λ reply. ShownAnswers shows task.now.bound bytes.now.items task.now.script.now.items reply.status
@@ -127,7 +123,7 @@ fn script_reply<F: Shelf>(
     bytes: &Vec<u8>,
     script: &String,
     bound: u32,
-) -> Result<Reply, AllocError>
+) -> Tried<Reply>
     requires small { length bytes.now.items ≤ most_bytes }
     requires bound { bound ≤ most_concepts }
     ensures replies { IfOk result (λ reply. FileReplies (F.files shelf.old) (F.faults shelf.old)
@@ -154,7 +150,7 @@ fn script_command<F: Shelf>(
     file: &String,
     script: &String,
     bound: u32,
-) -> Result<Reply, AllocError>
+) -> Tried<Reply>
     requires bound { bound ≤ most_concepts }
     ensures replies { IfOk result (λ reply. CommandReplies (F.files shelf.old) (F.faults shelf.old)
         (F.faults shelf.new) (command_showing shows bound (string_bytes file.now) (string_bytes script.now)) reply.status
@@ -167,11 +163,7 @@ fn script_command<F: Shelf>(
 }
 
 /// The reply to the words, or `AllocError` where memory is short.
-pub fn answer<F: Shelf>(
-    alloc: Global,
-    words: &Vec<String>,
-    shelf: &mut F,
-) -> Result<Reply, AllocError>
+pub fn answer<F: Shelf>(alloc: Global, words: &Vec<String>, shelf: &mut F) -> Tried<Reply>
     ensures replies { IfOk result (λ reply. Replies (F.files shelf.old) (F.faults shelf.old)
         (F.faults shelf.new) (texts words.now.items) reply.status reply.out.items reply.err.items) }
 {

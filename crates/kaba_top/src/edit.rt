@@ -6,6 +6,7 @@ ghost use Rattle.kaba_top.specs.Words.{InRange, InOrder, IsHierarchyOf, Gives, m
 ghost use Rattle.hier_view.specs.Text.{hierarchy_text};
 ghost use Rattle.kaba_top.specs.EditAnswers.{EditOf};
 
+use crate::Tried;
 use crate::analysis::{Analysed, analyse};
 use crate::reading::{Reading, read_program};
 use crate::reply::Reply;
@@ -14,10 +15,10 @@ use fact_model::Facts;
 use hier_script::Edited;
 use hier_view::show_hierarchy;
 use java_core::Checked;
-use std::alloc::{AllocError, Global};
+use std::alloc::Global;
 
 /// The reply with the hierarchy after a script.
-fn show(alloc: Global, facts: &Facts, edited: Edited) -> Result<Reply, AllocError>
+fn show(alloc: Global, facts: &Facts, edited: Edited) -> Tried<Reply>
     requires range { InRange facts.now }
     requires hierarchy { IsHierarchyOf facts.now edited.hier }
     ensures { IfOk result (λ reply. Gives (edit_status edited.refusals.items)
@@ -34,7 +35,7 @@ fn show(alloc: Global, facts: &Facts, edited: Edited) -> Result<Reply, AllocErro
 }
 
 /// The reply with the hierarchy after the script, or the reply that it was not run.
-fn edit_reply(alloc: Global, facts: &Facts, task: &Task) -> Result<Reply, AllocError>
+fn edit_reply(alloc: Global, facts: &Facts, task: &Task) -> Tried<Reply>
     requires range { InRange facts.now }
     requires order { InOrder facts.now }
     requires task { IsTask task.now }
@@ -47,7 +48,7 @@ fn edit_reply(alloc: Global, facts: &Facts, task: &Task) -> Result<Reply, AllocE
 }
 
 /// The reply of `edit` for a program.
-fn edit_program(alloc: Global, program: &Checked, task: &Task) -> Result<Reply, AllocError>
+fn edit_program(alloc: Global, program: &Checked, task: &Task) -> Tried<Reply>
     requires { IsTask task.now }
     ensures { IfOk result (λ reply. AnalysisAnswers (EditOf task.now.bound task.now.script.now.items) program.now reply.status reply.out.items
         reply.err.items) }
@@ -59,7 +60,7 @@ fn edit_program(alloc: Global, program: &Checked, task: &Task) -> Result<Reply, 
 }
 
 /// The reply of `edit` for the bytes of its file and of its script.
-pub fn edit_text(alloc: Global, bytes: &Vec<u8>, task: &Task) -> Result<Reply, AllocError>
+pub fn edit_text(alloc: Global, bytes: &Vec<u8>, task: &Task) -> Tried<Reply>
     requires small { length bytes.now.items ≤ most_bytes }
     requires task { IsTask task.now }
     ensures answers { IfOk result (λ reply. TextAnswers (AnalysisAnswers (EditOf task.now.bound task.now.script.now.items)) bytes.now.items

@@ -22,7 +22,10 @@ use crate::answer::answer;
 use crate::reply::deliver;
 use kaba_base::{Shelf, Sink};
 pub use kaba_words::{Command, WordsFault, read_words};
-use std::alloc::Global;
+use std::alloc::{AllocError, Global};
+
+/// What was made, or that memory was short.
+type Tried<T> = Result<T, AllocError>;
 
 /// Does what the words after the program's name ask for, and answers the exit status.
 ///

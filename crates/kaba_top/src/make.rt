@@ -7,6 +7,7 @@ ghost use Rattle.kaba_words.specs.Commands.{most_samples};
 ghost use Rattle.kaba_top.specs.MakeAnswers.{MakeAnswers, MadeOf, MadeTextAnswers, RunGives, SampleAnswers, WrittenGives, count_line, counts_of, sample_text, summary};
 ghost use Rattle.kaba_top.specs.Readings.{IsMadeReading};
 
+use crate::Tried;
 use crate::analysis::{Analysed, analyse};
 use crate::reading::{Reading, read_program};
 use crate::regen::{Regenerated, regenerate};
@@ -20,7 +21,7 @@ use java_core::Checked;
 use java_print::print;
 use java_run::{End, Outcome, run};
 use kaba_work::sample;
-use std::alloc::{AllocError, Global};
+use std::alloc::Global;
 use tree_merge::TreeStep;
 
 /// How much there is of what the work on a program comes to.
@@ -39,7 +40,7 @@ pub struct Counts {
 }
 
 /// The text of the sample of this number.
-fn sample_text(alloc: Global, number: u32) -> Result<Vec<u8>, AllocError>
+fn sample_text(alloc: Global, number: u32) -> Tried<Vec<u8>>
     requires some { 0 < number }
     requires most { number ≤ most_samples }
     ensures { IfOk result (λ text. text.items ≡ sample_text number) }
@@ -51,7 +52,7 @@ fn sample_text(alloc: Global, number: u32) -> Result<Vec<u8>, AllocError>
 }
 
 /// The program of a text that no file holds, or the reply that it has none.
-fn read_made(alloc: Global, text: &Vec<u8>) -> Result<Reading, AllocError>
+fn read_made(alloc: Global, text: &Vec<u8>) -> Tried<Reading>
     ensures reading { IfOk result (λ reading. IsMadeReading text.now.items reading) }
 {
     if text.len() > 1_048_576 {
@@ -68,7 +69,7 @@ fn counts_of(
     lattice: &Lattice,
     hier: &Hier,
     log: &Vec<TreeStep>,
-) -> Result<Counts, AllocError>
+) -> Tried<Counts>
     ensures { IfOk result (λ counts. counts ≡ counts_of facts.now lattice.now hier.now log.now.items) }
 {
     let types = live_nodes(alloc, hier)?;
@@ -82,7 +83,7 @@ fn counts_of(
 }
 
 /// Adds the line of a count.
-fn add_count(text: &mut String, word: &str, count: usize) -> Result<(), AllocError>
+fn add_count(text: &mut String, word: &str, count: usize) -> Tried<()>
     ensures { OnOk result (string_bytes text.new ≡ string_bytes text.old ++ count_line word.now count) }
 {
     write!(text, "{word} {count}\n")?;
@@ -90,7 +91,7 @@ fn add_count(text: &mut String, word: &str, count: usize) -> Result<(), AllocErr
 }
 
 /// The lines of all counts.
-fn summary(alloc: Global, counts: &Counts, steps: u32, bytes: usize) -> Result<String, AllocError>
+fn summary(alloc: Global, counts: &Counts, steps: u32, bytes: usize) -> Tried<String>
     ensures { IfOk result (λ text. string_bytes text ≡ summary counts.now steps bytes) }
 {
     let mut text = String::new(alloc);
@@ -105,7 +106,7 @@ fn summary(alloc: Global, counts: &Counts, steps: u32, bytes: usize) -> Result<S
 }
 
 /// The reply to the run of a written program.
-fn counted(alloc: Global, counts: &Counts, outcome: Outcome) -> Result<Reply, AllocError>
+fn counted(alloc: Global, counts: &Counts, outcome: Outcome) -> Tried<Reply>
     ensures { IfOk result (λ reply. RunGives counts.now (end_of outcome.end) outcome.used outcome.out.items reply.status reply.out.items reply.err.items) }
 {
     match outcome.end {
@@ -123,7 +124,7 @@ fn counted(alloc: Global, counts: &Counts, outcome: Outcome) -> Result<Reply, Al
 }
 
 /// Runs a written program without words, and gives the reply to that.
-fn run_written(alloc: Global, counts: &Counts, program: &Checked) -> Result<Reply, AllocError>
+fn run_written(alloc: Global, counts: &Counts, program: &Checked) -> Tried<Reply>
     ensures { IfOk result (λ reply. WrittenGives counts.now program.now reply.status reply.out.items reply.err.items) }
 {
     let words = Vec::new(alloc);
@@ -132,7 +133,7 @@ fn run_written(alloc: Global, counts: &Counts, program: &Checked) -> Result<Repl
 }
 
 /// The reply of `make` for the text of a written program.
-fn made_text(alloc: Global, counts: &Counts, text: &Vec<u8>) -> Result<Reply, AllocError>
+fn made_text(alloc: Global, counts: &Counts, text: &Vec<u8>) -> Tried<Reply>
     ensures { IfOk result (λ reply. MadeTextAnswers (WrittenGives counts.now) text.now.items reply.status reply.out.items reply.err.items) }
 {
     match read_made(alloc, text)? {
@@ -142,7 +143,7 @@ fn made_text(alloc: Global, counts: &Counts, text: &Vec<u8>) -> Result<Reply, Al
 }
 
 /// The reply of `make` for the facts of its program.
-fn made_facts(alloc: Global, program: &Checked, facts: &Facts) -> Result<Reply, AllocError>
+fn made_facts(alloc: Global, program: &Checked, facts: &Facts) -> Tried<Reply>
     requires text { HasText program.now }
     requires facts { AreProgramFacts (program_of no_place program.now) (program_of at_place program.now) facts.now }
     ensures { IfOk result (λ reply. MadeOf program.now facts.now reply.status reply.out.items reply.err.items) }
@@ -167,7 +168,7 @@ fn made_facts(alloc: Global, program: &Checked, facts: &Facts) -> Result<Reply, 
 }
 
 /// The reply of `make` for the program of its sample.
-fn made_program(alloc: Global, program: &Checked) -> Result<Reply, AllocError>
+fn made_program(alloc: Global, program: &Checked) -> Tried<Reply>
     requires text { HasText program.now }
     ensures { IfOk result (λ reply. AnalysisAnswers (MadeOf program.now) program.now reply.status reply.out.items reply.err.items) }
 {
@@ -178,7 +179,7 @@ fn made_program(alloc: Global, program: &Checked) -> Result<Reply, AllocError>
 }
 
 /// The reply of `make` for the text of its sample.
-fn made_sample(alloc: Global, text: &Vec<u8>) -> Result<Reply, AllocError>
+fn made_sample(alloc: Global, text: &Vec<u8>) -> Tried<Reply>
     ensures { IfOk result (λ reply. SampleAnswers text.now.items reply.status reply.out.items reply.err.items) }
 {
     match read_made(alloc, text)? {
@@ -188,7 +189,7 @@ fn made_sample(alloc: Global, text: &Vec<u8>) -> Result<Reply, AllocError>
 }
 
 /// The reply of `make` for its number: the text of the sample, or the counts of what comes of it.
-pub fn make_reply(alloc: Global, prints: bool, number: u32) -> Result<Reply, AllocError>
+pub fn make_reply(alloc: Global, prints: bool, number: u32) -> Tried<Reply>
     requires some { 0 < number }
     requires most { number ≤ most_samples }
     ensures answers { IfOk result (λ reply. MakeAnswers prints number reply.status reply.out.items reply.err.items) }

@@ -9,6 +9,7 @@ ghost use Rattle.java_core.specs.Formed.{IsFormed};
 ghost use Rattle.kaba_top.specs.Reading.{refused, at_byte, at_token, on_name, on_what, lex_text, naming_text, typing_text, last_line, line_of, IsOfText, IsOfTree};
 ghost use Rattle.kaba_top.specs.Readings.{IsReading, IsReadingOfProgram, IsReadingOfTree};
 
+use crate::Tried;
 use crate::cause_words::{form_word, kind_word};
 use crate::reply::Reply;
 use java_check::{CheckFault, Kind, check};
@@ -28,7 +29,7 @@ pub enum Reading {
 }
 
 /// `KIND at BYTE line L`
-fn at_byte(alloc: Global, kind: &str, place: Place) -> Result<Reply, AllocError>
+fn at_byte(alloc: Global, kind: &str, place: Place) -> Tried<Reply>
     ensures { IfOk result (λ reply. Says 65 (refused (at_byte kind.now place)) reply.status reply.out.items reply.err.items) }
 {
     let byte = place.at;
@@ -38,7 +39,7 @@ fn at_byte(alloc: Global, kind: &str, place: Place) -> Result<Reply, AllocError>
 }
 
 /// `KIND at token K line L`
-fn at_token(alloc: Global, kind: &str, token: u32, line: u32) -> Result<Reply, AllocError>
+fn at_token(alloc: Global, kind: &str, token: u32, line: u32) -> Tried<Reply>
     ensures { IfOk result (λ reply. Says 65 (refused (at_token kind.now token line)) reply.status reply.out.items reply.err.items) }
 {
     let text = format!(in alloc; "refused: {kind} at token {token} line {line}")?;
@@ -46,7 +47,7 @@ fn at_token(alloc: Global, kind: &str, token: u32, line: u32) -> Result<Reply, A
 }
 
 /// `KIND NAME line L`
-fn on_name(alloc: Global, kind: &str, name: &Name, place: Place) -> Result<Reply, AllocError>
+fn on_name(alloc: Global, kind: &str, name: &Name, place: Place) -> Tried<Reply>
     ensures { IfOk result (λ reply. Says 65 (refused (on_name kind.now name.now place)) reply.status reply.out.items reply.err.items) }
 {
     let line = place.line;
@@ -56,7 +57,7 @@ fn on_name(alloc: Global, kind: &str, name: &Name, place: Place) -> Result<Reply
 }
 
 /// `KIND WHAT line L`
-fn on_what(alloc: Global, kind: &str, what: &str, place: Place) -> Result<Reply, AllocError>
+fn on_what(alloc: Global, kind: &str, what: &str, place: Place) -> Tried<Reply>
     ensures { IfOk result (λ reply. Says 65 (refused (on_what kind.now what.now place)) reply.status reply.out.items reply.err.items) }
 {
     let line = place.line;
@@ -65,7 +66,7 @@ fn on_what(alloc: Global, kind: &str, what: &str, place: Place) -> Result<Reply,
 }
 
 /// The reply to a text that has no tokens; `AllocError` where memory is short.
-fn not_lexed(alloc: Global, fault: LexFault) -> Result<Reply, AllocError>
+fn not_lexed(alloc: Global, fault: LexFault) -> Tried<Reply>
     ensures { IfOk result (λ reply. IsOfText fault × Says 65 (refused (lex_text fault)) reply.status reply.out.items reply.err.items) }
 {
     match fault {
@@ -104,7 +105,7 @@ fn not_parsed(
     tokens: &Vec<Token>,
     kind: &str,
     token: u32,
-) -> Result<Reply, AllocError>
+) -> Tried<Reply>
     requires small { length bytes.now.items ≤ most_bytes }
     ensures { IfOk result (λ reply. Says 65
         (refused (at_token kind.now token (line_of bytes.now.items token tokens.now.items))) reply.status
@@ -114,7 +115,7 @@ fn not_parsed(
 }
 
 /// The reply to a tree whose names are refused; `AllocError` where memory is short.
-fn not_resolved(alloc: Global, refusal: &Refusal) -> Result<Reply, AllocError>
+fn not_resolved(alloc: Global, refusal: &Refusal) -> Tried<Reply>
     ensures { IfOk result (λ reply. IsOfTree refusal.now × Says 65 (refused (naming_text refusal.now)) reply.status reply.out.items reply.err.items) }
 {
     match refusal {
@@ -133,14 +134,14 @@ fn not_resolved(alloc: Global, refusal: &Refusal) -> Result<Reply, AllocError>
 }
 
 /// The reply to a program that is not typed.
-fn not_typed(alloc: Global, kind: Kind, place: Place) -> Result<Reply, AllocError>
+fn not_typed(alloc: Global, kind: Kind, place: Place) -> Tried<Reply>
     ensures { IfOk result (λ reply. Says 65 (refused (typing_text kind place)) reply.status reply.out.items reply.err.items) }
 {
     on_what(alloc, "IllTyped", kind_word(kind), place)
 }
 
 /// The program where it is typed, or the reply that it is not.
-fn type_program(alloc: Global, program: Program) -> Result<Reading, AllocError>
+fn type_program(alloc: Global, program: Program) -> Tried<Reading>
     requires formed { IsFormed (program_of no_place program) }
     ensures reading { IfOk result (λ reading. IsReadingOfProgram program reading) }
 {
@@ -154,7 +155,7 @@ fn type_program(alloc: Global, program: Program) -> Result<Reading, AllocError>
 }
 
 /// The typed program of a tree, or the reply that there is none.
-fn type_tree(alloc: Global, tree: &Tree) -> Result<Reading, AllocError>
+fn type_tree(alloc: Global, tree: &Tree) -> Tried<Reading>
     requires given { IsFormedTree (tree_of tree.now) }
     ensures reading { IfOk result (λ reading. IsReadingOfTree (tree_of tree.now) reading) }
 {
@@ -165,7 +166,7 @@ fn type_tree(alloc: Global, tree: &Tree) -> Result<Reading, AllocError>
 }
 
 /// The typed program of the bytes of a file, or the reply that there is none.
-pub fn read_program(alloc: Global, bytes: &Vec<u8>) -> Result<Reading, AllocError>
+pub fn read_program(alloc: Global, bytes: &Vec<u8>) -> Tried<Reading>
     requires small { length bytes.now.items ≤ most_bytes }
     ensures reading { IfOk result (λ reading. IsReading bytes.now.items reading) }
 {

@@ -7,6 +7,7 @@ ghost use Rattle.kaba_top.specs.RegenAnswers.{RegenOf};
 ghost use Rattle.kaba_top.specs.Answers.{RegenAnswers};
 ghost use Rattle.kaba_top.specs.Proposals.{IsWrittenOver};
 
+use crate::Tried;
 use crate::analysis::{Analysed, analyse};
 use crate::reading::{Reading, read_program};
 use crate::reply::Reply;
@@ -39,7 +40,7 @@ pub fn regenerate(
     facts: &Facts,
     sets: &PointsTo,
     hier: Hier,
-) -> Result<Regenerated, AllocError>
+) -> Tried<Regenerated>
     requires text { HasText program.now }
     requires facts { AreProgramFacts (program_of no_place program.now) (program_of at_place program.now) facts.now }
     requires sets { AreSets facts.now sets.now }
@@ -65,7 +66,7 @@ pub fn regenerate(
 }
 
 /// The lines of the refused edits, and then those of a log.
-fn told(alloc: Global, refusals: Vec<u8>, log: &[TreeStep]) -> Result<Vec<u8>, AllocError>
+fn told(alloc: Global, refusals: Vec<u8>, log: &[TreeStep]) -> Tried<Vec<u8>>
     ensures { IfOk result (λ lines. lines.items ≡ refusals.items ++ log_text log.now) }
 {
     let mut lines = refusals;
@@ -80,7 +81,7 @@ fn written_reply(
     refusals: Vec<u8>,
     log: &Vec<TreeStep>,
     text: Vec<u8>,
-) -> Result<Reply, AllocError>
+) -> Tried<Reply>
     ensures { IfOk result (λ reply. Gives (edit_status refusals.items) text.items (refusals.items ++ log_text log.now.items) reply.status
         reply.out.items reply.err.items) }
 {
@@ -94,7 +95,7 @@ fn written_reply(
 }
 
 /// The reply that there is no tree.
-pub fn stuck(alloc: Global, refusals: Vec<u8>, fault: &NoTree) -> Result<Reply, AllocError>
+pub fn stuck(alloc: Global, refusals: Vec<u8>, fault: &NoTree) -> Tried<Reply>
     ensures { IfOk result (λ reply. Gives 5 []
         (refusals.items ++ (log_text fault.now.log.items ++ line (no_tree_text fault.now))) reply.status
         reply.out.items reply.err.items) }
@@ -111,12 +112,7 @@ pub fn stuck(alloc: Global, refusals: Vec<u8>, fault: &NoTree) -> Result<Reply, 
 }
 
 /// The reply with the program that is written of the hierarchy after the script, or the reply that there is none.
-fn regen_reply(
-    alloc: Global,
-    program: &Checked,
-    facts: &Facts,
-    task: &Task,
-) -> Result<Reply, AllocError>
+fn regen_reply(alloc: Global, program: &Checked, facts: &Facts, task: &Task) -> Tried<Reply>
     requires text { HasText program.now }
     requires facts { AreProgramFacts (program_of no_place program.now) (program_of at_place program.now) facts.now }
     requires task { IsTask task.now }
@@ -134,7 +130,7 @@ fn regen_reply(
 }
 
 /// The reply of `regen` for a program of a text.
-fn regen_program(alloc: Global, program: &Checked, task: &Task) -> Result<Reply, AllocError>
+fn regen_program(alloc: Global, program: &Checked, task: &Task) -> Tried<Reply>
     requires text { HasText program.now }
     requires task { IsTask task.now }
     ensures { IfOk result (λ reply. AnalysisAnswers (RegenOf task.now.bound task.now.script.now.items program.now) program.now reply.status
@@ -147,7 +143,7 @@ fn regen_program(alloc: Global, program: &Checked, task: &Task) -> Result<Reply,
 }
 
 /// The reply of `regen` for the bytes of its file and of its script.
-pub fn regen_text(alloc: Global, bytes: &Vec<u8>, task: &Task) -> Result<Reply, AllocError>
+pub fn regen_text(alloc: Global, bytes: &Vec<u8>, task: &Task) -> Tried<Reply>
     requires small { length bytes.now.items ≤ most_bytes }
     requires task { IsTask task.now }
     ensures answers { IfOk result (λ reply. RegenAnswers task.now.bound bytes.now.items task.now.script.now.items reply.status reply.out.items

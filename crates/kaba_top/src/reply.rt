@@ -6,8 +6,9 @@ ghost use Rattle.kaba_top.specs.Words.{Rose, Says, Gives, line};
 ghost use Rattle.kaba_base.specs.Outside.{taken_more};
 ghost use Rattle.kaba_top.specs.Answers.{Cut};
 
+use crate::Tried;
 use kaba_base::{Failed, Sink, write_all};
-use std::alloc::{AllocError, Global};
+use std::alloc::Global;
 
 /// The status, and the whole bytes for out and for err.
 #[derive(Drop)]
@@ -19,7 +20,7 @@ pub struct Reply {
 
 impl Reply {
     /// The reply with nothing for out and one line for err.
-    pub fn line(alloc: Global, status: u8, text: &[u8]) -> Result<Reply, AllocError>
+    pub fn line(alloc: Global, status: u8, text: &[u8]) -> Tried<Reply>
         ensures says { IfOk result (λ reply. Says status text.now reply.status reply.out.items reply.err.items) }
     {
         let mut err = Vec::from_slice(alloc, b"kaba: ")?;
@@ -33,12 +34,7 @@ impl Reply {
     }
 
     /// The reply with these bytes for out and one line for err.
-    pub fn with_line(
-        alloc: Global,
-        status: u8,
-        out: Vec<u8>,
-        text: &[u8],
-    ) -> Result<Reply, AllocError>
+    pub fn with_line(alloc: Global, status: u8, out: Vec<u8>, text: &[u8]) -> Tried<Reply>
         ensures gives { IfOk result (λ reply. Gives status out.items (line text.now) reply.status reply.out.items reply.err.items) }
     {
         let reply = Reply::line(alloc, status, text)?;

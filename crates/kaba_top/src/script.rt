@@ -7,6 +7,7 @@ ghost use Rattle.fact_model.specs.Concepts.{IsLatticeOf};
 ghost use Rattle.kaba_top.specs.ScriptAnswers.{bad_script, too_many_edits};
 ghost use Rattle.kaba_top.specs.Proposals.{IsProposed};
 
+use crate::Tried;
 use crate::analysis::too_many_concepts;
 use crate::reply::Reply;
 use concept_build::{LatticeFault, concepts};
@@ -51,7 +52,7 @@ pub fn edit_status(refusals: &[u8]) -> u8
 }
 
 /// The reply that a line is no edit.
-fn bad_script(alloc: Global, line: u32) -> Result<Reply, AllocError>
+fn bad_script(alloc: Global, line: u32) -> Tried<Reply>
     ensures { IfOk result (λ reply. Says 69 (bad_script line) reply.status reply.out.items reply.err.items) }
 {
     let text = format!(in alloc; "bad script: line {line}")?;
@@ -59,7 +60,7 @@ fn bad_script(alloc: Global, line: u32) -> Result<Reply, AllocError>
 }
 
 /// The reply that there are more edits than there may be.
-fn too_many_edits(alloc: Global) -> Result<Reply, AllocError>
+fn too_many_edits(alloc: Global) -> Tried<Reply>
     ensures { IfOk result (λ reply. Says 67 too_many_edits reply.status reply.out.items reply.err.items) }
 {
     Reply::line(alloc, 67, b"too large: edits 4096")
@@ -73,7 +74,7 @@ fn run_over(
     table: Table,
     lattice: Lattice,
     task: &Task,
-) -> Result<Proposed, AllocError>
+) -> Tried<Proposed>
     requires range { InRange facts.now }
     requires order { InOrder facts.now }
     requires sets { AreSets facts.now sets }
@@ -97,7 +98,7 @@ fn run_over(
 
 /// The hierarchy after the script, or the reply with how many concepts or edits are allowed, or with the line
 /// that is no edit.
-pub fn propose(alloc: Global, facts: &Facts, task: &Task) -> Result<Proposed, AllocError>
+pub fn propose(alloc: Global, facts: &Facts, task: &Task) -> Tried<Proposed>
     requires range { InRange facts.now }
     requires order { InOrder facts.now }
     requires task { IsTask task.now }

@@ -184,8 +184,7 @@ module _ (A : CopiedBody) where
     again_st l sc (print t n None) y ty fo st (pair_print pair_none) = t_print_line
     again_st l sc (print t n (Some e)) y (t_print te pr) (f_print or (f_some fe)) st (pair_print (pair_some {d = d} me)) =
         let a = again A false sc e d te fe st me in t_print a.typed (ap is_printable a.type ∙ printable_kept (C (row_at e)) (old e) ∙ pr)
-    again_st l sc (choose t (arm e xs more)) y (t_choose ty) (f_choose fo) st (pair_choose {b = b} ma) =
-        t_choose (again_arms l sc (arm e xs more) b ty fo st ma)
+    again_st l sc (choose t (arm e xs more)) y (t_choose ty) (f_choose fo) st (pair_choose ma) = t_choose (again_arms l sc (arm e xs more) _ ty fo st ma)
     again_st l sc (choose t none) y ty fo st mx = elim fo [ ]
     again_st l sc (loop t is_while head test step code) y (t_loop th tt1 ts tb) (f_loop of one two fh ft fs fb) st
         (pair_loop {other = other} {last = last} {code = written} {d = d} mh me ms mb) =

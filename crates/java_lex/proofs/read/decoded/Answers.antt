@@ -2,5 +2,5 @@ use Rattle.std.proofs.Common.{rules}
 use Rattle.std.proofs.lemmas.Str.{chars_from_encodes}
 use Rattle.java_lex.proofs.read.decoded.Goals as goal
 
-pub returns : goal.returns
-returns c = search (rules, chars_from_encodes)
+pub returns-in-Ok-clause-value : goal.returns-in-Ok-clause-value
+returns-in-Ok-clause-value c = search (rules, chars_from_encodes)

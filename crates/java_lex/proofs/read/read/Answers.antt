@@ -41,7 +41,7 @@ loop-rest-preserved-in-Gap c = record {
 pub loop-rest-preserved : goal.loop-rest-preserved
 loop-rest-preserved c = record {
   so_far = part_cut c.in-Part.n c.loop-rest.place c.moved-place-in-Part.result c.loop-rest.rest.now c.loop-rest.tokens.items _ c.in-Part.kind
-      c.in_ok-n.field-0 _ c.in_ok-push-in-Part.ensures.items c.moved-place-in-Part.ensures.value c.in-Part.is c.in_ok-n.ensures.value
+      c.in_ok-n.field-0 _ c.in_ok-add-in-Part.ensures.added c.moved-place-in-Part.ensures.value c.in-Part.is c.in_ok-n.ensures.value
       c.in_ok-n.ensures.within c.loop-rest.invariant.so_far;
   size = cut_size c.in-Part.n c.loop-rest.place c.moved-place-in-Part.result c.loop-rest.rest.now c.moved-place-in-Part.ensures.at ∙ c.loop-rest.invariant.size;
   line = c.moved-place-in-Part.ensures.line;
