@@ -1,11 +1,16 @@
 -- What the drawn facts are made of: one row, one class, 2,000 points and 500 sites.
-use Rattle.std.specs.Prelude.{◌≡◌, ◌<◌, [], None}
+use Rattle.std.specs.Prelude.{◌≡◌, ℕ, ◌<◌, List, [], None, length, All}
 use Rattle.kaba_base.specs.declared.RowId.{RowId}
 use Rattle.fact_model.specs.declared.facts.RowInfo.{RowInfo}
 use Rattle.fact_model.specs.declared.facts.ClassInfo.{ClassInfo}
 use Rattle.fact_model.specs.declared.facts.SiteInfo.{SiteInfo}
 use Rattle.fact_model.specs.declared.facts.NewInfo.{NewInfo}
 use Rattle.fact_model.specs.declared.facts.FlowInfo.{FlowInfo}
+
+-- a list of so many items, each of one kind
+pub record AreMany {T : Type 0} (n : ℕ) (P : T → Type 0) (xs : List T) : Type 0 where
+  pub count : length xs ≡ n
+  pub each : All P xs
 
 -- a class with nothing above it
 abbrev pub IsRoot : ClassInfo → Type 0

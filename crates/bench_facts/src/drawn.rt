@@ -1,8 +1,8 @@
 //! Facts of one row and one class, with flows that are drawn.
 
-ghost use Rattle.std.specs.Prelude.{◌≡◌, ◌<◌, length, All, IfOk};
+ghost use Rattle.std.specs.Prelude.{All, IfOk};
 ghost use Rattle.fact_model.specs.InRange.{InRange};
-ghost use Rattle.bench_facts.specs.Drawn.{IsRoot, IsOnlyRow, IsFirstRow, IsFirstSite, IsNew, IsFlow};
+ghost use Rattle.bench_facts.specs.Drawn.{AreMany, IsRoot, IsOnlyRow, IsFirstRow, IsFirstSite, IsNew, IsFlow};
 
 use fact_model::{ClassInfo, Facts, FlowInfo, NewInfo, RowInfo, SiteInfo};
 use kaba_base::{ClassId, Name, RowId, SiteId};
@@ -48,48 +48,42 @@ pub fn facts(alloc: Global) -> Result<Facts, AllocError>
 
 /// The one row.
 fn rows(alloc: Global) -> Result<Vec<RowInfo>, AllocError>
-    ensures one { IfOk result (λ v. length v.items ≡ 1) }
-    ensures row { IfOk result (λ v. All IsOnlyRow v.items) }
+    ensures { IfOk result (λ v. AreMany 1 IsOnlyRow v.items) }
 {
-    let mut rows = Vec::new(alloc);
-    rows.push(RowInfo {
+    let row = RowInfo {
         label: Name::new(alloc, "")?,
         class: ClassId(0),
         dim: 0,
         site: None,
         this_of: None,
-    })?;
-    Ok(rows)
+    };
+    Ok(vec![in alloc; row]?)
 }
 
 /// The one class.
 fn classes(alloc: Global) -> Result<Vec<ClassInfo>, AllocError>
-    ensures one { IfOk result (λ v. length v.items ≡ 1) }
-    ensures root { IfOk result (λ v. All IsRoot v.items) }
+    ensures { IfOk result (λ v. AreMany 1 IsRoot v.items) }
 {
-    let mut classes = Vec::new(alloc);
-    classes.push(ClassInfo {
+    let class = ClassInfo {
         name: Name::new(alloc, "")?,
         parent: None,
         faces: Vec::new(alloc),
         is_interface: false,
         holder: false,
-    })?;
-    Ok(classes)
+    };
+    Ok(vec![in alloc; class]?)
 }
 
 /// The row of each point.
 fn points(alloc: Global) -> Result<Vec<RowId>, AllocError>
-    ensures count { IfOk result (λ v. length v.items ≡ 2000) }
-    ensures row { IfOk result (λ v. All IsFirstRow v.items) }
+    ensures { IfOk result (λ v. AreMany 2000 IsFirstRow v.items) }
 {
     vec![in alloc; RowId(0); POINTS as usize]
 }
 
 /// The sites.
 fn sites(alloc: Global) -> Result<Vec<SiteInfo>, AllocError>
-    ensures count { IfOk result (λ v. length v.items ≡ 500) }
-    ensures row { IfOk result (λ v. All IsFirstSite v.items) }
+    ensures { IfOk result (λ v. AreMany 500 IsFirstSite v.items) }
 {
     let site = SiteInfo {
         row: RowId(0),

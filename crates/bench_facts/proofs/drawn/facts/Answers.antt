@@ -30,14 +30,10 @@ returns c =
       spots = c.new-15.result;
     } in
     in_range facts (record {
-      rows = c.in_ok-rows.ensures.one;
-      row = c.in_ok-rows.ensures.row;
-      classes = c.in_ok-classes.ensures.one;
-      root = c.in_ok-classes.ensures.root;
-      points = c.in_ok-points.ensures.count;
-      point_rows = c.in_ok-points.ensures.row;
-      sites = c.in_ok-sites.ensures.count;
-      site_rows = c.in_ok-sites.ensures.row;
+      rows = c.in_ok-rows.ensures;
+      classes = c.in_ok-classes.ensures;
+      points = c.in_ok-points.ensures;
+      sites = c.in_ok-sites.ensures;
       news = c.in_ok-news.ensures;
       flows = c.in_ok-flows.ensures;
       columns = c.new.ensures.items;
