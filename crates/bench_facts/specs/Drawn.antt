@@ -28,6 +28,10 @@ IsFirstRow r = r.0 ≡ 0
 abbrev pub IsFirstSite : SiteInfo → Type 0
 IsFirstSite s = (s.row.0 ≡ 0) × (s.class.0 ≡ 0)
 
+-- a point and a number below the limit
+abbrev pub IsPair : ℕ → ℕ × ℕ → Type 0
+IsPair limit p = (p.0 < 2000) × (p.1 < limit)
+
 -- one of the sites in one of the points
 abbrev pub IsNew : NewInfo → Type 0
 IsNew x = (x.point < 2000) × (x.site.0 < 500)

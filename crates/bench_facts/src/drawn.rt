@@ -1,8 +1,8 @@
 //! Facts of one row and one class, with flows that are drawn.
 
-ghost use Rattle.std.specs.Prelude.{All, IfOk};
+ghost use Rattle.std.specs.Prelude.{◌<◌, All, IfOk};
 ghost use Rattle.fact_model.specs.InRange.{InRange};
-ghost use Rattle.bench_facts.specs.Drawn.{AreMany, IsRoot, IsOnlyRow, IsFirstRow, IsFirstSite, IsNew, IsFlow};
+ghost use Rattle.bench_facts.specs.Drawn.{AreMany, IsRoot, IsOnlyRow, IsFirstRow, IsFirstSite, IsPair, IsNew, IsFlow};
 
 use fact_model::{ClassInfo, Facts, FlowInfo, NewInfo, RowInfo, SiteInfo};
 use kaba_base::{ClassId, Name, RowId, SiteId};
@@ -98,34 +98,47 @@ fn next(x: u64) -> u64 {
     ((x % 0x8000_0000) * 1_103_515_245 + 12345) % 0x8000_0000
 }
 
+/// So many pairs of a point and a number below the limit, drawn from the seed.
+fn pairs(alloc: Global, seed: u64, count: u32, limit: u32) -> Result<Vec<(u32, u32)>, AllocError>
+    requires { 0 < limit }
+    ensures { IfOk result (λ v. All (IsPair limit) v.items) }
+{
+    let mut pairs = Vec::new(alloc);
+    let mut x = seed;
+    for _k in 0..count {
+        x = next(x);
+        let point = ((x / 8) % u64::from(POINTS)) as u32;
+        x = next(x);
+        let number = ((x / 8) % u64::from(limit)) as u32;
+        pairs.push((point, number))?;
+    }
+    Ok(pairs)
+}
+
 /// Sites in points.
 fn news(alloc: Global) -> Result<Vec<NewInfo>, AllocError>
     ensures { IfOk result (λ v. All IsNew v.items) }
 {
-    let mut news = Vec::new(alloc);
-    let mut x = 1;
-    for _k in 0..SITES {
-        x = next(x);
-        let point = ((x / 8) % u64::from(POINTS)) as u32;
-        x = next(x);
-        let site = SiteId(((x / 8) % u64::from(SITES)) as u32);
-        news.push(NewInfo { point, site })?;
-    }
-    Ok(news)
+    let drawn = pairs(alloc, 1, SITES, SITES)?;
+    drawn
+        .into_iter()
+        .map(|pair| NewInfo {
+            point: pair.0,
+            site: SiteId(pair.1),
+        })
+        .collect(alloc)
 }
 
 /// Flows between points.
 fn flows(alloc: Global) -> Result<Vec<FlowInfo>, AllocError>
     ensures { IfOk result (λ v. All IsFlow v.items) }
 {
-    let mut flows = Vec::new(alloc);
-    let mut x = 2;
-    for _k in 0..FLOWS {
-        x = next(x);
-        let from = ((x / 8) % u64::from(POINTS)) as u32;
-        x = next(x);
-        let to = ((x / 8) % u64::from(POINTS)) as u32;
-        flows.push(FlowInfo { from, to })?;
-    }
-    Ok(flows)
+    let drawn = pairs(alloc, 2, FLOWS, POINTS)?;
+    drawn
+        .into_iter()
+        .map(|pair| FlowInfo {
+            from: pair.0,
+            to: pair.1,
+        })
+        .collect(alloc)
 }
