@@ -122,9 +122,9 @@ fn news(alloc: Global) -> Result<Vec<NewInfo>, AllocError>
     let drawn = pairs(alloc, 1, SITES, SITES)?;
     drawn
         .into_iter()
-        .map(|pair| NewInfo {
-            point: pair.0,
-            site: SiteId(pair.1),
+        .map(|(point, site)| NewInfo {
+            point,
+            site: SiteId(site),
         })
         .collect(alloc)
 }
@@ -136,9 +136,6 @@ fn flows(alloc: Global) -> Result<Vec<FlowInfo>, AllocError>
     let drawn = pairs(alloc, 2, FLOWS, POINTS)?;
     drawn
         .into_iter()
-        .map(|pair| FlowInfo {
-            from: pair.0,
-            to: pair.1,
-        })
+        .map(|(from, to)| FlowInfo { from, to })
         .collect(alloc)
 }
