@@ -12,7 +12,7 @@ use crate::labels::{column_label, row_label};
 use crate::lists::put_if;
 use crate::numbering::Numbering;
 use fact_model::{BodyInfo, ColKind, ColumnInfo, RowInfo, SiteInfo};
-use flow_rules::{Column, ColumnItem, Point, PointItem, Row, RowItem, Site};
+use flow_rules::{Column, ColumnItem, Point, PointItem, Row, RowItem, Site, number_among};
 use java_core::{Method, Program};
 use kaba_base::{ClassId, ColId, Name, RowId, SiteId, put};
 use std::alloc::Global;
@@ -23,7 +23,7 @@ fn site_of_row(n: &Numbering, item: RowItem) -> Option<SiteId>
     ensures value { result ≡ site_of_row (numbers_seen n.now) item }
 {
     match item {
-        RowItem::New(creation) => match n.site(creation) {
+        RowItem::New(creation) => match number_among(&n.sites, creation) {
             Some(site) => Some(SiteId(site)),
             None => None,
         },
