@@ -6,7 +6,7 @@ ghost use Rattle.flow_rules.specs.Facts.{row_info, site_of_row, this_of_row, col
 ghost use Rattle.flow_facts.specs.Words.{no_place, at_place, Plain, program_of, method_seen, IsFormed, each, numbers_seen, if_there};
 
 use crate::Tried;
-use crate::by_number::{class_by_number, field_by_number, method_by_number};
+use crate::by_number::{class_name, field_by_number, method_by_number};
 use crate::given::Given;
 use crate::labels::{column_label, row_label};
 use crate::lists::put_if;
@@ -128,10 +128,7 @@ fn named(program: &Program, item: ColumnItem) -> Option<&Name>
                 None => None,
             }
         }
-        ColumnItem::Is(class) => match class_by_number(program, class.0 as u64) {
-            Some(class) => Some(&class.name),
-            None => None,
-        },
+        ColumnItem::Is(class) => class_name(program, class.0 as u64),
     }
 }
 
