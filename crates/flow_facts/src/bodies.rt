@@ -220,7 +220,8 @@ fn walk_arms(
 /// The parts of a method's body.
 pub fn parts_of(of: &Enclosing) -> Tried<Vec<Part>>
     requires { IsFormed (program_of no_place of.now.program.now) }
-    ensures value { IfOk result (λ v. parts_seen v.items ≡ plain.parts_of (program_of no_place of.now.program.now) of.now.number (method_seen at_place of.now.method.now)) }
+    ensures value { IfOk result (λ v. parts_seen v.items ≡ plain.parts_of (program_of no_place of.now.program.now) of.now.number
+        (method_seen at_place of.now.method.now)) }
 {
     let mut parts = Vec::new(of.alloc);
     match &of.method.body {
