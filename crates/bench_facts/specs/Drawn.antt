@@ -1,11 +1,16 @@
 -- What the drawn facts are made of: one row, one class, 2,000 points and 500 sites.
-use Rattle.std.specs.Prelude.{◌≡◌, ◌<◌, [], None}
+use Rattle.std.specs.Prelude.{◌≡◌, ℕ, ◌<◌, List, [], None, length, All}
 use Rattle.kaba_base.specs.declared.RowId.{RowId}
 use Rattle.fact_model.specs.declared.facts.RowInfo.{RowInfo}
 use Rattle.fact_model.specs.declared.facts.ClassInfo.{ClassInfo}
 use Rattle.fact_model.specs.declared.facts.SiteInfo.{SiteInfo}
 use Rattle.fact_model.specs.declared.facts.NewInfo.{NewInfo}
 use Rattle.fact_model.specs.declared.facts.FlowInfo.{FlowInfo}
+
+-- a list of so many items, each of one kind
+pub record AreMany {T : Type 0} (n : ℕ) (P : T → Type 0) (xs : List T) : Type 0 where
+  pub count : length xs ≡ n
+  pub each : All P xs
 
 -- a class with nothing above it
 abbrev pub IsRoot : ClassInfo → Type 0
@@ -22,6 +27,10 @@ IsFirstRow r = r.0 ≡ 0
 -- a site of the first row and class
 abbrev pub IsFirstSite : SiteInfo → Type 0
 IsFirstSite s = (s.row.0 ≡ 0) × (s.class.0 ≡ 0)
+
+-- a point and a number below the limit
+abbrev pub IsPair : ℕ → ℕ × ℕ → Type 0
+IsPair limit p = (p.0 < 2000) × (p.1 < limit)
 
 -- one of the sites in one of the points
 abbrev pub IsNew : NewInfo → Type 0

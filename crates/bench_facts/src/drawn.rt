@@ -1,8 +1,8 @@
 //! Facts of one row and one class, with flows that are drawn.
 
-ghost use Rattle.std.specs.Prelude.{◌≡◌, ◌<◌, length, All, IfOk};
+ghost use Rattle.std.specs.Prelude.{◌<◌, All, IfOk};
 ghost use Rattle.fact_model.specs.InRange.{InRange};
-ghost use Rattle.bench_facts.specs.Drawn.{IsRoot, IsOnlyRow, IsFirstRow, IsFirstSite, IsNew, IsFlow};
+ghost use Rattle.bench_facts.specs.Drawn.{AreMany, IsRoot, IsOnlyRow, IsFirstRow, IsFirstSite, IsPair, IsNew, IsFlow};
 
 use fact_model::{ClassInfo, Facts, FlowInfo, NewInfo, RowInfo, SiteInfo};
 use kaba_base::{ClassId, Name, RowId, SiteId};
@@ -48,48 +48,42 @@ pub fn facts(alloc: Global) -> Result<Facts, AllocError>
 
 /// The one row.
 fn rows(alloc: Global) -> Result<Vec<RowInfo>, AllocError>
-    ensures one { IfOk result (λ v. length v.items ≡ 1) }
-    ensures row { IfOk result (λ v. All IsOnlyRow v.items) }
+    ensures { IfOk result (λ v. AreMany 1 IsOnlyRow v.items) }
 {
-    let mut rows = Vec::new(alloc);
-    rows.push(RowInfo {
+    let row = RowInfo {
         label: Name::new(alloc, "")?,
         class: ClassId(0),
         dim: 0,
         site: None,
         this_of: None,
-    })?;
-    Ok(rows)
+    };
+    Ok(vec![in alloc; row]?)
 }
 
 /// The one class.
 fn classes(alloc: Global) -> Result<Vec<ClassInfo>, AllocError>
-    ensures one { IfOk result (λ v. length v.items ≡ 1) }
-    ensures root { IfOk result (λ v. All IsRoot v.items) }
+    ensures { IfOk result (λ v. AreMany 1 IsRoot v.items) }
 {
-    let mut classes = Vec::new(alloc);
-    classes.push(ClassInfo {
+    let class = ClassInfo {
         name: Name::new(alloc, "")?,
         parent: None,
         faces: Vec::new(alloc),
         is_interface: false,
         holder: false,
-    })?;
-    Ok(classes)
+    };
+    Ok(vec![in alloc; class]?)
 }
 
 /// The row of each point.
 fn points(alloc: Global) -> Result<Vec<RowId>, AllocError>
-    ensures count { IfOk result (λ v. length v.items ≡ 2000) }
-    ensures row { IfOk result (λ v. All IsFirstRow v.items) }
+    ensures { IfOk result (λ v. AreMany 2000 IsFirstRow v.items) }
 {
     vec![in alloc; RowId(0); POINTS as usize]
 }
 
 /// The sites.
 fn sites(alloc: Global) -> Result<Vec<SiteInfo>, AllocError>
-    ensures count { IfOk result (λ v. length v.items ≡ 500) }
-    ensures row { IfOk result (λ v. All IsFirstSite v.items) }
+    ensures { IfOk result (λ v. AreMany 500 IsFirstSite v.items) }
 {
     let site = SiteInfo {
         row: RowId(0),
@@ -104,34 +98,44 @@ fn next(x: u64) -> u64 {
     ((x % 0x8000_0000) * 1_103_515_245 + 12345) % 0x8000_0000
 }
 
+/// So many pairs of a point and a number below the limit, drawn from the seed.
+fn pairs(alloc: Global, seed: u64, count: u32, limit: u32) -> Result<Vec<(u32, u32)>, AllocError>
+    requires { 0 < limit }
+    ensures { IfOk result (λ v. All (IsPair limit) v.items) }
+{
+    let mut pairs = Vec::new(alloc);
+    let mut x = seed;
+    for _k in 0..count {
+        x = next(x);
+        let point = ((x / 8) % u64::from(POINTS)) as u32;
+        x = next(x);
+        let number = ((x / 8) % u64::from(limit)) as u32;
+        pairs.push((point, number))?;
+    }
+    Ok(pairs)
+}
+
 /// Sites in points.
 fn news(alloc: Global) -> Result<Vec<NewInfo>, AllocError>
     ensures { IfOk result (λ v. All IsNew v.items) }
 {
-    let mut news = Vec::new(alloc);
-    let mut x = 1;
-    for _k in 0..SITES {
-        x = next(x);
-        let point = ((x / 8) % u64::from(POINTS)) as u32;
-        x = next(x);
-        let site = SiteId(((x / 8) % u64::from(SITES)) as u32);
-        news.push(NewInfo { point, site })?;
-    }
-    Ok(news)
+    let drawn = pairs(alloc, 1, SITES, SITES)?;
+    drawn
+        .into_iter()
+        .map(|(point, site)| NewInfo {
+            point,
+            site: SiteId(site),
+        })
+        .collect(alloc)
 }
 
 /// Flows between points.
 fn flows(alloc: Global) -> Result<Vec<FlowInfo>, AllocError>
     ensures { IfOk result (λ v. All IsFlow v.items) }
 {
-    let mut flows = Vec::new(alloc);
-    let mut x = 2;
-    for _k in 0..FLOWS {
-        x = next(x);
-        let from = ((x / 8) % u64::from(POINTS)) as u32;
-        x = next(x);
-        let to = ((x / 8) % u64::from(POINTS)) as u32;
-        flows.push(FlowInfo { from, to })?;
-    }
-    Ok(flows)
+    let drawn = pairs(alloc, 2, FLOWS, POINTS)?;
+    drawn
+        .into_iter()
+        .map(|(from, to)| FlowInfo { from, to })
+        .collect(alloc)
 }

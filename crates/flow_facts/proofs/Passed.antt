@@ -4,7 +4,3 @@ use Rattle.std.specs.Prelude.{Result, Ok, Err, OnOk}
 pub on_ok : {A E : Type 0} {p q : Type 0} (r : Result A E) → (p → q) → OnOk r p → OnOk r q
 on_ok (Ok a) f h = f h
 on_ok (Err e) f h = tt
-
-pub on_both : {A E : Type 0} {p q s : Type 0} (r : Result A E) → (p → q → s) → OnOk r p → OnOk r q → OnOk r s
-on_both (Ok a) f h g = f h g
-on_both (Err e) f h g = tt

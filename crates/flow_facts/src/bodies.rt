@@ -1,8 +1,7 @@
 //! The parts of a body.
 
 ghost use Rattle.std.specs.Prelude.{◌≡◌, ℕ, ◌+◌, ◌++◌, ◌∷◌, [], Bool, true, false, List, Option, Some, None, IfOk, OnOk, length};
-ghost use Rattle.java_core.specs.Trees as tree;
-ghost use Rattle.java_core.specs.Trees.{Tag, expr_of, value_of, target_of, stmt_of, stmts, arms_seen, else_seen, step_seen, body_seen};
+ghost use Rattle.java_core.specs.Trees.{expr_of, value_of, target_of, stmt_of, stmts, arms_seen, else_seen, step_seen, body_seen};
 ghost use Rattle.flow_rules.specs.Labels.{size, size_if, size_put, size_target, size_st, size_sts, size_arms, label, label_if, label_target, label_st, label_sts, label_arms};
 ghost use Rattle.flow_rules.specs.Operands.{operand_of};
 ghost use Rattle.flow_rules.specs.Parts as plain;
@@ -16,9 +15,8 @@ use crate::enclosing::Enclosing;
 use crate::types::{field_object, object_field};
 use crate::walk::{NOTHING, add, is_accessed, this_operand, variable_operand, walk};
 use flow_rules::{Operand, Part, PointItem, RowItem};
-use java_core::{Method, Program, RArm, RExpr, RStmt};
+use java_core::{Program, RArm, RExpr, RStmt};
 use kaba_base::Place;
-use std::alloc::Global;
 
 /// What a static field is.
 fn static_place(program: &Program, field: u32) -> Operand
@@ -105,25 +103,6 @@ fn walk_value(within: &Enclosing, value: &Option<RExpr>, parts: &mut Vec<Part>) 
     }
 }
 
-/// Adds the parts of the declaration of a local.
-fn walk_local(
-    within: &Enclosing,
-    local: u32,
-    value: &Option<RExpr>,
-    parts: &mut Vec<Part>,
-) -> Tried<()>
-    requires { IsFormed (program_of no_place within.now.program.now) }
-    ensures grown { OnOk result (length parts.new.items ≡ length parts.old.items + size_put (value_of at_place value.now)) }
-    ensures parts { OnOk result ((t : Tag) → parts_seen parts.new.items ≡ parts_seen parts.old.items
-        ++ in_body within.now plain.parts_set (tree.local t local)
-        (label_if (length parts.old.items) (value_of at_place value.now))) }
-{
-    match value {
-        Some(value) => { walk_set(within, variable_operand(within, local), value, parts) }
-        None => Ok(()),
-    }
-}
-
 /// Adds the parts of a value that is given back.
 fn walk_return(within: &Enclosing, value: &Option<RExpr>, parts: &mut Vec<Part>) -> Tried<()>
     requires { IsFormed (program_of no_place within.now.program.now) }
@@ -145,7 +124,10 @@ fn walk_stmt(within: &Enclosing, s: &RStmt, parts: &mut Vec<Part>) -> Tried<()>
     ensures { OnOk result (IsGained within.now parts.old.items parts.new.items size_st plain.parts_st label_st (stmt_of at_place s.now)) }
 {
     match s {
-        RStmt::Local { local, value, .. } => { walk_local(within, *local, value, parts) }
+        RStmt::Local { local, value, .. } => match value {
+            Some(value) => walk_set(within, variable_operand(within, *local), value, parts),
+            None => Ok(()),
+        },
         RStmt::Block { items, .. } => { walk_stmts(within, items, parts) }
         RStmt::Assign {
             target,
@@ -236,20 +218,15 @@ fn walk_arms(
 }
 
 /// The parts of a method's body.
-pub fn parts_of(alloc: Global, program: &Program, m: u64, method: &Method) -> Tried<Vec<Part>>
-    requires { IsFormed (program_of no_place program.now) }
-    ensures value { IfOk result (λ v. parts_seen v.items ≡ plain.parts_of (program_of no_place program.now) m (method_seen at_place method.now)) }
+pub fn parts_of(of: &Enclosing) -> Tried<Vec<Part>>
+    requires { IsFormed (program_of no_place of.now.program.now) }
+    ensures value { IfOk result (λ v. parts_seen v.items ≡ plain.parts_of (program_of no_place of.now.program.now) of.now.number
+        (method_seen at_place of.now.method.now)) }
 {
-    let mut parts = Vec::new(alloc);
-    let within = Enclosing {
-        alloc,
-        program,
-        number: m,
-        method,
-    };
-    match &method.body {
+    let mut parts = Vec::new(of.alloc);
+    match &of.method.body {
         Some(body) => {
-            made!(walk_stmts(&within, body, &mut parts));
+            made!(walk_stmts(of, body, &mut parts));
             Ok(parts)
         }
         None => Ok(parts),

@@ -1,17 +1,23 @@
-//! The classes, fields, methods and slots of a program, each by its number.
+//! The fields, methods and slots of a program and the names of its classes, each by its number.
 
-ghost use Rattle.std.specs.Prelude.{◌≡◌, slice_get};
-ghost use Rattle.std.specs.Option.{option_map};
-ghost use Rattle.java_core.specs.Programs.{class_seen, field_seen, slot_seen};
+ghost use Rattle.std.specs.Prelude.{◌≡◌, [], slice_get};
+ghost use Rattle.std.specs.Option.{option_map, option_map_or};
+ghost use Rattle.std.specs.Str.{encode_utf8_all};
+ghost use Rattle.java_core.specs.Programs.{field_seen, slot_seen};
+ghost use Rattle.flow_rules.specs.Facts.{class_text, name_in};
+ghost use Rattle.flow_rules.specs.declared.items.ColumnItem.TheVariants as column;
 ghost use Rattle.flow_facts.specs.Words.{no_place, at_place, program_of, method_seen};
 
-use java_core::{Class, Field, Method, Program, Slot};
+use java_core::{Field, Method, Program, Slot};
+use kaba_base::Name;
 
-/// A class by its number.
-pub fn class_by_number(program: &Program, class: u64) -> Option<&Class>
-    ensures placed { option_map (λ k. class_seen at_place k.now) result ≡ slice_get (program_of at_place program.now).classes class }
+/// The name of a class by its number.
+pub fn class_name(program: &Program, class: u64) -> Option<&Name>
+    ensures text { option_map_or (λ x. encode_utf8_all x.now) result [] ≡ class_text (program_of at_place program.now) class }
+    ensures name { option_map_or (λ x. x.now) result [] ≡ name_in (program_of at_place program.now) (column.Is (record { 0 = class })) }
 {
-    program.classes.get(class as usize)
+    let class = program.classes.get(class as usize)?;
+    Some(&class.name)
 }
 
 /// A field by its number.

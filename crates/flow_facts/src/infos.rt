@@ -6,13 +6,13 @@ ghost use Rattle.flow_rules.specs.Facts.{row_info, site_of_row, this_of_row, col
 ghost use Rattle.flow_facts.specs.Words.{no_place, at_place, Plain, program_of, method_seen, IsFormed, each, numbers_seen, if_there};
 
 use crate::Tried;
-use crate::by_number::{class_by_number, field_by_number, method_by_number};
+use crate::by_number::{class_name, field_by_number, method_by_number};
 use crate::given::Given;
 use crate::labels::{column_label, row_label};
 use crate::lists::put_if;
 use crate::numbering::Numbering;
 use fact_model::{BodyInfo, ColKind, ColumnInfo, RowInfo, SiteInfo};
-use flow_rules::{Column, ColumnItem, Point, PointItem, Row, RowItem, Site};
+use flow_rules::{Column, ColumnItem, Point, PointItem, Row, RowItem, Site, number_among};
 use java_core::{Method, Program};
 use kaba_base::{ClassId, ColId, Name, RowId, SiteId, put};
 use std::alloc::Global;
@@ -23,7 +23,7 @@ fn site_of_row(n: &Numbering, item: RowItem) -> Option<SiteId>
     ensures value { result ≡ site_of_row (numbers_seen n.now) item }
 {
     match item {
-        RowItem::New(creation) => match n.site(creation) {
+        RowItem::New(creation) => match number_among(&n.sites, creation) {
             Some(site) => Some(SiteId(site)),
             None => None,
         },
@@ -128,10 +128,7 @@ fn named(program: &Program, item: ColumnItem) -> Option<&Name>
                 None => None,
             }
         }
-        ColumnItem::Is(class) => match class_by_number(program, class.0 as u64) {
-            Some(class) => Some(&class.name),
-            None => None,
-        },
+        ColumnItem::Is(class) => class_name(program, class.0 as u64),
     }
 }
 

@@ -7,7 +7,7 @@ ghost use Rattle.flow_rules.specs.Facts.{class_text, member_text, field_text, me
 ghost use Rattle.flow_facts.specs.Words.{at_place, program_of};
 
 use crate::Tried;
-use crate::by_number::{class_by_number, field_by_number, method_by_number, slot_by_number};
+use crate::by_number::{class_name, field_by_number, method_by_number, slot_by_number};
 use flow_rules::{ColumnItem, Row, RowItem, variable_at};
 use java_core::Program;
 use kaba_base::{Name, Place};
@@ -37,8 +37,8 @@ fn add_text(more: &str, text: &mut String) -> Tried<()>
 fn add_class(program: &Program, class: u64, text: &mut String) -> Tried<()>
     ensures value { OnOk result (string_bytes text.new ≡ string_bytes text.old ++ class_text (program_of at_place program.now) class) }
 {
-    match class_by_number(program, class) {
-        Some(class) => add_text(class.name.as_str(), text),
+    match class_name(program, class) {
+        Some(name) => add_text(name.as_str(), text),
         None => Ok(()),
     }
 }

@@ -38,6 +38,7 @@ mod cells;
 mod enclosing;
 mod expr_rows;
 mod from_part;
+mod from_variable;
 mod gathering;
 mod given;
 mod infos;

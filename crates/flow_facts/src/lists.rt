@@ -12,7 +12,7 @@ use fact_model::{
     AccessInfo, CallInfo, CastInfo, FlowInfo, LoadInfo, NewInfo, StoreInfo, SuperInfo, TestInfo,
     TieInfo,
 };
-use flow_rules::{ColumnItem, Operand, Part, PointItem, RowItem};
+use flow_rules::{ColumnItem, Operand, Part, PointItem, RowItem, number_among};
 use kaba_base::{ColId, Place, RowId, SiteId, put};
 use std::alloc::Global;
 
@@ -70,7 +70,7 @@ fn add_created(
     ensures value { OnOk result (news.new.items ≡ news.old.items ++ created (numbers_seen n.now) operand.now point) }
 {
     match (point, operand.created) {
-        (Some(point), Some(number)) => match n.site(number) {
+        (Some(point), Some(number)) => match number_among(&n.sites, number) {
             Some(site) => {
                 let site = SiteId(site);
                 put(news, NewInfo { point, site })

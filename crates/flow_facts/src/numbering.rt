@@ -1,6 +1,6 @@
 //! The numbers of rows, columns, sites and flow points.
 
-ghost use Rattle.std.specs.Prelude.{◌≡◌, ◌<◌, ◌++◌, true, IfOk, OnOk, length, map, nat_eq};
+ghost use Rattle.std.specs.Prelude.{◌≡◌, ◌<◌, ◌++◌, true, IfOk, OnOk, length, map};
 ghost use Rattle.std.specs.List.{flat_map};
 ghost use Rattle.flow_rules.specs.Numbered.{number_among, same_row, same_column, same_point, form_sites, listed};
 ghost use Rattle.flow_rules.specs.Parts as plain;
@@ -41,13 +41,6 @@ impl Numbering {
         ensures value { result ≡ number_among same_column self.now.columns.keys item }
     {
         number_of_column(&self.columns, item)
-    }
-
-    /// The number of the site of a creation.
-    pub fn site(&self, creation: u64) -> Option<u32>
-        ensures value { result ≡ number_among nat_eq self.now.sites.keys creation }
-    {
-        number_among(&self.sites, creation)
     }
 
     /// The number of a flow point.

@@ -1,7 +1,7 @@
 //! What is numbered: the rows, the columns and what may be flow points, in the order of the program.
 
 ghost use Rattle.std.specs.Prelude.{◌≡◌, ℕ, ◌+◌, ◌<◌, ◌^◌, ◌++◌, ◌∷◌, [], List, Option, Some, None, IfOk, OnOk, length, map};
-ghost use Rattle.java_core.specs.Programs.{local_seen, field_seen};
+ghost use Rattle.java_core.specs.Programs.{field_seen};
 ghost use Rattle.flow_rules.specs.Parts as plain;
 ghost use Rattle.flow_rules.specs.Numbered.{row_if, own_row, form_rows, mark, array_mark, form_columns, is_first, field_rows, this_rows, result_rows, variable_rows, method_rows, field_columns, method_columns, static_points, body_at, outline_if, bodies_of};
 ghost use Rattle.flow_rules.specs.Operands.{result_in};
@@ -10,7 +10,9 @@ ghost use Rattle.flow_facts.specs.Words.{no_place, at_place, Plain, program_of, 
 use crate::Tried;
 use crate::bodies::parts_of;
 use crate::by_number::slot_by_number;
+use crate::enclosing::Enclosing;
 use crate::from_part::{FromPart, add_from};
+use crate::from_variable::{FromVariable, add_from_variables};
 use crate::points::method_points;
 use crate::stages::Surveyed;
 use crate::types::{object_if, object_of};
@@ -18,7 +20,7 @@ use crate::walk::{class_object, variable_row};
 use flow_rules::{
     Body, Column, ColumnItem, ObjectType, Operand, Outline, Part, PointAt, PointItem, Row, RowItem,
 };
-use java_core::{Field, Local, Method, Program};
+use java_core::{Field, Local, Program};
 use kaba_base::{Place, put};
 use std::alloc::{AllocError, Global};
 use std::mem::drop;
@@ -56,69 +58,48 @@ impl FromPart for Row {
 }
 
 /// Whether a method has the rows of its slot's return and parameters; a static method has its own.
-fn is_first(program: &Program, m: usize, method: &Method) -> bool
-    ensures value { result ≡ is_first (program_of no_place program.now) m (method_seen at_place method.now) }
+fn is_first(of: &Enclosing) -> bool
+    ensures value { result ≡ is_first (program_of no_place of.now.program.now) of.now.number (method_seen at_place of.now.method.now) }
 {
-    match method.slot {
+    match of.method.slot {
         None => true,
-        Some(slot) => match slot_by_number(program, slot as u64) {
-            Some(slot) => slot.first.0 as usize == m,
+        Some(slot) => match slot_by_number(of.program, slot as u64) {
+            Some(slot) => slot.first.0 as u64 == of.number,
             None => false,
         },
     }
 }
 
-/// Adds the rows of parameters or locals, the first of which has the number `first`.
-fn add_variable_rows(
-    program: &Program,
-    m: usize,
-    method: &Method,
-    locals: &Vec<Local>,
-    first: usize,
-    rows: &mut Vec<Row>,
-) -> Tried<()>
-    requires { first + length locals.now.items < 2 ^ 64 }
-    ensures value { OnOk result (rows.new.items ≡ rows.old.items
-        ++ each (variable_rows (program_of no_place program.now) (program_of at_place program.now) m
-        (method_seen at_place method.now)) first (map (local_seen at_place) locals.now.items)) }
-{
-    let listed = is_first(program, m, method);
-    let count = method.params.len();
-    let mut number = first;
-    for local in locals {
-        if listed || number >= count {
-            let item = variable_row(m as u64, method, number as u64);
-            made!(add_row(rows, item, local.place, object_of(local.ty)));
+/// A local has a row, and a parameter of the first method of its slot.
+impl FromVariable for Row {
+    ghost given = { variable_rows };
+
+    fn add(of: &Enclosing, number: usize, local: &Local, rows: &mut Vec<Row>) -> Tried<()> {
+        if is_first(of) || number >= of.method.params.len() {
+            let item = variable_row(of.number, of.method, number as u64);
+            return add_row(rows, item, local.place, object_of(local.ty));
         }
-        number += 1;
+        Ok(())
     }
-    Ok(())
 }
 
 /// Adds the rows of a method, whose body has these parts.
-fn add_method_rows(
-    program: &Program,
-    m: usize,
-    method: &Method,
-    parts: &Vec<Part>,
-    rows: &mut Vec<Row>,
-) -> Tried<()>
-    requires { parts_seen parts.now.items ≡ plain.parts_of (program_of no_place program.now) m (method_seen at_place method.now) }
+fn add_method_rows(of: &Enclosing, parts: &Vec<Part>, rows: &mut Vec<Row>) -> Tried<()>
+    requires { parts_seen parts.now.items ≡ plain.parts_of (program_of no_place of.now.program.now) of.now.number (method_seen at_place of.now.method.now) }
     ensures value { OnOk result (rows.new.items ≡ rows.old.items ++ method_rows
-        (program_of no_place program.now) (program_of at_place program.now) m
-        (method_seen at_place method.now)) }
+        (program_of no_place of.now.program.now) (program_of at_place of.now.program.now) of.now.number
+        (method_seen at_place of.now.method.now)) }
 {
+    let method = of.method;
     if method.body.is_some() && !method.is_static {
-        let (this, class) = (RowItem::This(m as u64), class_object(method.owner));
+        let (this, class) = (RowItem::This(of.number), class_object(method.owner));
         made!(add_row(rows, this, method.place, class));
     }
-    if is_first(program, m, method) {
-        let (result, ty) = (result_row(m as u64, method.slot), object_if(method.result));
+    if is_first(of) {
+        let (result, ty) = (result_row(of.number, method.slot), object_if(method.result));
         made!(add_row(rows, result, method.place, ty));
     }
-    let count = method.params.len();
-    made!(add_variable_rows(program, m, method, &method.params, 0, rows));
-    made!(add_variable_rows(program, m, method, &method.locals, count, rows));
+    made!(add_from_variables(of, rows));
     add_from(parts, rows)
 }
 
@@ -162,22 +143,18 @@ impl FromPart for Column {
 }
 
 /// Adds the columns of a method, whose body has these parts.
-fn add_method_columns(
-    m: usize,
-    method: &Method,
-    parts: &Vec<Part>,
-    columns: &mut Vec<Column>,
-) -> Tried<()>
+fn add_method_columns(of: &Enclosing, parts: &Vec<Part>, columns: &mut Vec<Column>) -> Tried<()>
     ensures value { (P Q : Plain) → parts_seen parts.now.items
-        ≡ plain.parts_of P m (method_seen at_place method.now)
-        → OnOk result (columns.new.items ≡ columns.old.items ++ method_columns P Q m
-        (method_seen at_place method.now)) }
+        ≡ plain.parts_of P of.now.number (method_seen at_place of.now.method.now)
+        → OnOk result (columns.new.items ≡ columns.old.items ++ method_columns P Q of.now.number
+        (method_seen at_place of.now.method.now)) }
 {
+    let method = of.method;
     if !method.is_static {
-        let (item, place) = (ColumnItem::Dcl(m as u64), method.place);
+        let (item, place) = (ColumnItem::Dcl(of.number), method.place);
         made!(put(columns, Column { item, place }));
         if method.body.is_some() {
-            let item = ColumnItem::Def(m as u64);
+            let item = ColumnItem::Def(of.number);
             made!(put(columns, Column { item, place }));
         }
     }
@@ -220,38 +197,33 @@ fn survey_field(f: usize, field: &Field, survey: &mut Surveyed) -> Tried<()>
 }
 
 /// Adds the rows, the columns, the outline and the parts of a method.
-fn survey_method(
-    alloc: Global,
-    program: &Program,
-    m: usize,
-    method: &Method,
-    survey: &mut Surveyed,
-) -> Tried<()>
-    requires { IsFormed (program_of no_place program.now) }
+fn survey_method(of: &Enclosing, survey: &mut Surveyed) -> Tried<()>
+    requires { IsFormed (program_of no_place of.now.program.now) }
     ensures rows { OnOk result (survey.new.rows.items ≡ survey.old.rows.items ++ method_rows
-        (program_of no_place program.now) (program_of at_place program.now) m
-        (method_seen at_place method.now)) }
+        (program_of no_place of.now.program.now) (program_of at_place of.now.program.now) of.now.number
+        (method_seen at_place of.now.method.now)) }
     ensures columns { OnOk result (survey.new.columns.items ≡ survey.old.columns.items ++ method_columns
-        (program_of no_place program.now) (program_of at_place program.now) m
-        (method_seen at_place method.now)) }
+        (program_of no_place of.now.program.now) (program_of at_place of.now.program.now) of.now.number
+        (method_seen at_place of.now.method.now)) }
     ensures statics { OnOk result (survey.new.statics ≡ survey.old.statics) }
     ensures outlines { OnOk result (map outline_seen survey.new.outlines.items
-        ≡ map outline_seen survey.old.outlines.items ++ outline_if (program_of no_place program.now)
-        (program_of at_place program.now) m (method_seen at_place method.now)) }
+        ≡ map outline_seen survey.old.outlines.items ++ outline_if (program_of no_place of.now.program.now)
+        (program_of at_place of.now.program.now) of.now.number (method_seen at_place of.now.method.now)) }
     ensures bodies { OnOk result (map body_seen survey.new.bodies.items
-        ≡ map body_seen survey.old.bodies.items ++ body_at (program_of no_place program.now)
-        (program_of at_place program.now) m (method_seen at_place method.now)) }
+        ≡ map body_seen survey.old.bodies.items ++ body_at (program_of no_place of.now.program.now)
+        (program_of at_place of.now.program.now) of.now.number (method_seen at_place of.now.method.now)) }
 {
-    let parts = parts_of(alloc, program, m as u64, method)?;
-    made!(add_method_rows(program, m, method, &parts, &mut survey.rows); parts);
-    made!(add_method_columns(m, method, &parts, &mut survey.columns); parts);
+    let method = of.method;
+    let parts = parts_of(of)?;
+    made!(add_method_rows(of, &parts, &mut survey.rows); parts);
+    made!(add_method_columns(of, &parts, &mut survey.columns); parts);
     if method.body.is_some() {
-        let points = made!(method_points(alloc, m, method, &parts); parts);
+        let points = made!(method_points(of, &parts); parts);
         let place = method.place;
         made!(survey.outlines.push(Outline { place, points }) => AllocError; parts);
     }
     survey.bodies.push(Body {
-        number: m as u64,
+        number: of.number,
         slot: method.slot,
         parts,
     })?;
@@ -284,7 +256,13 @@ pub fn survey(alloc: Global, program: &Program) -> Tried<Surveyed>
     };
     made!(survey_fields(program, &mut survey); survey);
     for (m, method) in program.methods.iter().enumerate() {
-        made!(survey_method(alloc, program, m, method, &mut survey); survey);
+        let of = Enclosing {
+            alloc,
+            program,
+            number: m as u64,
+            method,
+        };
+        made!(survey_method(&of, &mut survey); survey);
     }
     Ok(survey)
 }

@@ -1,8 +1,8 @@
 //! Ties of rows: the lower gets all columns of the upper.
 
-ghost use Rattle.std.specs.Prelude.{◌≡◌, ℕ, ◌++◌, List, Option, Some, None, OnOk};
+ghost use Rattle.std.specs.Prelude.{◌≡◌, ℕ, ◌++◌, List, Option, Some, None, OnOk, if◌then◌else◌};
 ghost use Rattle.std.specs.Option.{is_some};
-ghost use Rattle.flow_rules.specs.Lists.{left_is_lower, pair_ties, test_ties, is_left_lower, narrower, same_type, slot_ties, method_ties, param_row, ties_of, is_this, is_comparison};
+ghost use Rattle.flow_rules.specs.Lists.{left_is_lower, is_left_lower, narrower, same_type, tied, slot_ties, method_ties, param_row, ties_of, is_this, is_comparison};
 ghost use Rattle.flow_facts.specs.Words.{no_place, Plain, program_of, IsFormed, part_seen, numbers_seen};
 
 use crate::Tried;
@@ -72,48 +72,15 @@ fn is_left_lower(
     }
 }
 
-/// Adds the tie of `==` or `!=`.
-fn add_pair(
-    program: &Program,
-    n: &Numbering,
-    left: &Operand,
-    right: &Operand,
-    ties: &mut Vec<TieInfo>,
-) -> Tried<()>
-    requires { IsFormed (program_of no_place program.now) }
-    ensures value { OnOk result (ties.new.items ≡ ties.old.items ++ pair_ties (numbers_seen n.now)
-        (program_of no_place program.now) left.now right.now left.now.ty right.now.ty) }
+/// Adds the tie of two rows, the first of which is the lower or the upper.
+fn add_either(is_lower: bool, l: Option<u32>, r: Option<u32>, ties: &mut Vec<TieInfo>) -> Tried<()>
+    ensures value { OnOk result (ties.new.items ≡ ties.old.items ++ (if is_lower then tied l r else tied r l)) }
 {
-    if let (Some(s), Some(t)) = (left.ty, right.ty) {
-        let (l, r) = (row_at(n, left), row_at(n, right));
-        if is_left_lower(program, left, right, s, t) {
-            return add_tied(l, r, ties);
-        }
-        return add_tied(r, l, ties);
+    if is_lower {
+        add_tied(l, r, ties)
+    } else {
+        add_tied(r, l, ties)
     }
-    Ok(())
-}
-
-/// Adds the tie of a cast or `instanceof`.
-fn add_test(
-    program: &Program,
-    n: &Numbering,
-    operand: &Operand,
-    own: &Operand,
-    ties: &mut Vec<TieInfo>,
-) -> Tried<()>
-    requires { IsFormed (program_of no_place program.now) }
-    ensures value { OnOk result (ties.new.items ≡ ties.old.items ++ test_ties (numbers_seen n.now)
-        (program_of no_place program.now) operand.now own.now operand.now.ty own.now.ty) }
-{
-    if let (Some(s), Some(t)) = (operand.ty, own.ty) {
-        let (e, k) = (row_at(n, operand), row_at(n, own));
-        if is_subtype(program, s.class, t.class) {
-            return add_tied(e, k, ties);
-        }
-        return add_tied(k, e, ties);
-    }
-    Ok(())
 }
 
 /// The row of a parameter of a method.
@@ -198,10 +165,20 @@ pub fn add_ties(
             args,
             ties,
         ),
-        Part::Pair(op, left, right) if is_comparison(*op) => add_pair(
-            program, n, left, right, ties,
-        ),
-        Part::Test(_, operand, own) => add_test(program, n, operand, own, ties),
+        Part::Pair(op, left, right) if is_comparison(*op) => match (left.ty, right.ty) {
+            (Some(s), Some(t)) => {
+                let is_lower = is_left_lower(program, left, right, s, t);
+                add_either(is_lower, row_at(n, left), row_at(n, right), ties)
+            }
+            _ => Ok(()),
+        },
+        Part::Test(_, operand, own) => match (operand.ty, own.ty) {
+            (Some(s), Some(t)) => {
+                let is_lower = is_subtype(program, s.class, t.class);
+                add_either(is_lower, row_at(n, operand), row_at(n, own), ties)
+            }
+            _ => Ok(()),
+        },
         _ => Ok(()),
     }
 }

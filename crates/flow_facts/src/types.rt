@@ -35,30 +35,24 @@ pub fn object_if(ty: Option<Ty>) -> Option<ObjectType>
 pub fn field_object(program: &Program, field: u32) -> Option<ObjectType>
     ensures value { result ≡ field_object (program_of no_place program.now) field }
 {
-    match field_by_number(program, field as u64) {
-        Some(member) => object_of(member.ty),
-        None => None,
-    }
+    let member = field_by_number(program, field as u64)?;
+    object_of(member.ty)
 }
 
 /// What a method of the slot gives back.
 pub fn slot_object(program: &Program, slot: u32) -> Option<ObjectType>
     ensures value { result ≡ slot_object (program_of no_place program.now) slot }
 {
-    match slot_by_number(program, slot as u64) {
-        Some(slot) => object_if(slot.result),
-        None => None,
-    }
+    let slot = slot_by_number(program, slot as u64)?;
+    object_if(slot.result)
 }
 
 /// What a method gives back.
 pub fn method_object(program: &Program, method: u32) -> Option<ObjectType>
     ensures value { result ≡ method_object (program_of no_place program.now) method }
 {
-    match method_by_number(program, method as u64) {
-        Some(member) => object_if(member.result),
-        None => None,
-    }
+    let member = method_by_number(program, method as u64)?;
+    object_if(member.result)
 }
 
 /// The type of an array's elements.
@@ -89,10 +83,8 @@ pub fn object_field(program: &Program, ty: Option<ObjectType>, name: &Name) -> O
     requires { IsFormed (program_of no_place program.now) }
     ensures value { result ≡ object_field (program_of no_place program.now) ty name.now }
 {
-    match object_class(ty) {
-        Some(class) => number_of(member_field(program, class, name)),
-        None => None,
-    }
+    let class = object_class(ty)?;
+    number_of(member_field(program, class, name))
 }
 
 /// The declaration of a method that a call of the name on the type finds.
@@ -100,10 +92,8 @@ pub fn call_declaration(program: &Program, ty: Option<ObjectType>, name: &Name) 
     requires { IsFormed (program_of no_place program.now) }
     ensures value { result ≡ call_declaration (program_of no_place program.now) ty name.now }
 {
-    match object_class(ty) {
-        Some(class) => number_of(declaration_of(program, class, name)),
-        None => None,
-    }
+    let class = object_class(ty)?;
+    number_of(declaration_of(program, class, name))
 }
 
 /// The number of a member.

@@ -11,6 +11,7 @@ use crate::within::Within;
 use java_core::{RExpr, static_of};
 use java_tree::unplaced::nowhere;
 use java_tree::{Expr, build};
+use kaba_base::made;
 use std::alloc::AllocError;
 use std::mem::drop;
 use tree_forms::{forms, infix_mark, prefix_mark, static_call, static_field, variable_name};

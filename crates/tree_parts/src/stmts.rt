@@ -16,6 +16,7 @@ use flow_rules::variable_at;
 use java_core::{RArm, RExpr, RStmt};
 use java_tree::unplaced::nowhere;
 use java_tree::{Arm, Expr, Stmt, build};
+use kaba_base::made;
 use std::alloc::{AllocError, Global};
 use std::mem::drop;
 use tree_forms::{row_type, variable_row};

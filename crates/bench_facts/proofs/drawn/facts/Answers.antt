@@ -1,4 +1,4 @@
-use Rattle.std.proofs.Common.{None}
+use Rattle.std.proofs.Common.{None, arith, length, ap}
 use Rattle.fact_model.specs.declared.facts.Facts.{Facts}
 use Rattle.bench_facts.proofs.Ranges.{in_range}
 use Rattle.bench_facts.proofs.drawn.facts.Goals as goal
@@ -30,26 +30,25 @@ returns c =
       spots = c.new-15.result;
     } in
     in_range facts (record {
-      rows = c.in_ok-rows.ensures.one;
-      row = c.in_ok-rows.ensures.row;
-      classes = c.in_ok-classes.ensures.one;
-      root = c.in_ok-classes.ensures.root;
-      points = c.in_ok-points.ensures.count;
-      point_rows = c.in_ok-points.ensures.row;
-      sites = c.in_ok-sites.ensures.count;
-      site_rows = c.in_ok-sites.ensures.row;
+      rows = c.in_ok-rows.ensures;
+      classes = c.in_ok-classes.ensures;
+      points = c.in_ok-points.ensures;
+      sites = c.in_ok-sites.ensures;
       news = c.in_ok-news.ensures;
       flows = c.in_ok-flows.ensures;
-      columns = c.new.ensures.items;
-      cells = c.new-2.ensures.items;
-      loads = c.new-3.ensures.items;
-      stores = c.new-4.ensures.items;
-      bodies = c.new-5.ensures.items;
-      calls = c.new-6.ensures.items;
-      casts = c.new-7.ensures.items;
-      accesses = c.new-8.ensures.items;
-      supers = c.new-9.ensures.items;
-      ties = c.new-10.ensures.items;
-      tests = c.new-11.ensures.items;
-      makes = c.new-14.ensures.items;
+      none = omega (
+        arith,
+        ap length c.new.ensures.items,
+        ap length c.new-2.ensures.items,
+        ap length c.new-3.ensures.items,
+        ap length c.new-4.ensures.items,
+        ap length c.new-5.ensures.items,
+        ap length c.new-6.ensures.items,
+        ap length c.new-7.ensures.items,
+        ap length c.new-8.ensures.items,
+        ap length c.new-9.ensures.items,
+        ap length c.new-10.ensures.items,
+        ap length c.new-11.ensures.items,
+        ap length c.new-14.ensures.items,
+      );
     })

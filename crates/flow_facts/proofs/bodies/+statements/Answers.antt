@@ -4,16 +4,10 @@ use Rattle.java_core.specs.Trees.{at_place, no_place, expr_of, stmt_of, stmts, s
 use Rattle.java_core.specs.Programs.{program_of, method_seen}
 use Rattle.java_core.proofs.Rows.{if_as, for_as}
 use Rattle.flow_facts.specs.Views.{parts_seen}
-use Rattle.flow_facts.proofs.Passed.{on_ok, on_both}
+use Rattle.flow_facts.proofs.Passed.{on_ok}
 use Rattle.flow_facts.proofs.Forms.{block_form, while_form}
 use Rattle.flow_facts.proofs.Composed.{loop_parts, while_parts, with_other}
 use Rattle.flow_facts.proofs.bodies.+statements.Goals as goal
-
-pub walk_stmt-returns-in-Local : goal.walk_stmt-returns-in-Local
-walk_stmt-returns-in-Local t c =
-    let form = ap (stmt_of at_place) c.in-Local.is in
-    rw form (on_both c.walk_local.result (λ g h. record { grown = g; parts = h (at_place c.in-Local.place) }) c.walk_local.ensures.grown
-    c.walk_local.ensures.parts)
 
 pub walk_stmt-returns-in-Block : goal.walk_stmt-returns-in-Block
 walk_stmt-returns-in-Block t c = let form = block_form _ _ _ c.in-Block.is in rw form c.walk_stmts.ensures
@@ -45,17 +39,17 @@ walk_stmt-returns-in-Ok-walk_step-2 t c =
           a.parts a.grown b.parts b.grown d.parts d.grown h.parts;
     }) c.walk_stmts-in-For.ensures)
 
-pub walk_stmt-returns-in-Some : goal.walk_stmt-returns-in-Some
-walk_stmt-returns-in-Some t c =
+pub walk_stmt-returns-in-Some-other : goal.walk_stmt-returns-in-Some-other
+walk_stmt-returns-in-Some-other t c =
     let form = ap (stmt_of at_place) c.in-If.is ∙ if_as at_place c.in-If.arms c.in-If.other c.in-If.place in
     let arms = with_other (program_of no_place c.args.within.now.program.now) c.args.within.now.number (method_seen at_place c.args.within.now.method.now)
-    _ _ c.in-Some.is c.in-Ok-walk_arms.ensures.grown c.in-Ok-walk_arms.ensures.parts in
-    rw form (on_ok c.walk_stmts-in-Some.result (λ h. record { grown = omega (arith, arms.0, h.grown); parts = h.parts ∙ arms.1 })
-    c.walk_stmts-in-Some.ensures)
+    _ _ c.in-Some-other.is c.in-Ok-walk_arms.ensures.grown c.in-Ok-walk_arms.ensures.parts in
+    rw form (on_ok c.walk_stmts-in-Some-other.result (λ h. record { grown = omega (arith, arms.0, h.grown); parts = h.parts ∙ arms.1 })
+    c.walk_stmts-in-Some-other.ensures)
 
-pub walk_stmt-returns-in-None : goal.walk_stmt-returns-in-None
-walk_stmt-returns-in-None t c =
+pub walk_stmt-returns-in-None-other : goal.walk_stmt-returns-in-None-other
+walk_stmt-returns-in-None-other t c =
     let form = ap (stmt_of at_place) c.in-If.is ∙ if_as at_place c.in-If.arms c.in-If.other c.in-If.place in
     let arms = with_other (program_of no_place c.args.within.now.program.now) c.args.within.now.number (method_seen at_place c.args.within.now.method.now)
-    _ _ c.in-None.is c.in-Ok-walk_arms.ensures.grown c.in-Ok-walk_arms.ensures.parts in
+    _ _ c.in-None-other.is c.in-Ok-walk_arms.ensures.grown c.in-Ok-walk_arms.ensures.parts in
     rw form (record { grown = omega (arith, arms.0); parts = sym (append-nil (parts_seen c.walk_arms.new.parts.items)) ∙ arms.1 })

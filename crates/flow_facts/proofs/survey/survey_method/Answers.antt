@@ -18,9 +18,9 @@ same (Some v) = refl
 
 pub returns-clause-outlines : goal.returns-clause-outlines
 returns-clause-outlines c =
-    let P = program_of no_place c.args.program.now in
-    let Q = program_of at_place c.args.program.now in
-    let k = method_seen at_place c.args.method.now in
+    let P = program_of no_place c.args.of.now.program.now in
+    let Q = program_of at_place c.args.of.now.program.now in
+    let k = method_seen at_place c.args.of.now.method.now in
     let old = map outline_seen c.args.survey.now.outlines.items in
     elim c.if-is_some.branch [
       | then-is_some+in-Ok-method_points+in-Ok-push w ↦
@@ -28,11 +28,11 @@ returns-clause-outlines c =
           ∙ ap (map outline_seen) w.in-Ok-push.ensures.items
           ∙ map-append outline_seen c.args.survey.now.outlines.items _
           ∙ ap (λ p. old ++ record { place = k.tag.place; points = p } ∷ []) (w.in-Ok-method_points.ensures.value P Q c.in_ok-parts.ensures.value)
-          ∙ ap (λ b. old ++ when b (record { place = k.tag.place; points = method_points P Q c.args.m k } ∷ []))
-          (sym (same c.args.method.now.body ∙ sym c.is_some.ensures ∙ w.if-is_some.true))
+          ∙ ap (λ b. old ++ when b (record { place = k.tag.place; points = method_points P Q c.args.of.now.number k } ∷ []))
+          (sym (same c.args.of.now.method.now.body ∙ sym c.is_some.ensures ∙ w.if-is_some.true))
       | else-is_some w ↦
           ap (λ s. map outline_seen s.outlines.items) w.survey-is
           ∙ sym (append-nil old)
-          ∙ ap (λ b. old ++ when b (record { place = k.tag.place; points = method_points P Q c.args.m k } ∷ []))
-          (sym (same c.args.method.now.body ∙ sym c.is_some.ensures ∙ w.if-is_some.false))
+          ∙ ap (λ b. old ++ when b (record { place = k.tag.place; points = method_points P Q c.args.of.now.number k } ∷ []))
+          (sym (same c.args.of.now.method.now.body ∙ sym c.is_some.ensures ∙ w.if-is_some.false))
     ]

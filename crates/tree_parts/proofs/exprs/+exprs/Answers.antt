@@ -18,7 +18,7 @@ use Rattle.tree_parts.proofs.exprs.+exprs.Goals as goal
 pub all-loop-one-preserved : goal.all-loop-one-preserved
 all-loop-one-preserved t c =
     all_next c.args.within.now c.args.scope.now.items c.loop-one.done.items c.push.new.self.items c.deref-one-items.result.now c.loop-one.one-index
-    c.one-item.result c.in-Ok.made c.loop-one-test.true c.one-item.is c.in-Ok.ensures.value c.in-Ok-push.ensures.items c.loop-one.invariant
+    c.one-item.result c.in-Ok-made.field-0 c.loop-one-test.true c.one-item.is c.in-Ok-made.ensures.value c.in-Ok-made-2.ensures.items c.loop-one.invariant
 
 pub all-returns : goal.all-returns
 all-returns t c = record {
@@ -30,8 +30,8 @@ all-returns t c = record {
 pub expr-returns-in_ok-args-in-None : goal.expr-returns-in_ok-args-in-None
 expr-returns-in_ok-args-in-None t c = record { value = let form = own_call c.in-Call.args c.in-Call.is c.in-None.is in rw form (search rules) }
 
-pub expr-returns-in-Ok-all : goal.expr-returns-in-Ok-all
-expr-returns-in-Ok-all t c =
+pub expr-returns-in-Ok-made-args : goal.expr-returns-in-Ok-made-args
+expr-returns-in-Ok-made-args t c =
     let w = c.args.within.now in
     let scope = c.args.scope.now.items in
     let b = c.in-Some.base.value in
@@ -39,7 +39,7 @@ expr-returns-in-Ok-all t c =
     ∙ ap (λ y. static (old_program w.source.now) (env_of w.number (method_of w)) (expr_of no_place y)) c.deref-in-Some.ensures) in
     let on = c.in_ok-on-in-Some.ensures.value ∙ ap (λ y. expression w scope (expr_of no_place y)) c.deref-in-Some-2.ensures in
     let is = call_is w scope (no_place c.in-Call.place) (expr_of no_place b) c.in-Call.name (exprs no_place c.in-Call.args.items)
-    on class c.in-Ok-all.ensures.value in
+    on class c.in-Ok-made-args.ensures.value in
     let form = call_on c.in-Call.args c.in-Call.is c.in-Some.is in
     record {
       value = IfOk-weaker c.call.result _ _ (λ e h. h ∙ is ∙ sym (ap (expression w scope) form)) c.call.ensures;

@@ -19,8 +19,8 @@ use Rattle.tree_parts.proofs.stmts.+stmts.Goals as goal
 pub body-loop-one-preserved : goal.body-loop-one-preserved
 body-loop-one-preserved t c =
     sts_next c.args.within.now c.loop-one.inner.items c.stmt.new.scope.items c.loop-one.done.items c.push.new.self.items c.deref-one-items.result.now
-    c.loop-one.one-index c.one-item.result c.in-Ok.made c.loop-one-test.true c.one-item.is c.in-Ok.ensures.value c.in-Ok.ensures.scope
-    c.in-Ok-push.ensures.items c.loop-one.invariant
+    c.loop-one.one-index c.one-item.result c.in-Ok-made.field-0 c.loop-one-test.true c.one-item.is c.in-Ok-made.ensures.value c.in-Ok-made.ensures.scope
+    c.in-Ok-made-2.ensures.items c.loop-one.invariant
 
 pub body-returns : goal.body-returns
 body-returns t c = record {
@@ -56,8 +56,8 @@ all_arms-body-requires t c = (omega (arith, c.decreases, arm_within c.deref-one-
 pub all_arms-loop-one-preserved : goal.all_arms-loop-one-preserved
 all_arms-loop-one-preserved t c =
     arms_next c.args.within.now c.args.scope.now.items no_other c.loop-one.done.items c.push.new.self.items c.deref-one-items.result.now
-    c.loop-one.one-index c.one-item.result (record { test = c.in-Ok.made; body = c.in-Ok-body.made }) c.loop-one-test.true c.one-item.is
-    c.in-Ok.ensures.value c.in-Ok-body.ensures.value c.in-Ok-push.ensures.items c.loop-one.invariant
+    c.loop-one.one-index c.one-item.result (record { test = c.in-Ok-made.field-0; body = c.in-Ok-made-run.field-0 }) c.loop-one-test.true c.one-item.is
+    c.in-Ok-made.ensures.value c.in-Ok-made-run.ensures.value c.in-Ok-made-2.ensures.items c.loop-one.invariant
 
 pub all_arms-returns : goal.all_arms-returns
 all_arms-returns t c = record {
@@ -69,26 +69,26 @@ all_arms-returns t c = record {
 pub stmt-returns-in_ok-items-in-Block-clause-value : goal.stmt-returns-in_ok-items-in-Block-clause-value
 stmt-returns-in_ok-items-in-Block-clause-value t c = let form = block_form c.in-Block.items c.in-Block.is in rw form (search rules)
 
-pub stmt-returns-in-Ok-body-clause-value : goal.stmt-returns-in-Ok-body-clause-value
-stmt-returns-in-Ok-body-clause-value t c = let form = while_form c.in-While.run' c.in-While.is in rw form (search rules)
+pub stmt-returns-in-Ok-made-run-clause-value : goal.stmt-returns-in-Ok-made-run-clause-value
+stmt-returns-in-Ok-made-run-clause-value t c = let form = while_form c.in-While.run' c.in-While.is in rw form (search rules)
 
-pub stmt-returns-in-Ok-otherwise-clause-value : goal.stmt-returns-in-Ok-otherwise-clause-value
-stmt-returns-in-Ok-otherwise-clause-value t c =
+pub stmt-returns-in-Ok-made-other-clause-value : goal.stmt-returns-in-Ok-made-other-clause-value
+stmt-returns-in-Ok-made-other-clause-value t c =
     let w = c.args.within.now in
     let form = if_form c.in-If.arms c.in-If.other c.in-If.is in
     let choice = arms_alike w c.args.scope.now.items c.in-If.arms.items c.in-If.other in
     let last = else_alike w c.args.scope.now.items c.in-If.arms.items (else_seen no_place c.in-If.other) in
     rw (form, choice, last) (search rules)
 
-pub stmt-returns-in-Ok-body-2-clause-value : goal.stmt-returns-in-Ok-body-2-clause-value
-stmt-returns-in-Ok-body-2-clause-value t c =
+pub stmt-returns-in-Ok-made-run-2-clause-value : goal.stmt-returns-in-Ok-made-run-2-clause-value
+stmt-returns-in-Ok-made-run-2-clause-value t c =
     let w = c.args.within.now in
     let scope = c.args.scope.now.items in
     let a = c.in-For in
     let is = for_is w scope c.in_ok-inner-in-For.inner.items c.part.new.scope.items (no_place a.place)
     (step_seen no_place a.first) (value_of no_place a.test)
-    (step_seen no_place a.step) (stmts no_place a.run'.items) c.in_ok-inner-in-For.ensures c.in-Ok-part.ensures.scope c.in-Ok-part.ensures.value
-    c.in-Ok-value.ensures.value c.in-Ok-last.ensures.value c.in-Ok-body-2.ensures.value c.nowhere-in-For.ensures in
+    (step_seen no_place a.step) (stmts no_place a.run'.items) c.in_ok-inner-in-For.ensures c.in-Ok-made-first.ensures.scope c.in-Ok-made-first.ensures.value
+    c.in-Ok-made-test.ensures.value c.in-Ok-made-step.ensures.value c.in-Ok-made-run-2.ensures.value c.nowhere-in-For.ensures in
     let form = for_form a.first a.test a.step a.run' a.is in
     IfOk-weaker c.for_loop.result _ _ (λ s h. h ∙ is ∙ sym (ap (statement w scope) form)) c.for_loop.ensures.value
 

@@ -3,10 +3,10 @@ use Rattle.java_core.specs.Programs.{local_seen}
 use Rattle.tree_parts.proofs.Bodies.{declared_is}
 use Rattle.tree_parts.proofs.stmts.declaration.Goals as goal
 
-pub returns : goal.returns
-returns c =
+pub returns-3 : goal.returns-3
+returns-3 c =
     record {
       value = declared_is c.args.within.now c.args.local
-          (local_seen no_place c.in-Some.variable.now) c.variable_row-row.result c.in-Some.ensures.plain c.nowhere-2.ensures c.in-Ok.ensures
-          c.variable_row-row.ensures.value c.in-Ok-copy.ensures.value;
+          (local_seen no_place c.in-Some.variable.now) c.variable_row-row.result c.in-Some.ensures.plain c.nowhere-2.ensures c.in-Ok-made.ensures
+          c.variable_row-row.ensures.value c.in-Ok-made-name.ensures.value;
     }

@@ -2,14 +2,14 @@ use Rattle.std.proofs.Common.{◌≡◌, ◌+◌, ◌++◌, drop, map}
 use Rattle.java_core.specs.Trees.{at_place, no_place}
 use Rattle.java_core.specs.Programs.{program_of, method_seen, local_seen}
 use Rattle.flow_rules.specs.Ordered.{each}
-use Rattle.flow_rules.specs.Numbered.{variable_rows}
-use Rattle.flow_facts.proofs.survey.add_variable_rows.Given as goal
+use Rattle.flow_facts.proofs.from_variable.add_from_those.Given as goal
 
 abbrev pub invariant-loop-local : goal.invariant-loop-local
-invariant-loop-local l =
-    let f = variable_rows (program_of no_place l.program) (program_of at_place l.program) l.m (method_seen at_place l.method) in
+invariant-loop-local g l =
+    let f = g.T.FromVariable.given (program_of no_place l.of.program.now) (program_of at_place l.of.program.now) l.of.number
+    (method_seen at_place l.of.method.now) in
     record {
       number : l.number ≡ l.first + l.local-index;
-      rows : l.rows.items ++ each f l.number (map (local_seen at_place) (drop l.local-index l.locals.items)) ≡ l.fn.rows.items ++ each f l.first
+      list : l.list.items ++ each f l.number (map (local_seen at_place) (drop l.local-index l.locals.items)) ≡ l.fn.list.items ++ each f l.first
           (map (local_seen at_place) l.locals.items);
     }
