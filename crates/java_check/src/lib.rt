@@ -51,3 +51,6 @@ pub enum CheckFault {
     #[error("out of memory")]
     Memory,
 }
+
+/// What is given, or the first rule that fails.
+type Answered<T> = Result<T, CheckFault>;
