@@ -13,6 +13,7 @@ ghost use Rattle.java_core.specs.Statics.{static_seen as seen, given_of};
 ghost use Rattle.java_check.specs.Callees.{signature_of};
 ghost use Rattle.java_check.specs.Outcome.{env_in, answer, args_answer, call_answer, super_answer, create_answer, member_answer, and_then, asked};
 
+use crate::by_number::{class_by_number, method_by_number};
 use crate::callees::{Callee, called, method_called, param_at, result_of};
 use crate::types::{are_related, can_cast, fits, is_numeric, takes_one, takes_two};
 use crate::{Answered, CheckFault, Kind};
@@ -37,7 +38,7 @@ pub(crate) fn ask(holds: bool, kind: Kind, place: Place) -> Answered<()>
 fn self_class(p: &Program, body: MemberId) -> ClassId
     ensures { result.0 ≡ (env_in (program_of no_place p.now) body.0).self }
 {
-    match p.methods.get(body.0 as usize) {
+    match method_by_number(p, body.0 as usize) {
         Some(method) => method.owner,
         None => ClassId(0),
     }
@@ -54,7 +55,7 @@ fn self_type(p: &Program, body: MemberId) -> Ty
 pub(crate) fn local_type(p: &Program, body: MemberId, local: u32) -> Option<Ty>
     ensures { result ≡ slice_get (env_in (program_of no_place p.now) body.0).locals local }
 {
-    match p.methods.get(body.0 as usize) {
+    match method_by_number(p, body.0 as usize) {
         Some(method) => java_core::local_type(method, local),
         None => None,
     }
@@ -64,7 +65,7 @@ pub(crate) fn local_type(p: &Program, body: MemberId, local: u32) -> Option<Ty>
 pub(crate) fn is_concrete(p: &Program, class: ClassId) -> bool
     ensures { result ≡ classes.is_concrete (program_of no_place p.now) class.0 }
 {
-    match p.classes.get(class.0 as usize) {
+    match class_by_number(p, class.0 as usize) {
         Some(class) => !class.is_interface && !class.is_abstract,
         None => false,
     }
@@ -74,7 +75,7 @@ pub(crate) fn is_concrete(p: &Program, class: ClassId) -> bool
 pub(crate) fn has_body(p: &Program, method: MemberId) -> bool
     ensures { result ≡ classes.has_body (program_of no_place p.now) method.0 }
 {
-    match p.methods.get(method.0 as usize) {
+    match method_by_number(p, method.0 as usize) {
         Some(method) => method.body.is_some(),
         None => false,
     }

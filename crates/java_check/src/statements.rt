@@ -11,6 +11,7 @@ ghost use Rattle.java_check.specs.Fails.{tag_of};
 ghost use Rattle.java_check.specs.Outcome.{env_in, answer, and_then, asked};
 ghost use Rattle.java_check.specs.StatementOutcome.{field_answer, target_answer, condition_answer, test_answer, assign_answer, return_answer, st_answer, sts_answer, arms_answer};
 
+use crate::by_number::method_by_number;
 use crate::expressions::{ask, local_type, type_of};
 use crate::types::{fits, fits_in, is_boolean, is_printable};
 use crate::{Answered, CheckFault, Kind};
@@ -118,7 +119,7 @@ fn check_test(p: &Program, body: MemberId, test: &Option<RExpr>) -> Answered<()>
 fn result_type(p: &Program, body: MemberId) -> Option<Ty>
     ensures { result ≡ (env_in (program_of no_place p.now) body.0).result }
 {
-    match p.methods.get(body.0 as usize) {
+    match method_by_number(p, body.0 as usize) {
         Some(method) => method.result,
         None => None,
     }
