@@ -137,8 +137,8 @@ fn store(
 /// A field of what an expression gives is set.
 fn store_field(code: &mut Code, site: Site, base: &RExpr, name: &Name, value: &RExpr) -> Tried<()>
     requires { IsReady site.scope.now }
-    ensures { OnOk result (code.new ≡ code_assign (plain site.entry.scope.now) (env site.entry.scope.now) (to_field bare_tag (expr_of no_place base.now) name.now)
-        (expr_of no_place value.now) site.entry.at ++ code.old) }
+    ensures { OnOk result (code.new ≡ code_assign (plain site.entry.scope.now) (env site.entry.scope.now)
+        (to_field bare_tag (expr_of no_place base.now) name.now) (expr_of no_place value.now) site.entry.at ++ code.old) }
 {
     let next = further(site.at, 1)?;
     let field = field_of(site.scope, base, name);

@@ -38,8 +38,8 @@ compile_stmt-returns-in_ok-close_while-in-While t c =
     c.args.code.now
     c.open_while.new.code c.open_while.new.code c.compile_stmts-in-While.new.code c.close_while.new.code c.close_while.new.code (turn 0)
     (λ n. turn_op P g (Some (expr_of no_place k.test)) c.args.site.at n)
-    c.args.exits.broke c.args.exits.next c.len-end-in-While.result c.len-tested.result c.len-tested.result c.requires.within.broke c.requires.within.next c.len-end-in-While.ensures
-    c.in_ok-open_while-in-While.ensures c.len-tested.ensures refl c.len-tested.ensures c.in_ok-compile_stmts-in-While.ensures
+    c.args.exits.broke c.args.exits.next c.len-end-in-While.result c.len-tested.result c.len-tested.result c.requires.within.broke c.requires.within.next
+    c.len-end-in-While.ensures c.in_ok-open_while-in-While.ensures c.len-tested.ensures refl c.len-tested.ensures c.in_ok-compile_stmts-in-While.ensures
     (λ bs ts rest y l m e. c.in_ok-close_while-in-While.ensures.code P g bs ts rest y l m e) refl)
 
 pub compile_stmt-returns-in_ok-compile_step-in-For-2 : goal.compile_stmt-returns-in_ok-compile_step-in-For-2
