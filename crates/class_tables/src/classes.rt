@@ -30,12 +30,9 @@ impl<'a> Model for Classes<'a> {
 
     ghost Value = { Program };
 
-    ghost use Rattle.std.specs.Coded.{codes};
-    ghost use Rattle.java_core.specs.contracts.RExpr as expr;
-    ghost use Rattle.java_core.specs.contracts.RStmt as stmt;
-    ghost use Rattle.version_map.specs.contracts.Tree as tree;
+    ghost use Rattle.java_core.specs.contracts.Checked.{the_row};
 
-    ghost coded = { Prim.hlevel (codes, expr.the_row.coded, stmt.the_row.coded, tree.the_row.coded) };
+    ghost coded = { the_row.coded };
 
     ghost use Rattle.class_tables.specs.Exact.{IsExact};
 

@@ -12,6 +12,7 @@ ghost use Rattle.java_core.specs.Types as types;
 ghost use Rattle.java_core.specs.Statics.{static_seen as seen, string_seen, given_of};
 ghost use Rattle.java_check.specs.Callees.{signature_of};
 
+use crate::by_number::method_by_number;
 use java_core::{
     Program, Static, StringMethod, Ty, TyBase, class_of, given_of, is_string, plain_type, slot_of,
     string_method, string_result, type_at,
@@ -71,7 +72,7 @@ fn offered(p: &Program, class: ClassId, name: &Name) -> Option<Callee>
 pub(crate) fn method_called(p: &Program, method: MemberId) -> Option<Callee>
     ensures { option_map (signature_of (program_of no_place p.now)) result ≡ types.signature_of_method (program_of no_place p.now) method.0 }
 {
-    match p.methods.get(method.0 as usize) {
+    match method_by_number(p, method.0 as usize) {
         Some(_) => Some(Callee::Method(method)),
         None => None,
     }
@@ -113,7 +114,7 @@ fn slot_param(p: &Program, slot: u32, at: usize) -> Option<Ty>
 fn method_param(p: &Program, method: MemberId, at: usize) -> Option<Ty>
     ensures { result ≡ slice_get (signature_of (program_of no_place p.now) (Callee.Method method)).params at }
 {
-    match p.methods.get(method.0 as usize) {
+    match method_by_number(p, method.0 as usize) {
         Some(method) => type_at(&method.params, at),
         None => None,
     }
@@ -144,7 +145,7 @@ fn slot_result(p: &Program, slot: u32) -> Static
 fn method_result(p: &Program, method: MemberId) -> Static
     ensures { result ≡ given_of (signature_of (program_of no_place p.now) (Callee.Method method)).result }
 {
-    match p.methods.get(method.0 as usize) {
+    match method_by_number(p, method.0 as usize) {
         Some(method) => given_of(method.result),
         None => Static::Nothing,
     }

@@ -10,6 +10,7 @@ ghost use Rattle.java_core.specs.Formed.{IsFormed};
 ghost use Rattle.java_check.specs.ClassOutcome.{method_rule, class_rule, is_quiet, is_kept, all_quiet};
 
 use crate::Kind;
+use crate::by_number::{class_by_number, method_by_number};
 use crate::expressions::{has_body, is_concrete};
 use java_core::{Class, Method, Program, is_subtype, nearest_declaration};
 use kaba_base::{ClassId, MemberId};
@@ -103,7 +104,7 @@ pub(crate) fn rule_for(p: &Program, class: ClassId, method: &Method) -> Option<K
 pub(crate) fn is_interface(p: &Program, class: ClassId) -> bool
     ensures { result ≡ classes.is_interface (program_of no_place p.now) class.0 }
 {
-    match p.classes.get(class.0 as usize) {
+    match class_by_number(p, class.0 as usize) {
         Some(class) => class.is_interface,
         None => false,
     }
@@ -124,7 +125,7 @@ fn is_shown(p: &Program, declaration: Option<MemberId>) -> bool
     ensures { result ≡ typing.is_public_method (program_of no_place p.now) (option_map (λ d. d.0) declaration) }
 {
     match declaration {
-        Some(method) => match p.methods.get(method.0 as usize) {
+        Some(method) => match method_by_number(p, method.0 as usize) {
             Some(method) => method.is_public,
             None => true,
         },

@@ -13,9 +13,10 @@ ghost use Rattle.java_core.specs.Statics.{static_seen as seen, given_of};
 ghost use Rattle.java_check.specs.Callees.{signature_of};
 ghost use Rattle.java_check.specs.Outcome.{env_in, answer, args_answer, call_answer, super_answer, create_answer, member_answer, and_then, asked};
 
+use crate::by_number::{class_by_number, method_by_number};
 use crate::callees::{Callee, called, method_called, param_at, result_of};
 use crate::types::{are_related, can_cast, fits, is_numeric, takes_one, takes_two};
-use crate::{CheckFault, Kind};
+use crate::{Answered, CheckFault, Kind};
 use java_core::{
     BinOp, Program, RExpr, Static, Ty, TyBase, UnOp, access_type, binary_type, class_of,
     element_of, field_type, given_of, plain_type, super_method, unary_type,
@@ -23,7 +24,7 @@ use java_core::{
 use kaba_base::{ClassId, MemberId, Name, Place};
 
 /// A rule that must hold.
-pub(crate) fn ask(holds: bool, kind: Kind, place: Place) -> Result<(), CheckFault>
+pub(crate) fn ask(holds: bool, kind: Kind, place: Place) -> Answered<()>
     ensures { result ≡ asked holds kind (at_place place) (tt {0}) }
 {
     if holds {
@@ -37,7 +38,7 @@ pub(crate) fn ask(holds: bool, kind: Kind, place: Place) -> Result<(), CheckFaul
 fn self_class(p: &Program, body: MemberId) -> ClassId
     ensures { result.0 ≡ (env_in (program_of no_place p.now) body.0).self }
 {
-    match p.methods.get(body.0 as usize) {
+    match method_by_number(p, body.0 as usize) {
         Some(method) => method.owner,
         None => ClassId(0),
     }
@@ -54,7 +55,7 @@ fn self_type(p: &Program, body: MemberId) -> Ty
 pub(crate) fn local_type(p: &Program, body: MemberId, local: u32) -> Option<Ty>
     ensures { result ≡ slice_get (env_in (program_of no_place p.now) body.0).locals local }
 {
-    match p.methods.get(body.0 as usize) {
+    match method_by_number(p, body.0 as usize) {
         Some(method) => java_core::local_type(method, local),
         None => None,
     }
@@ -64,7 +65,7 @@ pub(crate) fn local_type(p: &Program, body: MemberId, local: u32) -> Option<Ty>
 pub(crate) fn is_concrete(p: &Program, class: ClassId) -> bool
     ensures { result ≡ classes.is_concrete (program_of no_place p.now) class.0 }
 {
-    match p.classes.get(class.0 as usize) {
+    match class_by_number(p, class.0 as usize) {
         Some(class) => !class.is_interface && !class.is_abstract,
         None => false,
     }
@@ -74,7 +75,7 @@ pub(crate) fn is_concrete(p: &Program, class: ClassId) -> bool
 pub(crate) fn has_body(p: &Program, method: MemberId) -> bool
     ensures { result ≡ classes.has_body (program_of no_place p.now) method.0 }
 {
-    match p.methods.get(method.0 as usize) {
+    match method_by_number(p, method.0 as usize) {
         Some(method) => method.body.is_some(),
         None => false,
     }
@@ -82,7 +83,7 @@ pub(crate) fn has_body(p: &Program, method: MemberId) -> bool
 
 /// What an expression gives, or the first rule that fails in it.
 #[cycle(expressions)]
-pub(crate) fn type_of(p: &Program, body: MemberId, e: &RExpr) -> Result<Static, CheckFault>
+pub(crate) fn type_of(p: &Program, body: MemberId, e: &RExpr) -> Answered<Static>
     requires { IsFormed (program_of no_place p.now) }
     ensures { result ≡ answer (program_of no_place p.now) (env_in (program_of no_place p.now) body.0) (expr_of at_place e.now) }
 {
@@ -159,11 +160,7 @@ pub(crate) fn type_of(p: &Program, body: MemberId, e: &RExpr) -> Result<Static, 
 
 /// What the receiver of a call gives; where none is written, it is `this`.
 #[cycle(expressions)]
-fn type_of_base(
-    p: &Program,
-    body: MemberId,
-    base: &Option<Box<RExpr>>,
-) -> Result<Static, CheckFault>
+fn type_of_base(p: &Program, body: MemberId, base: &Option<Box<RExpr>>) -> Answered<Static>
     requires { IsFormed (program_of no_place p.now) }
     ensures { (place : Place) → result ≡ answer (program_of no_place p.now) (env_in (program_of no_place p.now) body.0) (base_seen at_place base.now place) }
 {
@@ -181,7 +178,7 @@ fn type_of_call(
     callee: Option<Callee>,
     args: &Vec<RExpr>,
     place: Place,
-) -> Result<Static, CheckFault>
+) -> Answered<Static>
     requires { IsFormed (program_of no_place p.now) }
     ensures { result ≡ call_answer (option_map (signature_of (program_of no_place p.now)) callee)
         (args_answer (program_of no_place p.now) (env_in (program_of no_place p.now) body.0)
@@ -204,7 +201,7 @@ fn type_of_super(
     name: &Name,
     args: &Vec<RExpr>,
     place: Place,
-) -> Result<Static, CheckFault>
+) -> Answered<Static>
     requires { IsFormed (program_of no_place p.now) }
     ensures { result ≡ super_answer (program_of no_place p.now)
         (classes.super_method (program_of no_place p.now) (env_in (program_of no_place p.now) body.0).self
@@ -227,7 +224,7 @@ fn check_args(
     callee: Callee,
     args: &[RExpr],
     place: Place,
-) -> Result<(), CheckFault>
+) -> Answered<()>
     requires { IsFormed (program_of no_place p.now) }
     ensures { result ≡ args_answer (program_of no_place p.now) (env_in (program_of no_place p.now) body.0)
         (exprs at_place args.now) (at_place place) (signature_of (program_of no_place p.now) callee).params }
@@ -248,13 +245,7 @@ fn check_args(
 
 /// Whether an argument fits its parameter.
 #[cycle(expressions)]
-fn check_arg(
-    p: &Program,
-    body: MemberId,
-    arg: &RExpr,
-    ty: Ty,
-    place: Place,
-) -> Result<(), CheckFault>
+fn check_arg(p: &Program, body: MemberId, arg: &RExpr, ty: Ty, place: Place) -> Answered<()>
     requires { IsFormed (program_of no_place p.now) }
     ensures { result ≡ and_then (answer (program_of no_place p.now)
         (env_in (program_of no_place p.now) body.0) (expr_of at_place arg.now))
@@ -265,7 +256,7 @@ fn check_arg(
 }
 
 /// What a field access gives.
-fn access(p: &Program, given: Static, name: &Name, place: Place) -> Result<Static, CheckFault>
+fn access(p: &Program, given: Static, name: &Name, place: Place) -> Answered<Static>
     requires { IsFormed (program_of no_place p.now) }
     ensures { result ≡ member_answer (types.access_type (program_of no_place p.now) (seen given) name.now) (at_place place) }
 {
@@ -276,7 +267,7 @@ fn access(p: &Program, given: Static, name: &Name, place: Place) -> Result<Stati
 }
 
 /// What an index gives.
-pub(crate) fn element(base: Static, index: Static, place: Place) -> Result<Static, CheckFault>
+pub(crate) fn element(base: Static, index: Static, place: Place) -> Answered<Static>
     ensures { result ≡ asked (is_some (types.element_of (seen base)) && types.is_numeric (seen index))
         Kind.Operand (at_place place) (given_of (types.element_of (seen base))) }
 {
@@ -286,12 +277,7 @@ pub(crate) fn element(base: Static, index: Static, place: Place) -> Result<Stati
 }
 
 /// What a creation gives.
-fn creation(
-    p: &Program,
-    class: ClassId,
-    args: &Vec<RExpr>,
-    place: Place,
-) -> Result<Static, CheckFault>
+fn creation(p: &Program, class: ClassId, args: &Vec<RExpr>, place: Place) -> Answered<Static>
     ensures { result ≡ create_answer (classes.is_concrete (program_of no_place p.now) class.0) (exprs at_place args.now.items) class.0 (at_place place) }
 {
     ask(is_concrete(p, class), Kind::AbstractNew, place)?;
@@ -302,7 +288,7 @@ fn creation(
 }
 
 /// What the creation of an array gives.
-fn array(size: Static, ty: Ty, place: Place) -> Result<Static, CheckFault>
+fn array(size: Static, ty: Ty, place: Place) -> Answered<Static>
     ensures { result ≡ asked (types.is_numeric (seen size)) Kind.Operand (at_place place) (Static.Value ty) }
 {
     ask(is_numeric(size), Kind::Operand, place)?;
@@ -310,7 +296,7 @@ fn array(size: Static, ty: Ty, place: Place) -> Result<Static, CheckFault>
 }
 
 /// What a cast gives.
-fn cast(p: &Program, given: Static, ty: Ty, place: Place) -> Result<Static, CheckFault>
+fn cast(p: &Program, given: Static, ty: Ty, place: Place) -> Answered<Static>
     requires { IsFormed (program_of no_place p.now) }
     ensures { result ≡ asked (typing.can_cast (program_of no_place p.now) (seen given) ty) Kind.Cast (at_place place) (Static.Value ty) }
 {
@@ -319,7 +305,7 @@ fn cast(p: &Program, given: Static, ty: Ty, place: Place) -> Result<Static, Chec
 }
 
 /// What an `instanceof` gives.
-fn instance(p: &Program, given: Static, class: ClassId, place: Place) -> Result<Static, CheckFault>
+fn instance(p: &Program, given: Static, class: ClassId, place: Place) -> Answered<Static>
     requires { IsFormed (program_of no_place p.now) }
     ensures { result ≡ asked (typing.are_related (program_of no_place p.now) (types.class_of (seen given))
         (Some class.0)) Kind.Cast (at_place place) (Static.Value (types.plain_type TyBase.Boolean)) }
@@ -333,7 +319,7 @@ fn instance(p: &Program, given: Static, class: ClassId, place: Place) -> Result<
 }
 
 /// What a prefix operator gives.
-fn unary(op: UnOp, given: Static, place: Place) -> Result<Static, CheckFault>
+fn unary(op: UnOp, given: Static, place: Place) -> Answered<Static>
     ensures { result ≡ asked (typing.takes_one op (seen given)) Kind.Operand (at_place place) (Static.Value (types.unary_type op)) }
 {
     ask(takes_one(op, given), Kind::Operand, place)?;
@@ -341,13 +327,7 @@ fn unary(op: UnOp, given: Static, place: Place) -> Result<Static, CheckFault>
 }
 
 /// What a binary operator gives.
-fn binary(
-    p: &Program,
-    op: BinOp,
-    left: Static,
-    right: Static,
-    place: Place,
-) -> Result<Static, CheckFault>
+fn binary(p: &Program, op: BinOp, left: Static, right: Static, place: Place) -> Answered<Static>
     requires { IsFormed (program_of no_place p.now) }
     ensures { result ≡ asked (typing.takes_two (program_of no_place p.now) op (seen left) (seen right))
         Kind.Operand (at_place place) (Static.Value (types.binary_type op (seen left) (seen right))) }

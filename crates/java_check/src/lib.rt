@@ -1,6 +1,7 @@
 //! The rules of types of a resolved program (Java Language Specification, chapters 8, 14 and 15, the subset's part).
 #![tactic(auto)]
 
+mod by_number;
 mod callees;
 mod classes;
 mod expressions;
@@ -51,3 +52,6 @@ pub enum CheckFault {
     #[error("out of memory")]
     Memory,
 }
+
+/// What is given, or the first rule that fails.
+type Answered<T> = Result<T, CheckFault>;

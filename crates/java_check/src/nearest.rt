@@ -13,6 +13,7 @@ ghost use Rattle.java_check.specs.ClassOutcome.{method_rule, class_rule};
 ghost use Rattle.java_check.specs.NearOutcome.{method_owner, kept_at, declared_among, own_of};
 
 use crate::Kind;
+use crate::by_number::method_by_number;
 use crate::classes::{class_fault, is_interface};
 use crate::expressions::is_concrete;
 use java_core::{
@@ -60,7 +61,7 @@ fn keep(p: &Program, near: &mut [Option<usize>], class: ClassId, at: usize)
     ensures kept { (s : ℕ) → s < length near.old
         → kept_at near.new s ≡ first_or (kept_at near.old s) (declared_among (program_of no_place p.now) class.0 s (at ∷ [])) }
 {
-    match p.methods.get(at) {
+    match method_by_number(p, at) {
         Some(method) => {
             if method.owner.0 == class.0 {
                 keep_for(near, method.slot, at);
@@ -145,7 +146,7 @@ fn is_bodied_at(p: &Program, at: Option<usize>) -> bool
     ensures { result ≡ option_map_or (has_body (program_of no_place p.now)) at false }
 {
     match at {
-        Some(at) => match p.methods.get(at) {
+        Some(at) => match method_by_number(p, at) {
             Some(method) => method.body.is_some(),
             None => false,
         },
@@ -158,7 +159,7 @@ fn is_shown_at(p: &Program, at: Option<usize>) -> bool
     ensures { result ≡ is_public_method (program_of no_place p.now) at }
 {
     match at {
-        Some(at) => match p.methods.get(at) {
+        Some(at) => match method_by_number(p, at) {
             Some(method) => method.is_public,
             None => true,
         },

@@ -14,7 +14,7 @@ use crate::classes::all_quiet;
 use crate::nearest::fault_near;
 use crate::slots::fine_classes;
 use crate::statements::check_stmts;
-use crate::{CheckFault, Kind};
+use crate::{Answered, CheckFault, Kind};
 use java_core::{Checked, Class, Method, Program};
 use kaba_base::{ClassId, MemberId};
 use std::alloc::Global;
@@ -36,7 +36,7 @@ pub fn check(alloc: Global, program: Program) -> Result<Checked, CheckFault>
 }
 
 /// The first rule that fails in a program.
-fn check_program(alloc: Global, p: &Program) -> Result<(), CheckFault>
+fn check_program(alloc: Global, p: &Program) -> Answered<()>
     requires { IsFormed (program_of no_place p.now) }
     ensures typed { IfOk result (λ _. IsTyped (program_of no_place p.now)) }
     ensures refused { IfErr result (λ fault. IsRefused p.now fault) }
@@ -46,7 +46,7 @@ fn check_program(alloc: Global, p: &Program) -> Result<(), CheckFault>
 }
 
 /// The first rule that fails: in the classes, then in the bodies.
-fn first_fault(alloc: Global, p: &Program) -> Result<(), CheckFault>
+fn first_fault(alloc: Global, p: &Program) -> Answered<()>
     requires { IsFormed (program_of no_place p.now) }
     ensures { result ≡ and_then (classes_answer (program_of no_place p.now) 0
         (program_of at_place p.now).classes) (λ _. methods_answer (program_of no_place p.now) 0
@@ -59,7 +59,7 @@ fn first_fault(alloc: Global, p: &Program) -> Result<(), CheckFault>
 }
 
 /// The first rule that one of the classes breaks.
-fn check_classes(alloc: Global, p: &Program) -> Result<(), CheckFault>
+fn check_classes(alloc: Global, p: &Program) -> Answered<()>
     requires { IsFormed (program_of no_place p.now) }
     ensures { result ≡ classes_answer (program_of no_place p.now) 0 (program_of at_place p.now).classes }
 {
@@ -90,7 +90,7 @@ fn quiet_classes(p: &Program) -> usize
 }
 
 /// The first rule that one of the classes breaks, each tested but so many first ones that break none.
-fn check_each(alloc: Global, p: &Program, classes: &[Class], fine: usize) -> Result<(), CheckFault>
+fn check_each(alloc: Global, p: &Program, classes: &[Class], fine: usize) -> Answered<()>
     requires formed { IsFormed (program_of no_place p.now) }
     requires few { length classes.now < 4294967295 }
     requires fine { (c : ℕ) → c < fine → class_rule (program_of no_place p.now) c (program_of no_place p.now).methods ≡ None }
@@ -117,7 +117,7 @@ fn fault_of(alloc: Global, p: &Program, class: ClassId, fine: usize) -> Option<K
 }
 
 /// The first rule that fails in the bodies of the methods.
-fn check_methods(p: &Program, methods: &[Method]) -> Result<(), CheckFault>
+fn check_methods(p: &Program, methods: &[Method]) -> Answered<()>
     requires formed { IsFormed (program_of no_place p.now) }
     requires few { length methods.now < 4294967295 }
     ensures { result ≡ methods_answer (program_of no_place p.now) 0 (map (method_seen at_place) methods.now) }
@@ -131,7 +131,7 @@ fn check_methods(p: &Program, methods: &[Method]) -> Result<(), CheckFault>
 }
 
 /// The first rule that fails in the body of a method.
-fn check_body(p: &Program, number: MemberId, method: &Method) -> Result<(), CheckFault>
+fn check_body(p: &Program, number: MemberId, method: &Method) -> Answered<()>
     requires { IsFormed (program_of no_place p.now) }
     ensures { result ≡ body_answer (program_of no_place p.now) (env_in (program_of no_place p.now) number.0) (body_seen at_place method.now.body) }
 {

@@ -8,6 +8,7 @@ ghost use Rattle.java_core.specs.Formed.{IsFormed};
 ghost use Rattle.java_check.specs.ClassOutcome.{class_rule};
 ghost use Rattle.java_check.specs.SlotOutcome.{batch_place, method_batch, AreListed, IsBatch, AreFound, are_apart, is_clear, IsFineFor, is_bare, has_bare};
 
+use crate::by_number::method_by_number;
 use crate::classes::is_interface;
 use crate::expressions::is_concrete;
 use crate::tables::{Asked, Batch, above_table, nearest_table, word_at};
@@ -57,7 +58,7 @@ fn methods_of_batches(
 fn is_bare(p: &Program, at: usize) -> bool
     ensures { result ≡ is_bare (program_of no_place p.now) at }
 {
-    match p.methods.get(at) {
+    match method_by_number(p, at) {
         Some(method) => method.body.is_none(),
         None => false,
     }

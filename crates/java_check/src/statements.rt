@@ -11,9 +11,10 @@ ghost use Rattle.java_check.specs.Fails.{tag_of};
 ghost use Rattle.java_check.specs.Outcome.{env_in, answer, and_then, asked};
 ghost use Rattle.java_check.specs.StatementOutcome.{field_answer, target_answer, condition_answer, test_answer, assign_answer, return_answer, st_answer, sts_answer, arms_answer};
 
+use crate::by_number::method_by_number;
 use crate::expressions::{ask, local_type, type_of};
 use crate::types::{fits, fits_in, is_boolean, is_printable};
-use crate::{CheckFault, Kind};
+use crate::{Answered, CheckFault, Kind};
 use java_core::{Program, RArm, RExpr, RStmt, Static, Ty, field_in, field_type, given_of};
 use kaba_base::{MemberId, Name, Place};
 
@@ -46,12 +47,7 @@ fn place_of(e: &RExpr) -> Place
 }
 
 /// The type of the variable that an assignment changes.
-fn target_type(
-    p: &Program,
-    body: MemberId,
-    target: &RExpr,
-    place: Place,
-) -> Result<Static, CheckFault>
+fn target_type(p: &Program, body: MemberId, target: &RExpr, place: Place) -> Answered<Static>
     requires { IsFormed (program_of no_place p.now) }
     ensures { result ≡ target_answer (program_of no_place p.now) (env_in (program_of no_place p.now) body.0) (at_place place) (target_of at_place target.now) }
 {
@@ -65,7 +61,7 @@ fn target_type(
 }
 
 /// The type of the field that an object has under a name.
-fn stored(p: &Program, given: Static, name: &Name, place: Place) -> Result<Static, CheckFault>
+fn stored(p: &Program, given: Static, name: &Name, place: Place) -> Answered<Static>
     requires { IsFormed (program_of no_place p.now) }
     ensures { result ≡ field_answer (program_of no_place p.now) (env_in (program_of no_place p.now) 0)
         (types.field_in (program_of no_place p.now) (seen given) name.now) (at_place place) }
@@ -83,7 +79,7 @@ fn check_value(
     value: &RExpr,
     target: Static,
     place: Place,
-) -> Result<(), CheckFault>
+) -> Answered<()>
     requires { IsFormed (program_of no_place p.now) }
     ensures { result ≡ assign_answer (program_of no_place p.now) (env_in (program_of no_place p.now) body.0)
         (answer (program_of no_place p.now) (env_in (program_of no_place p.now) body.0)
@@ -97,7 +93,7 @@ fn check_value(
 }
 
 /// Whether a test is boolean.
-fn check_condition(p: &Program, body: MemberId, test: &RExpr) -> Result<(), CheckFault>
+fn check_condition(p: &Program, body: MemberId, test: &RExpr) -> Answered<()>
     requires { IsFormed (program_of no_place p.now) }
     ensures { result ≡ condition_answer (program_of no_place p.now) (env_in (program_of no_place p.now) body.0) (expr_of at_place test.now) }
 {
@@ -109,7 +105,7 @@ fn check_condition(p: &Program, body: MemberId, test: &RExpr) -> Result<(), Chec
 }
 
 /// Whether the test of a loop is boolean.
-fn check_test(p: &Program, body: MemberId, test: &Option<RExpr>) -> Result<(), CheckFault>
+fn check_test(p: &Program, body: MemberId, test: &Option<RExpr>) -> Answered<()>
     requires { IsFormed (program_of no_place p.now) }
     ensures { result ≡ test_answer (program_of no_place p.now) (env_in (program_of no_place p.now) body.0) (value_of at_place test.now) }
 {
@@ -123,14 +119,14 @@ fn check_test(p: &Program, body: MemberId, test: &Option<RExpr>) -> Result<(), C
 fn result_type(p: &Program, body: MemberId) -> Option<Ty>
     ensures { result ≡ (env_in (program_of no_place p.now) body.0).result }
 {
-    match p.methods.get(body.0 as usize) {
+    match method_by_number(p, body.0 as usize) {
         Some(method) => method.result,
         None => None,
     }
 }
 
 /// Whether a value is what the method gives back.
-fn check_result(p: &Program, body: MemberId, given: Static, place: Place) -> Result<(), CheckFault>
+fn check_result(p: &Program, body: MemberId, given: Static, place: Place) -> Answered<()>
     requires { IsFormed (program_of no_place p.now) }
     ensures { result ≡ return_answer (program_of no_place p.now) (env_in (program_of no_place p.now) 0)
         (env_in (program_of no_place p.now) body.0).result given (at_place place) }
@@ -143,7 +139,7 @@ fn check_result(p: &Program, body: MemberId, given: Static, place: Place) -> Res
 
 /// The first rule that fails in a statement.
 #[cycle(statements)]
-fn check_stmt(p: &Program, body: MemberId, s: &RStmt) -> Result<(), CheckFault>
+fn check_stmt(p: &Program, body: MemberId, s: &RStmt) -> Answered<()>
     requires { IsFormed (program_of no_place p.now) }
     ensures { result ≡ st_answer (program_of no_place p.now) (env_in (program_of no_place p.now) body.0) (stmt_of at_place s.now) }
 {
@@ -233,7 +229,7 @@ fn check_stmt(p: &Program, body: MemberId, s: &RStmt) -> Result<(), CheckFault>
 
 /// The first rule that fails in a list of statements.
 #[cycle(statements)]
-pub(crate) fn check_stmts(p: &Program, body: MemberId, list: &[RStmt]) -> Result<(), CheckFault>
+pub(crate) fn check_stmts(p: &Program, body: MemberId, list: &[RStmt]) -> Answered<()>
     requires { IsFormed (program_of no_place p.now) }
     ensures { result ≡ sts_answer (program_of no_place p.now) (env_in (program_of no_place p.now) body.0) (stmts at_place list.now) }
 {
@@ -247,7 +243,7 @@ pub(crate) fn check_stmts(p: &Program, body: MemberId, list: &[RStmt]) -> Result
 
 /// The first rule that fails in the first or the last part of a `for`.
 #[cycle(statements)]
-fn check_step(p: &Program, body: MemberId, step: &Option<Box<RStmt>>) -> Result<(), CheckFault>
+fn check_step(p: &Program, body: MemberId, step: &Option<Box<RStmt>>) -> Answered<()>
     requires { IsFormed (program_of no_place p.now) }
     ensures { result ≡ sts_answer (program_of no_place p.now) (env_in (program_of no_place p.now) body.0) (step_seen at_place step.now) }
 {
@@ -267,7 +263,7 @@ fn check_arms(
     body: MemberId,
     arms: &[RArm],
     other: &Option<Vec<RStmt>>,
-) -> Result<(), CheckFault>
+) -> Answered<()>
     requires { IsFormed (program_of no_place p.now) }
     ensures { result ≡ arms_answer (program_of no_place p.now) (env_in (program_of no_place p.now) body.0)
         (arms_seen at_place arms.now (else_seen at_place other.now)) }

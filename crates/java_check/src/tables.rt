@@ -10,6 +10,7 @@ ghost use Rattle.java_core.specs.Classes.{is_slot};
 ghost use Rattle.java_core.specs.Formed.{IsFormed};
 ghost use Rattle.java_check.specs.SlotOutcome.{bit, is_within, has_faces, full, word_at, own_at, answers, says, IsBatch, parent_word, is_nearest_at, is_above_at, HasNearest, HasAbove};
 
+use crate::by_number::method_by_number;
 use crate::classes::is_interface;
 use java_core::{Method, Program, faces_of, parent_of};
 use kaba_base::ClassId;
@@ -80,7 +81,7 @@ fn set_method(p: &Program, table: &mut [u64], batch: usize, asked: Asked, at: us
     ensures bits { (c i : ℕ) → c < length table.old → i < 64
         → bit (own_at table.new c) i ≡ (bit (own_at table.old c) i || says (program_of no_place p.now) asked c (64 * batch + i) at) }
 {
-    match p.methods.get(at) {
+    match method_by_number(p, at) {
         Some(method) => {
             if answers(p, asked, method) {
                 set_bits(

@@ -96,38 +96,22 @@ nowhere p = false
 abbrev no_body : ℕ → Bool
 no_body b = false
 
+-- the forms whose values a run looks at, by number
+abbrev form : Ex → ℕ
+form (create t n c es) = 0
+form (create_array t n u e) = 1
+form (field t e f) = 2
+form (index t e i) = 3
+form (call t e f es) = 4
+form (static_call t d es) = 5
+form (super_call t f es) = 6
+form (cast t n u e) = 7
+form e = 8
+
 -- the value of a form
-abbrev of_create : Spot → Bool
-of_create (held m (create t n c es)) = true
-of_create p = false
-
-abbrev of_array : Spot → Bool
-of_array (held m (create_array t n u e)) = true
-of_array p = false
-
-abbrev of_field : Spot → Bool
-of_field (held m (field t e f)) = true
-of_field p = false
-
-abbrev of_index : Spot → Bool
-of_index (held m (index t e i)) = true
-of_index p = false
-
-abbrev of_call : Spot → Bool
-of_call (held m (call t e f es)) = true
-of_call p = false
-
-abbrev of_static_call : Spot → Bool
-of_static_call (held m (static_call t d es)) = true
-of_static_call p = false
-
-abbrev of_super_call : Spot → Bool
-of_super_call (held m (super_call t f es)) = true
-of_super_call p = false
-
-abbrev of_cast : Spot → Bool
-of_cast (held m (cast t n u e)) = true
-of_cast p = false
+abbrev of_form : ℕ → Spot → Bool
+of_form n (held m e) = form e == n
+of_form n p = false
 
 -- what is set
 abbrev at_local : Spot → Bool
@@ -186,8 +170,8 @@ passes = refl
 
 -- the object of the first creation, at one look after the other
 abbrev looks : List (Spot → Bool)
-looks = of_create ∷ at_local ∷ at_static ∷ at_written ∷ at_field ∷ at_read ∷ of_field ∷ at_element ∷ of_index ∷ at_receiver ∷ at_self 1
-    ∷ at_self 0 ∷ at_result 0 ∷ of_super_call ∷ at_result 1 ∷ of_call ∷ at_result 2 ∷ of_static_call ∷ at_cast ∷ of_cast ∷ at_test ∷ []
+looks = at_local ∷ at_static ∷ at_written ∷ at_field ∷ at_read ∷ at_element ∷ at_receiver ∷ at_self 1 ∷ at_self 0 ∷ at_result 0 ∷ at_result 1 ∷ at_result 2
+    ∷ at_cast ∷ at_test ∷ map of_form (0 ∷ 2 ∷ 3 ∷ 4 ∷ 5 ∷ 6 ∷ 7 ∷ [])
 
 looks_at_each : map (λ p. ends_without 0 p no_body) looks ≡ map (λ p. Escaped) looks
 unfolding run_in layout below field_in member_field field_of search_order declaration_of lookup super_method
@@ -198,6 +182,6 @@ unfolding run_in layout below field_in member_field field_of search_order declar
 looks_at_arguments = refl
 
 -- and the array of the second
-looks_at_array : ends_without 1 of_array no_body ≡ Escaped
+looks_at_array : ends_without 1 (of_form 1) no_body ≡ Escaped
 unfolding run_in layout below field_in member_field field_of search_order declaration_of lookup super_method
 looks_at_array = refl

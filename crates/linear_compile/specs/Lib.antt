@@ -1,4 +1,5 @@
 pub mod Scopes
+pub mod Words
 pub mod Sides
 pub mod Exits
 pub mod Bodies

@@ -1,28 +1,24 @@
 //! The code of what sets a variable.
 
-ghost use Rattle.std.specs.Prelude.{◌≡◌, ◌+◌, ◌++◌, ◌∷◌, Option, Some, None, Bool, OnOk, slice_get};
+ghost use Rattle.std.specs.Prelude.{◌≡◌, ◌+◌, ◌++◌, ◌∷◌, Option, Some, None, Bool, OnOk};
 ghost use Rattle.std.specs.Option.{option_map, option_map_or};
-ghost use Rattle.java_core.specs.Trees.{no_place, expr_of, value_of, target_of, to_field, to_element};
-ghost use Rattle.java_core.specs.Types.{field_in, static};
+ghost use Rattle.linear_compile.specs.Words.{no_place, expr_of, value_of, default_of, operand_of, operand, bare_tag, plain, env, IsReady};
+ghost use Rattle.java_core.specs.Trees.{target_of, to_field, to_element};
 ghost use Rattle.java_meaning.specs.Moment.{Nothing};
-ghost use Rattle.java_meaning.specs.Values.{default_of};
 ghost use Rattle.linear_code.specs.Ops.{slot, constant};
-ghost use Rattle.linear_code.specs.Seen.{operand_of};
-ghost use Rattle.linear_code.specs.Code.{operand, code_local, code_initial, code_assign, default_op, store_op};
-ghost use Rattle.java_core.specs.Untagged.{bare_tag};
-ghost use Rattle.linear_compile.specs.Scopes.{plain, env, IsReady};
+ghost use Rattle.linear_code.specs.Code.{code_local, code_initial, code_assign, default_op, store_op};
 
 use crate::code::{Code, further};
 use crate::expressions::{compile, compile_to};
 use crate::operands::operand;
 use crate::scope::{Scope, Site, field_of, is_int_field, is_int_local, local_type, place_of};
-use java_core::{RExpr, Ty, TyBase};
+use java_core::{RExpr, Ty};
+use java_heap::{Value, default_of};
 use kaba_base::{MemberId, Name};
-use linear_code::{Calc, Destination, Effect, Instr, Operand};
-use std::alloc::AllocError;
+use linear_code::{Calc, Destination, Effect, Instr, Operand, Tried};
 
 /// A local is set.
-fn compile_local(code: &mut Code, site: Site, local: u32, value: &RExpr) -> Result<(), AllocError>
+fn compile_local(code: &mut Code, site: Site, local: u32, value: &RExpr) -> Tried<()>
     requires { IsReady site.scope.now }
     ensures { OnOk result (code.new ≡ code_local (plain site.entry.scope.now) (env site.entry.scope.now) local
         (expr_of no_place value.now) site.entry.at ++ code.old) }
@@ -48,20 +44,18 @@ pub fn default_operand(ty: Option<Ty>) -> Operand
 fn default_in(ty: Ty) -> Operand
     ensures { operand_of result ≡ constant (default_of ty) }
 {
-    if ty.dim != 0 {
-        return Operand::Null;
-    }
-    match ty.base {
-        TyBase::Int => Operand::Int(0),
-        TyBase::Boolean => Operand::Bool(false),
-        TyBase::Char => Operand::Char(0),
-        TyBase::Str => Operand::Null,
-        TyBase::Class(_) => Operand::Null,
+    match default_of(ty) {
+        Value::Int(number) => Operand::Int(number),
+        Value::Bool(truth) => Operand::Bool(truth),
+        Value::Char(unit) => Operand::Char(unit),
+        Value::Null => Operand::Null,
+        Value::Str(_) => Operand::Null,
+        Value::Ref(_) => Operand::Null,
     }
 }
 
 /// A local has the value that something of its type has by itself.
-fn set_default(code: &mut Code, scope: &Scope, local: u32) -> Result<(), AllocError>
+fn set_default(code: &mut Code, scope: &Scope, local: u32) -> Tried<()>
     requires { IsReady scope.now }
     ensures { OnOk result (code.new ≡ default_op (plain scope.now) (env scope.now) local ∷ code.old) }
 {
@@ -76,7 +70,7 @@ pub fn compile_declaration(
     site: Site,
     local: u32,
     value: &Option<RExpr>,
-) -> Result<(), AllocError>
+) -> Tried<()>
     requires { IsReady site.scope.now }
     ensures { OnOk result (code.new ≡ default_op (plain site.entry.scope.now) (env site.entry.scope.now) local ∷ (code_initial (plain site.entry.scope.now)
         (env site.entry.scope.now) local (value_of no_place value.now) site.entry.at ++ code.old)) }
@@ -91,12 +85,7 @@ pub fn compile_declaration(
 }
 
 /// An assignment.
-pub fn compile_assignment(
-    code: &mut Code,
-    site: Site,
-    target: &RExpr,
-    value: &RExpr,
-) -> Result<(), AllocError>
+pub fn compile_assignment(code: &mut Code, site: Site, target: &RExpr, value: &RExpr) -> Tried<()>
     requires { IsReady site.scope.now }
     ensures { OnOk result (code.new ≡ code_assign (plain site.entry.scope.now) (env site.entry.scope.now) (target_of no_place target.now)
         (expr_of no_place value.now) site.entry.at ++ code.old) }
@@ -130,7 +119,7 @@ fn store(
     field: Option<MemberId>,
     object: Operand,
     value: Operand,
-) -> Result<(), AllocError>
+) -> Tried<()>
     requires { IsReady scope.now }
     ensures { OnOk result (code.new ≡ store_op (plain scope.now) (env scope.now) (option_map (λ f. f.0) field) (operand_of object) (operand_of value) ∷
         code.old) }
@@ -146,16 +135,10 @@ fn store(
 }
 
 /// A field of what an expression gives is set.
-fn store_field(
-    code: &mut Code,
-    site: Site,
-    base: &RExpr,
-    name: &Name,
-    value: &RExpr,
-) -> Result<(), AllocError>
+fn store_field(code: &mut Code, site: Site, base: &RExpr, name: &Name, value: &RExpr) -> Tried<()>
     requires { IsReady site.scope.now }
-    ensures { OnOk result (code.new ≡ code_assign (plain site.entry.scope.now) (env site.entry.scope.now) (to_field bare_tag (expr_of no_place base.now) name.now)
-        (expr_of no_place value.now) site.entry.at ++ code.old) }
+    ensures { OnOk result (code.new ≡ code_assign (plain site.entry.scope.now) (env site.entry.scope.now)
+        (to_field bare_tag (expr_of no_place base.now) name.now) (expr_of no_place value.now) site.entry.at ++ code.old) }
 {
     let next = further(site.at, 1)?;
     let field = field_of(site.scope, base, name);
@@ -177,7 +160,7 @@ fn store_element(
     base: &RExpr,
     index: &RExpr,
     value: &RExpr,
-) -> Result<(), AllocError>
+) -> Tried<()>
     requires { IsReady site.scope.now }
     ensures { OnOk result (code.new ≡ code_assign (plain site.entry.scope.now) (env site.entry.scope.now) (to_element bare_tag (expr_of no_place base.now)
         (expr_of no_place index.now)) (expr_of no_place value.now) site.entry.at ++ code.old) }

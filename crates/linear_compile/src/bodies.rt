@@ -1,18 +1,11 @@
 //! The code of bodies.
 
-ghost use Rattle.std.specs.Prelude.{◌≡◌, ◌+◌, ◌++◌, [], List, map, length, IfOk, OnOk};
+ghost use Rattle.std.specs.Prelude.{◌≡◌, ◌+◌, ◌++◌, [], map, IfOk, OnOk};
 ghost use Rattle.std.specs.Option.{option_map};
-ghost use Rattle.java_core.specs.declared.Ty.{Ty};
-ghost use Rattle.java_core.specs.Trees.{no_place, Sts, stmts, body_seen};
-ghost use Rattle.java_core.specs.Programs.{Plain, method_seen, local_seen};
-ghost use Rattle.java_core.specs.Types.{types_of};
+ghost use Rattle.linear_compile.specs.Words.{Sts, no_place, stmts, method_seen, local_seen, types_of, body_with, default_of, op_of, is_int, plain, IsReady};
 ghost use Rattle.java_heap.specs.Seen.{value_of};
-ghost use Rattle.java_meaning.specs.Values.{default_of};
-ghost use Rattle.java_meaning.specs.Languages.{body_with};
-ghost use Rattle.linear_code.specs.Ops.{Op};
-ghost use Rattle.linear_code.specs.Seen.{op_of, entry_of};
-ghost use Rattle.linear_code.specs.Code.{is_int, body_slots, body_code};
-ghost use Rattle.linear_compile.specs.Scopes.{plain, IsReady};
+ghost use Rattle.linear_code.specs.Seen.{entry_of};
+ghost use Rattle.linear_code.specs.Code.{body_slots, body_code};
 ghost use Rattle.linear_compile.specs.Bodies.{IsBody, IsMethod};
 
 use crate::assignments::default_operand;
@@ -21,11 +14,11 @@ use crate::scope::{Scope, Site, is_int};
 use crate::statements::{Exits, compile_stmts};
 use java_core::{Local, Method, RStmt};
 use java_heap::{Value, default_of};
-use linear_code::{Entry, Instr};
-use std::alloc::{AllocError, Global};
+use linear_code::{Entry, Instr, Tried};
+use std::alloc::Global;
 
 /// How many slots a body has for itself, its parameters and its locals.
-fn slots(method: &Method) -> Result<u32, AllocError>
+fn slots(method: &Method) -> Tried<u32>
     ensures { IfOk result (λ n. (xs : Sts) → n ≡ body_slots (body_with 0 (method_seen no_place method.now) xs)) }
 {
     let params = small(method.params.len())?;
@@ -35,7 +28,7 @@ fn slots(method: &Method) -> Result<u32, AllocError>
 
 /// The code of a body.
 #[tactic(auto, unfolding(crate::specs::Scopes::env))]
-fn compile_body(code: &mut Code, scope: &Scope, body: &Vec<RStmt>) -> Result<(), AllocError>
+fn compile_body(code: &mut Code, scope: &Scope, body: &Vec<RStmt>) -> Tried<()>
     requires { IsReady scope.now }
     ensures { OnOk result (code.new ≡ body_code (plain scope.now) (body_with scope.now.number.0 (method_seen no_place scope.now.method.now)
         (stmts no_place body.now.items)) ++ code.old) }
@@ -55,7 +48,7 @@ fn compile_body(code: &mut Code, scope: &Scope, body: &Vec<RStmt>) -> Result<(),
 }
 
 /// Which of some parameters are an `int`.
-fn ints(alloc: Global, params: &Vec<Local>) -> Result<Vec<bool>, AllocError>
+fn ints(alloc: Global, params: &Vec<Local>) -> Tried<Vec<bool>>
     ensures { IfOk result (λ v. v.items ≡ map (λ t. is_int (Some t)) (types_of (map (local_seen no_place) params.now.items))) }
 {
     let mut ints = Vec::new(alloc);
@@ -66,7 +59,7 @@ fn ints(alloc: Global, params: &Vec<Local>) -> Result<Vec<bool>, AllocError>
 }
 
 /// The values that some locals begin with.
-fn defaults(alloc: Global, locals: &Vec<Local>) -> Result<Vec<Value>, AllocError>
+fn defaults(alloc: Global, locals: &Vec<Local>) -> Tried<Vec<Value>>
     ensures { IfOk result (λ v. map value_of v.items ≡ map default_of (types_of (map (local_seen no_place) locals.now.items))) }
 {
     let mut values = Vec::new(alloc);
@@ -77,7 +70,7 @@ fn defaults(alloc: Global, locals: &Vec<Local>) -> Result<Vec<Value>, AllocError
 }
 
 /// Code that stands behind what stands already.
-fn append(code: &mut Vec<Instr>, part: &mut Code) -> Result<(), AllocError>
+fn append(code: &mut Vec<Instr>, part: &mut Code) -> Tried<()>
     ensures { OnOk result (map op_of code.new.items ≡ map op_of code.old.items ++ part.old) }
 {
     while let Some(instr) = part.take() {
@@ -87,7 +80,7 @@ fn append(code: &mut Vec<Instr>, part: &mut Code) -> Result<(), AllocError>
 }
 
 /// A body is put behind the code that stands already; and where it begins.
-fn add_body(code: &mut Vec<Instr>, scope: &Scope, body: &Vec<RStmt>) -> Result<Entry, AllocError>
+fn add_body(code: &mut Vec<Instr>, scope: &Scope, body: &Vec<RStmt>) -> Tried<Entry>
     requires { IsReady scope.now }
     ensures { IfOk result (λ e. IsBody (plain scope.now) (body_with scope.now.number.0 (method_seen no_place scope.now.method.now)
         (stmts no_place body.now.items)) (map op_of code.old.items) (map op_of code.new.items) (entry_of e)) }
@@ -104,7 +97,7 @@ fn add_body(code: &mut Vec<Instr>, scope: &Scope, body: &Vec<RStmt>) -> Result<E
 }
 
 /// The body of a method, where it has one, is put behind the code that stands already.
-pub fn add_method(code: &mut Vec<Instr>, scope: &Scope) -> Result<Option<Entry>, AllocError>
+pub fn add_method(code: &mut Vec<Instr>, scope: &Scope) -> Tried<Option<Entry>>
     requires { IsReady scope.now }
     ensures { IfOk result (λ o. IsMethod (plain scope.now) scope.now.number.0 (method_seen no_place scope.now.method.now) (map op_of code.old.items)
         (map op_of code.new.items) (option_map entry_of o)) }

@@ -1,13 +1,13 @@
 //! Code that is made from its end to its beginning, so that what a jump passes stands before the jump is made.
 
-ghost use Rattle.std.specs.Prelude.{◌≡◌, ◌≤◌, ◌<◌, ◌+◌, ◌++◌, ℕ, List, [], ◌∷◌, map, reverse, length, MatchOption, OnOk, IfOk};
+ghost use Rattle.std.specs.Prelude.{◌≡◌, ◌≤◌, ◌<◌, ◌+◌, ◌++◌, List, [], ◌∷◌, map, reverse, length, MatchOption, OnOk, IfOk};
 ghost use Rattle.linear_code.specs.Ops as ops;
-ghost use Rattle.linear_code.specs.Ops.{Op};
-ghost use Rattle.linear_code.specs.Seen.{op_of, calc_of};
+ghost use Rattle.linear_compile.specs.Words.{Op, op_of};
+ghost use Rattle.linear_code.specs.Seen.{calc_of};
 ghost use Rattle.linear_code.specs.Code.{moved};
 
 use crate::special::special;
-use linear_code::{Calc, Destination, Instr, Operand};
+use linear_code::{Calc, Destination, Instr, Operand, Tried};
 use std::alloc::{AllocError, Global};
 use std::marker::Model;
 
@@ -38,7 +38,7 @@ impl Code {
     }
 
     /// One thing more in front.
-    pub fn put(&mut self, instr: Instr) -> Result<(), AllocError>
+    pub fn put(&mut self, instr: Instr) -> Tried<()>
         ensures { OnOk result (self.new ≡ op_of instr ∷ self.old) }
     {
         match self.items.push(special(instr)) {
@@ -48,14 +48,14 @@ impl Code {
     }
 
     /// A slot is set.
-    pub fn set(&mut self, to: Destination, calc: Calc) -> Result<(), AllocError>
+    pub fn set(&mut self, to: Destination, calc: Calc) -> Tried<()>
         ensures { OnOk result (self.new ≡ ops.set to.is_int to.slot (calc_of calc) ∷ self.old) }
     {
         self.put(Instr::Set(to, calc))
     }
 
     /// The value of a call, which stands in its slot, is brought to another.
-    pub fn bring(&mut self, to: Destination, from: u32) -> Result<(), AllocError>
+    pub fn bring(&mut self, to: Destination, from: u32) -> Tried<()>
         ensures { OnOk result (self.new ≡ moved to.is_int to.slot from ++ self.old) }
     {
         if to.slot == from && !to.is_int {
@@ -79,7 +79,7 @@ impl Code {
     }
 
     /// How many things stand before these last ones.
-    pub fn before(&self, last: usize) -> Result<u32, AllocError>
+    pub fn before(&self, last: usize) -> Tried<u32>
         requires { last ≤ length self.now }
         ensures { IfOk result (λ n. n + last ≡ length self.now) }
     {
@@ -87,7 +87,7 @@ impl Code {
     }
 
     /// How many things stand before the one behind which these last ones stand.
-    pub fn before_one(&self, last: usize) -> Result<u32, AllocError>
+    pub fn before_one(&self, last: usize) -> Tried<u32>
         requires { last < length self.now }
         ensures { IfOk result (λ n. n + last + 1 ≡ length self.now) }
     {
@@ -105,7 +105,7 @@ impl Code {
 }
 
 /// A number of 32 bits.
-pub fn small(n: usize) -> Result<u32, AllocError>
+pub fn small(n: usize) -> Tried<u32>
     ensures { IfOk result (λ m. m ≡ n) }
 {
     match u32::try_from(n) {
@@ -115,7 +115,7 @@ pub fn small(n: usize) -> Result<u32, AllocError>
 }
 
 /// The slot so many further on.
-pub fn further(slot: u32, n: u32) -> Result<u32, AllocError>
+pub fn further(slot: u32, n: u32) -> Tried<u32>
     ensures { IfOk result (λ m. m ≡ slot + n) }
 {
     match slot.checked_add(n) {

@@ -1,13 +1,10 @@
 //! The compiler of the bodies of a program to linear code.
 #![tactic(auto)]
 
-ghost use Rattle.std.specs.Prelude.{◌≡◌, map, IfOk};
-ghost use Rattle.java_core.specs.Trees.{no_place};
-ghost use Rattle.java_core.specs.Programs.{program_of};
-ghost use Rattle.java_core.specs.Formed.{IsFormed};
-ghost use Rattle.linear_code.specs.Seen.{op_of, tables_of};
+ghost use Rattle.std.specs.Prelude.{IfOk};
+ghost use Rattle.linear_compile.specs.Words.{no_place, program_of, IsFormed};
+ghost use Rattle.linear_code.specs.Seen.{tables_of};
 ghost use Rattle.linear_code.specs.Fits.{Fits};
-ghost use Rattle.linear_compile.specs.Scopes.{IsReady};
 
 /// A slot, which holds a result as it is.
 macro_rules! plainly {

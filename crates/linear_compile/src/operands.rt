@@ -1,17 +1,14 @@
 //! Operands.
 
-ghost use Rattle.std.specs.Prelude.{◌≡◌, ℕ, ◌+◌, List, length, IfOk};
-ghost use Rattle.java_core.specs.Trees.{no_place, expr_of, exprs};
-ghost use Rattle.linear_code.specs.Seen.{operand_of};
-ghost use Rattle.linear_code.specs.Code.{operand, count};
+ghost use Rattle.std.specs.Prelude.{◌≡◌, ◌+◌, IfOk};
+ghost use Rattle.linear_compile.specs.Words.{no_place, expr_of, exprs, operand_of, operand, count};
 
 use crate::code::{further, small};
 use java_core::RExpr;
-use linear_code::Operand;
-use std::alloc::AllocError;
+use linear_code::{Operand, Tried};
 
 /// Where the value of an expression stands after its code.
-pub fn operand(e: &RExpr, at: u32) -> Result<Operand, AllocError>
+pub fn operand(e: &RExpr, at: u32) -> Tried<Operand>
     ensures { IfOk result (λ o. operand_of o ≡ operand (expr_of no_place e.now) at) }
 {
     match e {
@@ -26,7 +23,7 @@ pub fn operand(e: &RExpr, at: u32) -> Result<Operand, AllocError>
 }
 
 /// How many arguments there are.
-pub fn count(args: &Vec<RExpr>) -> Result<u32, AllocError>
+pub fn count(args: &Vec<RExpr>) -> Tried<u32>
     ensures { IfOk result (λ n. n ≡ count (exprs no_place args.now.items)) }
 {
     small(args.len())

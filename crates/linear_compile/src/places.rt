@@ -2,16 +2,15 @@
 
 ghost use Rattle.std.specs.Prelude.{◌≡◌, ◌==◌, ℕ, position, slice_get, IfOk};
 ghost use Rattle.std.specs.Option.{unwrap_or};
-ghost use Rattle.java_core.specs.Trees.{no_place};
-ghost use Rattle.java_core.specs.Programs.{program_of};
+ghost use Rattle.linear_compile.specs.Words.{no_place, program_of, place_of};
 ghost use Rattle.java_meaning.specs.Languages as languages;
-ghost use Rattle.linear_code.specs.Code.{place_of};
 
 use crate::code::small;
 use class_tables::layout;
 use java_core::Program;
 use kaba_base::ClassId;
-use std::alloc::{AllocError, Global};
+use linear_code::Tried;
+use std::alloc::Global;
 
 /// The fields of the objects of a class in their places.
 #[derive(Drop)]
@@ -21,7 +20,7 @@ struct Layout {
 }
 
 /// The places of all fields by their numbers; a static field has none, and 0 stands for it.
-pub fn places(alloc: Global, p: &Program) -> Result<Vec<u32>, AllocError>
+pub fn places(alloc: Global, p: &Program) -> Tried<Vec<u32>>
     ensures { IfOk result (λ v. (f : ℕ) → unwrap_or (slice_get v.items f) 0 ≡ place_of (program_of no_place p.now) f) }
 {
     let mut places = Vec::new(alloc);
@@ -34,7 +33,7 @@ pub fn places(alloc: Global, p: &Program) -> Result<Vec<u32>, AllocError>
 }
 
 /// The layout of a class.
-fn layout_of(alloc: Global, p: &Program, class: ClassId) -> Result<Layout, AllocError>
+fn layout_of(alloc: Global, p: &Program, class: ClassId) -> Tried<Layout>
     ensures { IfOk result (λ l. (l.class ≡ class) × (l.fields.items ≡ languages.layout (program_of no_place p.now) class.0)) }
 {
     Ok(Layout {
@@ -44,12 +43,7 @@ fn layout_of(alloc: Global, p: &Program, class: ClassId) -> Result<Layout, Alloc
 }
 
 /// The layout of a class, which is the last one where that was of the same class.
-fn next_layout(
-    alloc: Global,
-    p: &Program,
-    class: ClassId,
-    last: Layout,
-) -> Result<Layout, AllocError>
+fn next_layout(alloc: Global, p: &Program, class: ClassId, last: Layout) -> Tried<Layout>
     requires { last.fields.items ≡ languages.layout (program_of no_place p.now) last.class.0 }
     ensures { IfOk result (λ l. (l.class ≡ class) × (l.fields.items ≡ languages.layout (program_of no_place p.now) class.0)) }
 {
@@ -68,7 +62,7 @@ fn position(layout: &Layout, field: usize) -> Option<usize>
 }
 
 /// The place of a field in a layout; 0 stands for none.
-fn place_in(layout: &Layout, field: usize) -> Result<u32, AllocError>
+fn place_in(layout: &Layout, field: usize) -> Tried<u32>
     ensures { IfOk result (λ n. n ≡ unwrap_or (position (λ g. g == field) layout.now.fields.items) 0) }
 {
     match position(layout, field) {

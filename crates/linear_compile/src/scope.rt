@@ -1,13 +1,10 @@
 //! What code is made for.
 
-ghost use Rattle.std.specs.Prelude.{◌≡◌, ℕ, slice_get, Option};
+ghost use Rattle.std.specs.Prelude.{◌≡◌, slice_get, Option};
 ghost use Rattle.std.specs.Option.{option_map};
-ghost use Rattle.java_core.specs.Trees.{no_place, expr_of};
+ghost use Rattle.linear_compile.specs.Words.{no_place, expr_of, field_in, static, slot_in, place_of, is_int, plain, env, IsReady, receiver};
 ghost use Rattle.java_core.specs.Classes.{super_method};
-ghost use Rattle.java_core.specs.Types.{field_in, static, field_type};
-ghost use Rattle.java_meaning.specs.Languages.{slot_in};
-ghost use Rattle.linear_code.specs.Code.{place_of, is_int};
-ghost use Rattle.linear_compile.specs.Scopes.{plain, env, IsReady, receiver};
+ghost use Rattle.java_core.specs.Types.{field_type};
 
 use java_core::{
     Method, Program, RExpr, Static, Ty, TyBase, field_in, field_type, plain_type, slot_in,

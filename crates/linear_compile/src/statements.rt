@@ -1,10 +1,9 @@
 //! The code of statements.
 
 ghost use Rattle.std.specs.Prelude.{◌≡◌, ◌≤◌, ◌-◌, ◌++◌, List, length, OnOk};
-ghost use Rattle.java_core.specs.Trees.{no_place, Arms, expr_of, value_of, stmt_of, stmts, arms_seen, step_seen};
-ghost use Rattle.linear_code.specs.Ops.{Op};
+ghost use Rattle.linear_compile.specs.Words.{no_place, expr_of, value_of, stmts, Op, plain, env, IsReady};
+ghost use Rattle.java_core.specs.Trees.{Arms, stmt_of, arms_seen, step_seen};
 ghost use Rattle.linear_code.specs.Code.{code_print, code_return, code_st, code_sts, code_arms};
-ghost use Rattle.linear_compile.specs.Scopes.{plain, env, IsReady};
 ghost use Rattle.linear_compile.specs.Exits.{IsWithin, arm_code};
 
 use crate::assignments::{compile_assignment, compile_declaration};
@@ -15,8 +14,7 @@ use crate::jumps::{Ends, close_for, close_while, leave, open_for, open_while, pa
 use crate::operands::operand;
 use crate::scope::{Site, gives_int};
 use java_core::{RArm, RExpr, RStmt};
-use linear_code::{Effect, Instr, Jump, Operand};
-use std::alloc::AllocError;
+use linear_code::{Effect, Instr, Jump, Operand, Tried};
 
 /// How much code stands behind the places that a `break` and a `continue` go to.
 #[derive(Clone, Copy)]
@@ -36,12 +34,7 @@ macro_rules! exits {
 }
 
 /// The code of a `System.out.println` or a `System.out.print`.
-fn compile_print(
-    code: &mut Code,
-    site: Site,
-    newline: bool,
-    value: &Option<RExpr>,
-) -> Result<(), AllocError>
+fn compile_print(code: &mut Code, site: Site, newline: bool, value: &Option<RExpr>) -> Tried<()>
     requires { IsReady site.scope.now }
     ensures { OnOk result (code.new ≡ code_print (plain site.entry.scope.now) (env site.entry.scope.now) newline
         (value_of no_place value.now) site.entry.at ++ code.old) }
@@ -56,7 +49,7 @@ fn compile_print(
 }
 
 /// The code of a `return`.
-fn compile_return(code: &mut Code, site: Site, value: &Option<RExpr>) -> Result<(), AllocError>
+fn compile_return(code: &mut Code, site: Site, value: &Option<RExpr>) -> Tried<()>
     requires { IsReady site.scope.now }
     ensures { OnOk result (code.new ≡ code_return (plain site.entry.scope.now) (env site.entry.scope.now)
         (value_of no_place value.now) site.entry.at ++ code.old) }
@@ -72,7 +65,7 @@ fn compile_return(code: &mut Code, site: Site, value: &Option<RExpr>) -> Result<
 
 /// The code of a statement: a `break` and a `continue` go to its exits.
 #[cycle(statements)]
-fn compile_stmt(code: &mut Code, site: Site, s: &RStmt, exits: Exits) -> Result<(), AllocError>
+fn compile_stmt(code: &mut Code, site: Site, s: &RStmt, exits: Exits) -> Tried<()>
     requires ready { IsReady site.scope.now }
     requires within { IsWithin exits (length code.old) }
     ensures { OnOk result (code.new ≡ code_st (plain site.entry.scope.now) (env site.entry.scope.now) (stmt_of no_place s.now) site.entry.at
@@ -86,17 +79,11 @@ fn compile_stmt(code: &mut Code, site: Site, s: &RStmt, exits: Exits) -> Result<
         RStmt::Print { newline, value, .. } => compile_print(code, site, *newline, value),
         RStmt::If { arms, other, .. } => {
             let end = code.len();
-            match other {
-                Some(body) => {
-                    compile_stmts(code, site, body, exits)?;
-                    compile_arms(code, site, arms, end, exits)?;
-                    Ok(())
-                }
-                None => {
-                    compile_arms(code, site, arms, end, exits)?;
-                    Ok(())
-                }
+            if let Some(body) = other {
+                compile_stmts(code, site, body, exits)?;
             }
+            compile_arms(code, site, arms, end, exits)?;
+            Ok(())
         }
         RStmt::While { test, body, .. } => {
             let end = code.len();
@@ -131,12 +118,7 @@ fn compile_stmt(code: &mut Code, site: Site, s: &RStmt, exits: Exits) -> Result<
 
 /// The code of statements.
 #[cycle(statements)]
-pub fn compile_stmts(
-    code: &mut Code,
-    site: Site,
-    list: &Vec<RStmt>,
-    exits: Exits,
-) -> Result<(), AllocError>
+pub fn compile_stmts(code: &mut Code, site: Site, list: &Vec<RStmt>, exits: Exits) -> Tried<()>
     requires ready { IsReady site.scope.now }
     requires within { IsWithin exits (length code.old) }
     ensures { OnOk result (code.new ≡ code_sts (plain site.entry.scope.now) (env site.entry.scope.now) (stmts no_place list.now.items) site.entry.at
@@ -150,12 +132,7 @@ pub fn compile_stmts(
 
 /// The code of the first or the last part of a `for`.
 #[cycle(statements)]
-fn compile_step(
-    code: &mut Code,
-    site: Site,
-    step: &Option<Box<RStmt>>,
-    exits: Exits,
-) -> Result<(), AllocError>
+fn compile_step(code: &mut Code, site: Site, step: &Option<Box<RStmt>>, exits: Exits) -> Tried<()>
     requires ready { IsReady site.scope.now }
     requires within { IsWithin exits (length code.old) }
     ensures { OnOk result (code.new ≡ code_sts (plain site.entry.scope.now) (env site.entry.scope.now) (step_seen no_place step.now) site.entry.at
@@ -175,7 +152,7 @@ fn compile_arms(
     arms: &Vec<RArm>,
     end: usize,
     exits: Exits,
-) -> Result<(), AllocError>
+) -> Tried<()>
     requires ready { IsReady site.scope.now }
     requires within { IsWithin exits end }
     requires placed { end ≤ length code.old }
@@ -192,13 +169,7 @@ fn compile_arms(
 
 /// The code of an arm of an `if`, behind which that of the others stands.
 #[cycle(statements)]
-fn compile_arm(
-    code: &mut Code,
-    site: Site,
-    arm: &RArm,
-    end: usize,
-    exits: Exits,
-) -> Result<(), AllocError>
+fn compile_arm(code: &mut Code, site: Site, arm: &RArm, end: usize, exits: Exits) -> Tried<()>
     requires ready { IsReady site.scope.now }
     requires within { IsWithin exits end }
     requires placed { end ≤ length code.old }

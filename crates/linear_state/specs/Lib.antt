@@ -3,3 +3,4 @@ pub mod Run
 pub mod Founds
 pub mod Turns
 pub mod Words
+pub mod Shared

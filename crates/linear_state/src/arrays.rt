@@ -1,22 +1,17 @@
 //! New cells, and writes into arrays.
 
-ghost use Rattle.std.specs.Prelude.{◌≡◌, ◌^◌, ◌<◌, ℕ, ℤ, slice_get, Some, IfOk, IsTrue, IsFalse};
-ghost use Rattle.std.specs.Option.{option_map, option_and_then};
+ghost use Rattle.std.specs.Prelude.{◌≡◌, ◌^◌, ◌<◌, slice_get, Some, IfOk, IsTrue, IsFalse};
 ghost use Rattle.java_core.specs.Types.{element_in};
 ghost use Rattle.java_core.specs.declared.Ty.{Ty};
 ghost use Rattle.java_core.specs.declared.Fault.TheVariants as fault;
-ghost use Rattle.java_core.specs.Trees.{no_place};
-ghost use Rattle.java_core.specs.Programs.{Plain, program_of};
-ghost use Rattle.java_heap.specs.Seen.{value_of};
+ghost use Rattle.linear_state.specs.Shared.{no_place, program_of, value_of, State, Outcome, Object, step, with_some, or_fault, on_bool, stop, Faulted, set_value, language_of, nothing, state_of, at_heap, Keeps, to_slot, Turns};
+ghost use Rattle.java_core.specs.Programs.{Plain};
 ghost use Rattle.java_meaning.specs.Moment as moment;
-ghost use Rattle.java_meaning.specs.Moment.{State, Outcome, Cell, Object, an_array, step, with_some, or_fault, on_bool, stop, Faulted};
-ghost use Rattle.java_meaning.specs.Values.{convert, defaults, natural_of, number_of};
-ghost use Rattle.java_meaning.specs.Meaning.{make_cell, make_object, make_array, on_fitting, place_in, set_value, write_element};
-ghost use Rattle.java_meaning.specs.Languages.{language_of};
-ghost use Rattle.linear_code.specs.Machine.{nowhere, nothing};
-ghost use Rattle.linear_state.specs.Run.{plain_of, state_of};
-ghost use Rattle.linear_state.specs.Founds.{at_heap, Keeps};
-ghost use Rattle.linear_state.specs.Turns.{to_slot, Turns};
+ghost use Rattle.java_meaning.specs.Moment.{Cell, an_array};
+ghost use Rattle.java_meaning.specs.Values.{convert, defaults};
+ghost use Rattle.java_meaning.specs.Meaning.{make_cell, make_object, make_array, on_fitting, place_in, write_element};
+ghost use Rattle.linear_code.specs.Machine.{nowhere};
+ghost use Rattle.linear_state.specs.Run.{plain_of};
 
 use crate::casts::is_of;
 use crate::cells::put;

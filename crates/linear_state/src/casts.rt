@@ -3,14 +3,10 @@
 ghost use Rattle.std.specs.Prelude.{◌≡◌, slice_get, IfOk};
 ghost use Rattle.std.specs.Option.{option_map};
 ghost use Rattle.java_core.specs.Types.{is_subtype};
-ghost use Rattle.java_core.specs.Trees.{no_place};
-ghost use Rattle.java_core.specs.Programs.{program_of};
-ghost use Rattle.java_heap.specs.Seen.{value_of, kind_of};
+ghost use Rattle.linear_state.specs.Shared.{no_place, program_of, value_of, language_of, nothing, Finds};
+ghost use Rattle.java_heap.specs.Seen.{kind_of};
 ghost use Rattle.java_meaning.specs.Moment.{own_type};
 ghost use Rattle.java_meaning.specs.Meaning.{is_number_type, cast_to, cast_object, test_class};
-ghost use Rattle.java_meaning.specs.Languages.{language_of};
-ghost use Rattle.linear_code.specs.Machine.{nothing};
-ghost use Rattle.linear_state.specs.Founds.{Finds};
 
 use crate::machine::Found;
 use class_tables::Classes;

@@ -3,11 +3,8 @@
 ghost use Rattle.std.specs.Prelude.{◌≡◌, length, slice_get, IsTrue, IsFalse};
 ghost use Rattle.std.specs.Option.{option_and_then};
 ghost use Rattle.java_core.specs.declared.Fault.TheVariants as fault;
-ghost use Rattle.java_heap.specs.Seen.{value_of};
-ghost use Rattle.java_meaning.specs.Moment.{Number, State, Outcome, with_some, or_fault, stop, Faulted};
-ghost use Rattle.java_meaning.specs.Values.{int_of, natural_of, number_of};
-ghost use Rattle.java_meaning.specs.Meaning.{with_cell, set_value};
-ghost use Rattle.linear_state.specs.Founds.{at_heap, Finds, Keeps};
+ghost use Rattle.linear_state.specs.Shared.{value_of, Number, State, Outcome, with_some, or_fault, stop, Faulted, int_of, natural_of, number_of, set_value, at_heap, Finds, Keeps};
+ghost use Rattle.java_meaning.specs.Meaning.{with_cell};
 
 use crate::counts::{int_of, natural};
 use crate::machine::{Found, Kept};

@@ -1,13 +1,9 @@
 //! The state of a run, and the moves that all else is made of.
 
 ghost use Rattle.std.specs.Prelude.{◌≡◌, ◌+◌, ◌-◌, ◌^◌, ◌<◌};
-ghost use Rattle.java_heap.specs.Seen.{value_of};
-ghost use Rattle.java_meaning.specs.Moment.{step};
+ghost use Rattle.linear_state.specs.Shared.{value_of, step, state_of, config_of, gives, makes, to_slot, Turns};
 ghost use Rattle.java_meaning.specs.Meaning.{give_string};
 ghost use Rattle.linear_code.specs.Machine.{as_int, sets, goes};
-ghost use Rattle.linear_state.specs.Run.{state_of, config_of};
-ghost use Rattle.linear_state.specs.Founds.{gives, makes};
-ghost use Rattle.linear_state.specs.Turns.{to_slot, Turns};
 
 use crate::slots::Slots;
 use crate::stack::Stack;

@@ -4,11 +4,11 @@ ghost use Rattle.std.specs.Prelude.{◌≡◌, ◌≢◌, ◌&&◌, ◌||◌, no
 ghost use Rattle.std.specs.Option.{option_map};
 ghost use Rattle.java_core.specs.Types.{is_plus};
 ghost use Rattle.java_core.specs.declared.Op.{Op};
-ghost use Rattle.java_heap.specs.Seen.{value_of};
-ghost use Rattle.java_meaning.specs.Moment.{State, Number, Truth, with_some, with_result, on_bool, stop, Wrong};
-ghost use Rattle.java_meaning.specs.Values.{arith, number_of, unary_value, same_value, compared, is_text};
+ghost use Rattle.linear_state.specs.Shared.{value_of, State, Number, with_some, on_bool, stop, number_of, gives, makes};
+ghost use Rattle.java_meaning.specs.Moment.{Truth, with_result, Wrong};
+ghost use Rattle.java_meaning.specs.Values.{arith, unary_value, same_value, compared, is_text};
 ghost use Rattle.java_meaning.specs.Meaning.{ToValue, compute, operate, join_values};
-ghost use Rattle.linear_state.specs.Founds.{gives, makes, Makes};
+ghost use Rattle.linear_state.specs.Founds.{Makes};
 
 use crate::machine::{Found, Made};
 use java_core::{BinOp, Op, UnOp};

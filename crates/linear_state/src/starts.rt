@@ -1,13 +1,10 @@
 //! The machine before a run.
 
 ghost use Rattle.std.specs.Prelude.{◌≡◌, map, string_bytes, IfOk};
-ghost use Rattle.java_core.specs.Trees.{no_place};
-ghost use Rattle.java_core.specs.Programs.{program_of};
-ghost use Rattle.java_heap.specs.Seen.{value_of};
+ghost use Rattle.linear_state.specs.Shared.{no_place, program_of, value_of, config_of, Object};
 ghost use Rattle.java_meaning.specs.Values.{default_of};
 ghost use Rattle.linear_code.specs.Machine.{first_config};
 ghost use Rattle.linear_code.specs.Seen.{entry_of};
-ghost use Rattle.linear_state.specs.Run.{config_of};
 ghost use Rattle.linear_state.specs.Words.{units_of};
 
 use crate::machine::{Ending, Machine};
@@ -42,7 +39,7 @@ fn first_slots(alloc: Global) -> Result<Slots, AllocError>
 }
 
 ghost use Rattle.std.specs.Prelude.{◌∷◌, []};
-ghost use Rattle.java_meaning.specs.Moment.{Nothing, Object};
+ghost use Rattle.java_meaning.specs.Moment.{Nothing};
 
 /// The machine before a run of a program on words, with so many steps.
 pub fn start<'a>(

@@ -1,11 +1,10 @@
-use Rattle.std.proofs.Common.{◌≡◌, ◌<◌, [], ◌∷◌, ◌++◌, length, get_or, map, slice_get, sym, ap, ◌∙◌, arith, length-append}
-use Rattle.std.proofs.lemmas.List.{length-map}
+use Rattle.std.proofs.Common.{◌≡◌, [], ◌∷◌, ◌++◌, length, map, slice_get, sym, ap, ◌∙◌, arith, length-append}
 use Rattle.java_core.specs.Trees.{no_place}
 use Rattle.java_core.specs.Programs.{program_of, method_seen}
 use Rattle.linear_code.specs.Seen.{op_of}
 use Rattle.linear_compile.specs.Scopes.{plain}
 use Rattle.linear_compile.proofs.Compiled.{one_more, all_fit}
-use Rattle.linear_compile.proofs.Placed.{seen_at}
+use Rattle.linear_compile.proofs.Placed.{seen_in, seen_all}
 use Rattle.linear_compile.proofs.compile.Goals as goal
 
 pub add_method-requires : goal.add_method-requires
@@ -16,11 +15,8 @@ pub loop-i-preserved : goal.loop-i-preserved
 unfolding plain
 loop-i-preserved c =
     let P = program_of no_place c.args.p.now in
-    let i = c.loop-i.i in
     let k = c.method-item.result in
-    let list = c.deref-method-items.ensures.value in
-    let lt : i < length c.args.p.now.methods.items = omega (arith, c.loop-i-test.true, ap length list) in
-    let here = seen_at (method_seen no_place) c.args.p.now.methods.items i k lt (c.method-item.is ∙ ap (λ l. get_or l i k) list) in
+    let here = seen_in (method_seen no_place) _ _ c.loop-i.i k c.deref-method-items.ensures.value c.loop-i-test.true c.method-item.is in
     let number = c.in_ok-small.ensures in
     let at = ap (λ j. slice_get P.methods j) number ∙ here in
     let entry = c.in_ok-add_method.field-0 in
@@ -35,15 +31,5 @@ loop-i-preserved c =
 pub returns : goal.returns
 returns c =
     let P = program_of no_place c.args.p.now in
-    let methods = c.args.p.now.methods.items in
-    let all : length c.loop-i.entries.items ≡ length P.methods =
-    omega (
-      arith,
-      c.loop-i.invariant.counted,
-      length-map methods (method_seen no_place),
-      c.loop-i-test.false,
-      c.loop-i.auto.i-end,
-      ap length
-          c.deref-method-items.ensures.value,
-    ) in
-    record { fits = all_fit P (map op_of c.loop-i.code.items) c.loop-i.entries.items all c.loop-i.invariant.compiled }
+    let all = seen_all (method_seen no_place) _ _ c.loop-i.i c.deref-method-items.ensures.value c.loop-i-test.false c.loop-i.auto.i-end in
+    record { fits = all_fit P (map op_of c.loop-i.code.items) c.loop-i.entries.items (c.loop-i.invariant.counted ∙ sym all) c.loop-i.invariant.compiled }

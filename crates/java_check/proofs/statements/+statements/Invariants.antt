@@ -8,16 +8,16 @@ use Rattle.java_core.proofs.StatementSize.{st_size, sts_size, arms_size}
 use Rattle.java_check.proofs.statements.+statements.Given as goal
 
 abbrev pub decreases-check_stmt : goal.decreases-check_stmt
-decreases-check_stmt l = 4 * st_size (stmt_of at_place l.s.now) + 1
+decreases-check_stmt l = 2 * st_size (stmt_of at_place l.s.now)
 
 abbrev pub decreases-check_stmts : goal.decreases-check_stmts
-decreases-check_stmts l = 4 * sts_size (stmts at_place l.list.now) + 2
+decreases-check_stmts l = 2 * sts_size (stmts at_place l.list.now)
 
 abbrev pub decreases-check_step : goal.decreases-check_step
-decreases-check_step l = 4 * sts_size (step_seen at_place l.step.now) + 2
+decreases-check_step l = 2 * sts_size (step_seen at_place l.step.now)
 
 abbrev pub decreases-check_arms : goal.decreases-check_arms
-decreases-check_arms l = 4 * arms_size (arms_seen at_place l.arms.now (else_seen at_place l.other.now)) + 3
+decreases-check_arms l = 2 * arms_size (arms_seen at_place l.arms.now (else_seen at_place l.other.now)) + 1
 
 abbrev pub invariant-check_stmts-loop-s : goal.invariant-check_stmts-loop-s
 invariant-check_stmts-loop-s l =

@@ -1,12 +1,11 @@
-use Rattle.std.proofs.Common.{◌≡◌, ◌<◌, ◌==◌, [], ◌∷◌, ◌++◌, length, get_or, position, sym, ap, ◌∙◌, arith, length-append}
+use Rattle.std.proofs.Common.{◌≡◌, ◌==◌, [], ◌∷◌, ◌++◌, length, position, sym, ap, ◌∙◌, arith, length-append}
 use Rattle.std.specs.Option.{unwrap_or}
-use Rattle.std.proofs.lemmas.List.{length-map}
 use Rattle.java_core.specs.Trees.{no_place}
 use Rattle.java_core.specs.Programs.{program_of, field_seen}
 use Rattle.kaba_base.specs.declared.ClassId.{ClassId}
 use Rattle.java_meaning.specs.Languages.{layout}
 use Rattle.linear_code.specs.Code.{place_of}
-use Rattle.linear_compile.proofs.Placed.{seen_at, placed_more, place_is, places_all}
+use Rattle.linear_compile.proofs.Placed.{seen_in, seen_all, placed_more, place_is, places_all}
 use Rattle.linear_compile.proofs.places.places.Goals as goal
 
 pub loop-i-preserved : goal.loop-i-preserved
@@ -14,9 +13,7 @@ loop-i-preserved c =
     let P = program_of no_place c.args.p.now in
     let i = c.loop-i.i in
     let k = c.field-item.result in
-    let list = c.deref-field-items.ensures.value in
-    let lt : i < length c.args.p.now.fields.items = omega (arith, c.loop-i-test.true, ap length list) in
-    let at = seen_at (field_seen no_place) c.args.p.now.fields.items i k lt (c.field-item.is ∙ ap (λ l. get_or l i k) list) in
+    let at = seen_in (field_seen no_place) _ _ i k c.deref-field-items.ensures.value c.loop-i-test.true c.field-item.is in
     let place = c.in_ok-place_in.ensures ∙ ap (λ l. unwrap_or (position (λ g. g == i) l) 0) c.in_ok-last-2.ensures.1 in
     let pushed : c.push.new.self.items ≡ c.loop-i.places.items ++ c.in_ok-place_in.field-0 ∷ [] = c.in_ok-push.ensures.items in
     record {
@@ -28,14 +25,5 @@ loop-i-preserved c =
 
 pub returns : goal.returns
 returns c =
-    let P = program_of no_place c.args.p.now in
-    let fields = c.args.p.now.fields.items in
-    let all : length P.fields ≡ c.loop-i.i = omega (
-      arith,
-      length-map fields (field_seen no_place),
-      c.loop-i-test.false,
-      c.loop-i.auto.i-end,
-      ap length
-          c.deref-field-items.ensures.value,
-    ) in
-    places_all P c.loop-i.places.items c.loop-i.i c.loop-i.invariant.counted all c.loop-i.invariant.placed
+    let all = seen_all (field_seen no_place) _ _ c.loop-i.i c.deref-field-items.ensures.value c.loop-i-test.false c.loop-i.auto.i-end in
+    places_all (program_of no_place c.args.p.now) c.loop-i.places.items c.loop-i.i c.loop-i.invariant.counted all c.loop-i.invariant.placed
