@@ -4,7 +4,7 @@ use Rattle.fact_model.specs.Concepts.{pair_of, AreAllConcepts, IsLattice}
 use Rattle.hier_model.specs.Hierarchies.{IsHierarchyOf}
 use Rattle.hier_model.specs.Listed.{listed_column, row_node}
 use Rattle.hier_model.specs.Names.{member_names, type_names}
-use Rattle.hier_model.specs.Start.{order_of, origins_of, column_place, row_place, start_from}
+use Rattle.hier_model.specs.Start.{order_of, origins_of, column_place, row_place}
 use Rattle.hier_model.proofs.BeginLemmas.{extents_alike, intents_wide, order_orders, columns_start, rows_start, same_parts, keeps_table, start_fits}
 use Rattle.hier_model.proofs.begin.start.Goals as goal
 
