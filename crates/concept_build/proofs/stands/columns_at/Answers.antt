@@ -1,4 +1,4 @@
-use Rattle.std.proofs.Common.{◌<◌, map, refl, subst, arith}
+use Rattle.std.proofs.Common.{map, refl, subst, arith}
 use Rattle.std.proofs.lemmas.Bool.{false≢true}
 use Rattle.std.proofs.lemmas.List.{map-append}
 use Rattle.fact_model.specs.Concepts.{ColumnStands}
