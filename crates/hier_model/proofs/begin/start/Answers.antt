@@ -62,4 +62,5 @@ returns-clause-fits c =
     let xs = map pair_of c.args.lattice.now.concepts.items in
     let all : AreAllConcepts t.rows.items (length F.columns.items) xs = subst (λ w. AreAllConcepts t.rows.items w xs) c.requires.table.sized.columns
     c.requires.lattice.all in
-    subst (IsHierarchyOf F) (sym (returns-clause-value c)) (start_fits F c.requires.range c.requires.order t.rows.items (keeps_table F t c.requires.table) xs all)
+    subst (IsHierarchyOf F) (sym (returns-clause-value c)) (start_fits F c.requires.range c.requires.order t.rows.items
+    (keeps_table F t c.requires.table) xs all)
