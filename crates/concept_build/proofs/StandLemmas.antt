@@ -69,8 +69,14 @@ module _ (T : List (List Bool)) (w : ℕ) (A B : List Bool) (o : IsConcept T w A
           ),
     )
 
--- a row that an extent lacks does not stand at its concept, and a column that an intent lacks does not either
+-- what an extent or an intent has is a row or a column; what it lacks does not stand at its concept
 module _ (T : List (List Bool)) (w : ℕ) (A B : List Bool) (o : IsConcept T w A B) where
+  pub row_below : (r : ℕ) → bit A r ≡ true → r < length T
+  row_below r a = subst (λ n. r < n) o.extent.len (bit-below A r a)
+
+  pub column_below : (c : ℕ) → bit B c ≡ true → c < w
+  column_below c b = subst (λ n. c < n) o.intent.len (bit-below B c b)
+
   pub none_rows : (m n : ℕ) → n ≤ length T → IsNoneFrom (bit A) m n → (r : ℕ) → m ≤ r → r < n → RowStands T B r → ⊥
   none_rows m n le none r low high s = false≢true (sym (none r low high) ∙ (o.extent.rows r (omega (arith, high, le))).1 s.1)
 

@@ -1,5 +1,5 @@
 -- A line more of a script.
-use Rattle.std.proofs.Common.{◌≡◌, ◌++◌, [], ℕ, ◌+◌, List, subst, sym, append-nil}
+use Rattle.std.proofs.Common.{◌≡◌, ◌++◌, [], ℕ, List, subst, sym, append-nil}
 use Rattle.edit_script.specs.declared.lines.Line.{Line}
 use Rattle.edit_script.specs.Script.{AreEditsFrom, AreEditsOf}
 

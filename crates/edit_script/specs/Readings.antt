@@ -45,18 +45,6 @@ NoNodes words = (nodes : List NodeId) → All IsNode nodes → words ≡ map nod
 abbrev pub NoMerge : List (List ℕ) → Type 0
 NoMerge words = (nodes : List NodeId) → 2 ≤ length nodes → All IsNode nodes → words ≡ map node_word nodes → ⊥
 
-abbrev pub NoUnder : List (List ℕ) → Type 0
-NoUnder words = (n p : NodeId) → IsNode n → IsNode p → words ≡ node_word n ∷ node_word p ∷ [] → ⊥
-
-abbrev pub NoMove : List (List ℕ) → Type 0
-NoMove words = (c : ColId) (n : NodeId) → IsId c.0 → IsNode n → words ≡ column_word c ∷ node_word n ∷ [] → ⊥
-
-abbrev pub NoType : List (List ℕ) → Type 0
-NoType words = (n : NodeId) (name : List ℕ) → IsNode n → words ≡ node_word n ∷ encode_utf8_all name ∷ [] → ⊥
-
-abbrev pub NoMember : List (List ℕ) → Type 0
-NoMember words = (c : ColId) (name : List ℕ) → IsId c.0 → words ≡ column_word c ∷ encode_utf8_all name ∷ [] → ⊥
-
 abbrev pub NoDrop : List (List ℕ) → Type 0
 NoDrop words = (n : NodeId) → IsNode n → words ≡ node_word n ∷ [] → ⊥
 

@@ -31,17 +31,6 @@ pub enum ScriptFault {
     Memory,
 }
 
-impl From<AllocError> for ScriptFault {
-    ghost use Rattle.std.specs.Prelude.{◌≡◌};
-    ghost use Rattle.edit_script.specs.declared.lines.ScriptFault.TheVariants.{Memory};
-
-    ghost from_gives = { λ _ fault. fault ≡ Memory };
-
-    fn from(_error: AllocError) -> ScriptFault {
-        ScriptFault::Memory
-    }
-}
-
 /// What a line is.
 #[derive(Drop)]
 pub enum Reading {
@@ -155,14 +144,15 @@ pub fn read_script(alloc: Global, bytes: &Vec<u8>) -> Result<Vec<Line>, ScriptFa
     let mut number = 0u32;
     while let Some(line) = lines.next() {
         number += 1;
-        match read_line(alloc, line)? {
-            Reading::Comment => {}
-            Reading::Edit(edit) => {
+        match read_line(alloc, line) {
+            Ok(Reading::Comment) => {}
+            Ok(Reading::Edit(edit)) => {
                 if all.push(Line { number, edit }).is_err() {
                     return Err(ScriptFault::Memory);
                 }
             }
-            Reading::Bad => return Err(ScriptFault::BadLine(number)),
+            Ok(Reading::Bad) => return Err(ScriptFault::BadLine(number)),
+            Err(_) => return Err(ScriptFault::Memory),
         }
     }
     if all.len() > 4096 {

@@ -66,28 +66,6 @@ fn tested(alloc: Global, made: Hier, facts: &Facts, sets: &PointsTo) -> Result<H
     }
 }
 
-/// What an edit makes of a hierarchy, or why it is refused.
-fn made(
-    alloc: Global,
-    hier: &Hier,
-    facts: &Facts,
-    sets: &PointsTo,
-    edit: &Edit,
-) -> Result<Hier, ApplyFault>
-    requires range { InRange facts.now }
-    requires sets { AreSets facts.now sets.now }
-    requires hierarchy { IsHierarchyOf facts.now hier.now }
-    requires some { NamesSome edit.now }
-    ensures value { (result ≡ Err ApplyFault.Memory) ⊎ (result ≡ applied facts.now sets.now hier.now edit.now) }
-    ensures meets { IfOk result (MeetsEdit facts.now sets.now) }
-    ensures fits { IfOk result (IsHierarchyOf facts.now) }
-{
-    match hier.changed(alloc, facts, edit) {
-        Ok(made) => tested(alloc, made, facts, sets),
-        Err(fault) => Err(fault_of(fault)),
-    }
-}
-
 /// Makes an edit of a hierarchy where the hierarchy after it meets the obligations B1 to B8 (after
 /// Streckenbach and Snelting, 2004).
 ///
@@ -112,11 +90,14 @@ pub fn apply(
     ensures kept { OnErr result (hier.new ≡ hier.old) }
     ensures is { IsHierarchyOf facts.now hier.new }
 {
-    match made(alloc, hier, facts, sets, edit) {
-        Ok(made) => {
-            *hier = made;
-            Ok(())
-        }
-        Err(fault) => Err(fault),
+    match hier.changed(alloc, facts, edit) {
+        Ok(changed) => match tested(alloc, changed, facts, sets) {
+            Ok(made) => {
+                *hier = made;
+                Ok(())
+            }
+            Err(fault) => Err(fault),
+        },
+        Err(fault) => Err(fault_of(fault)),
     }
 }

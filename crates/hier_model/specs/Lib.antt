@@ -4,3 +4,4 @@ pub mod Taken
 pub mod Start
 pub mod Listed
 pub mod Edits
+pub mod Nodes

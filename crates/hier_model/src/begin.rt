@@ -15,7 +15,7 @@ ghost use Rattle.hier_model.specs.Listed.{extent_of, intent_of, is_above_concept
 
 use crate::names::{member_names, type_names};
 use crate::origins::lowest;
-use crate::{Hier, column_at, hier_of};
+use crate::{Hier, column_at};
 use fact_model::{Concept, Facts, Lattice, Table, class_at};
 use kaba_base::{ClassId, ColId, NodeId, RowId};
 use kaba_bits::{BitRow, copy_rows};
@@ -47,7 +47,15 @@ pub fn start(
     let members = member_names(alloc, facts)?;
     let types = type_names(alloc, facts, &members, &origins)?;
     let table = copy_rows(alloc, &table.rows)?;
-    Ok(hier_of(order, columns, rows, types, members, origins, table))
+    Ok(Hier {
+        order,
+        columns,
+        rows,
+        types,
+        members,
+        origins,
+        table,
+    })
 }
 
 /// The order of the concepts by their extents.

@@ -14,7 +14,7 @@ use crate::moves::{
 };
 use crate::orders::{Merged, dropped_order, first_unknown, merged_order, under_order};
 use crate::origins::merged_origins;
-use crate::{ChangeFault, Edit, Hier, column_at, hier_of};
+use crate::{ChangeFault, Edit, Hier, column_at};
 use fact_model::Facts;
 use kaba_base::{ColId, Name, NodeId};
 use kaba_bits::copy_rows;
@@ -75,27 +75,30 @@ impl Hier {
         ensures { IfOk result (λ h. h ≡ merged_as facts.now self.now set.now made.node.0) }
     {
         let least = made.node;
-        let columns = merged_columns(alloc, &self.columns, set, least)?;
-        let rows = merged_rows(alloc, &self.rows, set, least)?;
-        let types = copy_names(alloc, &self.types)?;
-        let members = copy_names(alloc, &self.members)?;
-        let origins = merged_origins(alloc, facts, &self.origins, set, least)?;
-        let table = copy_rows(alloc, &self.table)?;
-        Ok(hier_of(made.order, columns, rows, types, members, origins, table))
+        Ok(Hier {
+            order: made.order,
+            columns: merged_columns(alloc, &self.columns, set, least)?,
+            rows: merged_rows(alloc, &self.rows, set, least)?,
+            types: copy_names(alloc, &self.types)?,
+            members: copy_names(alloc, &self.members)?,
+            origins: merged_origins(alloc, facts, &self.origins, set, least)?,
+            table: copy_rows(alloc, &self.table)?,
+        })
     }
 
     /// The same hierarchy once more.
     fn copy(&self, alloc: Global) -> Result<Hier, AllocError>
         ensures { IfOk result (λ h. h ≡ self.now) }
     {
-        let order = self.order.copy(alloc)?;
-        let columns = self.columns.as_slice().to_vec(alloc)?;
-        let rows = self.rows.as_slice().to_vec(alloc)?;
-        let types = copy_names(alloc, &self.types)?;
-        let members = copy_names(alloc, &self.members)?;
-        let origins = self.origins.as_slice().to_vec(alloc)?;
-        let table = copy_rows(alloc, &self.table)?;
-        Ok(hier_of(order, columns, rows, types, members, origins, table))
+        Ok(Hier {
+            order: self.order.copy(alloc)?,
+            columns: self.columns.as_slice().to_vec(alloc)?,
+            rows: self.rows.as_slice().to_vec(alloc)?,
+            types: copy_names(alloc, &self.types)?,
+            members: copy_names(alloc, &self.members)?,
+            origins: self.origins.as_slice().to_vec(alloc)?,
+            table: copy_rows(alloc, &self.table)?,
+        })
     }
 
     /// One node below another.

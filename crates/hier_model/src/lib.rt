@@ -6,7 +6,8 @@ ghost use Rattle.std.specs.Prelude.{◌≡◌, ℕ, ◌<◌, ◌^◌, true, leng
 ghost use Rattle.kaba_bits.specs.Sets.{bit, row};
 ghost use Rattle.kaba_order.specs.Orders.{is_live};
 ghost use Rattle.fact_model.specs.InRange.{InRange};
-ghost use Rattle.hier_model.specs.Hierarchies.{Hierarchy, IsHierarchyOf, hierarchy_of, place_of_column, place_of_row, type_name, member_name, origin_of, is_above, is_offered, has_class_member, has_object, is_class_node};
+ghost use Rattle.hier_model.specs.Hierarchies.{Hierarchy, IsHierarchyOf, place_of_column, place_of_row, type_name, member_name, origin_of, is_above, is_offered, has_class_member, has_object, is_class_node};
+ghost use Rattle.hier_model.specs.Nodes.{IsNodeOf};
 
 use fact_model::Facts;
 use kaba_base::{ClassId, ColId, Name, NodeId, RowId, SiteId};
@@ -48,29 +49,6 @@ impl Model for Hier {
     ghost Value = { Hierarchy };
 
     ghost view = { λ h. record { order = h.order; columns = h.columns.items; rows = h.rows.items; types = h.types.items; members = h.members.items; origins = h.origins.items; table = h.table.items } };
-}
-
-/// The hierarchy of these parts.
-fn hier_of(
-    order: Order,
-    columns: Vec<Option<NodeId>>,
-    rows: Vec<NodeId>,
-    types: Vec<Name>,
-    members: Vec<Name>,
-    origins: Vec<Option<ClassId>>,
-    table: Vec<BitRow>,
-) -> Hier
-    ensures { result ≡ hierarchy_of order columns.items rows.items types.items members.items origins.items table.items }
-{
-    Hier {
-        order,
-        columns,
-        rows,
-        types,
-        members,
-        origins,
-        table,
-    }
 }
 
 impl Hier {
@@ -173,9 +151,7 @@ impl Hier {
     /// Whether a live node is at or below one where a field or a body stands.
     #[tactic(auto, using(crate::proofs::AnyLemmas::any_below_found))]
     fn has_class_member(&self, facts: &Facts, n: NodeId) -> bool
-        requires range { InRange facts.now }
-        requires hierarchy { IsHierarchyOf facts.now self.now }
-        requires node { is_live self.now.order n.0 ≡ true }
+        requires { IsNodeOf facts.now self.now n.0 }
         ensures { result ≡ has_class_member facts.now self.now n.0 }
     {
         for c in 0..facts.columns.len() {
@@ -190,9 +166,7 @@ impl Hier {
     /// Whether a live node is at or below one where an object is created.
     #[tactic(auto, using(crate::proofs::AnyLemmas::any_below_found))]
     fn has_object(&self, facts: &Facts, n: NodeId) -> bool
-        requires range { InRange facts.now }
-        requires hierarchy { IsHierarchyOf facts.now self.now }
-        requires node { is_live self.now.order n.0 ≡ true }
+        requires { IsNodeOf facts.now self.now n.0 }
         ensures { result ≡ has_object facts.now self.now n.0 }
     {
         for s in 0..facts.sites.len() {

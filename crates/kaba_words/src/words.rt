@@ -38,15 +38,14 @@ pub enum WordsFault {
     Memory,
 }
 
-impl From<AllocError> for WordsFault {
-    ghost use Rattle.std.specs.Prelude.{◌≡◌};
-    ghost use Rattle.kaba_words.specs.declared.words.WordsFault.TheVariants.{Memory};
-
-    ghost from_gives = { λ _ fault. fault ≡ Memory };
-
-    fn from(_error: AllocError) -> WordsFault {
-        WordsFault::Memory
-    }
+/// What a call made; where memory is short, the function ends with that fault.
+macro_rules! made {
+    ($call:expr) => {
+        match $call {
+            Ok(made) => made,
+            Err(_) => return Err(WordsFault::Memory),
+        }
+    };
 }
 
 /// The words that are not read yet.
@@ -158,7 +157,7 @@ fn read_run(alloc: Global, mut arguments: Arguments<'_>) -> Result<Command, Word
     let Some(word) = arguments.next() else {
         return Err(WordsFault::Usage);
     };
-    let Some(steps) = number(alloc, word, 1_000_000_000)? else {
+    let Some(steps) = made!(number(alloc, word, 1_000_000_000)) else {
         return Err(WordsFault::Usage);
     };
     if arguments.words.len() > 2147483647 {
@@ -167,8 +166,8 @@ fn read_run(alloc: Global, mut arguments: Arguments<'_>) -> Result<Command, Word
     if !are_short(arguments.words) {
         return Err(WordsFault::Usage);
     }
-    let file = String::from_str(alloc, file)?;
-    let words = owned(alloc, arguments.words)?;
+    let file = made!(String::from_str(alloc, file));
+    let words = made!(owned(alloc, arguments.words));
     Ok(Command::Run(file, steps, words))
 }
 
@@ -180,7 +179,7 @@ fn read_table(alloc: Global, mut arguments: Arguments<'_>) -> Result<Command, Wo
     let Some(file) = arguments.last() else {
         return Err(WordsFault::Usage);
     };
-    Ok(Command::Table(String::from_str(alloc, file)?))
+    Ok(Command::Table(made!(String::from_str(alloc, file))))
 }
 
 /// The number after `-c`.
@@ -191,7 +190,7 @@ fn read_count(alloc: Global, arguments: &mut Arguments<'_>) -> Result<u32, Words
     let Some(word) = arguments.next() else {
         return Err(WordsFault::Usage);
     };
-    match number(alloc, word, 16_384)? {
+    match made!(number(alloc, word, 16_384)) {
         Some(0) => Err(WordsFault::Usage),
         Some(n) => Ok(n),
         None => Err(WordsFault::Usage),
@@ -222,7 +221,7 @@ fn read_lattice(alloc: Global, mut arguments: Arguments<'_>) -> Result<Command, 
     let Some(file) = arguments.last() else {
         return Err(WordsFault::Usage);
     };
-    Ok(Command::Lattice(json, bound, String::from_str(alloc, file)?))
+    Ok(Command::Lattice(json, bound, made!(String::from_str(alloc, file))))
 }
 
 /// The commands `edit` and `regen`, of which the words after the name are left; the second writes a program.
@@ -245,8 +244,8 @@ fn read_edit(
     let Some(script) = arguments.last() else {
         return Err(WordsFault::Usage);
     };
-    let file = String::from_str(alloc, file)?;
-    let script = String::from_str(alloc, script)?;
+    let file = made!(String::from_str(alloc, file));
+    let script = made!(String::from_str(alloc, script));
     if writes {
         Ok(Command::Regen(bound, file, script))
     } else {
@@ -263,7 +262,7 @@ fn read_make(alloc: Global, mut arguments: Arguments<'_>) -> Result<Command, Wor
     let Some(word) = arguments.last() else {
         return Err(WordsFault::Usage);
     };
-    match number(alloc, word, 100)? {
+    match made!(number(alloc, word, 100)) {
         Some(0) => Err(WordsFault::Usage),
         Some(n) => Ok(Command::Make(prints, n)),
         None => Err(WordsFault::Usage),

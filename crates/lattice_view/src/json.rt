@@ -1,6 +1,6 @@
 //! The line of JSON.
 
-ghost use Rattle.std.specs.Prelude.{◌≡◌, ◌++◌, false, map, codes, IfOk, string_bytes};
+ghost use Rattle.std.specs.Prelude.{◌≡◌, ◌++◌, ℕ, List, false, map, codes, IfOk, string_bytes};
 ghost use Rattle.serde_json.specs.Data.{array};
 ghost use Rattle.serde_json.specs.View.{view, items_of};
 ghost use Rattle.serde_json.specs.Written.{has_float, compact_text};
@@ -9,6 +9,7 @@ ghost use Rattle.lattice_view.specs.Json.{numbers_data, names_data, concept_part
 use crate::Tried;
 use crate::text::{column_numbers, row_numbers};
 use fact_model::{ColumnInfo, Concept, Facts, Lattice, RowInfo};
+use kaba_base::Name;
 use serde_json::{Value, json};
 use std::alloc::Global;
 
@@ -34,9 +35,9 @@ fn in_one_line(alloc: Global, value: &Value) -> Tried<String>
 fn lattice_value(alloc: Global, facts: &Facts, lattice: &Lattice) -> Tried<Value>
     ensures { IfOk result (λ v. view v ≡ lattice_data facts.now lattice.now) }
 {
-    let columns = column_names(alloc, &facts.columns)?;
+    let columns = labels_value(alloc, &facts.columns)?;
     let concepts = concepts_value(alloc, &lattice.concepts)?;
-    let rows = row_names(alloc, &facts.rows)?;
+    let rows = labels_value(alloc, &facts.rows)?;
     let value = lattice_object(alloc, columns, concepts, rows)?;
     Ok(value)
 }
@@ -47,24 +48,38 @@ fn lattice_object(alloc: Global, columns: Value, concepts: Value, rows: Value) -
     json!(in alloc; {"columns": columns, "concepts": concepts, "rows": rows})
 }
 
-/// The labels of the columns.
-fn column_names(alloc: Global, columns: &[ColumnInfo]) -> Tried<Value>
-    ensures { IfOk result (λ v. view v ≡ names_data (map (λ c. c.label) columns.now)) }
-{
-    let mut names = Vec::new(alloc);
-    for k in 0..columns.len() {
-        names.push(Value::try_from_str(alloc, columns[k].label.as_str())?)?;
-    }
-    Ok(Value::Array(names))
+/// What has a label: a column or a row.
+trait Labelled {
+    ghost label: { Self → List ℕ };
+
+    /// Its label.
+    fn label(&self) -> &Name
+        ensures value { result.now ≡ label self.now };
 }
 
-/// The labels of the rows.
-fn row_names(alloc: Global, rows: &[RowInfo]) -> Tried<Value>
-    ensures { IfOk result (λ v. view v ≡ names_data (map (λ r. r.label) rows.now)) }
+impl Labelled for ColumnInfo {
+    ghost label = { λ c. c.label };
+
+    fn label(&self) -> &Name {
+        &self.label
+    }
+}
+
+impl Labelled for RowInfo {
+    ghost label = { λ r. r.label };
+
+    fn label(&self) -> &Name {
+        &self.label
+    }
+}
+
+/// The labels.
+fn labels_value<T: Labelled>(alloc: Global, items: &Vec<T>) -> Tried<Value>
+    ensures { IfOk result (λ v. view v ≡ names_data (map T.label items.now.items)) }
 {
     let mut names = Vec::new(alloc);
-    for k in 0..rows.len() {
-        names.push(Value::try_from_str(alloc, rows[k].label.as_str())?)?;
+    for item in items {
+        names.push(Value::try_from_str(alloc, item.label().as_str())?)?;
     }
     Ok(Value::Array(names))
 }

@@ -29,40 +29,43 @@ fn add_fault(text: &mut String, fault: OrderFault) -> Result<(), AllocError> {
     }
 }
 
-/// One node below another, where both are live.
-fn add_under(
-    alloc: Global,
-    text: &mut String,
-    order: &mut Order,
-    n: u32,
-    p: u32,
-) -> Result<(), AllocError> {
-    write!(text, "{n} under {p}: ")?;
-    if !order.is_live(NodeId(n)) || !order.is_live(NodeId(p)) {
-        return text.push_str("not live\n");
-    }
-    match order.put_under(alloc, NodeId(n), NodeId(p)) {
-        Ok(()) => text.push_str("ok\n"),
-        Err(fault) => add_fault(text, fault),
-    }
+/// A change of an order, by two of its nodes.
+#[derive(Clone, Copy)]
+enum Change {
+    /// The first below the second.
+    Under,
+    /// One node made of both.
+    Union,
 }
 
-/// One node made of two, where both are live.
-fn add_union(
+/// The line of a change, which is made where both nodes are live.
+fn add_change(
     alloc: Global,
     text: &mut String,
     order: &mut Order,
+    change: Change,
     a: u32,
     b: u32,
 ) -> Result<(), AllocError> {
-    write!(text, "union of {a} and {b}: ")?;
+    match change {
+        Change::Under => write!(text, "{a} under {b}: ")?,
+        Change::Union => write!(text, "union of {a} and {b}: ")?,
+    }
     if !order.is_live(NodeId(a)) || !order.is_live(NodeId(b)) {
         return text.push_str("not live\n");
     }
-    let set = [NodeId(a), NodeId(b)].to_vec(alloc)?;
-    match order.merge_set(alloc, &set) {
-        Ok(m) => write!(text, "{}\n", m.0),
-        Err(fault) => add_fault(text, fault),
+    match change {
+        Change::Under => match order.put_under(alloc, NodeId(a), NodeId(b)) {
+            Ok(()) => text.push_str("ok\n"),
+            Err(fault) => add_fault(text, fault),
+        },
+        Change::Union => {
+            let set = [NodeId(a), NodeId(b)].to_vec(alloc)?;
+            match order.merge_set(alloc, &set) {
+                Ok(m) => write!(text, "{}\n", m.0),
+                Err(fault) => add_fault(text, fault),
+            }
+        }
     }
 }
 
@@ -81,18 +84,18 @@ fn add_covers(alloc: Global, text: &mut String, order: &Order, n: u32) -> Result
 pub fn add_orders(alloc: Global, text: &mut String) -> Result<(), AllocError> {
     let mut order = Order::discrete(alloc, 5)?;
     for (n, p) in [(1, 3), (0, 1), (0, 2), (3, 0)] {
-        add_under(alloc, text, &mut order, n, p)?;
+        add_change(alloc, text, &mut order, Change::Under, n, p)?;
     }
     add_pairs(text, &order)?;
     add_covers(alloc, text, &order, 0)?;
-    add_union(alloc, text, &mut order, 3, 0)?;
+    add_change(alloc, text, &mut order, Change::Union, 3, 0)?;
     let mut copy = order.copy(alloc)?;
-    add_union(alloc, text, &mut copy, 2, 1)?;
+    add_change(alloc, text, &mut copy, Change::Union, 2, 1)?;
     add_pairs(text, &copy)?;
     if copy.is_live(NodeId(1)) {
         copy.drop_node(NodeId(1));
     }
-    add_under(alloc, text, &mut copy, 1, 4)?;
+    add_change(alloc, text, &mut copy, Change::Under, 1, 4)?;
     add_pairs(text, &copy)?;
     add_pairs(text, &order)
 }

@@ -5,14 +5,14 @@ use Rattle.std.specs.declared.vec.Vec.{Vec}
 use Rattle.std.specs.declared.alloc.Global.{Global}
 use Rattle.std.proofs.lemmas.List.Elements.{All-contains}
 use Rattle.std.proofs.lemmas.Bool.{cases_eq, or_cases, false≢true}
-use Rattle.kaba_bits.specs.Sets.{bit, row, GainsRow, HasWidth, IsEmpty, IsNoneFrom}
+use Rattle.kaba_bits.specs.Sets.{bit, row, GainsBit, GainsRow, HasWidth, IsEmpty, IsNoneFrom}
 use Rattle.kaba_bits.proofs.RowLemmas.{HasWidth-kept, GainsRow-keeps}
 use Rattle.fact_model.specs.declared.facts.Facts.{Facts}
 use Rattle.fact_model.specs.Items.{column_slot}
 use Rattle.points_to.specs.Listed.{numbers_at}
 use Rattle.table_rules.specs.Marks.{Marked, Grow, AreEntries}
 use Rattle.table_rules.specs.Closed.{ColumnFlows}
-use Rattle.table_rules.specs.Asked.{ArePairs, AreAsked, IsMethod, HaveMethods, place_of, IsNoted, IsMetAt, IsRowAsked, IsPlain, is_beyond}
+use Rattle.table_rules.specs.Asked.{ArePairs, IsNoting, AreAsked, IsMethod, HaveMethods, place_of, IsNoted, IsMetAt, IsRowAsked, IsPlain, is_beyond}
 use Rattle.points_to.proofs.LoopLemmas.{pass_all}
 use Rattle.table_rules.proofs.CloseLemmas.{marked-column}
 
@@ -39,6 +39,34 @@ gained P old new into extra g have more r c h =
     subst (λ k. P k c) (sym e) (⊎_elim (λ o. have into c o) (λ x. more c x) (or_cases (bit (row old into) c) (bit extra c) both)))
     (λ ne. have r c (subst (λ s. bit s c ≡ true) (g.others r ne) h))
     (cases_eq r into)
+
+-- one pair more
+pub pair_more : (F : Facts) (P : ℕ → ℕ → Type 0) (old new : List (List Bool)) (d c : ℕ) → length new ≡ length old → ((k : ℕ)
+    → length (row new k) ≡ length (row old k)) → GainsBit old new d c → ArePairs F P old → P d c → IsNoting F P old new
+pair_more F P old new d c len widths g are has = record {
+  pairs = record {
+    len = len ∙ are.len;
+    widths = HasWidth-kept (length F.columns.items) old new len widths are.widths;
+    sound = λ r k h.
+        ⊎_elim
+        (λ e.
+        subst (λ x. P x k) (sym e) (⊎_elim
+        (λ same. subst (λ y. P d y) (sym same) has)
+        (λ ne. are.sound d k (sym (g.rest k ne) ∙ subst (λ x. bit (row new x) k ≡ true) e h))
+        (cases_eq k c)))
+        (λ ne. are.sound r k (subst (λ s. bit s k ≡ true) (g.others r ne) h))
+        (cases_eq r d);
+  };
+  grows = λ r k h.
+      ⊎_elim
+      (λ e.
+      subst (λ x. bit (row new x) k ≡ true) (sym e) (⊎_elim
+      (λ same. subst (λ y. bit (row new d) y ≡ true) (sym same) g.added)
+      (λ ne. g.rest k ne ∙ subst (λ x. bit (row old x) k ≡ true) e h)
+      (cases_eq k c)))
+      (λ ne. subst (λ s. bit s k ≡ true) (sym (g.others r ne)) h)
+      (cases_eq r d);
+}
 
 -- the columns asked for, after one has gained columns that flow from it
 module _ (F : Facts) (old new : List (List Bool)) (d : ℕ) (extra : List Bool) (len : length new ≡ length old) (widths : (k : ℕ)

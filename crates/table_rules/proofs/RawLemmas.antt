@@ -1,15 +1,25 @@
 -- A table that has the entries of each rule without premises, and no others, is the raw one.
 use Rattle.std.proofs.Common.{◌≡◌, ℕ, Bool, List, [], length, sym, subst}
-use Rattle.std.proofs.lemmas.List.Elements.{All-contains}
+use Rattle.std.specs.List.{All}
+use Rattle.std.proofs.lemmas.List.Elements.{All-contains, Contains-get_or}
 use Rattle.kaba_bits.specs.Sets.{HasWidth}
 use Rattle.fact_model.specs.InRange.{InRange}
 use Rattle.fact_model.specs.Flowing.{in_point, AreSets}
 use Rattle.fact_model.specs.Entries.{Entry, Entails, by_access, by_need, by_this, by_super, by_test, by_array, IsRawEntry, IsRawTable, IsSized}
 use Rattle.fact_model.specs.declared.facts.Facts.{Facts}
+use Rattle.fact_model.specs.declared.facts.AccessInfo.{AccessInfo}
+use Rattle.fact_model.specs.declared.facts.SuperInfo.{SuperInfo}
 use Rattle.fact_model.specs.declared.sets.PointsTo.{PointsTo}
 use Rattle.fact_model.specs.declared.sets.Table.{Table}
 use Rattle.fact_model.proofs.RangeLemmas.{site-below, this-below}
-use Rattle.table_rules.specs.Marks.{Marked, AreMarks, AreRaw, IsAccessMarked, IsCallMarked, IsSuperMarked, IsTestMarked, AreMarked}
+use Rattle.table_rules.specs.Marks.{Marked, IsRawPair, AreMarks, AreRaw, IsAccessMarked, IsCallMarked, IsSuperMarked, IsTestMarked, AreMarked}
+
+-- what the lists of accesses and of super calls name
+pub accesses_raw : (F : Facts) → InRange F → All (λ (x : AccessInfo). IsRawPair F x.row.0 x.column.0) F.accesses.items
+accesses_raw F R = λ k d lt. let r = R.accesses k d lt in (r.0, r.1, by_access _ (Contains-get_or F.accesses.items k d lt))
+
+pub supers_raw : (F : Facts) → InRange F → All (λ (x : SuperInfo). IsRawPair F x.row.0 x.column.0) F.supers.items
+supers_raw F R = λ k d lt. let r = R.supers k d lt in (r.0, r.1, by_super _ (Contains-get_or F.supers.items k d lt))
 
 module _ (F : Facts) (R : InRange F) (pt : PointsTo) (sets : AreSets F pt) (rows : List (List Bool)) (all : AreMarked F pt.points.items rows) where
   marked : (e : Entry) → Entails F [] e → Marked rows e.0 e.1

@@ -9,8 +9,9 @@ use Rattle.fact_model.specs.Entries.{IsDeclaredBy, Hides}
 use Rattle.fact_model.specs.declared.facts.Facts.{Facts}
 use Rattle.fact_model.specs.declared.facts.ColKind.TheVariants.{Dcl, Def}
 use Rattle.points_to.specs.Listed.{numbers_at}
-use Rattle.table_rules.specs.Marks.{Marked, AreEntries}
+use Rattle.table_rules.specs.Marks.{Marked, Grow, AreEntries}
 use Rattle.table_rules.specs.Closed.{ColumnFlows}
+use Rattle.table_rules.specs.declared.asked.Columns.{Columns}
 use Rattle.table_rules.specs.declared.index.Index.{Index}
 
 -- for each column a set of columns, of which P holds
@@ -19,9 +20,25 @@ pub record ArePairs (F : Facts) (P : ℕ → ℕ → Type 0) (sets : List (List 
   pub widths : HasWidth (length F.columns.items) sets
   pub sound : (d c : ℕ) → Marked sets d c → P d c
 
+-- such sets after a step, in which what was there stays
+pub record IsNoting (F : Facts) (P : ℕ → ℕ → Type 0) (old new : List (List Bool)) : Type 0 where
+  pub pairs : ArePairs F P new
+  pub grows : Grow old new
+
 -- the set of each column has each column of which P holds
 abbrev pub HaveAll : Facts → (ℕ → ℕ → Type 0) → List (List Bool) → Type 0
 HaveAll F P sets = (d c : ℕ) → d < length F.columns.items → c < length F.columns.items → P d c → Marked sets d c
+
+-- for each column some that the rows with it must have, and some that it hides
+pub record AreColumns (F : Facts) (x : Columns) : Type 0 where
+  pub asked : ArePairs F (ColumnFlows F) x.asked.items
+  pub hidden : ArePairs F (Hides F) x.hidden.items
+
+-- the same after a step, in which what was there stays
+pub record IsColumnStep (F : Facts) (old new : Columns) : Type 0 where
+  pub are : AreColumns F new
+  pub asked : Grow old.asked.items new.asked.items
+  pub hidden : Grow old.hidden.items new.hidden.items
 
 -- for each column columns that the rows with it must have, the declaration of a body among them
 pub record AreAsked (F : Facts) (asked : List (List Bool)) : Type 0 where

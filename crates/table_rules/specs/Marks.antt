@@ -4,6 +4,7 @@ use Rattle.kaba_bits.specs.Sets.{bit, row, IsSubset, HasWidth}
 use Rattle.kaba_base.specs.declared.ColId.{ColId}
 use Rattle.fact_model.specs.Items.{site_at, site_class, site_row, row_this, IsColumn}
 use Rattle.fact_model.specs.Classes.{finds}
+use Rattle.fact_model.specs.InRange.{InRange}
 use Rattle.fact_model.specs.Entries.{IsRawEntry, IsEntry}
 use Rattle.fact_model.specs.declared.facts.Facts.{Facts}
 use Rattle.fact_model.specs.declared.facts.ColKind.TheVariants.{Is}
@@ -25,6 +26,11 @@ pub record AreMarks (F : Facts) (P : ℕ → ℕ → Type 0) (rows : List (List 
 abbrev pub AreRaw : Facts → List (List Bool) → Type 0
 AreRaw F rows = AreMarks F (IsRawEntry F) rows
 
+-- the facts are in range, and the rows have only entries that hold
+pub record IsBegun (F : Facts) (rows : List (List Bool)) : Type 0 where
+  pub facts : InRange F
+  pub raw : AreRaw F rows
+
 -- rows with all entries of the rules without premises, and with no entry that does not hold
 pub record AreEntries (F : Facts) (rows : List (List Bool)) : Type 0 where
   pub len : length rows ≡ length F.rows.items
@@ -35,6 +41,15 @@ pub record AreEntries (F : Facts) (rows : List (List Bool)) : Type 0 where
 -- each row has at least what it had
 abbrev pub Grow : List (List Bool) → List (List Bool) → Type 0
 Grow old new = (r : ℕ) → IsSubset (row old r) (row new r)
+
+-- the rows still have only entries that hold, and what was marked stays
+pub record IsMarking (F : Facts) (old new : List (List Bool)) : Type 0 where
+  pub raw : AreRaw F new
+  pub grows : Grow old new
+
+-- a row and a column with an entry of a rule without premises
+abbrev pub IsRawPair : Facts → ℕ → ℕ → Type 0
+IsRawPair F r c = (r < length F.rows.items) × (c < length F.columns.items) × IsRawEntry F r c
 
 abbrev pub IsAccessMarked : List (List Bool) → AccessInfo → Type 0
 IsAccessMarked rows x = Marked rows x.row.0 x.column.0

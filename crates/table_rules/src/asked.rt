@@ -3,7 +3,7 @@
 
 ghost use Rattle.std.specs.Prelude.{◌≡◌, ℕ, ◌<◌, ◌&&◌, length, All, Some, IfOk};
 ghost use Rattle.table_rules.specs.Closed.{ColumnFlows};
-ghost use Rattle.table_rules.specs.Asked.{ArePairs, HaveAll, IsNoted, IsMetAt, IsThisAsked};
+ghost use Rattle.table_rules.specs.Asked.{ArePairs, HaveAll, IsNoting, AreColumns, IsColumnStep, IsNoted, IsMetAt, IsThisAsked};
 ghost use Rattle.table_rules.specs.Words.{bit, row, IsSubset, InRange, IsEntry, IsDeclaredBy, Hides, Marked, AreEntries, Grow, column_at, row_this, IsAboveRow, AreAbove, AreAsked, AreHidden, HaveMethods, IsMethod};
 
 use crate::Tried;
@@ -23,43 +23,16 @@ pub struct Columns {
     pub hidden: Vec<BitRow>,
 }
 
-/// One column more that the rows with `d` must have.
-fn put_asked(facts: &Facts, asked: &mut [BitRow], d: u32, c: u32)
-    requires asked { ArePairs facts.now (ColumnFlows facts.now) asked.old }
-    requires from { d < length facts.now.columns.items }
-    requires into { c < length facts.now.columns.items }
-    requires flows { ColumnFlows facts.now d c }
-    ensures asked { ArePairs facts.now (ColumnFlows facts.now) asked.new }
-    ensures grows { Grow asked.old asked.new }
-    ensures here { Marked asked.new d c }
-{
-    set_at(asked, d as usize, c);
-}
-
-/// One column more that `d` hides.
-fn put_hidden(facts: &Facts, hidden: &mut [BitRow], d: u32, c: u32)
-    requires hidden { ArePairs facts.now (Hides facts.now) hidden.old }
-    requires lower { d < length facts.now.columns.items }
-    requires upper { c < length facts.now.columns.items }
-    requires hides { Hides facts.now d c }
-    ensures hidden { ArePairs facts.now (Hides facts.now) hidden.new }
-    ensures grows { Grow hidden.old hidden.new }
-    ensures here { Marked hidden.new d c }
-{
-    set_at(hidden, d as usize, c);
-}
-
 /// T5 for one pair of columns.
 fn note_declared(facts: &Facts, asked: &mut [BitRow], d: u32, c: u32)
     requires asked { ArePairs facts.now (ColumnFlows facts.now) asked.old }
     requires body { d < length facts.now.columns.items }
     requires declaration { c < length facts.now.columns.items }
-    ensures asked { ArePairs facts.now (ColumnFlows facts.now) asked.new }
-    ensures grows { Grow asked.old asked.new }
+    ensures step { IsNoting facts.now (ColumnFlows facts.now) asked.old asked.new }
     ensures here { IsDeclaredBy facts.now d c → Marked asked.new d c }
 {
     if is_declared_by(facts, d, c) {
-        put_asked(facts, asked, d, c);
+        set_at(asked, d as usize, c);
     }
 }
 
@@ -70,63 +43,40 @@ fn note_hidden(facts: &Facts, above: &BitRow, hidden: &mut [BitRow], d: u32, c: 
     requires hidden { ArePairs facts.now (Hides facts.now) hidden.old }
     requires lower { d < length facts.now.columns.items }
     requires upper { c < length facts.now.columns.items }
-    ensures hidden { ArePairs facts.now (Hides facts.now) hidden.new }
-    ensures grows { Grow hidden.old hidden.new }
+    ensures step { IsNoting facts.now (Hides facts.now) hidden.old hidden.new }
     ensures here { Hides facts.now d c → Marked hidden.new d c }
 {
     if hides(facts, above, d, c) {
-        put_hidden(facts, hidden, d, c);
+        set_at(hidden, d as usize, c);
     }
 }
 
 /// One pair of columns, where the second is one.
-fn note_pair(
-    facts: &Facts,
-    above: &BitRow,
-    asked: &mut [BitRow],
-    hidden: &mut [BitRow],
-    d: u32,
-    c: usize,
-)
+fn note_pair(facts: &Facts, above: &BitRow, columns: &mut Columns, d: u32, c: usize)
     requires facts { InRange facts.now }
     requires above { IsAboveRow facts.now (column_at facts.now d).class.0 above.now }
-    requires asked { ArePairs facts.now (ColumnFlows facts.now) asked.old }
-    requires hidden { ArePairs facts.now (Hides facts.now) hidden.old }
+    requires columns { AreColumns facts.now columns.old }
     requires column { d < length facts.now.columns.items }
-    ensures asked { ArePairs facts.now (ColumnFlows facts.now) asked.new }
-    ensures hidden { ArePairs facts.now (Hides facts.now) hidden.new }
-    ensures asked_grows { Grow asked.old asked.new }
-    ensures hidden_grows { Grow hidden.old hidden.new }
-    ensures here { c < length facts.now.columns.items → IsNoted facts.now asked.new hidden.new d c }
+    ensures step { IsColumnStep facts.now columns.old columns.new }
+    ensures here { c < length facts.now.columns.items → IsNoted facts.now columns.new.asked.items columns.new.hidden.items d c }
 {
     if c < facts.columns.len() {
-        note_declared(facts, asked, d, c as u32);
-        note_hidden(facts, above, hidden, d, c as u32);
+        note_declared(facts, &mut columns.asked, d, c as u32);
+        note_hidden(facts, above, &mut columns.hidden, d, c as u32);
     }
 }
 
 /// One column with each of a list.
-fn note_each(
-    facts: &Facts,
-    above: &BitRow,
-    asked: &mut [BitRow],
-    hidden: &mut [BitRow],
-    d: u32,
-    list: &[usize],
-)
+fn note_each(facts: &Facts, above: &BitRow, columns: &mut Columns, d: u32, list: &[usize])
     requires facts { InRange facts.now }
     requires above { IsAboveRow facts.now (column_at facts.now d).class.0 above.now }
-    requires asked { ArePairs facts.now (ColumnFlows facts.now) asked.old }
-    requires hidden { ArePairs facts.now (Hides facts.now) hidden.old }
+    requires columns { AreColumns facts.now columns.old }
     requires column { d < length facts.now.columns.items }
-    ensures asked { ArePairs facts.now (ColumnFlows facts.now) asked.new }
-    ensures hidden { ArePairs facts.now (Hides facts.now) hidden.new }
-    ensures asked_grows { Grow asked.old asked.new }
-    ensures hidden_grows { Grow hidden.old hidden.new }
-    ensures here { All (λ c. c < length facts.now.columns.items → IsNoted facts.now asked.new hidden.new d c) list.now }
+    ensures step { IsColumnStep facts.now columns.old columns.new }
+    ensures here { All (λ c. c < length facts.now.columns.items → IsNoted facts.now columns.new.asked.items columns.new.hidden.items d c) list.now }
 {
     for c in list {
-        note_pair(facts, above, asked, hidden, d, *c);
+        note_pair(facts, above, columns, d, *c);
     }
 }
 
@@ -135,22 +85,17 @@ fn note_column(
     facts: &Facts,
     above: &[BitRow],
     methods: &[Vec<usize>],
-    asked: &mut [BitRow],
-    hidden: &mut [BitRow],
+    columns: &mut Columns,
     d: u32,
 )
     requires facts { InRange facts.now }
     requires above { AreAbove facts.now (length facts.now.columns.items) above.now }
     requires methods { HaveMethods facts.now methods.now (length facts.now.columns.items) }
     requires some { 0 < length methods.now }
-    requires asked { ArePairs facts.now (ColumnFlows facts.now) asked.old }
-    requires hidden { ArePairs facts.now (Hides facts.now) hidden.old }
+    requires columns { AreColumns facts.now columns.old }
     requires column { d < length facts.now.columns.items }
-    ensures asked { ArePairs facts.now (ColumnFlows facts.now) asked.new }
-    ensures hidden { ArePairs facts.now (Hides facts.now) hidden.new }
-    ensures asked_grows { Grow asked.old asked.new }
-    ensures hidden_grows { Grow hidden.old hidden.new }
-    ensures here { (c : ℕ) → c < length facts.now.columns.items → IsNoted facts.now asked.new hidden.new d c }
+    ensures step { IsColumnStep facts.now columns.old columns.new }
+    ensures here { (c : ℕ) → c < length facts.now.columns.items → IsNoted facts.now columns.new.asked.items columns.new.hidden.items d c }
 {
     if !is_method(facts, d) {
         return;
@@ -159,32 +104,24 @@ fn note_column(
     note_each(
         facts,
         row_at(above, d as usize),
-        asked,
-        hidden,
+        columns,
         d,
         numbers_at(methods, at),
     );
 }
 
 /// Each column with those of its slot.
-fn note_columns(
-    facts: &Facts,
-    above: &[BitRow],
-    methods: &[Vec<usize>],
-    asked: &mut [BitRow],
-    hidden: &mut [BitRow],
-)
+fn note_columns(facts: &Facts, above: &[BitRow], methods: &[Vec<usize>], columns: &mut Columns)
     requires facts { InRange facts.now }
     requires above { AreAbove facts.now (length facts.now.columns.items) above.now }
     requires methods { HaveMethods facts.now methods.now (length facts.now.columns.items) }
     requires count { length methods.now ≡ length facts.now.columns.items }
-    requires asked { ArePairs facts.now (ColumnFlows facts.now) asked.old }
-    requires hidden { ArePairs facts.now (Hides facts.now) hidden.old }
-    ensures asked { AreAsked facts.now asked.new }
-    ensures hidden { AreHidden facts.now hidden.new }
+    requires columns { AreColumns facts.now columns.old }
+    ensures asked { AreAsked facts.now columns.new.asked.items }
+    ensures hidden { AreHidden facts.now columns.new.hidden.items }
 {
     for d in 0..facts.columns.len() as u32 {
-        note_column(facts, above, methods, asked, hidden, d);
+        note_column(facts, above, methods, columns, d);
     }
 }
 
@@ -197,10 +134,11 @@ pub fn columns_of(alloc: Global, facts: &Facts) -> Tried<Columns>
     let count = facts.columns.len();
     let above = above_of(alloc, facts)?;
     let methods = methods_of(alloc, facts)?;
-    let mut asked = empty_rows(alloc, count, count as u32)?;
-    let mut hidden = empty_rows(alloc, count, count as u32)?;
-    note_columns(facts, &above, &methods, &mut asked, &mut hidden);
-    Ok(Columns { asked, hidden })
+    let asked = empty_rows(alloc, count, count as u32)?;
+    let hidden = empty_rows(alloc, count, count as u32)?;
+    let mut columns = Columns { asked, hidden };
+    note_columns(facts, &above, &methods, &mut columns);
+    Ok(columns)
 }
 
 /// What is in two sets.

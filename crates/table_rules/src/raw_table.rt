@@ -4,13 +4,13 @@ ghost use Rattle.std.specs.Prelude.{◌≡◌, ℕ, ◌<◌, true, length, All, 
 ghost use Rattle.fact_model.specs.Items.{site_class, site_row, IsColumn};
 ghost use Rattle.fact_model.specs.Classes.{finds};
 ghost use Rattle.points_to.specs.Chains.{AreBodies};
-ghost use Rattle.table_rules.specs.Marks.{IsAccessMarked, IsSuperMarked, IsThisMarked, IsNeedMarked, IsCallMarked, IsMarkMarkedAt, IsMarkMarked, IsTestMarked, IsArrayMarked, AreMarked};
-ghost use Rattle.table_rules.specs.Words.{bit, row, InRange, AreSets, IsRawEntry, IsRawTable, AreRaw, Grow, Marked};
+ghost use Rattle.table_rules.specs.Marks.{IsRawPair, IsBegun, IsMarking, IsThisMarked, IsNeedMarked, IsCallMarked, IsMarkMarkedAt, IsMarkMarked, IsTestMarked, IsArrayMarked, AreMarked};
+ghost use Rattle.table_rules.specs.Words.{bit, row, InRange, AreSets, IsRawEntry, IsRawTable, AreRaw, Marked};
 
 use crate::columns::{is_mark, site_at, this_of};
 use crate::marks::mark;
 use fact_model::{AccessInfo, CallInfo, ColKind, Facts, PointsTo, SuperInfo, Table, TestInfo};
-use kaba_base::ClassId;
+use kaba_base::{ClassId, ColId, RowId};
 use kaba_bits::{BitRow, empty_rows, row_at};
 use points_to::{Bodies, bodies_of, find_body};
 use std::alloc::{AllocError, Global};
@@ -31,54 +31,72 @@ pub fn raw(alloc: Global, facts: &Facts, pt: &PointsTo) -> Result<Table, AllocEr
 
 /// Each rule for every fact of its list.
 fn mark_all(facts: &Facts, bodies: &Bodies, pt: &PointsTo, rows: &mut [BitRow])
-    requires facts { InRange facts.now }
+    requires given { IsBegun facts.now rows.old }
     requires bodies { AreBodies facts.now bodies.now }
     requires sets { AreSets facts.now pt.now }
-    requires rows { AreRaw facts.now rows.old }
     ensures rows { AreRaw facts.now rows.new }
     ensures marked { AreMarked facts.now pt.now.points.items rows.new }
 {
-    mark_accesses(facts, rows);
+    mark_entries(facts, rows, &facts.accesses);
     mark_calls(facts, bodies, pt, rows);
     mark_these(facts, rows);
-    mark_supers(facts, rows);
+    mark_entries(facts, rows, &facts.supers);
     mark_tests(facts, rows);
     mark_arrays(facts, rows);
 }
 
-/// T1 and T2: the row that types a base has the field, or the method's declaration.
-fn mark_accesses(facts: &Facts, rows: &mut [BitRow])
-    requires facts { InRange facts.now }
-    requires rows { AreRaw facts.now rows.old }
-    ensures rows { AreRaw facts.now rows.new }
-    ensures grows { Grow rows.old rows.new }
-    ensures marked { All (IsAccessMarked rows.new) facts.now.accesses.items }
-{
-    for x in &facts.accesses {
-        mark_access(facts, rows, *x);
+/// An item of the facts that names an entry, by its row and its column.
+trait NamesEntry: Copy {
+    ghost row_of: { Self → ℕ };
+
+    ghost column_of: { Self → ℕ };
+
+    /// The row and the column.
+    fn entry(self) -> (RowId, ColId)
+        ensures row { result.0.0 ≡ row_of self }
+        ensures column { result.1.0 ≡ column_of self };
+}
+
+impl NamesEntry for AccessInfo {
+    ghost row_of = { λ x. x.row.0 };
+
+    ghost column_of = { λ x. x.column.0 };
+
+    fn entry(self) -> (RowId, ColId) {
+        (self.row, self.column)
     }
 }
 
-/// One access.
-fn mark_access(facts: &Facts, rows: &mut [BitRow], x: AccessInfo)
-    requires facts { InRange facts.now }
-    requires rows { AreRaw facts.now rows.old }
-    requires access { Contains facts.now.accesses.items x }
-    ensures rows { AreRaw facts.now rows.new }
-    ensures grows { Grow rows.old rows.new }
-    ensures marked { IsAccessMarked rows.new x }
+impl NamesEntry for SuperInfo {
+    ghost row_of = { λ x. x.row.0 };
+
+    ghost column_of = { λ x. x.column.0 };
+
+    fn entry(self) -> (RowId, ColId) {
+        (self.row, self.column)
+    }
+}
+
+/// T1, T2 and T7: the row that types a base has the field, or the method's declaration, and the `this` of each super call
+/// has the body that runs.
+fn mark_entries<T: NamesEntry>(facts: &Facts, rows: &mut [BitRow], items: &Vec<T>)
+    requires given { IsBegun facts.now rows.old }
+    requires entries { All (λ x. IsRawPair facts.now (T.row_of x) (T.column_of x)) items.now.items }
+    ensures step { IsMarking facts.now rows.old rows.new }
+    ensures marked { All (λ x. Marked rows.new (T.row_of x) (T.column_of x)) items.now.items }
 {
-    mark(facts, rows, x.row.0, x.column.0);
+    for x in items {
+        let (row, column) = x.entry();
+        mark(facts, rows, row.0, column.0);
+    }
 }
 
 /// T3: the row of each site in a receiver has the body found for its class.
 fn mark_calls(facts: &Facts, bodies: &Bodies, pt: &PointsTo, rows: &mut [BitRow])
-    requires facts { InRange facts.now }
+    requires given { IsBegun facts.now rows.old }
     requires bodies { AreBodies facts.now bodies.now }
     requires sets { AreSets facts.now pt.now }
-    requires rows { AreRaw facts.now rows.old }
-    ensures rows { AreRaw facts.now rows.new }
-    ensures grows { Grow rows.old rows.new }
+    ensures step { IsMarking facts.now rows.old rows.new }
     ensures marked { All (IsCallMarked facts.now pt.now.points.items rows.new) facts.now.calls.items }
 {
     for call in &facts.calls {
@@ -88,13 +106,11 @@ fn mark_calls(facts: &Facts, bodies: &Bodies, pt: &PointsTo, rows: &mut [BitRow]
 
 /// One call, for every site.
 fn mark_call(facts: &Facts, bodies: &Bodies, pt: &PointsTo, rows: &mut [BitRow], call: &CallInfo)
-    requires facts { InRange facts.now }
+    requires given { IsBegun facts.now rows.old }
     requires bodies { AreBodies facts.now bodies.now }
     requires sets { AreSets facts.now pt.now }
-    requires rows { AreRaw facts.now rows.old }
     requires call { Contains facts.now.calls.items call.now }
-    ensures rows { AreRaw facts.now rows.new }
-    ensures grows { Grow rows.old rows.new }
+    ensures step { IsMarking facts.now rows.old rows.new }
     ensures marked { IsCallMarked facts.now pt.now.points.items rows.new call.now }
 {
     for o in 0..facts.sites.len() as u32 {
@@ -111,14 +127,12 @@ fn mark_need(
     call: &CallInfo,
     o: u32,
 )
-    requires facts { InRange facts.now }
+    requires given { IsBegun facts.now rows.old }
     requires bodies { AreBodies facts.now bodies.now }
     requires sets { AreSets facts.now pt.now }
-    requires rows { AreRaw facts.now rows.old }
     requires call { Contains facts.now.calls.items call.now }
     requires site { o < length facts.now.sites.items }
-    ensures rows { AreRaw facts.now rows.new }
-    ensures grows { Grow rows.old rows.new }
+    ensures step { IsMarking facts.now rows.old rows.new }
     ensures marked { IsNeedMarked facts.now pt.now.points.items call.now rows.new o }
 {
     if !row_at(&pt.points, call.receiver as usize).has(o) {
@@ -132,62 +146,21 @@ fn mark_need(
 
 /// T4: each `this` has its body.
 fn mark_these(facts: &Facts, rows: &mut [BitRow])
-    requires facts { InRange facts.now }
-    requires rows { AreRaw facts.now rows.old }
-    ensures rows { AreRaw facts.now rows.new }
-    ensures grows { Grow rows.old rows.new }
+    requires given { IsBegun facts.now rows.old }
+    ensures step { IsMarking facts.now rows.old rows.new }
     ensures marked { (v : ℕ) → v < length facts.now.rows.items → IsThisMarked facts.now rows.new v }
 {
     for v in 0..facts.rows.len() {
-        mark_this(facts, rows, v);
+        if let Some(d) = this_of(facts, v) {
+            mark(facts, rows, v as u32, d.0);
+        }
     }
-}
-
-/// One row, where it is a `this`.
-fn mark_this(facts: &Facts, rows: &mut [BitRow], v: usize)
-    requires facts { InRange facts.now }
-    requires rows { AreRaw facts.now rows.old }
-    requires row { v < length facts.now.rows.items }
-    ensures rows { AreRaw facts.now rows.new }
-    ensures grows { Grow rows.old rows.new }
-    ensures marked { IsThisMarked facts.now rows.new v }
-{
-    if let Some(d) = this_of(facts, v) {
-        mark(facts, rows, v as u32, d.0);
-    }
-}
-
-/// T7: the `this` of each super call has the body that runs.
-fn mark_supers(facts: &Facts, rows: &mut [BitRow])
-    requires facts { InRange facts.now }
-    requires rows { AreRaw facts.now rows.old }
-    ensures rows { AreRaw facts.now rows.new }
-    ensures grows { Grow rows.old rows.new }
-    ensures marked { All (IsSuperMarked rows.new) facts.now.supers.items }
-{
-    for x in &facts.supers {
-        mark_super(facts, rows, *x);
-    }
-}
-
-/// One super call.
-fn mark_super(facts: &Facts, rows: &mut [BitRow], x: SuperInfo)
-    requires facts { InRange facts.now }
-    requires rows { AreRaw facts.now rows.old }
-    requires entry { Contains facts.now.supers.items x }
-    ensures rows { AreRaw facts.now rows.new }
-    ensures grows { Grow rows.old rows.new }
-    ensures marked { IsSuperMarked rows.new x }
-{
-    mark(facts, rows, x.row.0, x.column.0);
 }
 
 /// T11: each cast and instanceof has the mark of its class.
 fn mark_tests(facts: &Facts, rows: &mut [BitRow])
-    requires facts { InRange facts.now }
-    requires rows { AreRaw facts.now rows.old }
-    ensures rows { AreRaw facts.now rows.new }
-    ensures grows { Grow rows.old rows.new }
+    requires given { IsBegun facts.now rows.old }
+    ensures step { IsMarking facts.now rows.old rows.new }
     ensures marked { All (IsTestMarked facts.now rows.new) facts.now.tests.items }
 {
     for x in &facts.tests {
@@ -197,11 +170,9 @@ fn mark_tests(facts: &Facts, rows: &mut [BitRow])
 
 /// One test.
 fn mark_test(facts: &Facts, rows: &mut [BitRow], x: TestInfo)
-    requires facts { InRange facts.now }
-    requires rows { AreRaw facts.now rows.old }
+    requires given { IsBegun facts.now rows.old }
     requires test { Contains facts.now.tests.items x }
-    ensures rows { AreRaw facts.now rows.new }
-    ensures grows { Grow rows.old rows.new }
+    ensures step { IsMarking facts.now rows.old rows.new }
     ensures marked { IsTestMarked facts.now rows.new x }
 {
     mark_type(facts, rows, x.target.0, x.class);
@@ -209,10 +180,8 @@ fn mark_test(facts: &Facts, rows: &mut [BitRow], x: TestInfo)
 
 /// T11: each array site has the mark of its base.
 fn mark_arrays(facts: &Facts, rows: &mut [BitRow])
-    requires facts { InRange facts.now }
-    requires rows { AreRaw facts.now rows.old }
-    ensures rows { AreRaw facts.now rows.new }
-    ensures grows { Grow rows.old rows.new }
+    requires given { IsBegun facts.now rows.old }
+    ensures step { IsMarking facts.now rows.old rows.new }
     ensures marked { (s : ℕ) → s < length facts.now.sites.items → IsArrayMarked facts.now rows.new s }
 {
     for s in 0..facts.sites.len() as u32 {
@@ -222,11 +191,9 @@ fn mark_arrays(facts: &Facts, rows: &mut [BitRow])
 
 /// One site, where it is that of an array.
 fn mark_array(facts: &Facts, rows: &mut [BitRow], s: u32)
-    requires facts { InRange facts.now }
-    requires rows { AreRaw facts.now rows.old }
+    requires given { IsBegun facts.now rows.old }
     requires site { s < length facts.now.sites.items }
-    ensures rows { AreRaw facts.now rows.new }
-    ensures grows { Grow rows.old rows.new }
+    ensures step { IsMarking facts.now rows.old rows.new }
     ensures marked { IsArrayMarked facts.now rows.new s }
 {
     let site = site_at(facts, s);
@@ -237,12 +204,10 @@ fn mark_array(facts: &Facts, rows: &mut [BitRow], s: u32)
 
 /// One row with the mark of a class.
 fn mark_type(facts: &Facts, rows: &mut [BitRow], r: u32, class: ClassId)
-    requires facts { InRange facts.now }
-    requires rows { AreRaw facts.now rows.old }
+    requires given { IsBegun facts.now rows.old }
     requires row { r < length facts.now.rows.items }
     requires entries { (c : ℕ) → IsColumn facts.now ColKind.Is class.0 c → IsRawEntry facts.now r c }
-    ensures rows { AreRaw facts.now rows.new }
-    ensures grows { Grow rows.old rows.new }
+    ensures step { IsMarking facts.now rows.old rows.new }
     ensures marked { IsMarkMarked facts.now rows.new r class.0 }
 {
     for c in 0..facts.columns.len() as u32 {
@@ -252,13 +217,11 @@ fn mark_type(facts: &Facts, rows: &mut [BitRow], r: u32, class: ClassId)
 
 /// One row with one column, where that is the mark of a class.
 fn mark_if_type(facts: &Facts, rows: &mut [BitRow], r: u32, class: ClassId, c: u32)
-    requires facts { InRange facts.now }
-    requires rows { AreRaw facts.now rows.old }
+    requires given { IsBegun facts.now rows.old }
     requires row { r < length facts.now.rows.items }
     requires column { c < length facts.now.columns.items }
     requires entries { (k : ℕ) → IsColumn facts.now ColKind.Is class.0 k → IsRawEntry facts.now r k }
-    ensures rows { AreRaw facts.now rows.new }
-    ensures grows { Grow rows.old rows.new }
+    ensures step { IsMarking facts.now rows.old rows.new }
     ensures marked { IsMarkMarkedAt facts.now r class.0 rows.new c }
 {
     if is_mark(facts, class, c) {

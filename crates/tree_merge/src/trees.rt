@@ -17,7 +17,7 @@ use fact_model::{Facts, PointsTo};
 use hier_model::Hier;
 use hier_rules::Broken;
 use hier_tree::Conflict;
-use std::alloc::{AllocError, Global};
+use std::alloc::Global;
 
 /// A conflict of which no try is accepted.
 #[derive(Drop)]
@@ -37,17 +37,6 @@ pub enum TreeFault {
     NoTree(NoTree),
     /// Memory is short.
     Memory,
-}
-
-impl From<AllocError> for TreeFault {
-    ghost use Rattle.std.specs.Prelude.{◌≡◌};
-    ghost use Rattle.tree_merge.specs.declared.trees.TreeFault.{TreeFault};
-
-    ghost from_gives = { λ _ e. e ≡ TreeFault.Memory };
-
-    fn from(_e: AllocError) -> TreeFault {
-        TreeFault::Memory
-    }
 }
 
 /// Brings the class nodes of a hierarchy into a tree, and gives the log of the steps (after
@@ -80,19 +69,20 @@ pub fn make_tree(
     let given = Given { alloc, facts, sets };
     let mut log = Vec::new(alloc);
     'steps: loop {
-        match step(&given, hier)? {
-            Turn::Done => return Ok(log),
-            Turn::Taken(step) => match log.push(step) {
+        match step(&given, hier) {
+            Ok(Turn::Done) => return Ok(log),
+            Ok(Turn::Taken(step)) => match log.push(step) {
                 Ok(()) => {}
                 Err(_) => return Err(TreeFault::Memory),
             },
-            Turn::Stuck(conflict, broken) => {
+            Ok(Turn::Stuck(conflict, broken)) => {
                 return Err(TreeFault::NoTree(NoTree {
                     conflict,
                     broken,
                     log,
                 }));
             }
+            Err(_) => return Err(TreeFault::Memory),
         }
     }
 }

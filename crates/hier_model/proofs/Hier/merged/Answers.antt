@@ -11,13 +11,12 @@ returns c =
     let set = c.args.set.now in
     let m = c.args.made.node.0 in
     let view = c.self.view_is in
-    c.hier_of.ensures
-    ∙ same_parts _ _ _ _ _ _ _ _ _ _ _ _ _ _ c.requires.order
-    (c.in_ok-columns.ensures ∙ ap (map (option_map (merged_node set m))) (c.deref.ensures.value ∙ ap (λ (h : Hierarchy). h.columns) view))
-    (c.in_ok-rows.ensures ∙ ap (map (merged_node set m)) (c.deref-2.ensures.value ∙ ap (λ (h : Hierarchy). h.rows) view))
-    (c.in_ok-types.ensures ∙ (c.deref-3.ensures.value ∙ ap (λ (h : Hierarchy). h.types) view))
-    (c.in_ok-members.ensures ∙ (c.deref-4.ensures.value ∙ ap (λ (h : Hierarchy). h.members) view))
-    (c.in_ok-origins.ensures
+    same_parts _ _ _ _ _ _ _ _ _ _ _ _ _ _ c.requires.order
+    (c.in_ok-merged_columns.ensures ∙ ap (map (option_map (merged_node set m))) (c.deref.ensures.value ∙ ap (λ (h : Hierarchy). h.columns) view))
+    (c.in_ok-merged_rows.ensures ∙ ap (map (merged_node set m)) (c.deref-2.ensures.value ∙ ap (λ (h : Hierarchy). h.rows) view))
+    (c.in_ok-copy_names.ensures ∙ (c.deref-3.ensures.value ∙ ap (λ (h : Hierarchy). h.types) view))
+    (c.in_ok-copy_names-2.ensures ∙ (c.deref-4.ensures.value ∙ ap (λ (h : Hierarchy). h.members) view))
+    (c.in_ok-merged_origins.ensures
     ∙ ap (λ os. slice_set os m (merged_origin c.args.facts.now (map (λ n. slice_index_or os n.0 None) set)))
     (c.deref-5.ensures.value ∙ ap (λ (h : Hierarchy). h.origins) view))
-    (c.in_ok-table.ensures ∙ (c.deref-6.ensures.value ∙ ap (λ (h : Hierarchy). h.table) view))
+    (c.in_ok-copy_rows.ensures ∙ (c.deref-6.ensures.value ∙ ap (λ (h : Hierarchy). h.table) view))

@@ -4,10 +4,9 @@ use Rattle.fact_model.specs.Concepts.{pair_of, AreAllConcepts, IsLattice}
 use Rattle.hier_model.specs.Hierarchies.{IsHierarchyOf}
 use Rattle.hier_model.specs.Listed.{listed_column, row_node}
 use Rattle.hier_model.specs.Names.{member_names, type_names}
-use Rattle.hier_model.specs.Start.{order_of, origins_of, column_place, row_place, start_from}
+use Rattle.hier_model.specs.Start.{order_of, origins_of, column_place, row_place}
 use Rattle.hier_model.proofs.BeginLemmas.{extents_alike, intents_wide, order_orders, columns_start, rows_start, same_parts, keeps_table, start_fits}
 use Rattle.hier_model.proofs.begin.start.Goals as goal
-use Rattle.hier_model.proofs.begin.start.Goals.{After-hier_of}
 
 pub order_of-requires-clause-widths : goal.order_of-requires-clause-widths
 order_of-requires-clause-widths c =
@@ -26,8 +25,8 @@ origins_of-requires-clause-intents c =
     let all = intents_wide t.rows.items t.width c.args.lattice.now.concepts.items c.requires.lattice c.requires.table.sized.widths in
     rw c.deref-4.ensures.value (λ k lt. all k lt ∙ c.requires.table.sized.columns)
 
-value : (c : After-hier_of) → c.hier_of.result ≡ start_from c.args.facts.now c.args.table.now c.args.lattice.now
-value c =
+pub returns-clause-value : goal.returns-clause-value
+returns-clause-value c =
     let F = c.args.facts.now in
     let T = c.args.table.now.rows.items in
     let cs = c.args.lattice.now.concepts.items in
@@ -49,15 +48,12 @@ value c =
     c.in_ok-types.ensures ∙ ap (λ l. type_names F l c.deref-6.result.now (length c.deref-6.result.now)) (c.deref-5.ensures.value ∙ members)
     ∙ ap (λ l. type_names F (member_names F n) l (length l)) (c.deref-6.ensures.value ∙ origins) in
     let table : c.in_ok-table.table.items ≡ T = c.in_ok-table.ensures ∙ c.deref-7.ensures.value in
-    c.hier_of.ensures ∙ same_parts c.in_ok-order.order (order_of xs) c.in_ok-columns.columns.items (map (column_place T xs) (range_with_len 0 n))
+    same_parts c.in_ok-order.order (order_of xs) c.in_ok-columns.columns.items (map (column_place T xs) (range_with_len 0 n))
     c.in_ok-rows.rows.items
     (map (row_place xs) T) c.in_ok-types.types.items
     (type_names F (member_names F n) (origins_of F xs) (length (origins_of F xs))) c.in_ok-members.members.items (member_names F n)
     c.in_ok-origins.origins.items (origins_of F xs) c.in_ok-table.table.items T
     order columns rows types members origins table
-
-pub returns-clause-value : goal.returns-clause-value
-returns-clause-value c = value c
 
 pub returns-clause-fits : goal.returns-clause-fits
 returns-clause-fits c =
@@ -66,4 +62,5 @@ returns-clause-fits c =
     let xs = map pair_of c.args.lattice.now.concepts.items in
     let all : AreAllConcepts t.rows.items (length F.columns.items) xs = subst (λ w. AreAllConcepts t.rows.items w xs) c.requires.table.sized.columns
     c.requires.lattice.all in
-    subst (IsHierarchyOf F) (sym (value c)) (start_fits F c.requires.range c.requires.order t.rows.items (keeps_table F t c.requires.table) xs all)
+    subst (IsHierarchyOf F) (sym (returns-clause-value c)) (start_fits F c.requires.range c.requires.order t.rows.items
+    (keeps_table F t c.requires.table) xs all)

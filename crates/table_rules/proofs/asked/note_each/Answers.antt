@@ -12,17 +12,19 @@ loop-c-preserved c =
     let d = c.args.d in
     let xs = c.args.list.now in
     let k = c.loop-c.c-index in
-    let step = c.note_pair.ensures in
-    let a = c.loop-c.asked in
-    let h = c.loop-c.hidden in
-    let b = c.note_pair.new.asked in
-    let j = c.note_pair.new.hidden in
+    let before = c.loop-c.invariant.step in
+    let step = c.note_pair.ensures.step in
+    let a = c.loop-c.columns.asked.items in
+    let h = c.loop-c.columns.hidden.items in
+    let b = c.note_pair.new.columns.asked.items in
+    let j = c.note_pair.new.columns.hidden.items in
     let lt : k < length xs = grind (arith, common_steps) in
     record {
-      asked = step.asked;
-      hidden = step.hidden;
-      asked_grows = grow_then c.args.asked.now a b c.loop-c.invariant.asked_grows step.asked_grows;
-      hidden_grows = grow_then c.args.hidden.now h j c.loop-c.invariant.hidden_grows step.hidden_grows;
+      step = record {
+        are = step.are;
+        asked = grow_then c.args.columns.now.asked.items a b before.asked step.asked;
+        hidden = grow_then c.args.columns.now.hidden.items h j before.hidden step.hidden;
+      };
       here = within_more (λ x. x < n → IsNoted F a h d x) (λ x. x < n → IsNoted F b j d x) xs k 0 lt
-          (λ x is below. noted_more F a b step.asked_grows h j d x step.hidden_grows (is below)) c.loop-c.invariant.here step.here;
+          (λ x is below. noted_more F a b step.asked h j d x step.hidden (is below)) c.loop-c.invariant.here c.note_pair.ensures.here;
     }

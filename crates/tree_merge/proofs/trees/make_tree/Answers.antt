@@ -16,30 +16,31 @@ steps-init c =
       is = c.requires.hierarchy;
     }
 
-pub returns-in-Done-clause-tree : goal.returns-in-Done-clause-tree
-returns-in-Done-clause-tree c =
+pub returns-in-Ok-Done-clause-tree : goal.returns-in-Ok-Done-clause-tree
+returns-in-Ok-Done-clause-tree c =
     let F = c.args.facts.now in
     let pt = c.args.sets.now in
-    let t = subst (IsTurn F pt c.steps.hier c.step.new.hier) c.in-Done.is c.in_ok-step.ensures.turn in
+    let t = subst (IsTurn F pt c.steps.hier c.step.new.hier) c.in-Ok-Done.field-0-is c.in-Ok-Done.ensures.turn in
     ends F pt c.args.hier.now c.steps.hier c.step.new.hier (steps_of c.steps.log.items) c.steps.invariant.steps t.0 t.1
 
-pub returns-in-Stuck-clause-fault : goal.returns-in-Stuck-clause-fault
-returns-in-Stuck-clause-fault c =
+pub returns-in-Ok-Stuck-clause-fault : goal.returns-in-Ok-Stuck-clause-fault
+returns-in-Ok-Stuck-clause-fault c =
     let F = c.args.facts.now in
     let pt = c.args.sets.now in
-    let t = subst (IsTurn F pt c.steps.hier c.step.new.hier) c.in-Stuck.is c.in_ok-step.ensures.turn in
+    let t = subst (IsTurn F pt c.steps.hier c.step.new.hier) c.in-Ok-Stuck.field-0-is c.in-Ok-Stuck.ensures.turn in
     let log = steps_of c.steps.log.items in
-    (ends_stuck F pt c.args.hier.now c.steps.hier c.step.new.hier log c.in-Stuck.conflict c.in-Stuck.broken c.steps.invariant.steps t, c.steps.invariant.edits)
+    let stuck = c.in-Ok-Stuck in
+    (ends_stuck F pt c.args.hier.now c.steps.hier c.step.new.hier log stuck.conflict stuck.broken c.steps.invariant.steps t, c.steps.invariant.edits)
 
-pub returns-in-Stuck-clause-found : goal.returns-in-Stuck-clause-found
-returns-in-Stuck-clause-found c = λ t l A N reached.
+pub returns-in-Ok-Stuck-clause-found : goal.returns-in-Ok-Stuck-clause-found
+returns-in-Ok-Stuck-clause-found c = λ t l A N reached.
     let F = c.args.facts.now in
     let pt = c.args.sets.now in
     let H = c.args.hier.now in
     let log = steps_of c.steps.log.items in
-    let turn = subst (IsTurn F pt c.steps.hier c.step.new.hier) c.in-Stuck.is c.in_ok-step.ensures.turn in
-    let grows = ends_stuck F pt H c.steps.hier c.step.new.hier log c.in-Stuck.conflict c.in-Stuck.broken c.steps.invariant.steps turn in
-    absurd (tree_is_found F pt t l A N H reached log (Stuck c.step.new.hier c.in-Stuck.conflict c.in-Stuck.broken) grows)
+    let turn = subst (IsTurn F pt c.steps.hier c.step.new.hier) c.in-Ok-Stuck.field-0-is c.in-Ok-Stuck.ensures.turn in
+    let grows = ends_stuck F pt H c.steps.hier c.step.new.hier log c.in-Ok-Stuck.conflict c.in-Ok-Stuck.broken c.steps.invariant.steps turn in
+    absurd (tree_is_found F pt t l A N H reached log (Stuck c.step.new.hier c.in-Ok-Stuck.conflict c.in-Ok-Stuck.broken) grows)
 
 pub steps-preserved : goal.steps-preserved
 steps-preserved c =
@@ -47,8 +48,8 @@ steps-preserved c =
     let pt = c.args.sets.now in
     let log = c.steps.log.items in
     let more = c.push.new.self.items in
-    let s = c.in-Taken.step in
-    let is = subst (IsTurn F pt c.steps.hier c.step.new.hier) c.in-Taken.is c.in_ok-step.ensures.turn in
+    let s = c.in-Ok-Taken.step in
+    let is = subst (IsTurn F pt c.steps.hier c.step.new.hier) c.in-Ok-Taken.field-0-is c.in-Ok-Taken.ensures.turn in
     record {
       steps = more_steps F pt c.args.hier.now c.steps.hier c.step.new.hier log more s c.in-Ok.ensures.items c.steps.invariant.steps is;
       edits = more_edits log more s c.in-Ok.ensures.items c.steps.invariant.edits is.edit;
@@ -56,10 +57,10 @@ steps-preserved c =
       is = c.step.ensures.is;
     }
 
-pub returns-in-Err-clause-fault : goal.returns-in-Err-clause-fault
-returns-in-Err-clause-fault c =
+pub returns-in-Err-push-clause-fault : goal.returns-in-Err-push-clause-fault
+returns-in-Err-push-clause-fault c =
     let F = c.args.facts.now in
     let pt = c.args.sets.now in
-    let is = subst (IsTurn F pt c.steps.hier c.step.new.hier) c.in-Taken.is c.in_ok-step.ensures.turn in
-    let next = steps_of c.steps.log.items ++ step_of c.in-Taken.step ∷ [] in
-    (next, one_more F pt c.args.hier.now c.steps.hier c.step.new.hier c.steps.log.items c.in-Taken.step c.steps.invariant.steps is)
+    let is = subst (IsTurn F pt c.steps.hier c.step.new.hier) c.in-Ok-Taken.field-0-is c.in-Ok-Taken.ensures.turn in
+    let next = steps_of c.steps.log.items ++ step_of c.in-Ok-Taken.step ∷ [] in
+    (next, one_more F pt c.args.hier.now c.steps.hier c.step.new.hier c.steps.log.items c.in-Ok-Taken.step c.steps.invariant.steps is)
