@@ -46,7 +46,7 @@ pub struct Tables {
 /// Where a part of a body stands: what is declared, the class and kind of the body, and whether a loop is about the part.
 /// What is made stands in the memory of `alloc`.
 #[derive(Drop)]
-pub struct Site<'a> {
+pub struct Enclosing<'a> {
     pub alloc: Global,
     pub tables: &'a Tables,
     pub here: Here,
@@ -54,13 +54,13 @@ pub struct Site<'a> {
 }
 
 /// The same in a loop.
-pub fn in_loop<'a>(site: &Site<'a>) -> Site<'a>
-    ensures { result ≡ record site.now { inside = true } }
+pub fn in_loop<'a>(within: &Enclosing<'a>) -> Enclosing<'a>
+    ensures { result ≡ record within.now { inside = true } }
 {
-    Site {
-        alloc: site.alloc,
-        tables: site.tables,
-        here: site.here,
+    Enclosing {
+        alloc: within.alloc,
+        tables: within.tables,
+        here: within.here,
         inside: true,
     }
 }
