@@ -14,7 +14,7 @@ use Rattle.resolved_bodies.specs.declared.locals.Body.{Body}
 use Rattle.resolved_bodies.specs.declared.bodies.Written.{Written}
 
 abbrev pub table_of : Tables → Table
-table_of t = record { known = t.known; parents = t.parents.items; above = t.above; fields = t.fields.items; headings = t.headings.items }
+table_of t = record { known = t.known; parents = t.parents.items; above = t.above; fields = t.declared.fields.items; headings = t.declared.headings.items }
 
 -- what is declared, where a part of a body stands
 abbrev pub table_at : Enclosing → Table

@@ -110,7 +110,10 @@ fn method_step(
     drop(scope);
     let (locals, body) = made!(given; params);
     let name = made!(head.name.copy(owner.alloc) => Refusal; params, locals, body);
-    let slot = slot_at(owner.tables.headings.as_slice(), written.methods.len());
+    let slot = slot_at(
+        owner.tables.declared.headings.as_slice(),
+        written.methods.len(),
+    );
     written.methods.push(Method {
         owner: ClassId(owner.number),
         name,

@@ -68,7 +68,7 @@ fn field_use(within: &Enclosing, name: &Name, place: Place, found: Option<usize>
     let Some(number) = found else {
         return Err(Refusal::Unknown(name.copy(within.alloc)?, place));
     };
-    let Some(field) = within.tables.fields.get(number) else {
+    let Some(field) = within.tables.declared.fields.get(number) else {
         return Err(Refusal::Unknown(name.copy(within.alloc)?, place));
     };
     let is_own = field.owner.0 == within.here.owner;
@@ -139,7 +139,7 @@ pub fn class_before(within: &Enclosing, scope: &Scope, base: &Expr) -> Tried<Opt
 fn static_field(within: &Enclosing, found: Option<usize>) -> Option<bool>
     ensures { result ≡ option_and_then (is_static_field (table_at within.now)) found }
 {
-    let field = within.tables.fields.get(found?)?;
+    let field = within.tables.declared.fields.get(found?)?;
     Some(field.is_static)
 }
 
@@ -147,7 +147,7 @@ fn static_field(within: &Enclosing, found: Option<usize>) -> Option<bool>
 fn static_method(within: &Enclosing, found: Option<usize>) -> Option<bool>
     ensures { result ≡ option_and_then (is_static_method (table_at within.now)) found }
 {
-    let method = within.tables.headings.get(found?)?;
+    let method = within.tables.declared.headings.get(found?)?;
     Some(method.is_static)
 }
 
@@ -194,7 +194,7 @@ fn method_use(within: &Enclosing, name: &Name, place: Place, found: Option<usize
     let Some(number) = found else {
         return Err(Refusal::Unknown(name.copy(within.alloc)?, place));
     };
-    let Some(method) = within.tables.headings.get(number) else {
+    let Some(method) = within.tables.declared.headings.get(number) else {
         return Err(Refusal::Unknown(name.copy(within.alloc)?, place));
     };
     if method.is_static {
