@@ -1,6 +1,6 @@
 -- What the marks of types tell of the methods that reach them.
-use Rattle.std.proofs.Common.{◌≡◌, ◌≢◌, ℕ, zero, suc, ◌+◌, ◌<◌, ◌≤◌, ◌⊎◌, inl, inr, ⊎_elim, Bool, true, false, ◌&&◌, ◌||◌, not, cond, List, [], ◌∷◌, ◌++◌, map, length, set, Option, Some, None, Result, Ok, Err, refl, sym, ap, ◌∙◌, subst, arith}
-use Rattle.std.specs.Prelude.{OnOk, ◌==◌, slice_get, if◌then◌else◌, nat_lt}
+use Rattle.std.proofs.Common.{◌≡◌, ◌≢◌, ℕ, zero, suc, ◌+◌, ◌<◌, ◌≤◌, ◌⊎◌, inl, inr, ⊎_elim, Bool, true, false, ◌&&◌, ◌||◌, not, cond, List, [], ◌∷◌, ◌++◌, map, length, set, Option, Some, None, Ok, refl, sym, ap, ◌∙◌, subst, arith}
+use Rattle.std.specs.Prelude.{◌==◌, slice_get, if◌then◌else◌, nat_lt}
 use Rattle.std.specs.Option.{option_map_or, option_map}
 use Rattle.std.specs.Str.{bytes_eq}
 use Rattle.std.proofs.lemmas.Bool.{le-leb, and_parts, or_cases, or_right, eqb-true, eqb-false, eq-eqb, ne_eqb, false≢true, cases_lt}
@@ -361,11 +361,6 @@ module _ (rows : List (List Bool)) (all : List Heading) (spots : Spots) (exact :
           let w = slice_get_within (map (λ (h : Heading). h.name) all) f n (holds-name n f first) in
           let l = length-map all (λ (h : Heading). h.name) in
           before.each n f first (omega (arith, w, l, le)) p q i j lt e
-
-  pub suspects-then : {E : Type 0} (r : Result (Unit {0}) E) (k : ℕ) (old new : List Bool) → TestedBefore rows all spots k old
-      → OnOk r (HaveTestedAt rows all spots (slice_get all k) k old new) → OnOk r (TestedBefore rows all spots (k + 1) new)
-  suspects-then (Ok x) k old new before h = suspects-more k old new before (slice_get all k) refl h
-  suspects-then (Err e) k old new before h = tt
 
 -- ---- a method that is not suspected
 

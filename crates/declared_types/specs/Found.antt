@@ -10,13 +10,11 @@ use Rattle.declared_types.specs.declared.members.Draft.{Draft}
 use Rattle.declared_types.specs.Keys.{AreKeyed}
 use Rattle.name_outcome.specs.declared.parts.Heading.{Heading}
 use Rattle.name_outcome.specs.Members.{Members, is_signature, slotted}
-use Rattle.name_outcome.specs.Tables.{field_in, method_in}
-use Rattle.name_tables.specs.Owned.{AreOwned}
-use Rattle.name_tables.specs.Spots.{AreSpots}
+use Rattle.name_tables.specs.Declarations.{AreListed}
 
 -- the members of a draft
 abbrev pub members_seen : Draft → Members
-members_seen d = record { fields = d.fields.items; headings = d.headings.items; slots = map (slot_seen at_place) d.slots.items }
+members_seen d = record { fields = d.declared.fields.items; headings = d.declared.headings.items; slots = map (slot_seen at_place) d.slots.items }
 
 -- whether a slot has this name, these parameters and this result
 abbrev pub fits : List ℕ → List Local → Option Ty → Slot → Bool
@@ -35,9 +33,7 @@ slot_of static n ls r m =
     if static then (None, m)
     else let s = slotted n ls r (length m.headings) m.slots in (Some s.0, record { fields = m.fields; headings = m.headings; slots = s.1 })
 
--- the fields and methods of each class, the methods of each name and the slots of each key stand where the draft says
+-- what is declared is found by its tables, and the slots of each key stand where the draft says
 pub record AreFound (d : Draft) : Type 0 where
-  pub fields : AreOwned (field_in d.fields.items) d.own_fields
-  pub owned : AreOwned (method_in d.headings.items) d.own_methods
-  pub methods : AreSpots (map (λ h. h.name) d.headings.items) d.method_spots
+  pub listed : AreListed d.declared
   pub slots : AreKeyed d.slots.items d.keyed_slots.items

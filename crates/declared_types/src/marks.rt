@@ -3,7 +3,7 @@
 
 ghost use Rattle.std.specs.Prelude.{◌≡◌, ◌≢◌, ℕ, ◌+◌, ◌≤◌, ◌==◌, ◌||◌, true, List, length, map, set, slice_get, Some, IfOk, OnOk, if◌then◌else◌};
 ghost use Rattle.name_tables.specs.Spots.{AreSpots, spots_of};
-ghost use Rattle.declared_types.specs.Marks.{mark_of, mark_at, merged, may_join, Marked, MarkedFrom, is_suspect, HaveTested, HaveTestedFrom, HaveTestedAt, TestedBefore, TestedNext, mark_in, begins_from, AreTested};
+ghost use Rattle.declared_types.specs.Marks.{mark_of, mark_at, merged, may_join, Marked, MarkedFrom, is_suspect, HaveTested, HaveTestedFrom, HaveTestedAt, TestedNext, mark_in, begins_from, AreTested};
 
 use java_core::Hierarchy;
 use name_outcome::Heading;
@@ -289,23 +289,6 @@ fn test_at(
     }
 }
 
-/// One method more whose name is looked at.
-fn test_on(
-    alloc: Global,
-    rows: &Hierarchy,
-    count: u32,
-    spots: &Spots,
-    all: &Vec<Heading>,
-    at: usize,
-    suspects: &mut [bool],
-) -> Result<(), AllocError>
-    requires spots { AreSpots (map (λ h. h.name) all.now.items) spots.now }
-    requires before { TestedBefore rows.now all.now.items spots.now at suspects.old }
-    ensures { OnOk result (TestedBefore rows.now all.now.items spots.now (at + 1) suspects.new) }
-{
-    test_at(alloc, rows, count, spots, all, at, suspects)
-}
-
 /// For each method whether it may clash with one of its name that stands before it, of so many types; `AllocError` where memory is short.
 pub fn suspects_of(
     alloc: Global,
@@ -319,7 +302,7 @@ pub fn suspects_of(
 {
     let mut suspects = vec![in alloc; false; all.len()]?;
     for k in 0..all.len() {
-        test_on(alloc, rows, count, spots, all, k, suspects.as_mut_slice())?;
+        test_at(alloc, rows, count, spots, all, k, suspects.as_mut_slice())?;
     }
     Ok(suspects)
 }

@@ -1,7 +1,7 @@
 //! Fields, methods and slots.
 #![tactic(auto)]
 
-ghost use Rattle.std.specs.Prelude.{◌≡◌, ℕ, ◌+◌, Option, IfOk, OnOk, Ok, false, is_some};
+ghost use Rattle.std.specs.Prelude.{◌≡◌, ℕ, ◌+◌, Option, IfOk, OnOk, Ok, false, is_some, length};
 ghost use Rattle.std.specs.declared.vec.Vec.{Vec};
 ghost use Rattle.std.specs.declared.alloc.Global.{Global};
 ghost use Rattle.java_tree.specs.Syntax.{head_of, member_of, members, heads, decl_of, decls};
@@ -20,23 +20,16 @@ use kaba_base::{ClassId, Name, Place};
 use name_outcome::{Flags, Heading};
 use name_rules::{Form, Kind, Refusal};
 use name_tables::{
-    Owned, Spots, Types, after, flags_of, is_text, names_type, number_at, params_of, result_of,
-    type_of,
+    Declared, Owned, Spots, Types, after, flags_of, is_text, names_type, number_at, params_of,
+    result_of, type_of,
 };
 use std::alloc::{AllocError, Global};
 
 /// The members so far.
 #[derive(Drop)]
 pub struct Draft {
-    pub fields: Vec<Field>,
-    pub headings: Vec<Heading>,
+    pub declared: Declared,
     pub slots: Vec<Slot>,
-    /// Where the fields of each class stand.
-    pub own_fields: Owned,
-    /// Where the methods of each class stand.
-    pub own_methods: Owned,
-    /// Where the methods of each name stand.
-    pub method_spots: Spots,
     /// Where the slots of each key stand.
     pub keyed_slots: Vec<Vec<usize>>,
 }
@@ -69,47 +62,59 @@ fn is_main(
 /// Whether a class has a method of this name.
 fn has_method(draft: &Draft, owner: u32, name: &Name) -> bool
     requires { AreFound draft.now }
-    ensures { result ≡ is_some (method_in draft.now.headings.items owner name.now) }
+    ensures { result ≡ is_some (method_in draft.now.declared.headings.items owner name.now) }
 {
-    draft.own_methods.at(owner, name).is_some()
+    draft.declared.own_methods.at(owner, name).is_some()
 }
 
 /// Whether a class has a field of this name.
 fn has_field(draft: &Draft, owner: u32, name: &Name) -> bool
     requires { AreFound draft.now }
-    ensures { result ≡ is_some (field_in draft.now.fields.items owner name.now) }
+    ensures { result ≡ is_some (field_in draft.now.declared.fields.items owner name.now) }
 {
-    draft.own_fields.at(owner, name).is_some()
+    draft.declared.own_fields.at(owner, name).is_some()
+}
+
+/// The number of the next method.
+fn next_method(draft: &Draft) -> Result<u32, Refusal>
+    ensures { Gives (λ k. k) result (Ok (length draft.now.declared.headings.items)) }
+{
+    number_at(draft.declared.headings.len())
 }
 
 /// One method more, which its class does not have yet.
 fn add_method(alloc: Global, draft: &mut Draft, heading: Heading) -> Result<(), Refusal>
     requires found { AreFound draft.old }
-    requires fresh { is_some (method_in draft.old.headings.items heading.owner heading.name) ≡ false }
+    requires fresh { is_some (method_in draft.old.declared.headings.items heading.owner heading.name) ≡ false }
     ensures given { Gives (λ _. members_seen draft.new) result (Ok (with_method (members_seen draft.old) heading)) }
     ensures found { OnOk result (AreFound draft.new) }
 {
-    let number = number_at(draft.headings.len())?;
+    let number = next_method(draft)?;
     draft
+        .declared
         .own_methods
         .note(alloc, heading.owner, &heading.name, number)?;
-    draft.method_spots.note(alloc, &heading.name, number)?;
-    draft.headings.push(heading)?;
+    draft
+        .declared
+        .method_spots
+        .note(alloc, &heading.name, number)?;
+    draft.declared.headings.push(heading)?;
     Ok(())
 }
 
 /// One field more, which its class does not have yet.
 fn add_field(alloc: Global, draft: &mut Draft, field: Field) -> Result<(), Refusal>
     requires found { AreFound draft.old }
-    requires fresh { is_some (field_in draft.old.fields.items field.owner.0 field.name) ≡ false }
+    requires fresh { is_some (field_in draft.old.declared.fields.items field.owner.0 field.name) ≡ false }
     ensures given { Gives (λ _. members_seen draft.new) result (Ok (with_field (members_seen draft.old) field)) }
     ensures found { OnOk result (AreFound draft.new) }
 {
-    let number = number_at(draft.fields.len())?;
+    let number = number_at(draft.declared.fields.len())?;
     draft
+        .declared
         .own_fields
         .note(alloc, field.owner.0, &field.name, number)?;
-    draft.fields.push(field)?;
+    draft.declared.fields.push(field)?;
     Ok(())
 }
 
@@ -130,7 +135,7 @@ fn slot_of(
     if is_static {
         return Ok(None);
     }
-    let first = number_at(draft.headings.len())?;
+    let first = next_method(draft)?;
     let slot = slotted(
         alloc,
         &mut draft.slots,
@@ -360,12 +365,14 @@ pub fn members_of(alloc: Global, known: &Types, list: &[Decl]) -> Result<Draft, 
     ensures found { IfOk result AreFound }
 {
     let mut draft = Draft {
-        fields: Vec::new(alloc),
-        headings: Vec::new(alloc),
+        declared: Declared {
+            fields: Vec::new(alloc),
+            headings: Vec::new(alloc),
+            own_fields: Owned::new(alloc),
+            own_methods: Owned::new(alloc),
+            method_spots: Spots::new(alloc),
+        },
         slots: Vec::new(alloc),
-        own_fields: Owned::new(alloc),
-        own_methods: Owned::new(alloc),
-        method_spots: Spots::new(alloc),
         keyed_slots: Vec::new(alloc),
     };
     match all_members(alloc, known, &mut draft, list) {

@@ -8,9 +8,9 @@ ghost use Rattle.java_core.specs.Plain.{class_seen};
 ghost use Rattle.java_core.specs.Subtypes.{supers_in, Entered, AreEmpty, AreDirect};
 ghost use Rattle.java_core.specs.Owned.{listed};
 
-use crate::Class;
+use crate::{Class, Tried};
 use kaba_base::ClassId;
-use std::alloc::{AllocError, Global};
+use std::alloc::Global;
 
 /// The types that stand directly below the type of a number.
 pub fn listed(lists: &[Vec<u32>], y: u32) -> &[u32]
@@ -23,7 +23,7 @@ pub fn listed(lists: &[Vec<u32>], y: u32) -> &[u32]
 }
 
 /// Enters `x` directly below a type.
-fn enter(lists: &mut [Vec<u32>], x: u32, class: ClassId) -> Result<(), AllocError>
+fn enter(lists: &mut [Vec<u32>], x: u32, class: ClassId) -> Tried<()>
     ensures { IfOk result (λ _. Entered x (class ∷ []) lists.old lists.new) }
 {
     let at = class.0 as usize;
@@ -34,7 +34,7 @@ fn enter(lists: &mut [Vec<u32>], x: u32, class: ClassId) -> Result<(), AllocErro
 }
 
 /// Enters `x` directly below these.
-fn enter_all(lists: &mut [Vec<u32>], x: u32, classes: &[ClassId]) -> Result<(), AllocError>
+fn enter_all(lists: &mut [Vec<u32>], x: u32, classes: &[ClassId]) -> Tried<()>
     ensures { IfOk result (λ _. Entered x classes.now lists.old lists.new) }
 {
     for class in classes {
@@ -44,7 +44,7 @@ fn enter_all(lists: &mut [Vec<u32>], x: u32, classes: &[ClassId]) -> Result<(), 
 }
 
 /// Enters `x` directly below its superclass, if it has one.
-fn enter_parent(lists: &mut [Vec<u32>], x: u32, parent: Option<ClassId>) -> Result<(), AllocError>
+fn enter_parent(lists: &mut [Vec<u32>], x: u32, parent: Option<ClassId>) -> Tried<()>
     ensures { IfOk result (λ _. Entered x (option_to_list parent) lists.old lists.new) }
 {
     match parent {
@@ -55,7 +55,7 @@ fn enter_parent(lists: &mut [Vec<u32>], x: u32, parent: Option<ClassId>) -> Resu
 }
 
 /// Enters the class `x` directly below its superclass and its interfaces.
-fn enter_class(lists: &mut [Vec<u32>], x: u32, class: &Class) -> Result<(), AllocError>
+fn enter_class(lists: &mut [Vec<u32>], x: u32, class: &Class) -> Tried<()>
     ensures { IfOk result (λ _. Entered x (supers_in (class_seen at_place class.now)) lists.old lists.new) }
 {
     enter_parent(lists, x, class.parent)?;
@@ -64,7 +64,7 @@ fn enter_class(lists: &mut [Vec<u32>], x: u32, class: &Class) -> Result<(), Allo
 }
 
 /// For each type a list with nothing in it.
-fn empty_lists(alloc: Global, count: usize) -> Result<Vec<Vec<u32>>, AllocError>
+fn empty_lists(alloc: Global, count: usize) -> Tried<Vec<Vec<u32>>>
     ensures { IfOk result (λ v. AreEmpty count v.items) }
 {
     let mut lists = Vec::new(alloc);
@@ -75,7 +75,7 @@ fn empty_lists(alloc: Global, count: usize) -> Result<Vec<Vec<u32>>, AllocError>
 }
 
 /// Enters each class directly below its superclass and its interfaces.
-fn enter_classes(lists: &mut [Vec<u32>], all: &Vec<Class>, count: u32) -> Result<(), AllocError>
+fn enter_classes(lists: &mut [Vec<u32>], all: &Vec<Class>, count: u32) -> Tried<()>
     requires count { length all.now.items ≡ count }
     requires before { AreDirect (map (class_seen at_place) all.now.items) 0 lists.old }
     ensures { IfOk result (λ _. AreDirect (map (class_seen at_place) all.now.items) count lists.new) }
@@ -87,7 +87,7 @@ fn enter_classes(lists: &mut [Vec<u32>], all: &Vec<Class>, count: u32) -> Result
 }
 
 /// For each type those directly below it.
-pub fn direct_of(alloc: Global, all: &Vec<Class>, count: u32) -> Result<Vec<Vec<u32>>, AllocError>
+pub fn direct_of(alloc: Global, all: &Vec<Class>, count: u32) -> Tried<Vec<Vec<u32>>>
     requires { length all.now.items ≡ count }
     ensures { IfOk result (λ v. AreDirect (map (class_seen at_place) all.now.items) count v.items) }
 {

@@ -33,9 +33,13 @@ pub use statics::{
     field_in, field_type, given_of, is_length, is_string, local_type, plain_type, slot_in,
     static_of, string_method, string_result, type_at, unary_type, value_type,
 };
+use std::alloc::AllocError;
 pub use subtypes::{Hierarchy, subtypes_of};
 use tables::Tables;
 pub use tables::{MemberTables as FieldTables, mixed, mixed_all};
+
+/// What was made, or that memory was short.
+type Tried<T> = Result<T, AllocError>;
 
 /// What an array's elements are, or a type that is no array.
 #[derive(Clone, Copy, PartialEq, Eq)]

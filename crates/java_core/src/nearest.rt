@@ -10,10 +10,11 @@ ghost use Rattle.java_core.specs.declared.tables.MemberKey.TheVariants as key;
 ghost use Rattle.java_core.specs.Tables.{AreMembersBy};
 ghost use Rattle.java_core.specs.Nearest.{has_name, name_number, number_of, name_numbers, numbered_among, parent_at, AreVersions, IsVersion, IsVersionAbove};
 
+use crate::Tried;
 use crate::owned::{first_among, listed_under};
 use crate::tables::{Member, name_bucket};
 use kaba_base::{ClassId, Name};
-use std::alloc::{AllocError, Global};
+use std::alloc::Global;
 use version_map::VersionMap;
 
 /// Members are numbered in 32 bits.
@@ -66,7 +67,7 @@ fn name_numbers<M: Member>(
     alloc: Global,
     members: &[M],
     lists: &Vec<Vec<usize>>,
-) -> Result<Vec<Option<u32>>, AllocError>
+) -> Tried<Vec<Option<u32>>>
     requires few { length members.now < 4294967295 }
     requires named { AreMembersBy M.keys key.Name members.now lists.now.items }
     ensures { IfOk result (λ v. v.items ≡ name_numbers M.keys members.now) }
@@ -95,7 +96,7 @@ fn with_member(
     map: VersionMap,
     numbers: &[Option<u32>],
     at: usize,
-) -> Result<VersionMap, AllocError>
+) -> Tried<VersionMap>
     requires { length numbers.now < 4294967295 }
     ensures { IfOk result (λ m. (i : ℕ) → holds m i ≡ first_or (numbered_among numbers.now i (at ∷ [])) (holds map i)) }
 {
@@ -111,7 +112,7 @@ fn with_members(
     map: VersionMap,
     numbers: &[Option<u32>],
     own: &[usize],
-) -> Result<VersionMap, AllocError>
+) -> Tried<VersionMap>
     requires { length numbers.now < 4294967295 }
     ensures { IfOk result (λ m. (i : ℕ) → holds m i ≡ first_or (numbered_among numbers.now i own.now) (holds map i)) }
 {
@@ -125,7 +126,7 @@ fn with_members(
 }
 
 /// The version of a number once more, where it is known.
-fn version_at(all: &[Option<VersionMap>], at: usize) -> Result<Option<VersionMap>, AllocError>
+fn version_at(all: &[Option<VersionMap>], at: usize) -> Tried<Option<VersionMap>>
     ensures { IfOk result (λ o. IfSome o (λ m. IsVersion all.now at (holds m))) }
 {
     match all.get(at) {
@@ -139,7 +140,7 @@ fn version_above(
     alloc: Global,
     parent: Option<ClassId>,
     all: &[Option<VersionMap>],
-) -> Result<Option<VersionMap>, AllocError>
+) -> Tried<Option<VersionMap>>
     ensures { IfOk result (λ o. IfSome o (λ m. IsVersionAbove all.now parent (holds m))) }
 {
     match parent {
@@ -175,7 +176,7 @@ fn enter(
     numbers: &[Option<u32>],
     all: &mut [Option<VersionMap>],
     at: usize,
-) -> Result<(), AllocError>
+) -> Tried<()>
     requires few { length numbers.now < 4294967295 }
     requires before { AreVersions parents.now numbers.now own.now.items all.old }
     ensures { OnOk result (AreVersions parents.now numbers.now own.now.items all.new) }
@@ -189,7 +190,7 @@ fn enter(
 }
 
 /// No versions, for each of so many classes; `AllocError` where memory is short.
-fn none_yet(alloc: Global, count: usize) -> Result<Vec<Option<VersionMap>>, AllocError>
+fn none_yet(alloc: Global, count: usize) -> Tried<Vec<Option<VersionMap>>>
     ensures { IfOk result (λ v. (c : ℕ) (m : VersionMap) → slice_get v.items c ≡ Some (Some m) → ⊥) }
 {
     let mut all = Vec::new(alloc);
@@ -212,7 +213,7 @@ fn is_marked(marks: &[bool], at: usize) -> bool {
 }
 
 /// Which classes others extend; `AllocError` where memory is short. What is made by it is tested.
-fn extended(alloc: Global, parents: &[Option<ClassId>]) -> Result<Vec<bool>, AllocError> {
+fn extended(alloc: Global, parents: &[Option<ClassId>]) -> Tried<Vec<bool>> {
     let mut marks = vec![in alloc; false; parents.len()]?;
     for parent in parents {
         if let Some(parent) = parent {
@@ -229,7 +230,7 @@ fn versions(
     own: &Vec<Vec<usize>>,
     numbers: &[Option<u32>],
     order: &[u32],
-) -> Result<Vec<Option<VersionMap>>, AllocError>
+) -> Tried<Vec<Option<VersionMap>>>
     requires { length numbers.now < 4294967295 }
     ensures { IfOk result (λ v. AreVersions parents.now numbers.now own.now.items v.items) }
 {
@@ -258,7 +259,7 @@ pub fn nearest_members<M: Member>(
     own: &Vec<Vec<usize>>,
     lists: &Vec<Vec<usize>>,
     order: &[u32],
-) -> Result<Vec<Option<VersionMap>>, AllocError>
+) -> Tried<Vec<Option<VersionMap>>>
     requires { AreMembersBy M.keys key.Name members.now lists.now.items }
     ensures { IfOk result (λ v. AreVersions parents.now (name_numbers M.keys members.now) own.now.items v.items) }
 {

@@ -1,8 +1,9 @@
 //! An order of the classes and interfaces in which each comes behind those that it names as its supertypes. Nothing is promised of it:
 //! what is filled in by it is tested.
 
+use crate::Tried;
 use crate::direct::listed;
-use std::alloc::{AllocError, Global};
+use std::alloc::Global;
 
 /// What a walk through the types below others does next.
 #[derive(Clone, Copy)]
@@ -22,7 +23,7 @@ fn turns(lists: &[Vec<u32>]) -> usize {
 }
 
 /// The walk comes to each of so many types.
-fn all_types(alloc: Global, count: u32) -> Result<Vec<Visit>, AllocError> {
+fn all_types(alloc: Global, count: u32) -> Tried<Vec<Visit>> {
     let mut next = Vec::new(alloc);
     for k in 0..count {
         next.push(Visit {
@@ -43,7 +44,7 @@ fn is_new(seen: &mut [bool], at: u32) -> bool {
 }
 
 /// The walk comes to a type, then to those directly below it, and then leaves it.
-fn enter(next: &mut Vec<Visit>, at: u32, below: &[u32]) -> Result<(), AllocError> {
+fn enter(next: &mut Vec<Visit>, at: u32, below: &[u32]) -> Tried<()> {
     next.push(Visit { at, leaves: true })?;
     for other in below {
         next.push(Visit {
@@ -61,7 +62,7 @@ fn turn(
     next: &mut Vec<Visit>,
     order: &mut Vec<u32>,
     visit: Visit,
-) -> Result<(), AllocError> {
+) -> Tried<()> {
     if visit.leaves {
         order.push(visit.at)?;
         return Ok(());
@@ -74,7 +75,7 @@ fn turn(
 
 /// Each of so many types behind its supertypes, of which these lists have those directly below; `AllocError` where memory is short.
 /// The types are left by a walk in depth, each after those below it that are not above it too, and then all are turned round.
-pub fn order_of(alloc: Global, lists: &[Vec<u32>], count: u32) -> Result<Vec<u32>, AllocError> {
+pub fn order_of(alloc: Global, lists: &[Vec<u32>], count: u32) -> Tried<Vec<u32>> {
     let mut seen = vec![in alloc; false; count as usize]?;
     let mut next = all_types(alloc, count)?;
     let mut order = Vec::new(alloc);

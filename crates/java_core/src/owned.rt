@@ -5,12 +5,12 @@ ghost use Rattle.std.specs.Prelude.{◌≡◌, ℕ, ◌<◌, ◌++◌, ◌∷◌
 ghost use Rattle.std.specs.Fn.{FnReturnsAt};
 ghost use Rattle.java_core.specs.Owned.{listed, owned_from, passes, first_among};
 
-use crate::Program;
+use crate::{Program, Tried};
 use kaba_base::ClassId;
 use std::alloc::{AllocError, Global};
 
 /// Lists up to the one of a number at least.
-fn reach(alloc: Global, lists: &mut Vec<Vec<usize>>, at: usize) -> Result<(), AllocError>
+fn reach(alloc: Global, lists: &mut Vec<Vec<usize>>, at: usize) -> Tried<()>
     ensures there { OnOk result (at < length lists.new.items) }
     ensures kept { OnOk result ((c : ℕ) → listed lists.new.items c ≡ listed lists.old.items c) }
 {
@@ -21,7 +21,7 @@ fn reach(alloc: Global, lists: &mut Vec<Vec<usize>>, at: usize) -> Result<(), Al
 }
 
 /// One number more in the list of a number that is there.
-fn put(lists: &mut Vec<Vec<usize>>, at: usize, number: usize) -> Result<(), AllocError>
+fn put(lists: &mut Vec<Vec<usize>>, at: usize, number: usize) -> Tried<()>
     requires { at < length lists.old.items }
     ensures { OnOk result ((c : ℕ) → listed lists.new.items c ≡ cond (at == c) (listed lists.old.items c ++ number ∷ []) (listed lists.old.items c)) }
 {

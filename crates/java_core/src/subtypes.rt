@@ -2,6 +2,7 @@
 #![tactic(auto)]
 
 ghost use Rattle.std.specs.Prelude.{◌≡◌, ℕ, ◌<◌, ◌≤◌, ◌||◌, ◌⊎◌, ◌↔◌, Bool, List, ◌∷◌, [], length, map, IfOk, OnOk, IsTrue, MatchOption, Contains, false};
+ghost use Rattle.std.specs.Bool.{OnTrue, OnFalse};
 ghost use Rattle.kaba_bits.specs.Sets.{bit, size, IsEmpty, IsLeastFrom};
 ghost use Rattle.java_core.specs.Trees.{at_place};
 ghost use Rattle.java_core.specs.Plain.{class_seen};
@@ -10,9 +11,9 @@ ghost use Rattle.java_core.specs.Squares.{in_row, AreRows};
 ghost use Rattle.java_core.specs.Subtypes.{Share, IsOwnRow, AreInside, IsExact, AreExact, Gained, Filled, AllExact, subtype_rows};
 ghost use Rattle.java_core.specs.Squares.{is_above};
 
-use crate::Class;
 use crate::direct::{direct_of, listed};
 use crate::order::order_of;
+use crate::{Class, Tried};
 use kaba_bits::{BitRow, empty_rows, row_at};
 use std::alloc::{AllocError, Global};
 use std::marker::Model;
@@ -71,13 +72,21 @@ fn share(first: &BitRow, second: &BitRow, a: u32, b: u32) -> bool
     first.meets(second)
 }
 
+/// Whether there is no row of one of two types.
+fn is_outside(rows: &Vec<BitRow>, a: u32, b: u32) -> bool
+    ensures outside { OnTrue result ((length rows.now.items ≤ a) ⊎ (length rows.now.items ≤ b)) }
+    ensures inside { OnFalse result ((a < length rows.now.items) × (b < length rows.now.items)) }
+{
+    let count = rows.len();
+    a as usize >= count || b as usize >= count
+}
+
 impl Hierarchy {
     /// Whether `b` is at or above `a`.
     pub fn is_above(&self, a: u32, b: u32) -> bool
         ensures { result ≡ is_above self.now a b }
     {
-        let count = self.below.len();
-        if a as usize >= count || b as usize >= count {
+        if is_outside(&self.below, a, b) {
             return false;
         }
         is_in(row_at(self.below.as_slice(), b as usize), a, b)
@@ -97,8 +106,7 @@ impl Hierarchy {
     pub fn meet(&self, a: u32, b: u32) -> bool
         ensures { result ≡ meet self.now a b }
     {
-        let count = self.below.len();
-        if a as usize >= count || b as usize >= count {
+        if is_outside(&self.below, a, b) {
             return false;
         }
         let below = self.below.as_slice();
@@ -156,7 +164,7 @@ fn reach(
     row: &mut BitRow,
     waiting: &mut Vec<u32>,
     x: u32,
-) -> Result<(), AllocError>
+) -> Tried<()>
     requires x { x < length row.old }
     requires known { length known.now ≡ length row.old }
     requires len { length rows.now ≡ length row.old }
@@ -182,7 +190,7 @@ fn reach_all(
     row: &mut BitRow,
     waiting: &mut Vec<u32>,
     more: &[u32],
-) -> Result<(), AllocError>
+) -> Tried<()>
     requires inside { (x : ℕ) → Contains more.now x → x < length row.old }
     requires known { length known.now ≡ length row.old }
     requires len { length rows.now ≡ length row.old }
@@ -196,7 +204,7 @@ fn reach_all(
 }
 
 /// A row of the type `b` alone.
-fn own_row(alloc: Global, count: u32, b: u32) -> Result<BitRow, AllocError>
+fn own_row(alloc: Global, count: u32, b: u32) -> Tried<BitRow>
     requires { b < count }
     ensures { IfOk result (λ r. IsOwnRow count b r) }
 {
@@ -205,106 +213,70 @@ fn own_row(alloc: Global, count: u32, b: u32) -> Result<BitRow, AllocError>
     Ok(row)
 }
 
-/// The row of a type, found by a walk downwards; the rows of some types are known.
-fn walk(
+/// The types by number: which stand directly below each, and how many there are. Rows are made in the memory of `alloc`.
+#[derive(Drop)]
+struct Graph<'a> {
     alloc: Global,
-    lists: &[Vec<u32>],
-    rows: &[BitRow],
-    known: &BitRow,
+    lists: &'a [Vec<u32>],
     count: u32,
-    b: u32,
-) -> Result<BitRow, AllocError>
-    requires b { b < count }
-    requires inside { AreInside count lists.now }
-    requires others { AreExact lists.now count known.now rows.now }
-    ensures { IfOk result (λ r. IsExact lists.now count b r) }
+}
+
+/// The row of a type, found by a walk downwards; the rows of some types are known. It is empty where nothing else is below the type.
+fn row_below(graph: &Graph, rows: &[BitRow], known: &BitRow, b: u32) -> Tried<BitRow>
+    requires b { b < graph.now.count }
+    requires inside { AreInside graph.now.count graph.now.lists.now }
+    requires others { AreExact graph.now.lists.now graph.now.count known.now rows.now }
+    ensures { IfOk result (λ r. IsExact graph.now.lists.now graph.now.count b r) }
 {
-    let mut row = own_row(alloc, count, b)?;
-    let mut waiting = Vec::new(alloc);
+    if listed(graph.lists, b).is_empty() {
+        return BitRow::new(graph.alloc, 0);
+    }
+    let mut row = own_row(graph.alloc, graph.count, b)?;
+    let mut waiting = Vec::new(graph.alloc);
     waiting.push(b)?;
     'walk: while let Some(x) = waiting.pop() {
-        reach_all(rows, known, &mut row, &mut waiting, listed(lists, x))?;
+        reach_all(rows, known, &mut row, &mut waiting, listed(graph.lists, x))?;
     }
     Ok(row)
 }
 
-/// The row of a type: it is empty where nothing else is below the type.
-fn row_below(
-    alloc: Global,
-    lists: &[Vec<u32>],
-    rows: &[BitRow],
-    known: &BitRow,
-    count: u32,
-    b: u32,
-) -> Result<BitRow, AllocError>
-    requires b { b < count }
-    requires inside { AreInside count lists.now }
-    requires others { AreExact lists.now count known.now rows.now }
-    ensures { IfOk result (λ r. IsExact lists.now count b r) }
-{
-    if listed(lists, b).is_empty() {
-        return BitRow::new(alloc, 0);
-    }
-    walk(alloc, lists, rows, known, count, b)
-}
-
 /// Fills the row of a type, if there is one of the number that is not known yet.
-fn fill_one(
-    alloc: Global,
-    lists: &[Vec<u32>],
-    rows: &mut [BitRow],
-    known: &mut BitRow,
-    count: u32,
-    b: u32,
-) -> Result<(), AllocError>
-    requires inside { AreInside count lists.now }
-    requires before { AreExact lists.now count known.old rows.old }
-    ensures { IfOk result (λ _. Filled lists.now count b known.old known.new rows.new) }
+fn fill_one(graph: &Graph, rows: &mut [BitRow], known: &mut BitRow, b: u32) -> Tried<()>
+    requires inside { AreInside graph.now.count graph.now.lists.now }
+    requires before { AreExact graph.now.lists.now graph.now.count known.old rows.old }
+    ensures { IfOk result (λ _. Filled graph.now.lists.now graph.now.count b known.old known.new rows.new) }
 {
-    if b >= count || known.has(b) {
+    if b >= graph.count || known.has(b) {
         return Ok(());
     }
-    rows[b as usize] = row_below(alloc, lists, rows, known, count, b)?;
+    rows[b as usize] = row_below(graph, rows, known, b)?;
     known.set(b);
     Ok(())
 }
 
 /// Fills the rows of these types, the last first.
-fn fill_by(
-    alloc: Global,
-    lists: &[Vec<u32>],
-    rows: &mut [BitRow],
-    known: &mut BitRow,
-    count: u32,
-    order: &[u32],
-) -> Result<(), AllocError>
-    requires inside { AreInside count lists.now }
-    requires before { AreExact lists.now count known.old rows.old }
-    ensures { IfOk result (λ _. AreExact lists.now count known.new rows.new) }
+fn fill_by(graph: &Graph, rows: &mut [BitRow], known: &mut BitRow, order: &[u32]) -> Tried<()>
+    requires inside { AreInside graph.now.count graph.now.lists.now }
+    requires before { AreExact graph.now.lists.now graph.now.count known.old rows.old }
+    ensures { IfOk result (λ _. AreExact graph.now.lists.now graph.now.count known.new rows.new) }
 {
     for k in 0..order.len() {
-        fill_one(alloc, lists, rows, known, count, order[order.len() - 1 - k])?;
+        fill_one(graph, rows, known, order[order.len() - 1 - k])?;
     }
     Ok(())
 }
 
 /// Fills the rows of all types, by an order in which each comes before those below it; what the order leaves out comes behind.
-fn fill(
-    alloc: Global,
-    lists: &[Vec<u32>],
-    rows: &mut [BitRow],
-    count: u32,
-    order: &[u32],
-) -> Result<(), AllocError>
-    requires inside { AreInside count lists.now }
-    requires len { length rows.old ≡ count }
-    requires formed { AreRows count rows.old }
-    ensures { IfOk result (λ _. AllExact lists.now count rows.new) }
+fn fill(graph: &Graph, rows: &mut [BitRow], order: &[u32]) -> Tried<()>
+    requires inside { AreInside graph.now.count graph.now.lists.now }
+    requires len { length rows.old ≡ graph.now.count }
+    requires formed { AreRows graph.now.count rows.old }
+    ensures { IfOk result (λ _. AllExact graph.now.lists.now graph.now.count rows.new) }
 {
-    let mut known = BitRow::new(alloc, count)?;
-    fill_by(alloc, lists, rows, &mut known, count, order)?;
-    for b in 0..count {
-        fill_one(alloc, lists, rows, &mut known, count, b)?;
+    let mut known = BitRow::new(graph.alloc, graph.count)?;
+    fill_by(graph, rows, &mut known, order)?;
+    for b in 0..graph.count {
+        fill_one(graph, rows, &mut known, b)?;
     }
     Ok(())
 }
@@ -317,12 +289,11 @@ pub fn subtypes_of(alloc: Global, all: &Vec<Class>, count: u32) -> Result<Hierar
     let lists = direct_of(alloc, all, count)?;
     let order = order_of(alloc, lists.as_slice(), count)?;
     let mut below = empty_rows(alloc, all.len(), 0)?;
-    fill(
+    let graph = Graph {
         alloc,
-        lists.as_slice(),
-        below.as_mut_slice(),
+        lists: lists.as_slice(),
         count,
-        order.as_slice(),
-    )?;
+    };
+    fill(&graph, below.as_mut_slice(), order.as_slice())?;
     Ok(Hierarchy { below, order })
 }

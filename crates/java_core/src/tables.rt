@@ -7,7 +7,7 @@ ghost use Rattle.java_core.specs.Tables.{AreMembersBy, AreMemberTables, AreMetho
 
 use crate::nearest::nearest_members;
 use crate::owned::note_under;
-use crate::{Field, Method};
+use crate::{Field, Method, Tried};
 use kaba_base::{ClassId, Name, made};
 use std::alloc::{AllocError, Global};
 use version_map::VersionMap;
@@ -133,7 +133,7 @@ impl MethodTables {
         parents: &[Option<ClassId>],
         methods: &[Method],
         order: &[u32],
-    ) -> Result<MethodTables, AllocError>
+    ) -> Tried<MethodTables>
         ensures { IfOk result (λ t. AreMethodTables parents.now methods.now t) }
     {
         let by_slot = made!(listed_by(alloc, methods, &MemberKey::OwnerAndSlot));
@@ -196,11 +196,7 @@ fn place_by<M: Member>(by: &MemberKey, members: usize, member: &M) -> usize
 }
 
 /// The members by what is said; `AllocError` where memory is short.
-fn listed_by<M: Member>(
-    alloc: Global,
-    list: &[M],
-    by: &MemberKey,
-) -> Result<Vec<Vec<usize>>, AllocError>
+fn listed_by<M: Member>(alloc: Global, list: &[M], by: &MemberKey) -> Tried<Vec<Vec<usize>>>
     ensures { IfOk result (λ v. AreMembersBy M.keys by.now list.now v.items) }
 {
     let mut lists = Vec::new(alloc);

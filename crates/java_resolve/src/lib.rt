@@ -54,10 +54,16 @@ fn narrowed(count: usize) -> u32 {
 /// The number of the main method, where none of the methods clashes with another; there are so many types.
 fn main_number(alloc: Global, above: &Hierarchy, count: u32, draft: &Draft) -> Result<u32, Refusal>
     requires found { AreFound draft.now }
-    ensures { Gives (λ k. k) result (with (clashes_of above.now draft.now.headings.items) (λ _. main_of draft.now.headings.items)) }
+    ensures { Gives (λ k. k) result (with (clashes_of above.now draft.now.declared.headings.items) (λ _. main_of draft.now.declared.headings.items)) }
 {
-    let _count = clashes_of(alloc, above, count, &draft.method_spots, &draft.headings)?;
-    main_of(&draft.headings)
+    let _count = clashes_of(
+        alloc,
+        above,
+        count,
+        &draft.declared.method_spots,
+        &draft.declared.headings,
+    )?;
+    main_of(&draft.declared.headings)
 }
 
 /// The program of a tree whose types and members these are.
@@ -97,36 +103,35 @@ fn with_bodies(
         }
     };
     let field_tables =
-        made!(FieldTables::new(alloc, parents.as_slice(), draft.fields.as_slice(), above.supertypes_first()) => Refusal; known, classes, above, draft, parents);
+        made!(FieldTables::new(alloc, parents.as_slice(), draft.declared.fields.as_slice(), above.supertypes_first()) => Refusal; known, classes, above, draft, parents);
     let blocks =
-        made!(blocks_of_names(alloc, &above, &draft.headings, &draft.method_spots) => Refusal; known, classes, above, draft, parents, field_tables);
+        made!(blocks_of_names(alloc, &above, &draft.declared.headings, &draft.declared.method_spots) => Refusal; known, classes, above, draft, parents, field_tables);
     let tables = Tables {
         known,
         parents,
         above,
-        own_fields: draft.own_fields,
-        own_methods: draft.own_methods,
-        fields: draft.fields,
-        headings: draft.headings,
-        method_spots: draft.method_spots,
+        declared: draft.declared,
         blocks,
         field_tables,
     };
     match methods_of(alloc, &tables, list) {
-        Ok(methods) => match Program::new(
-            alloc,
-            classes,
-            tables.fields,
-            methods,
-            draft.slots,
-            MemberId(main),
-            tables.above,
-            tables.parents,
-            tables.field_tables,
-        ) {
-            Ok(program) => Ok(program),
-            Err(_) => Err(Refusal::Memory),
-        },
+        Ok(methods) => {
+            let declared = tables.declared;
+            match Program::new(
+                alloc,
+                classes,
+                declared.fields,
+                methods,
+                draft.slots,
+                MemberId(main),
+                tables.above,
+                tables.parents,
+                tables.field_tables,
+            ) {
+                Ok(program) => Ok(program),
+                Err(_) => Err(Refusal::Memory),
+            }
+        }
         Err(refusal) => {
             drop(tables);
             drop(classes);

@@ -1,5 +1,5 @@
 -- What a tree resolves to, or which condition holds of it: the one function over the tree tells it.
-use Rattle.std.proofs.Common.{◌≡◌, ℕ, ◌<◌, ◌≤◌, ⊎_elim, Bool, true, false, List, length, Some, refl, sym, ap, ◌∙◌, subst}
+use Rattle.std.proofs.Common.{◌≡◌, ℕ, ◌≤◌, ⊎_elim, Bool, true, false, List, length, Some, refl, sym, ap, ◌∙◌, subst}
 use Rattle.std.specs.Prelude.{slice_get, position}
 use Rattle.std.specs.Option.{is_some}
 use Rattle.std.proofs.lemmas.Bool.{false≢true, cases_lt}
@@ -13,7 +13,6 @@ use Rattle.java_tree.specs.declared.TypeBase.TheVariants as bases
 use Rattle.java_tree.specs.Syntax.{DeclTree}
 use Rattle.java_core.specs.declared.TyBase.{TyBase}
 use Rattle.java_core.specs.Programs.{Plain, PlainMethod, PlainSlot}
-use Rattle.java_core.specs.Classes.{IsProperSubclass}
 use Rattle.java_core.specs.Formed.{IsMain}
 use Rattle.java_tree.specs.Formed.{IsFormedTree}
 use Rattle.name_outcome.specs.Known.{Known}
@@ -29,7 +28,7 @@ use Rattle.name_outcome.proofs.Sees.{same_some}
 use Rattle.name_outcome.proofs.Runs.{stands-beside}
 use Rattle.name_outcome.proofs.KnownTypes.{AreKnown}
 use Rattle.name_outcome.proofs.KnownClasses.{HasSupers}
-use Rattle.name_outcome.proofs.Reached.{AreAbove}
+use Rattle.name_outcome.proofs.Reached.{AreAbove, NoLoops}
 use Rattle.name_outcome.proofs.SlotsOf.{SlotOf, none_of, one_of}
 use Rattle.name_outcome.proofs.KnownMembers.{AreMembers}
 use Rattle.name_outcome.proofs.MethodClashes.{NoClash, IsFirstMain}
@@ -65,7 +64,8 @@ pub record Steps (tree : List DeclTree) : Type 0 where
   pub supers : (i : ℕ) (d : DeclTree) → slice_get tree i ≡ Some d → HasSupers tree d
   pub rows : List (List Bool)
   pub above : AreAbove (outline tree) rows
-  pub acyclic : (c : ℕ) → c < length (outline tree).classes → IsProperSubclass (outline tree) c c → ⊥
+  pub number : ℕ
+  pub loops : NoLoops tree (outline tree).classes number
   pub draft : Members
   pub members : AreMembers tree known are (fields_in tree) (methods_in tree) draft
   pub count : ℕ

@@ -167,7 +167,7 @@ module _ (tree : List DeclTree) (s : Steps tree) where
       let e = (s.members.good a.0 x a.1).params.once i j f.name (at_map (λ q. q.name) x.head.params i f p)
       (at_map (λ q. q.name) x.head.params j g q ∙ ap Some (sym same)) in
       omega (arith, e, lt)
-  none-holds r (loop {c = c} {d = d} at h) = s.acyclic (suc c) (let l = slice_get_within tree c d at in let n = classes-count tree in omega (arith, l, n)) h
+  none-holds r (loop {c = c} {d = d} at h) = s.loops.none (suc c) (let l = slice_get_within tree c d at in let n = classes-count tree in omega (arith, l, n)) h
   none-holds r (overload {i = i} {j = j} {c = c} {h = h} {k = k} p q lt same u v other) = other (are-one c i j h k p q lt same u v)
   none-holds r (type_as_field {f = f} at e) = let a = at_contains (fields_in tree) f at in false≢true (sym (s.members.good_field a.0 f a.1).free ∙ e)
   none-holds r (type_as_param {m = x} {q = q} at has e) =

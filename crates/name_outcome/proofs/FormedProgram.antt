@@ -197,7 +197,7 @@ module _ (tree : List DeclTree) (s : Steps tree) where
   pub formed-acyclic : (c : ℕ) → IsProperSubclass R c c → ⊥
   formed-acyclic c h =
       let g = classes-proper (P tree s) (outline tree) refl (bare-proper (P tree s) h) in
-      s.acyclic c (supers-within (outline tree) c g.by g.direct) g
+      s.loops.none c (supers-within (outline tree) c g.by g.direct) g
 
   pub known-base : (b : TypeBase) (x : TyBase) → MeansBase (outline tree) b x → IsKnownBase R x
   known-base bases.Int x an_int = tt

@@ -1,3 +1,4 @@
+pub mod Declarations
 pub mod Known
 pub mod Owned
 pub mod Spots

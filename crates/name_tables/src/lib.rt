@@ -3,6 +3,7 @@
 //! What is declared has its place in its list as its number. Each look-up gives what going over the list gives.
 #![tactic(auto)]
 
+mod declarations;
 mod flags;
 mod names;
 mod numbers;
@@ -11,6 +12,7 @@ mod parameters;
 mod scope;
 mod spots;
 
+pub use declarations::Declared;
 pub use flags::flags_of;
 pub use names::{Types, asked, is_text, names_type, type_of};
 pub use numbers::{after, number_at};

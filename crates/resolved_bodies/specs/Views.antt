@@ -7,17 +7,17 @@ use Rattle.name_outcome.specs.Expressions.{Receiver, an_object, on_this, on_supe
 use Rattle.name_outcome.specs.Statements.{State}
 use Rattle.name_outcome.specs.Resolved.{Methods}
 use Rattle.resolved_bodies.specs.declared.declarations.Tables.{Tables}
-use Rattle.resolved_bodies.specs.declared.declarations.Site.{Site}
+use Rattle.resolved_bodies.specs.declared.declarations.Enclosing.{Enclosing}
 use Rattle.resolved_bodies.specs.declared.meanings.Callee.{Callee}
 use Rattle.resolved_bodies.specs.declared.meanings.Callee.TheVariants as callee
 use Rattle.resolved_bodies.specs.declared.locals.Body.{Body}
 use Rattle.resolved_bodies.specs.declared.bodies.Written.{Written}
 
 abbrev pub table_of : Tables → Table
-table_of t = record { known = t.known; parents = t.parents.items; above = t.above; fields = t.fields.items; headings = t.headings.items }
+table_of t = record { known = t.known; parents = t.parents.items; above = t.above; fields = t.declared.fields.items; headings = t.declared.headings.items }
 
 -- what is declared, where a part of a body stands
-abbrev pub table_at : Site → Table
+abbrev pub table_at : Enclosing → Table
 table_at s = table_of s.tables.now
 
 abbrev pub receiver_of : Callee → Receiver

@@ -16,7 +16,8 @@ ghost use Rattle.resolved_bodies.specs.Views.{table_of, table_at};
 ghost use Rattle.name_outcome.specs.Resolved.{Methods, bounds_from, body_of, method_step, body_step, head_body_step, decl_bodies, methods_of, slot_at};
 ghost use Rattle.resolved_bodies.specs.Views.{methods_seen};
 
-use crate::declarations::{Site, Tables};
+use crate::Tried;
+use crate::declarations::{Enclosing, Tables};
 use crate::locals::Body;
 use crate::stmts::statements;
 use java_core::{Local, Method, RStmt};
@@ -44,27 +45,27 @@ pub struct Written {
 
 /// The locals and the body of a method with its parameters in scope; `number` is the next free number.
 fn body_of(
-    site: &Site,
+    within: &Enclosing,
     params: &Vec<Local>,
     scope: &Scope,
     number: &mut u32,
     tree: &Option<Vec<Stmt>>,
-) -> Result<(Vec<Local>, Option<Vec<RStmt>>), Refusal>
+) -> Tried<(Vec<Local>, Option<Vec<RStmt>>)>
     requires bound { scope.now ≡ bounds_from 0 params.now.items }
-    requires outside { site.now.inside ≡ false }
+    requires outside { within.now.inside ≡ false }
     ensures { Gives {A = Vec Local Global × Option (Vec RStmt Global)} {B = List PlainLocal × Option Sts × ℕ}
         (λ b. (map (local_seen at_place) b.0.items, core.body_seen at_place b.1, number.new)) result
-        (body_of (table_at site.now) site.now.here params.now.items number.old (body_seen tree.now)) }
+        (body_of (table_at within.now) within.now.here params.now.items number.old (body_seen tree.now)) }
 {
     match tree {
-        None => Ok((Vec::new(site.alloc), None)),
+        None => Ok((Vec::new(within.alloc), None)),
         Some(list) => {
             let mut body = Body {
-                locals: Vec::new(site.alloc),
+                locals: Vec::new(within.alloc),
                 count: number_at(params.len())?,
                 number: *number,
             };
-            let run = statements(site, scope, &mut body, list)?;
+            let run = statements(within, scope, &mut body, list)?;
             *number = body.number;
             Ok((body.locals, Some(run)))
         }
@@ -87,7 +88,7 @@ fn method_step(
     written: &mut Written,
     head: &Head,
     tree: &Option<Vec<Stmt>>,
-) -> Result<(), Refusal>
+) -> Tried<()>
     ensures { Gives (λ _. methods_seen written.new) result (method_step (table_of owner.now.tables.now) owner.now.number kind
         (methods_seen written.old) (head_of head.now) (body_seen tree.now)) }
 {
@@ -96,7 +97,7 @@ fn method_step(
     let params =
         made!(params_in(owner.alloc, &owner.tables.known, &mut scope, head.params.as_slice()); scope);
     let outcome = made!(result_of(owner.alloc, &owner.tables.known, &head.result); params, scope);
-    let site = Site {
+    let within = Enclosing {
         alloc: owner.alloc,
         tables: owner.tables,
         here: Here {
@@ -105,11 +106,14 @@ fn method_step(
         },
         inside: false,
     };
-    let given = body_of(&site, &params, &scope, &mut written.number, tree);
+    let given = body_of(&within, &params, &scope, &mut written.number, tree);
     drop(scope);
     let (locals, body) = made!(given; params);
     let name = made!(head.name.copy(owner.alloc) => Refusal; params, locals, body);
-    let slot = slot_at(owner.tables.headings.as_slice(), written.methods.len());
+    let slot = slot_at(
+        owner.tables.declared.headings.as_slice(),
+        written.methods.len(),
+    );
     written.methods.push(Method {
         owner: ClassId(owner.number),
         name,
@@ -126,7 +130,7 @@ fn method_step(
 }
 
 /// One member more of a class.
-fn body_step(owner: &Owner, written: &mut Written, member: &Member) -> Result<(), Refusal>
+fn body_step(owner: &Owner, written: &mut Written, member: &Member) -> Tried<()>
     ensures { Gives (λ _. methods_seen written.new) result (body_step (table_of owner.now.tables.now) owner.now.number
         (methods_seen written.old) (member_of member.now)) }
 {
@@ -139,7 +143,7 @@ fn body_step(owner: &Owner, written: &mut Written, member: &Member) -> Result<()
 }
 
 /// The methods of a class.
-fn class_bodies(owner: &Owner, written: &mut Written, list: &Vec<Member>) -> Result<(), Refusal>
+fn class_bodies(owner: &Owner, written: &mut Written, list: &Vec<Member>) -> Tried<()>
     ensures { Gives (λ _. methods_seen written.new) result (run (body_step (table_of owner.now.tables.now) owner.now.number)
         (methods_seen written.old) (members list.now.items)) }
 {
@@ -150,7 +154,7 @@ fn class_bodies(owner: &Owner, written: &mut Written, list: &Vec<Member>) -> Res
 }
 
 /// The methods of an interface.
-fn interface_bodies(owner: &Owner, written: &mut Written, list: &Vec<Head>) -> Result<(), Refusal>
+fn interface_bodies(owner: &Owner, written: &mut Written, list: &Vec<Head>) -> Tried<()>
     ensures { Gives (λ _. methods_seen written.new) result (run (head_body_step (table_of owner.now.tables.now) owner.now.number)
         (methods_seen written.old) (heads list.now.items)) }
 {
@@ -161,7 +165,7 @@ fn interface_bodies(owner: &Owner, written: &mut Written, list: &Vec<Head>) -> R
 }
 
 /// The methods of one type more, and the number of the next type.
-fn decl_bodies(owner: &Owner, written: &mut Written, decl: &Decl) -> Result<u32, Refusal>
+fn decl_bodies(owner: &Owner, written: &mut Written, decl: &Decl) -> Tried<u32>
     ensures { Gives {A = ℕ} {B = ℕ × Methods} (λ k. (k, methods_seen written.new)) result
         (decl_bodies (table_of owner.now.tables.now) (owner.now.number, methods_seen written.old) (decl_of decl.now)) }
 {
@@ -173,7 +177,7 @@ fn decl_bodies(owner: &Owner, written: &mut Written, decl: &Decl) -> Result<u32,
 }
 
 /// All methods of a tree.
-pub fn methods_of(alloc: Global, tables: &Tables, list: &[Decl]) -> Result<Vec<Method>, Refusal>
+pub fn methods_of(alloc: Global, tables: &Tables, list: &[Decl]) -> Tried<Vec<Method>>
     ensures { Gives {A = Vec Method Global} {B = List PlainMethod} (λ v. map (method_seen at_place) v.items)
         result (methods_of (table_of tables.now) (decls list.now)) }
 {

@@ -15,12 +15,12 @@ ghost use Rattle.name_outcome.specs.Expressions.{class_before, Receiver, receive
 ghost use Rattle.resolved_bodies.specs.Views.{table_at, receiver_of};
 ghost use Rattle.name_rules.specs.Resolves.{un_op, bin_op};
 
-use crate::declarations::Site;
-use crate::make;
+use crate::declarations::Enclosing;
 use crate::meanings::{
     Callee, call_meaning, cast_type, class_before, name_meaning, next, static_field_of,
     static_method_of,
 };
+use crate::{Tried, make};
 use java_core::{BinOp, Op, RExpr, UnOp};
 use java_lex::Mark;
 use java_tree::{Expr, Id};
@@ -70,9 +70,9 @@ fn bin_op(mark: Mark) -> BinOp
 /// An expression with its names resolved. `number` is the next free number of a creation, a cast or
 /// an `instanceof`.
 #[cycle(exprs)]
-pub fn expr(site: &Site, scope: &Scope, number: &mut u32, tree: &Expr) -> Result<RExpr, Refusal>
+pub fn expr(within: &Enclosing, scope: &Scope, number: &mut u32, tree: &Expr) -> Tried<RExpr>
     ensures given { Gives {A = RExpr} {B = Ex × ℕ} (λ e. (core.expr_of at_place e, number.new)) result
-        (walk (table_at site.now) site.now.here scope.now number.old (expr_of tree.now)) }
+        (walk (table_at within.now) within.now.here scope.now number.old (expr_of tree.now)) }
 {
     match tree {
         Expr::Int { value, place } => Ok(RExpr::Int {
@@ -84,7 +84,7 @@ pub fn expr(site: &Site, scope: &Scope, number: &mut u32, tree: &Expr) -> Result
             place: *place,
         }),
         Expr::Str { units, place } => Ok(RExpr::Str {
-            units: units.copy(site.alloc)?,
+            units: units.copy(within.alloc)?,
             place: *place,
         }),
         Expr::Bool { value, place } => Ok(RExpr::Bool {
@@ -93,22 +93,22 @@ pub fn expr(site: &Site, scope: &Scope, number: &mut u32, tree: &Expr) -> Result
         }),
         Expr::Null { place } => Ok(RExpr::Null { place: *place }),
         Expr::This { place } => {
-            if site.here.is_static {
+            if within.here.is_static {
                 return Err(Refusal::NotInProfile(Form::ThisInStatic, *place));
             }
             Ok(RExpr::This { place: *place })
         }
-        Expr::Name { name, place } => name_meaning(site, scope, name, *place),
+        Expr::Name { name, place } => name_meaning(within, scope, name, *place),
         Expr::Field { base, name, place } => {
-            if let Some(class) = class_before(site, scope, base)? {
-                let field = made!(static_field_of(site, &class, name, *place); class);
+            if let Some(class) = class_before(within, scope, base)? {
+                let field = made!(static_field_of(within, &class, name, *place); class);
                 return Ok(RExpr::Static {
                     field: MemberId(field),
                     place: *place,
                 });
             }
-            let base = boxed(site, scope, number, base)?;
-            let name = made!(name.copy(site.alloc) => Refusal; base);
+            let base = boxed(within, scope, number, base)?;
+            let name = made!(name.copy(within.alloc) => Refusal; base);
             Ok(RExpr::Field {
                 base,
                 name,
@@ -116,8 +116,8 @@ pub fn expr(site: &Site, scope: &Scope, number: &mut u32, tree: &Expr) -> Result
             })
         }
         Expr::Index { base, at, place } => {
-            let base = boxed(site, scope, number, base)?;
-            let at = made!(boxed(site, scope, number, at); base);
+            let base = boxed(within, scope, number, base)?;
+            let at = made!(boxed(within, scope, number, at); base);
             Ok(RExpr::Index {
                 base,
                 at,
@@ -131,25 +131,27 @@ pub fn expr(site: &Site, scope: &Scope, number: &mut u32, tree: &Expr) -> Result
             place,
         } => match base {
             None => {
-                let on = call_meaning(site, name, *place)?;
-                applied(site, scope, number, on, name, args, *place)
+                let on = call_meaning(within, name, *place)?;
+                applied(within, scope, number, on, name, args, *place)
             }
             Some(base) => {
-                let on = callee_of(site, scope, number, base, name, *place)?;
-                applied(site, scope, number, on, name, args, *place)
+                let on = callee_of(within, scope, number, base, name, *place)?;
+                applied(within, scope, number, on, name, args, *place)
             }
         },
         Expr::SuperCall { name, args, place } => {
-            if site.here.is_static {
+            if within.here.is_static {
                 return Err(Refusal::NotInProfile(Form::ThisInStatic, *place));
             }
-            applied(site, scope, number, Callee::Super, name, args, *place)
+            applied(within, scope, number, Callee::Super, name, args, *place)
         }
-        Expr::New { class, args, place } => { new_object(site, scope, number, class, args, *place) }
+        Expr::New { class, args, place } => {
+            new_object(within, scope, number, class, args, *place)
+        }
         Expr::NewArray { ty, size, place } => {
-            let ty = type_of(site.alloc, &site.tables.known, ty)?;
+            let ty = type_of(within.alloc, &within.tables.known, ty)?;
             let own = next(number)?;
-            let size = boxed(site, scope, number, size)?;
+            let size = boxed(within, scope, number, size)?;
             Ok(RExpr::NewArray {
                 number: own,
                 ty,
@@ -158,9 +160,9 @@ pub fn expr(site: &Site, scope: &Scope, number: &mut u32, tree: &Expr) -> Result
             })
         }
         Expr::Cast { ty, value, place } => {
-            let ty = cast_type(site, ty)?;
+            let ty = cast_type(within, ty)?;
             let own = next(number)?;
-            let value = boxed(site, scope, number, value)?;
+            let value = boxed(within, scope, number, value)?;
             Ok(RExpr::Cast {
                 number: own,
                 ty,
@@ -173,9 +175,9 @@ pub fn expr(site: &Site, scope: &Scope, number: &mut u32, tree: &Expr) -> Result
             class,
             place,
         } => {
-            let value = boxed(site, scope, number, value)?;
+            let value = boxed(within, scope, number, value)?;
             let class =
-                made!(asked(site.alloc, &site.tables.known, &class.name, class.place); value);
+                made!(asked(within.alloc, &within.tables.known, &class.name, class.place); value);
             let own = made!(next(number); value);
             Ok(RExpr::InstanceOf {
                 number: own,
@@ -185,7 +187,7 @@ pub fn expr(site: &Site, scope: &Scope, number: &mut u32, tree: &Expr) -> Result
             })
         }
         Expr::Unary { mark, value, place } => {
-            let value = boxed(site, scope, number, value)?;
+            let value = boxed(within, scope, number, value)?;
             Ok(RExpr::Unary {
                 op: un_op(*mark),
                 value,
@@ -198,8 +200,8 @@ pub fn expr(site: &Site, scope: &Scope, number: &mut u32, tree: &Expr) -> Result
             right,
             place,
         } => {
-            let left = boxed(site, scope, number, left)?;
-            let right = made!(boxed(site, scope, number, right); left);
+            let left = boxed(within, scope, number, left)?;
+            let right = made!(boxed(within, scope, number, right); left);
             Ok(RExpr::Binary {
                 op: bin_op(*mark),
                 left,
@@ -212,93 +214,88 @@ pub fn expr(site: &Site, scope: &Scope, number: &mut u32, tree: &Expr) -> Result
 
 /// The same, as a part of another.
 #[cycle(exprs)]
-fn boxed(site: &Site, scope: &Scope, number: &mut u32, tree: &Expr) -> Result<Box<RExpr>, Refusal>
+fn boxed(within: &Enclosing, scope: &Scope, number: &mut u32, tree: &Expr) -> Tried<Box<RExpr>>
     ensures given { Gives {A = Box RExpr Global} {B = Ex × ℕ} (λ e. (core.expr_of at_place e.value, number.new)) result
-        (walk (table_at site.now) site.now.here scope.now number.old (expr_of tree.now)) }
+        (walk (table_at within.now) within.now.here scope.now number.old (expr_of tree.now)) }
 {
-    let expr = expr(site, scope, number, tree)?;
-    Ok(Box::new(site.alloc, expr)?)
+    let expr = expr(within, scope, number, tree)?;
+    Ok(Box::new(within.alloc, expr)?)
 }
 
 /// What `base.name(..)` is called on.
 #[cycle(exprs)]
 fn callee_of(
-    site: &Site,
+    within: &Enclosing,
     scope: &Scope,
     number: &mut u32,
     base: &Expr,
     name: &Name,
     place: Place,
-) -> Result<Callee, Refusal>
+) -> Tried<Callee>
     ensures given { Gives {A = Callee} {B = Receiver × ℕ} (λ c. (receiver_of c, number.new)) result
-        (receiver (table_at site.now) number.old name.now place
-        (class_before (table_at site.now) site.now.here scope.now (expr_of base.now))
-        (walk (table_at site.now) site.now.here scope.now number.old (expr_of base.now))) }
+        (receiver (table_at within.now) number.old name.now place
+        (class_before (table_at within.now) within.now.here scope.now (expr_of base.now))
+        (walk (table_at within.now) within.now.here scope.now number.old (expr_of base.now))) }
 {
-    match class_before(site, scope, base)? {
+    match class_before(within, scope, base)? {
         Some(class) => {
-            let method = made!(static_method_of(site, &class, name, place); class);
+            let method = made!(static_method_of(within, &class, name, place); class);
             Ok(Callee::Static(method))
         }
-        None => Ok(Callee::Object(boxed(site, scope, number, base)?)),
+        None => Ok(Callee::Object(boxed(within, scope, number, base)?)),
     }
 }
 
 /// The call of `name` on it.
 #[cycle(exprs)]
 fn applied(
-    site: &Site,
+    within: &Enclosing,
     scope: &Scope,
     number: &mut u32,
     on: Callee,
     name: &Name,
     args: &Vec<Expr>,
     place: Place,
-) -> Result<RExpr, Refusal>
+) -> Tried<RExpr>
     ensures given { Gives {A = RExpr} {B = Ex × ℕ} (λ e. (core.expr_of at_place e, number.new)) result
-        (after (walk_all (table_at site.now) site.now.here scope.now no_ex number.old (exprs args.now.items))
+        (after (walk_all (table_at within.now) within.now.here scope.now no_ex number.old (exprs args.now.items))
         (λ xs. called_on (receiver_of on) name.now xs place)) }
 {
-    let name = made!(name.copy(site.alloc) => Refusal; on);
-    let args = made!(all(site, scope, number, args); on, name);
+    let name = made!(name.copy(within.alloc) => Refusal; on);
+    let args = made!(all(within, scope, number, args); on, name);
     Ok(make::call(on, name, args, place))
 }
 
 /// `new class(args)`
 #[cycle(exprs)]
 fn new_object(
-    site: &Site,
+    within: &Enclosing,
     scope: &Scope,
     number: &mut u32,
     class: &Id,
     args: &Vec<Expr>,
     place: Place,
-) -> Result<RExpr, Refusal>
+) -> Tried<RExpr>
     ensures given { Gives {A = RExpr} {B = Ex × ℕ} (λ e. (core.expr_of at_place e, number.new)) result
-        (walk (table_at site.now) site.now.here scope.now number.old
+        (walk (table_at within.now) within.now.here scope.now number.old
         (NewOf class.now (exprs args.now.items) place)) }
 {
-    let class = asked(site.alloc, &site.tables.known, &class.name, class.place)?;
+    let class = asked(within.alloc, &within.tables.known, &class.name, class.place)?;
     let own = next(number)?;
-    let args = all(site, scope, number, args)?;
+    let args = all(within, scope, number, args)?;
     Ok(make::create(own, class, args, place))
 }
 
 /// Arguments with their names resolved.
 #[cycle(exprs)]
 #[tactic(auto, using(crate::proofs::Rows::exprs_push))]
-fn all(
-    site: &Site,
-    scope: &Scope,
-    number: &mut u32,
-    list: &Vec<Expr>,
-) -> Result<Vec<RExpr>, Refusal>
+fn all(within: &Enclosing, scope: &Scope, number: &mut u32, list: &Vec<Expr>) -> Tried<Vec<RExpr>>
     ensures given { Gives {A = Vec RExpr Global} {B = Exs × ℕ} (λ v. (core.exprs at_place v.items, number.new)) result
-        (walk_all (table_at site.now) site.now.here scope.now no_ex number.old (exprs list.now.items)) }
+        (walk_all (table_at within.now) within.now.here scope.now no_ex number.old (exprs list.now.items)) }
 {
-    let mut done = Vec::new(site.alloc);
+    let mut done = Vec::new(within.alloc);
     for one in list {
-        done.push(expr(site, scope, number, one)?)?;
+        done.push(expr(within, scope, number, one)?)?;
     }
     Ok(done)
 }

@@ -14,3 +14,7 @@ mod tables;
 pub use bodies::methods_of;
 pub use declarations::Tables;
 pub use met::blocks_of_names;
+use name_rules::Refusal;
+
+/// What a step gives, or why the tree is refused.
+type Tried<T> = Result<T, Refusal>;

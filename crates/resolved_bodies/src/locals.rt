@@ -12,7 +12,8 @@ ghost use Rattle.name_outcome.specs.Answers.{Gives};
 ghost use Rattle.name_outcome.specs.Statements.{State, clash, walk_expr, walk_value, walk_local};
 ghost use Rattle.resolved_bodies.specs.Views.{table_at, state_of};
 
-use crate::declarations::Site;
+use crate::Tried;
+use crate::declarations::Enclosing;
 use crate::exprs::expr;
 use crate::meanings::next;
 use java_core::{Local, RExpr, RStmt};
@@ -33,74 +34,74 @@ pub struct Body {
 
 /// Why no parameter and no local can have this name.
 fn clash(
-    site: &Site,
+    within: &Enclosing,
     scope: &Scope,
     name: &Name,
     place: Place,
 ) -> Result<Option<Refusal>, AllocError>
-    ensures { IfOk result (λ r. r ≡ clash (table_at site.now) scope.now name.now place) }
+    ensures { IfOk result (λ r. r ≡ clash (table_at within.now) scope.now name.now place) }
 {
-    if names_type(site.alloc, &site.tables.known, name)? {
-        return Ok(Some(Refusal::TwoKinds(name.copy(site.alloc)?, place)));
+    if names_type(within.alloc, &within.tables.known, name)? {
+        return Ok(Some(Refusal::TwoKinds(name.copy(within.alloc)?, place)));
     }
     if scope.number_of(name).is_some() {
-        return Ok(Some(Refusal::Twice(name.copy(site.alloc)?, place)));
+        return Ok(Some(Refusal::Twice(name.copy(within.alloc)?, place)));
     }
     Ok(None)
 }
 
 /// An expression of a statement.
-pub fn part(site: &Site, scope: &Scope, body: &mut Body, tree: &Expr) -> Result<RExpr, Refusal>
+pub fn part(within: &Enclosing, scope: &Scope, body: &mut Body, tree: &Expr) -> Tried<RExpr>
     ensures given { Gives {A = RExpr} {B = Ex × State} (λ e. (core.expr_of at_place e, state_of body.new))
-        result (walk_expr (table_at site.now) site.now.here scope.now (state_of body.old) (expr_of tree.now)) }
+        result (walk_expr (table_at within.now) within.now.here scope.now (state_of body.old) (expr_of tree.now)) }
 {
-    expr(site, scope, &mut body.number, tree)
+    expr(within, scope, &mut body.number, tree)
 }
 
 /// An expression that may be left out.
 pub fn value(
-    site: &Site,
+    within: &Enclosing,
     scope: &Scope,
     body: &mut Body,
     tree: &Option<Expr>,
-) -> Result<Option<RExpr>, Refusal>
+) -> Tried<Option<RExpr>>
     ensures given { Gives {A = Option RExpr} {B = Option Ex × State}
         (λ e. (core.value_of at_place e, state_of body.new)) result
-        (walk_value (table_at site.now) site.now.here scope.now (state_of body.old) (value_of tree.now)) }
+        (walk_value (table_at within.now) within.now.here scope.now (state_of body.old) (value_of tree.now)) }
 {
     match tree {
         None => Ok(None),
-        Some(tree) => Ok(Some(part(site, scope, body, tree)?)),
+        Some(tree) => Ok(Some(part(within, scope, body, tree)?)),
     }
 }
 
 /// The declaration of a local of this type.
 pub fn declaration(
-    site: &Site,
+    within: &Enclosing,
     scope: &mut Scope,
     body: &mut Body,
     ty: &TypeName,
     name: &Name,
     first: &Option<Expr>,
     place: Place,
-) -> Result<RStmt, Refusal>
+) -> Tried<RStmt>
     ensures given { Gives {A = RStmt} {B = St × List Bound × State}
         (λ s. (core.stmt_of at_place s, scope.new, state_of body.new)) result
-        (walk_local (table_at site.now) site.now.here scope.old (state_of body.old) ty.now name.now
+        (walk_local (table_at within.now) within.now.here scope.old (state_of body.old) ty.now name.now
         (value_of first.now) place) }
 {
-    let ty = made!(type_of(site.alloc, &site.tables.known, ty));
-    if let Some(refusal) = clash(site, scope, name, place)? {
+    let ty = made!(type_of(within.alloc, &within.tables.known, ty));
+    if let Some(refusal) = clash(within, scope, name, place)? {
         return Err(refusal);
     }
     let number = made!(next(&mut body.count));
-    scope.add(site.alloc, name, number)?;
+    scope.add(within.alloc, name, number)?;
     body.locals.push(Local {
-        name: name.copy(site.alloc)?,
+        name: name.copy(within.alloc)?,
         ty,
         place,
     })?;
-    let value = made!(value(site, scope, body, first));
+    let value = made!(value(within, scope, body, first));
     Ok(RStmt::Local {
         local: number,
         value,

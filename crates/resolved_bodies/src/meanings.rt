@@ -7,11 +7,12 @@ ghost use Rattle.java_core.specs.Trees as core;
 ghost use Rattle.java_core.specs.Trees.{at_place};
 ghost use Rattle.name_outcome.specs.Answers.{Gives};
 ghost use Rattle.resolved_bodies.specs.Members.{member_found};
-ghost use Rattle.resolved_bodies.specs.Views.{table_of, table_at, receiver_of};
+ghost use Rattle.resolved_bodies.specs.Views.{table_at, receiver_of};
 ghost use Rattle.name_outcome.specs.Expressions.{cast_type, cast_base, name_meaning, is_variable, class_before, is_static_field, is_static_method, static_field_of, static_method_of, call_meaning};
 ghost use Rattle.name_outcome.specs.Expressions as spec;
 
-use crate::declarations::{Site, Tables};
+use crate::Tried;
+use crate::declarations::Enclosing;
 use crate::tables::{method_met, nearest_field, own_field, own_method};
 use java_core::{RExpr, Ty, TyBase};
 use java_tree::{Expr, Id, TypeBase, TypeName};
@@ -28,30 +29,30 @@ pub enum Callee {
     Static(u32),
 }
 
-fn cast_base(site: &Site, base: &TypeBase, place: Place) -> Result<TyBase, Refusal>
-    ensures { Gives (λ b. b) result (cast_base (table_at site.now) base.now place) }
+fn cast_base(within: &Enclosing, base: &TypeBase, place: Place) -> Tried<TyBase>
+    ensures { Gives (λ b. b) result (cast_base (table_at within.now) base.now place) }
 {
     match base {
         TypeBase::Int => Ok(TyBase::Int),
         TypeBase::Boolean => Ok(TyBase::Boolean),
         TypeBase::Char => Ok(TyBase::Char),
         TypeBase::Named(name) => {
-            let class = asked(site.alloc, &site.tables.known, name, place)?;
+            let class = asked(within.alloc, &within.tables.known, name, place)?;
             Ok(TyBase::Class(ClassId(class)))
         }
     }
 }
 
 /// The type of a cast.
-pub fn cast_type(site: &Site, ty: &TypeName) -> Result<Ty, Refusal>
-    ensures { Gives (λ t. t) result (cast_type (table_at site.now) ty.now) }
+pub fn cast_type(within: &Enclosing, ty: &TypeName) -> Tried<Ty>
+    ensures { Gives (λ t. t) result (cast_type (table_at within.now) ty.now) }
 {
-    let base = cast_base(site, &ty.base, ty.place)?;
+    let base = cast_base(within, &ty.base, ty.place)?;
     Ok(Ty { base, dim: ty.dim })
 }
 
 /// The number of a field or method.
-fn id_of(number: usize) -> Result<u32, Refusal>
+fn id_of(number: usize) -> Tried<u32>
     ensures { Gives (λ k. k) result (Ok number) }
 {
     match u32::try_from(number) {
@@ -61,20 +62,20 @@ fn id_of(number: usize) -> Result<u32, Refusal>
 }
 
 /// A field by its simple name.
-fn field_use(site: &Site, name: &Name, place: Place, found: Option<usize>) -> Result<RExpr, Refusal>
-    ensures { Gives (λ e. core.expr_of at_place e) result (spec.field_named (table_at site.now) site.now.here name.now place found) }
+fn field_use(within: &Enclosing, name: &Name, place: Place, found: Option<usize>) -> Tried<RExpr>
+    ensures { Gives (λ e. core.expr_of at_place e) result (spec.field_named (table_at within.now) within.now.here name.now place found) }
 {
     let Some(number) = found else {
-        return Err(Refusal::Unknown(name.copy(site.alloc)?, place));
+        return Err(Refusal::Unknown(name.copy(within.alloc)?, place));
     };
-    let Some(field) = site.tables.fields.get(number) else {
-        return Err(Refusal::Unknown(name.copy(site.alloc)?, place));
+    let Some(field) = within.tables.declared.fields.get(number) else {
+        return Err(Refusal::Unknown(name.copy(within.alloc)?, place));
     };
-    let is_own = field.owner.0 == site.here.owner;
+    let is_own = field.owner.0 == within.here.owner;
     if field.is_static & !is_own {
-        return Err(Refusal::Unknown(name.copy(site.alloc)?, place));
+        return Err(Refusal::Unknown(name.copy(within.alloc)?, place));
     }
-    if !field.is_static & site.here.is_static {
+    if !field.is_static & within.here.is_static {
         return Err(Refusal::NotInProfile(Form::ThisInStatic, place));
     }
     let number = MemberId(id_of(number)?);
@@ -93,39 +94,39 @@ fn field_use(site: &Site, name: &Name, place: Place, found: Option<usize>) -> Re
 
 /// What a simple name means.
 #[tactic(auto, unfolding(name_outcome::specs::Expressions::name_meaning))]
-pub fn name_meaning(site: &Site, scope: &Scope, name: &Name, place: Place) -> Result<RExpr, Refusal>
-    ensures { Gives (λ e. core.expr_of at_place e) result (name_meaning (table_at site.now) site.now.here scope.now name.now place) }
+pub fn name_meaning(within: &Enclosing, scope: &Scope, name: &Name, place: Place) -> Tried<RExpr>
+    ensures { Gives (λ e. core.expr_of at_place e) result (name_meaning (table_at within.now) within.now.here scope.now name.now place) }
 {
     match scope.number_of(name) {
         Some(local) => Ok(RExpr::Local { local, place }),
         None => {
-            let found = nearest_field(site.tables, site.here.owner, name);
-            field_use(site, name, place, found)
+            let found = nearest_field(within.tables, within.here.owner, name);
+            field_use(within, name, place, found)
         }
     }
 }
 
 /// Whether the name is that of a local, a parameter or a field.
 #[tactic(auto, unfolding(name_outcome::specs::Expressions::is_variable))]
-fn is_variable(site: &Site, scope: &Scope, name: &Name) -> bool
-    ensures { result ≡ is_variable (table_at site.now) site.now.here scope.now name.now }
+fn is_variable(within: &Enclosing, scope: &Scope, name: &Name) -> bool
+    ensures { result ≡ is_variable (table_at within.now) within.now.here scope.now name.now }
 {
     let local = scope.number_of(name).is_some();
-    let field = nearest_field(site.tables, site.here.owner, name).is_some();
+    let field = nearest_field(within.tables, within.here.owner, name).is_some();
     local | field
 }
 
 /// The name before a dot that is no variable.
-pub fn class_before(site: &Site, scope: &Scope, base: &Expr) -> Result<Option<Id>, Refusal>
-    ensures { Gives (λ c. c) result (Ok (class_before (table_at site.now) site.now.here scope.now (expr_of base.now))) }
+pub fn class_before(within: &Enclosing, scope: &Scope, base: &Expr) -> Tried<Option<Id>>
+    ensures { Gives (λ c. c) result (Ok (class_before (table_at within.now) within.now.here scope.now (expr_of base.now))) }
 {
     match base {
         Expr::Name { name, place } => {
-            if is_variable(site, scope, name) {
+            if is_variable(within, scope, name) {
                 Ok(None)
             } else {
                 Ok(Some(Id {
-                    name: name.copy(site.alloc)?,
+                    name: name.copy(within.alloc)?,
                     place: *place,
                 }))
             }
@@ -135,79 +136,74 @@ pub fn class_before(site: &Site, scope: &Scope, base: &Expr) -> Result<Option<Id
 }
 
 /// Whether a field that was found is static.
-fn static_field(tables: &Tables, found: Option<usize>) -> Option<bool>
-    ensures { result ≡ option_and_then (is_static_field (table_of tables.now)) found }
+fn static_field(within: &Enclosing, found: Option<usize>) -> Option<bool>
+    ensures { result ≡ option_and_then (is_static_field (table_at within.now)) found }
 {
-    let field = tables.fields.get(found?)?;
+    let field = within.tables.declared.fields.get(found?)?;
     Some(field.is_static)
 }
 
 /// Whether a method that was found is static.
-fn static_method(tables: &Tables, found: Option<usize>) -> Option<bool>
-    ensures { result ≡ option_and_then (is_static_method (table_of tables.now)) found }
+fn static_method(within: &Enclosing, found: Option<usize>) -> Option<bool>
+    ensures { result ≡ option_and_then (is_static_method (table_at within.now)) found }
 {
-    let method = tables.headings.get(found?)?;
+    let method = within.tables.declared.headings.get(found?)?;
     Some(method.is_static)
 }
 
 /// A member of a name that was found, where it is static.
 fn static_member(
-    site: &Site,
+    within: &Enclosing,
     name: &Name,
     place: Place,
     found: Option<usize>,
     is_static: Option<bool>,
-) -> Result<u32, Refusal>
+) -> Tried<u32>
     ensures { Gives (λ k. k) result (member_found name.now place found is_static) }
 {
     match is_static {
         Some(true) => match found {
             Some(number) => id_of(number),
-            None => Err(Refusal::Unknown(name.copy(site.alloc)?, place)),
+            None => Err(Refusal::Unknown(name.copy(within.alloc)?, place)),
         },
-        _ => Err(Refusal::Unknown(name.copy(site.alloc)?, place)),
+        _ => Err(Refusal::Unknown(name.copy(within.alloc)?, place)),
     }
 }
 
 /// The static field of a class itself.
-pub fn static_field_of(site: &Site, class: &Id, name: &Name, place: Place) -> Result<u32, Refusal>
-    ensures { Gives (λ k. k) result (static_field_of (table_at site.now) class.now name.now place) }
+pub fn static_field_of(within: &Enclosing, class: &Id, name: &Name, place: Place) -> Tried<u32>
+    ensures { Gives (λ k. k) result (static_field_of (table_at within.now) class.now name.now place) }
 {
-    let owner = asked(site.alloc, &site.tables.known, &class.name, class.place)?;
-    let found = own_field(site.tables, owner, name);
-    static_member(site, name, place, found, static_field(site.tables, found))
+    let owner = asked(within.alloc, &within.tables.known, &class.name, class.place)?;
+    let found = own_field(within.tables, owner, name);
+    static_member(within, name, place, found, static_field(within, found))
 }
 
 /// The static method of a class itself.
-pub fn static_method_of(site: &Site, class: &Id, name: &Name, place: Place) -> Result<u32, Refusal>
-    ensures { Gives (λ k. k) result (static_method_of (table_at site.now) class.now name.now place) }
+pub fn static_method_of(within: &Enclosing, class: &Id, name: &Name, place: Place) -> Tried<u32>
+    ensures { Gives (λ k. k) result (static_method_of (table_at within.now) class.now name.now place) }
 {
-    let owner = asked(site.alloc, &site.tables.known, &class.name, class.place)?;
-    let found = own_method(site.tables, owner, name);
-    static_member(site, name, place, found, static_method(site.tables, found))
+    let owner = asked(within.alloc, &within.tables.known, &class.name, class.place)?;
+    let found = own_method(within.tables, owner, name);
+    static_member(within, name, place, found, static_method(within, found))
 }
 
-fn method_use(
-    site: &Site,
-    name: &Name,
-    place: Place,
-    found: Option<usize>,
-) -> Result<Callee, Refusal>
-    ensures { Gives (λ c. receiver_of c) result (spec.method_named (table_at site.now) site.now.here name.now place found) }
+fn method_use(within: &Enclosing, name: &Name, place: Place, found: Option<usize>) -> Tried<Callee>
+    ensures { Gives (λ c. receiver_of c) result (spec.method_named (table_at within.now) within.now.here name.now place found) }
 {
     let Some(number) = found else {
-        return Err(Refusal::Unknown(name.copy(site.alloc)?, place));
+        return Err(Refusal::Unknown(name.copy(within.alloc)?, place));
     };
-    let Some(method) = site.tables.headings.get(number) else {
-        return Err(Refusal::Unknown(name.copy(site.alloc)?, place));
+    let Some(method) = within.tables.declared.headings.get(number) else {
+        return Err(Refusal::Unknown(name.copy(within.alloc)?, place));
     };
     if method.is_static {
-        if method.owner == site.here.owner {
+        if method.owner == within.here.owner {
             Ok(Callee::Static(id_of(number)?))
         } else {
-            Err(Refusal::Unknown(name.copy(site.alloc)?, place))
+            Err(Refusal::Unknown(name.copy(within.alloc)?, place))
         }
-    } else if site.here.is_static {
+    } else if within.here.is_static {
         Err(Refusal::NotInProfile(Form::ThisInStatic, place))
     } else {
         Ok(Callee::This)
@@ -216,15 +212,15 @@ fn method_use(
 
 /// What a call by a simple name is on.
 #[tactic(auto, unfolding(name_outcome::specs::Expressions::call_meaning))]
-pub fn call_meaning(site: &Site, name: &Name, place: Place) -> Result<Callee, Refusal>
-    ensures { Gives (λ c. receiver_of c) result (call_meaning (table_at site.now) site.now.here name.now place) }
+pub fn call_meaning(within: &Enclosing, name: &Name, place: Place) -> Tried<Callee>
+    ensures { Gives (λ c. receiver_of c) result (call_meaning (table_at within.now) within.now.here name.now place) }
 {
-    let found = method_met(site.tables, site.here.owner, name);
-    method_use(site, name, place, found)
+    let found = method_met(within.tables, within.here.owner, name);
+    method_use(within, name, place, found)
 }
 
 /// The next number of a creation, a cast or an `instanceof`.
-pub fn next(number: &mut u32) -> Result<u32, Refusal>
+pub fn next(number: &mut u32) -> Tried<u32>
     ensures { Gives {A = ℕ} {B = ℕ × ℕ} (λ k. (k, number.new)) result (Ok (number.old, suc number.old)) }
 {
     let own = *number;

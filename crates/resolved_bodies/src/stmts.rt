@@ -16,9 +16,9 @@ ghost use Rattle.name_outcome.specs.Answers.{Gives};
 ghost use Rattle.name_outcome.specs.Statements.{State, kept, ending, walk_arm, walk_st, walk_sts, walk_arms, walk_else, walk_optional};
 ghost use Rattle.resolved_bodies.specs.Views.{table_at, state_of};
 
-use crate::declarations::{Site, in_loop};
+use crate::declarations::{Enclosing, in_loop};
 use crate::locals::{Body, declaration, part, value};
-use crate::make;
+use crate::{Tried, make};
 use java_core::{RArm, RExpr, RStmt};
 use java_tree::{Arm, Expr, Stmt};
 use kaba_base::{Place, made};
@@ -27,10 +27,10 @@ use name_tables::Scope;
 
 /// A statement.
 #[cycle(stmts)]
-fn stmt(site: &Site, scope: &mut Scope, body: &mut Body, tree: &Stmt) -> Result<RStmt, Refusal>
+fn stmt(within: &Enclosing, scope: &mut Scope, body: &mut Body, tree: &Stmt) -> Tried<RStmt>
     ensures given { Gives {A = RStmt} {B = St × List Bound × State}
         (λ s. (core.stmt_of at_place s, scope.new, state_of body.new)) result
-        (walk_st (table_at site.now) site.now.here site.now.inside scope.old (state_of body.old) (stmt_of tree.now)) }
+        (walk_st (table_at within.now) within.now.here within.now.inside scope.old (state_of body.old) (stmt_of tree.now)) }
 {
     match tree {
         Stmt::Local {
@@ -39,15 +39,15 @@ fn stmt(site: &Site, scope: &mut Scope, body: &mut Body, tree: &Stmt) -> Result<
             value,
             place,
             ..
-        } => declaration(site, scope, body, ty, name, value, *place),
-        Stmt::Block { items, place } => { block(site, scope, body, items, *place) }
+        } => declaration(within, scope, body, ty, name, value, *place),
+        Stmt::Block { items, place } => { block(within, scope, body, items, *place) }
         Stmt::Assign {
             target,
             value,
             place,
-        } => assign(site, scope, body, target, value, *place),
+        } => assign(within, scope, body, target, value, *place),
         Stmt::Do { call, place } => {
-            let call = part(site, scope, body, call)?;
+            let call = part(within, scope, body, call)?;
             Ok(RStmt::Do {
                 call,
                 place: *place,
@@ -58,7 +58,7 @@ fn stmt(site: &Site, scope: &mut Scope, body: &mut Body, tree: &Stmt) -> Result<
             value: shown,
             place,
         } => {
-            let value = value(site, scope, body, shown)?;
+            let value = value(within, scope, body, shown)?;
             Ok(RStmt::Print {
                 newline: *newline,
                 value,
@@ -70,8 +70,8 @@ fn stmt(site: &Site, scope: &mut Scope, body: &mut Body, tree: &Stmt) -> Result<
             other,
             place,
         } => {
-            match arms(site, scope, body, list) {
-                Ok(done) => { choice(site, scope, body, done, other, *place) }
+            match arms(within, scope, body, list) {
+                Ok(done) => { choice(within, scope, body, done, other, *place) }
                 Err(refusal) => Err(refusal),
             }
         }
@@ -79,7 +79,7 @@ fn stmt(site: &Site, scope: &mut Scope, body: &mut Body, tree: &Stmt) -> Result<
             test,
             body: run,
             place,
-        } => while_loop(site, scope, body, test, run, *place),
+        } => while_loop(within, scope, body, test, run, *place),
         Stmt::For {
             first,
             test,
@@ -87,11 +87,11 @@ fn stmt(site: &Site, scope: &mut Scope, body: &mut Body, tree: &Stmt) -> Result<
             body: run,
             place,
         } => {
-            let mut inner = Scope::within(site.alloc, &*scope);
-            let first = optional(site, &mut inner, body, first)?;
-            let test = value(site, &inner, body, test)?;
-            match optional(site, &mut inner, body, step) {
-                Ok(last) => { for_body(site, &inner, body, first, test, last, run, *place) }
+            let mut inner = Scope::within(within.alloc, &*scope);
+            let first = optional(within, &mut inner, body, first)?;
+            let test = value(within, &inner, body, test)?;
+            match optional(within, &mut inner, body, step) {
+                Ok(last) => { for_body(within, &inner, body, first, test, last, run, *place) }
                 Err(refusal) => {
                     drop(first);
                     drop(test);
@@ -104,20 +104,20 @@ fn stmt(site: &Site, scope: &mut Scope, body: &mut Body, tree: &Stmt) -> Result<
             value: given,
             place,
         } => {
-            let value = value(site, scope, body, given)?;
+            let value = value(within, scope, body, given)?;
             Ok(RStmt::Return {
                 value,
                 place: *place,
             })
         }
         Stmt::Break { place } => {
-            if !site.inside {
+            if !within.inside {
                 return Err(Refusal::NotInProfile(Form::BreakOutside, *place));
             }
             Ok(RStmt::Break { place: *place })
         }
         Stmt::Continue { place } => {
-            if !site.inside {
+            if !within.inside {
                 return Err(Refusal::NotInProfile(Form::BreakOutside, *place));
             }
             Ok(RStmt::Continue { place: *place })
@@ -128,20 +128,20 @@ fn stmt(site: &Site, scope: &mut Scope, body: &mut Body, tree: &Stmt) -> Result<
 /// An assignment.
 #[tactic(auto, using(crate::proofs::StatementRows::target_shown))]
 fn assign(
-    site: &Site,
+    within: &Enclosing,
     scope: &Scope,
     body: &mut Body,
     target: &Expr,
     value: &Expr,
     place: Place,
-) -> Result<RStmt, Refusal>
+) -> Tried<RStmt>
     ensures given { Gives {A = RStmt} {B = St × List Bound × State}
         (λ s. (core.stmt_of at_place s, scope.now, state_of body.new)) result
-        (walk_st (table_at site.now) site.now.here true scope.now (state_of body.old)
+        (walk_st (table_at within.now) within.now.here true scope.now (state_of body.old)
         (AssignOf (expr_of target.now) (expr_of value.now) place)) }
 {
-    let target = part(site, scope, body, target)?;
-    let value = made!(part(site, scope, body, value); target);
+    let target = part(within, scope, body, target)?;
+    let value = made!(part(within, scope, body, value); target);
     Ok(RStmt::Assign {
         target,
         value,
@@ -152,18 +152,18 @@ fn assign(
 /// `{ items }`
 #[cycle(stmts)]
 fn block(
-    site: &Site,
+    within: &Enclosing,
     scope: &Scope,
     body: &mut Body,
     items: &Vec<Stmt>,
     place: Place,
-) -> Result<RStmt, Refusal>
+) -> Tried<RStmt>
     ensures given { Gives {A = RStmt} {B = St × List Bound × State}
         (λ s. (core.stmt_of at_place s, scope.now, state_of body.new)) result
-        (walk_st (table_at site.now) site.now.here site.now.inside scope.now (state_of body.old)
+        (walk_st (table_at within.now) within.now.here within.now.inside scope.now (state_of body.old)
         (BlockOf (stmts items.now.items) place)) }
 {
-    let items = statements(site, scope, body, items)?;
+    let items = statements(within, scope, body, items)?;
     Ok(make::block(items, place))
 }
 
@@ -171,47 +171,47 @@ fn block(
 #[cycle(stmts)]
 #[tactic(auto, using(crate::proofs::StatementRows::arms_ending))]
 fn choice(
-    site: &Site,
+    within: &Enclosing,
     scope: &Scope,
     body: &mut Body,
     arms: Vec<RArm>,
     other: &Option<Vec<Stmt>>,
     place: Place,
-) -> Result<RStmt, Refusal>
+) -> Tried<RStmt>
     ensures given { Gives {A = RStmt} {B = St × List Bound × State}
         (λ s. (core.stmt_of at_place s, scope.now, state_of body.new)) result
-        (kept (walk_else (table_at site.now) site.now.here site.now.inside scope.now (state_of body.old)
+        (kept (walk_else (table_at within.now) within.now.here within.now.inside scope.now (state_of body.old)
         (else_seen other.now)) scope.now
         (λ o. choose (at_place place) (ending (core.arms_seen at_place arms.items no_other) o))) }
 {
-    let other = made!(otherwise(site, scope, body, other); arms);
+    let other = made!(otherwise(within, scope, body, other); arms);
     Ok(make::choose(arms, other, place))
 }
 
 /// A `while`.
 #[cycle(stmts)]
 fn while_loop(
-    site: &Site,
+    within: &Enclosing,
     scope: &Scope,
     body: &mut Body,
     test: &Expr,
     run: &Vec<Stmt>,
     place: Place,
-) -> Result<RStmt, Refusal>
+) -> Tried<RStmt>
     ensures given { Gives {A = RStmt} {B = St × List Bound × State}
         (λ s. (core.stmt_of at_place s, scope.now, state_of body.new)) result
-        (walk_st (table_at site.now) site.now.here true scope.now (state_of body.old)
+        (walk_st (table_at within.now) within.now.here true scope.now (state_of body.old)
         (WhileOf (expr_of test.now) (stmts run.now.items) place)) }
 {
-    let test = part(site, scope, body, test)?;
-    let run = made!(statements(&in_loop(site), scope, body, run); test);
+    let test = part(within, scope, body, test)?;
+    let run = made!(statements(&in_loop(within), scope, body, run); test);
     Ok(make::while_loop(test, run, place))
 }
 
 /// A `for` with this head; the scope of its first part ends with it.
 #[cycle(stmts)]
 fn for_body(
-    site: &Site,
+    within: &Enclosing,
     inner: &Scope,
     body: &mut Body,
     first: Option<Box<RStmt>>,
@@ -219,35 +219,35 @@ fn for_body(
     step: Option<Box<RStmt>>,
     run: &Vec<Stmt>,
     place: Place,
-) -> Result<RStmt, Refusal>
+) -> Tried<RStmt>
     ensures given { (outer : List Bound) → Gives {A = RStmt} {B = St × List Bound × State}
         (λ s. (core.stmt_of at_place s, outer, state_of body.new)) result
-        (kept (walk_sts (table_at site.now) site.now.here true no_st inner.now (state_of body.old)
+        (kept (walk_sts (table_at within.now) within.now.here true no_st inner.now (state_of body.old)
         (stmts run.now.items)) outer (loop (at_place place) false (core.step_seen at_place first)
         (core.value_of at_place test) (core.step_seen at_place step))) }
 {
-    let run = made!(statements(&in_loop(site), inner, body, run); first, test, step);
+    let run = made!(statements(&in_loop(within), inner, body, run); first, test, step);
     Ok(make::for_loop(first, test, step, run, place))
 }
 
 /// The first or the last part of a `for`.
 #[cycle(stmts)]
 fn optional(
-    site: &Site,
+    within: &Enclosing,
     scope: &mut Scope,
     body: &mut Body,
     tree: &Option<Box<Stmt>>,
-) -> Result<Option<Box<RStmt>>, Refusal>
+) -> Tried<Option<Box<RStmt>>>
     ensures given { Gives {A = Option (Box RStmt Global)} {B = Sts × List Bound × State}
         (λ s. (core.step_seen at_place s, scope.new, state_of body.new)) result
-        (walk_optional (table_at site.now) site.now.here site.now.inside scope.old (state_of body.old)
+        (walk_optional (table_at within.now) within.now.here within.now.inside scope.old (state_of body.old)
         (boxed_step tree.now)) }
 {
     match tree {
         None => Ok(None),
         Some(tree) => {
-            let stmt = stmt(site, scope, body, tree)?;
-            Ok(Some(Box::new(site.alloc, stmt)?))
+            let stmt = stmt(within, scope, body, tree)?;
+            Ok(Some(Box::new(within.alloc, stmt)?))
         }
     }
 }
@@ -255,46 +255,46 @@ fn optional(
 /// An `else`.
 #[cycle(stmts)]
 fn otherwise(
-    site: &Site,
+    within: &Enclosing,
     scope: &Scope,
     body: &mut Body,
     tree: &Option<Vec<Stmt>>,
-) -> Result<Option<Vec<RStmt>>, Refusal>
+) -> Tried<Option<Vec<RStmt>>>
     ensures given { Gives {A = Option (Vec RStmt Global)} {B = Arms × State}
         (λ o. (core.else_seen at_place o, state_of body.new)) result
-        (walk_else (table_at site.now) site.now.here site.now.inside scope.now (state_of body.old)
+        (walk_else (table_at within.now) within.now.here within.now.inside scope.now (state_of body.old)
         (else_seen tree.now)) }
 {
     match tree {
         None => Ok(None),
-        Some(list) => Ok(Some(statements(site, scope, body, list)?)),
+        Some(list) => Ok(Some(statements(within, scope, body, list)?)),
     }
 }
 
 /// An arm of an `if`.
 #[cycle(stmts)]
-fn arm(site: &Site, scope: &Scope, body: &mut Body, tree: &Arm) -> Result<RArm, Refusal>
+fn arm(within: &Enclosing, scope: &Scope, body: &mut Body, tree: &Arm) -> Tried<RArm>
     ensures given { Gives {A = RArm} {B = Ex × Sts × State}
         (λ a. (core.expr_of at_place a.test, core.stmts at_place a.body.items, state_of body.new)) result
-        (walk_arm (table_at site.now) site.now.here site.now.inside scope.now (state_of body.old)
+        (walk_arm (table_at within.now) within.now.here within.now.inside scope.now (state_of body.old)
         (expr_of tree.now.test) (stmts tree.now.body.items)) }
 {
-    let test = part(site, scope, body, &tree.test)?;
-    let run = made!(statements(site, scope, body, &tree.body); test);
+    let test = part(within, scope, body, &tree.test)?;
+    let run = made!(statements(within, scope, body, &tree.body); test);
     Ok(RArm { test, body: run })
 }
 
 /// The arms of an `if`.
 #[cycle(stmts)]
-fn arms(site: &Site, scope: &Scope, body: &mut Body, list: &Vec<Arm>) -> Result<Vec<RArm>, Refusal>
+fn arms(within: &Enclosing, scope: &Scope, body: &mut Body, list: &Vec<Arm>) -> Tried<Vec<RArm>>
     ensures given { Gives {A = Vec RArm Global} {B = Arms × State}
         (λ v. (core.arms_seen at_place v.items no_other, state_of body.new)) result
-        (walk_arms (table_at site.now) site.now.here site.now.inside no_other scope.now (state_of body.old)
+        (walk_arms (table_at within.now) within.now.here within.now.inside no_other scope.now (state_of body.old)
         (arms_seen list.now.items)) }
 {
-    let mut done = Vec::new(site.alloc);
+    let mut done = Vec::new(within.alloc);
     for one in list {
-        match arm(site, scope, body, one) {
+        match arm(within, scope, body, one) {
             Ok(arm) => done.push(arm)?,
             Err(refusal) => return Err(refusal),
         }
@@ -305,20 +305,20 @@ fn arms(site: &Site, scope: &Scope, body: &mut Body, list: &Vec<Arm>) -> Result<
 /// Statements one after the other: their locals leave the scope at the end.
 #[cycle(stmts)]
 pub fn statements(
-    site: &Site,
+    within: &Enclosing,
     scope: &Scope,
     body: &mut Body,
     list: &Vec<Stmt>,
-) -> Result<Vec<RStmt>, Refusal>
+) -> Tried<Vec<RStmt>>
     ensures given { Gives {A = Vec RStmt Global} {B = Sts × State}
         (λ v. (core.stmts at_place v.items, state_of body.new)) result
-        (walk_sts (table_at site.now) site.now.here site.now.inside no_st scope.now (state_of body.old)
+        (walk_sts (table_at within.now) within.now.here within.now.inside no_st scope.now (state_of body.old)
         (stmts list.now.items)) }
 {
-    let mut inner = Scope::within(site.alloc, &*scope);
-    let mut done = Vec::new(site.alloc);
+    let mut inner = Scope::within(within.alloc, &*scope);
+    let mut done = Vec::new(within.alloc);
     for one in list {
-        done.push(stmt(site, &mut inner, body, one)?)?;
+        done.push(stmt(within, &mut inner, body, one)?)?;
     }
     Ok(done)
 }

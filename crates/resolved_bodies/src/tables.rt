@@ -26,7 +26,7 @@ pub fn parent_of(parents: &[Option<ClassId>], class: u32) -> Option<ClassId>
 pub fn own_field(tables: &Tables, class: u32, name: &Name) -> Option<usize>
     ensures { result ≡ own_field (table_of tables.now) class name.now }
 {
-    match tables.own_fields.at(class, name) {
+    match tables.declared.own_fields.at(class, name) {
         Some(number) => Some(number as usize),
         None => None,
     }
@@ -57,7 +57,7 @@ fn only_under(numbers: &IndexMap<u32, u32>, class: u32) -> Option<u32>
 fn fields_named<'a>(tables: &'a Tables, name: &Name) -> Option<&'a IndexMap<u32, u32>>
     ensures { (c : ℕ) → option_map_or (λ m. get nat_eq m.now c) result None ≡ own_field (table_of tables.now) c name.now }
 {
-    tables.own_fields.named(name)
+    tables.declared.own_fields.named(name)
 }
 
 /// The number of the nearest field of a name upwards, found class by class.
@@ -103,10 +103,12 @@ pub fn nearest_field(tables: &Tables, class: u32, name: &Name) -> Option<usize>
     if own.is_some() {
         return own;
     }
-    match tables
-        .field_tables
-        .nearest_above(&tables.parents, &tables.fields, class as usize, name)
-    {
+    match tables.field_tables.nearest_above(
+        &tables.parents,
+        &tables.declared.fields,
+        class as usize,
+        name,
+    ) {
         Some(at) => widened(at),
         None => walked_field(tables, class, name),
     }
@@ -117,7 +119,7 @@ pub fn nearest_field(tables: &Tables, class: u32, name: &Name) -> Option<usize>
 pub fn own_method(tables: &Tables, class: u32, name: &Name) -> Option<usize>
     ensures { result ≡ own_method (table_of tables.now) class name.now }
 {
-    match tables.own_methods.at(class, name) {
+    match tables.declared.own_methods.at(class, name) {
         Some(number) => Some(number as usize),
         None => None,
     }
@@ -128,10 +130,10 @@ pub fn own_method(tables: &Tables, class: u32, name: &Name) -> Option<usize>
 pub fn method_met(tables: &Tables, class: u32, name: &Name) -> Option<usize>
     ensures { result ≡ method_met (table_of tables.now) class name.now }
 {
-    let list = tables.method_spots.at(name);
+    let list = tables.declared.method_spots.at(name);
     met_among(
         &tables.above,
-        &tables.headings,
+        &tables.declared.headings,
         list,
         blocks_under(&tables.blocks, list),
         class,

@@ -24,4 +24,4 @@ returns-in-Ok-new c =
     (sym c.in-Ok-parents_of.ensures.seen)
     ∙ c.in-Ok-methods_of.ensures)
     ∙ ap Ok
-    (made-seen c.args.classes c.args.draft.fields methods c.args.draft.slots (record { 0 = k }) c.in-Ok-new.program c.in-Ok-new.ensures)
+    (made-seen c.args.classes c.args.draft.declared.fields methods c.args.draft.slots (record { 0 = k }) c.in-Ok-new.program c.in-Ok-new.ensures)

@@ -4,4 +4,4 @@ use Rattle.declared_types.proofs.members.has_method.Goals as goal
 
 pub returns : goal.returns
 returns c =
-    c.is_some.ensures ∙ ap is_some (c.at.ensures ∙ c.requires.owned.exact c.args.owner c.args.name.now)
+    c.is_some.ensures ∙ ap is_some (c.at.ensures ∙ c.requires.listed.owned.exact c.args.owner c.args.name.now)

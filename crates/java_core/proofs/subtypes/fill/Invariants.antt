@@ -3,4 +3,4 @@ use Rattle.java_core.proofs.subtypes.fill.Given as goal
 
 -- the rows of the first types are exact
 abbrev pub invariant-loop-b : goal.invariant-loop-b
-invariant-loop-b l = FilledTo l.lists l.count l.b l.known l.rows
+invariant-loop-b l = FilledTo l.graph.lists.now l.graph.count l.b l.known l.rows

@@ -6,6 +6,6 @@ use Rattle.java_core.proofs.subtypes.fill_one.Goals as goal
 pub returns : goal.returns
 returns c =
     let rows = set c.args.rows.now c.args.b c.in_ok-rows.field-0 in
-    subst (λ k. Filled c.args.lists.now c.args.count c.args.b c.args.known.now k rows) (sym c.set.ensures.after)
-    (filled-one c.args.lists.now c.args.count c.args.b c.args.known.now c.args.rows.now c.in_ok-rows.field-0 (omega arith)
+    subst (λ k. Filled c.args.graph.now.lists.now c.args.graph.now.count c.args.b c.args.known.now k rows) (sym c.set.ensures.after)
+    (filled-one c.args.graph.now.lists.now c.args.graph.now.count c.args.b c.args.known.now c.args.rows.now c.in_ok-rows.field-0 (omega arith)
     c.requires.before c.in_ok-rows.ensures)

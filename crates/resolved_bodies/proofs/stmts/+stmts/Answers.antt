@@ -12,7 +12,7 @@ use Rattle.resolved_bodies.proofs.stmts.+stmts.Goals as goal
 
 pub statements-loop-one-preserved : goal.statements-loop-one-preserved
 statements-loop-one-preserved t c =
-    sts_next (table_at c.args.site.now) c.args.site.now.here c.args.site.now.inside c.loop-one.inner c.stmt.new.scope (state_of c.loop-one.body)
+    sts_next (table_at c.args.within.now) c.args.within.now.here c.args.within.now.inside c.loop-one.inner c.stmt.new.scope (state_of c.loop-one.body)
     (state_of c.stmt.new.body) c.loop-one.done.items c.push.new.self.items c.deref-one-items.result.now c.loop-one.one-index c.one-item.result
     c.in_ok-stmt.field-0 _ c.loop-one-test.true c.one-item.is c.in_ok-stmt.ensures.given c.in_ok-push.ensures.items c.loop-one.invariant
 
@@ -20,7 +20,7 @@ pub stmt-returns-in-Block : goal.stmt-returns-in-Block
 stmt-returns-in-Block t c =
     record {
       given = carry_st (λ s. (core.stmt_of at_place s, c.args.scope.now, state_of c.block.new.body)) c.block.result
-          (table_at c.args.site.now) c.args.site.now.here c.args.site.now.inside c.args.scope.now (state_of c.args.body.now) (block_shown _ _ _ c.in-Block.is)
+          (table_at c.args.within.now) c.args.within.now.here c.args.within.now.inside c.args.scope.now (state_of c.args.body.now) (block_shown _ _ _ c.in-Block.is)
           c.block.ensures.given;
     }
 
@@ -28,7 +28,7 @@ pub stmt-returns-in-While : goal.stmt-returns-in-While
 stmt-returns-in-While t c =
     record {
       given = carry_st (λ s. (core.stmt_of at_place s, c.args.scope.now, state_of c.while_loop.new.body)) c.while_loop.result
-          (table_at c.args.site.now) c.args.site.now.here c.args.site.now.inside c.args.scope.now (state_of c.args.body.now) (while_shown _ _ _ _ c.in-While.is)
+          (table_at c.args.within.now) c.args.within.now.here c.args.within.now.inside c.args.scope.now (state_of c.args.body.now) (while_shown _ _ _ _ c.in-While.is)
           c.while_loop.ensures.given;
     }
 
@@ -36,7 +36,7 @@ pub stmt-returns-in-Ok : goal.stmt-returns-in-Ok
 stmt-returns-in-Ok t c =
     record {
       given = if_given (λ s. (core.stmt_of at_place s, c.args.scope.now, state_of c.choice.new.body)) c.choice.result
-          (table_at c.args.site.now) c.args.site.now.here c.args.site.now.inside c.args.scope.now (state_of c.args.body.now) (state_of c.arms.new.body)
+          (table_at c.args.within.now) c.args.within.now.here c.args.within.now.inside c.args.scope.now (state_of c.args.body.now) (state_of c.arms.new.body)
           (core.arms_seen at_place c.in-Ok.done.items no_other)
           (if_shown _ _ _ _ c.in-If.is) c.in-Ok.ensures.given c.choice.ensures.given;
     }
@@ -44,7 +44,7 @@ stmt-returns-in-Ok t c =
 pub stmt-returns-in-Err : goal.stmt-returns-in-Err
 stmt-returns-in-Err t c =
     record {
-      given = if_fault c.in-Err.refusal (table_at c.args.site.now) c.args.site.now.here c.args.site.now.inside c.args.scope.now
+      given = if_fault c.in-Err.refusal (table_at c.args.within.now) c.args.within.now.here c.args.within.now.inside c.args.scope.now
           (state_of c.args.body.now) (if_shown _ _ _ _ c.in-If.is) c.in-Err.ensures.given;
     }
 
@@ -52,7 +52,7 @@ pub stmt-returns-in-Ok-optional : goal.stmt-returns-in-Ok-optional
 stmt-returns-in-Ok-optional t c =
     record {
       given = for_given (λ s. (core.stmt_of at_place s, c.args.scope.now, state_of c.for_body.new.body)) c.for_body.result
-          (table_at c.args.site.now) c.args.site.now.here c.args.site.now.inside c.args.scope.now c.within-inner.result (state_of c.args.body.now)
+          (table_at c.args.within.now) c.args.within.now.here c.args.within.now.inside c.args.scope.now c.within-inner.result (state_of c.args.body.now)
           (core.step_seen at_place c.in_ok-first-in-For.first, c.optional.new.scope, state_of c.optional.new.body)
           (core.value_of at_place c.in_ok-test-in-For.test, state_of c.value-in-For.new.body)
           (core.step_seen at_place c.in-Ok-optional.last, c.optional-in-For.new.scope, state_of c.optional-in-For.new.body)
@@ -63,7 +63,7 @@ stmt-returns-in-Ok-optional t c =
 pub stmt-returns-in-Err-optional : goal.stmt-returns-in-Err-optional
 stmt-returns-in-Err-optional t c =
     record {
-      given = for_fault c.in-Err-optional.refusal (table_at c.args.site.now) c.args.site.now.here c.args.site.now.inside c.args.scope.now c.within-inner.result
+      given = for_fault c.in-Err-optional.refusal (table_at c.args.within.now) c.args.within.now.here c.args.within.now.inside c.args.scope.now c.within-inner.result
           (state_of c.args.body.now) (core.step_seen at_place c.in_ok-first-in-For.first, c.optional.new.scope, state_of c.optional.new.body)
           (core.value_of at_place c.in_ok-test-in-For.test, state_of c.value-in-For.new.body) (for_shown _ _ _ _ _ _ c.in-For.is)
           c.within-inner.ensures.value c.in_ok-first-in-For.ensures.given c.in_ok-test-in-For.ensures.given c.in-Err-optional.ensures.given;
@@ -71,14 +71,14 @@ stmt-returns-in-Err-optional t c =
 
 pub arms-loop-one-preserved : goal.arms-loop-one-preserved
 arms-loop-one-preserved t c =
-    arms_next (table_at c.args.site.now) c.args.site.now.here c.args.site.now.inside c.args.scope.now (state_of c.loop-one.body) (state_of c.arm.new.body)
+    arms_next (table_at c.args.within.now) c.args.within.now.here c.args.within.now.inside c.args.scope.now (state_of c.loop-one.body) (state_of c.arm.new.body)
     c.loop-one.done.items c.push.new.self.items c.deref-one-items.result.now c.loop-one.one-index c.one-item.result c.in-Ok.arm _
     c.loop-one-test.true c.one-item.is c.in-Ok.ensures.given c.in_ok-push-in-Ok.ensures.items c.loop-one.invariant
 
 pub arms-returns-in-Err : goal.arms-returns-in-Err
 arms-returns-in-Err t c =
     record {
-      given = arms_fault (table_at c.args.site.now) c.args.site.now.here c.args.site.now.inside c.in-Err.refusal c.args.scope.now
+      given = arms_fault (table_at c.args.within.now) c.args.within.now.here c.args.within.now.inside c.in-Err.refusal c.args.scope.now
           (state_of c.loop-one.body) c.loop-one.done.items c.deref-one-items.result.now c.loop-one.one-index c.one-item.result _ c.loop-one-test.true
           c.one-item.is c.in-Err.ensures.given c.loop-one.invariant;
     }

@@ -12,15 +12,15 @@ use Rattle.resolved_bodies.proofs.stmts.+stmts.Given as goal
 -- what the arms so far and the rest resolve to is what all resolve to
 abbrev pub invariant-arms-loop-one : goal.invariant-arms-loop-one
 invariant-arms-loop-one l =
-    walk_arms (table_at l.site) l.site.here l.site.inside (core.arms_seen at_place l.done.items no_other) l.scope (state_of l.body)
+    walk_arms (table_at l.within) l.within.here l.within.inside (core.arms_seen at_place l.done.items no_other) l.scope (state_of l.body)
     (arms_seen (drop l.one-index l.one-items))
-    ≡ walk_arms (table_at l.site) l.site.here l.site.inside no_other l.scope (state_of l.fn.body) (arms_seen l.list.items)
+    ≡ walk_arms (table_at l.within) l.within.here l.within.inside no_other l.scope (state_of l.fn.body) (arms_seen l.list.items)
 
 -- what the statements so far and the rest resolve to is what all resolve to
 abbrev pub invariant-statements-loop-one : goal.invariant-statements-loop-one
 invariant-statements-loop-one l =
-    walk_sts (table_at l.site) l.site.here l.site.inside (core.stmts at_place l.done.items) l.inner (state_of l.body) (stmts (drop l.one-index l.one-items))
-    ≡ walk_sts (table_at l.site) l.site.here l.site.inside no_st l.scope (state_of l.fn.body) (stmts l.list.items)
+    walk_sts (table_at l.within) l.within.here l.within.inside (core.stmts at_place l.done.items) l.inner (state_of l.body) (stmts (drop l.one-index l.one-items))
+    ≡ walk_sts (table_at l.within) l.within.here l.within.inside no_st l.scope (state_of l.fn.body) (stmts l.list.items)
 
 abbrev pub decreases-stmt : goal.decreases-stmt
 decreases-stmt l = 4 * stmt_size (stmt_of l.tree.now)

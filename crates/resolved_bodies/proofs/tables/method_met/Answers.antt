@@ -9,7 +9,7 @@ use Rattle.resolved_bodies.proofs.tables.method_met.Goals as goal
 pub returns : goal.returns
 unfolding method_met
 returns c =
-    c.met_among.ensures ∙ ap (first_among (λ h. is_above c.args.tables.now.above c.args.class h.owner) c.args.tables.now.headings.items)
-    (c.at-list.ensures ∙ c.args.tables.now.methods_found.exact c.args.name.now)
-    ∙ among (λ h. h.name) (λ h. is_above c.args.tables.now.above c.args.class h.owner) c.args.name.now [] c.args.tables.now.headings.items 0
-    refl ∙ sym (position-from (λ h. is_above c.args.tables.now.above c.args.class h.owner && bytes_eq h.name c.args.name.now) c.args.tables.now.headings.items)
+    c.met_among.ensures ∙ ap (first_among (λ h. is_above c.args.tables.now.above c.args.class h.owner) c.args.tables.now.declared.headings.items)
+    (c.at-list.ensures ∙ c.args.tables.now.found.methods.exact c.args.name.now)
+    ∙ among (λ h. h.name) (λ h. is_above c.args.tables.now.above c.args.class h.owner) c.args.name.now [] c.args.tables.now.declared.headings.items 0
+    refl ∙ sym (position-from (λ h. is_above c.args.tables.now.above c.args.class h.owner && bytes_eq h.name c.args.name.now) c.args.tables.now.declared.headings.items)
