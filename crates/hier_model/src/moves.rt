@@ -177,8 +177,8 @@ pub fn copy_names(alloc: Global, names: &[Name]) -> Result<Vec<Name>, AllocError
     ensures { IfOk result (λ v. v.items ≡ names.now) }
 {
     let mut copies = Vec::new(alloc);
-    for k in 0..names.len() {
-        copies.push(name_at(names, k).copy(alloc)?)?;
+    for name in names {
+        copies.push(name.copy(alloc)?)?;
     }
     Ok(copies)
 }
