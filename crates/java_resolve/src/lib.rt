@@ -103,9 +103,11 @@ fn with_bodies(
         }
     };
     let field_tables =
-        made!(FieldTables::new(alloc, parents.as_slice(), draft.declared.fields.as_slice(), above.supertypes_first()) => Refusal; known, classes, above, draft, parents);
+        made!(FieldTables::new(alloc, parents.as_slice(), draft.declared.fields.as_slice(), above.supertypes_first())
+            => Refusal; known, classes, above, draft, parents);
     let blocks =
-        made!(blocks_of_names(alloc, &above, &draft.declared.headings, &draft.declared.method_spots) => Refusal; known, classes, above, draft, parents, field_tables);
+        made!(blocks_of_names(alloc, &above, &draft.declared.headings, &draft.declared.method_spots)
+            => Refusal; known, classes, above, draft, parents, field_tables);
     let tables = Tables {
         known,
         parents,

@@ -7,7 +7,8 @@ use Rattle.declared_types.proofs.members.add_field.Goals as goal
 pub returns-clause-found : goal.returns-clause-found
 returns-clause-found c =
     let same : c.len.result ≡ c.in_ok-number.number = same_ok _ _ c.in_ok-number.ensures in
-    let count : c.in_ok-number.number ≡ length c.args.draft.now.declared.fields.items = omega (arith, same, c.len.ensures, c.args.draft.now.declared.fields.ok.0) in
+    let count : c.in_ok-number.number ≡ length c.args.draft.now.declared.fields.items = omega
+    (arith, same, c.len.ensures, c.args.draft.now.declared.fields.ok.0) in
     record {
       listed = record {
         fields = noted_more {A = Field} (λ f. f.owner.0) (λ f. f.name) c.args.draft.now.declared.fields.items c.push.new.self.items c.args.field

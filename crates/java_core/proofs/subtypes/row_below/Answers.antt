@@ -46,4 +46,5 @@ walk-preserved c =
 pub returns : goal.returns
 returns c =
     let none : c.walk.waiting.items ≡ [] = nil_from_length c.walk.waiting.items (omega (arith, c.walk.waiting.ok.0, c.in_default.ensures.cases.0)) in
-    walked-end c.args.graph.now.lists.now c.args.graph.now.count c.args.b c.walk.row (subst (Walked c.args.graph.now.lists.now c.args.graph.now.count c.args.b c.walk.row) none c.walk.invariant)
+    walked-end c.args.graph.now.lists.now c.args.graph.now.count c.args.b c.walk.row
+    (subst (Walked c.args.graph.now.lists.now c.args.graph.now.count c.args.b c.walk.row) none c.walk.invariant)

@@ -10,7 +10,8 @@ use Rattle.resolved_bodies.proofs.exprs.+exprs.Goals as goal
 
 pub all-loop-one-preserved : goal.all-loop-one-preserved
 all-loop-one-preserved t c =
-    all_next (table_at c.args.within.now) c.args.within.now.here c.args.scope.now c.loop-one.number c.expr.new.number c.loop-one.done.items c.push.new.self.items
+    all_next (table_at c.args.within.now) c.args.within.now.here c.args.scope.now c.loop-one.number c.expr.new.number c.loop-one.done.items
+    c.push.new.self.items
     c.deref-one-items.result.now c.loop-one.one-index c.one-item.result c.in_ok-expr.field-0 _ c.loop-one-test.true c.one-item.is
     c.in_ok-expr.ensures.given c.in_ok-push.ensures.items c.loop-one.invariant
 

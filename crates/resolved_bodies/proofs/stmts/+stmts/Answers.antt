@@ -20,7 +20,8 @@ pub stmt-returns-in-Block : goal.stmt-returns-in-Block
 stmt-returns-in-Block t c =
     record {
       given = carry_st (λ s. (core.stmt_of at_place s, c.args.scope.now, state_of c.block.new.body)) c.block.result
-          (table_at c.args.within.now) c.args.within.now.here c.args.within.now.inside c.args.scope.now (state_of c.args.body.now) (block_shown _ _ _ c.in-Block.is)
+          (table_at c.args.within.now) c.args.within.now.here c.args.within.now.inside c.args.scope.now (state_of c.args.body.now)
+          (block_shown _ _ _ c.in-Block.is)
           c.block.ensures.given;
     }
 
@@ -28,7 +29,8 @@ pub stmt-returns-in-While : goal.stmt-returns-in-While
 stmt-returns-in-While t c =
     record {
       given = carry_st (λ s. (core.stmt_of at_place s, c.args.scope.now, state_of c.while_loop.new.body)) c.while_loop.result
-          (table_at c.args.within.now) c.args.within.now.here c.args.within.now.inside c.args.scope.now (state_of c.args.body.now) (while_shown _ _ _ _ c.in-While.is)
+          (table_at c.args.within.now) c.args.within.now.here c.args.within.now.inside c.args.scope.now (state_of c.args.body.now)
+          (while_shown _ _ _ _ c.in-While.is)
           c.while_loop.ensures.given;
     }
 
@@ -63,7 +65,8 @@ stmt-returns-in-Ok-optional t c =
 pub stmt-returns-in-Err-optional : goal.stmt-returns-in-Err-optional
 stmt-returns-in-Err-optional t c =
     record {
-      given = for_fault c.in-Err-optional.refusal (table_at c.args.within.now) c.args.within.now.here c.args.within.now.inside c.args.scope.now c.within-inner.result
+      given = for_fault c.in-Err-optional.refusal (table_at c.args.within.now) c.args.within.now.here c.args.within.now.inside c.args.scope.now
+          c.within-inner.result
           (state_of c.args.body.now) (core.step_seen at_place c.in_ok-first-in-For.first, c.optional.new.scope, state_of c.optional.new.body)
           (core.value_of at_place c.in_ok-test-in-For.test, state_of c.value-in-For.new.body) (for_shown _ _ _ _ _ _ c.in-For.is)
           c.within-inner.ensures.value c.in_ok-first-in-For.ensures.given c.in_ok-test-in-For.ensures.given c.in-Err-optional.ensures.given;

@@ -19,7 +19,8 @@ invariant-arms-loop-one l =
 -- what the statements so far and the rest resolve to is what all resolve to
 abbrev pub invariant-statements-loop-one : goal.invariant-statements-loop-one
 invariant-statements-loop-one l =
-    walk_sts (table_at l.within) l.within.here l.within.inside (core.stmts at_place l.done.items) l.inner (state_of l.body) (stmts (drop l.one-index l.one-items))
+    walk_sts (table_at l.within) l.within.here l.within.inside (core.stmts at_place l.done.items) l.inner (state_of l.body)
+    (stmts (drop l.one-index l.one-items))
     ≡ walk_sts (table_at l.within) l.within.here l.within.inside no_st l.scope (state_of l.fn.body) (stmts l.list.items)
 
 abbrev pub decreases-stmt : goal.decreases-stmt

@@ -12,4 +12,5 @@ returns c =
     c.met_among.ensures ∙ ap (first_among (λ h. is_above c.args.tables.now.above c.args.class h.owner) c.args.tables.now.declared.headings.items)
     (c.at-list.ensures ∙ c.args.tables.now.found.methods.exact c.args.name.now)
     ∙ among (λ h. h.name) (λ h. is_above c.args.tables.now.above c.args.class h.owner) c.args.name.now [] c.args.tables.now.declared.headings.items 0
-    refl ∙ sym (position-from (λ h. is_above c.args.tables.now.above c.args.class h.owner && bytes_eq h.name c.args.name.now) c.args.tables.now.declared.headings.items)
+    refl ∙ sym (position-from (λ h. is_above c.args.tables.now.above c.args.class h.owner && bytes_eq h.name c.args.name.now)
+    c.args.tables.now.declared.headings.items)
