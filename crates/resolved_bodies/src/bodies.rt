@@ -16,7 +16,7 @@ ghost use Rattle.resolved_bodies.specs.Views.{table_of, table_at};
 ghost use Rattle.name_outcome.specs.Resolved.{Methods, bounds_from, body_of, method_step, body_step, head_body_step, decl_bodies, methods_of, slot_at};
 ghost use Rattle.resolved_bodies.specs.Views.{methods_seen};
 
-use crate::Tried;
+use crate::Named;
 use crate::declarations::{Enclosing, Tables};
 use crate::locals::Body;
 use crate::stmts::statements;
@@ -50,7 +50,7 @@ fn body_of(
     scope: &Scope,
     number: &mut u32,
     tree: &Option<Vec<Stmt>>,
-) -> Tried<(Vec<Local>, Option<Vec<RStmt>>)>
+) -> Named<(Vec<Local>, Option<Vec<RStmt>>)>
     requires bound { scope.now ≡ bounds_from 0 params.now.items }
     requires outside { within.now.inside ≡ false }
     ensures { Gives {A = Vec Local Global × Option (Vec RStmt Global)} {B = List PlainLocal × Option Sts × ℕ}
@@ -88,7 +88,7 @@ fn method_step(
     written: &mut Written,
     head: &Head,
     tree: &Option<Vec<Stmt>>,
-) -> Tried<()>
+) -> Named<()>
     ensures { Gives (λ _. methods_seen written.new) result (method_step (table_of owner.now.tables.now) owner.now.number kind
         (methods_seen written.old) (head_of head.now) (body_seen tree.now)) }
 {
@@ -130,7 +130,7 @@ fn method_step(
 }
 
 /// One member more of a class.
-fn body_step(owner: &Owner, written: &mut Written, member: &Member) -> Tried<()>
+fn body_step(owner: &Owner, written: &mut Written, member: &Member) -> Named<()>
     ensures { Gives (λ _. methods_seen written.new) result (body_step (table_of owner.now.tables.now) owner.now.number
         (methods_seen written.old) (member_of member.now)) }
 {
@@ -143,7 +143,7 @@ fn body_step(owner: &Owner, written: &mut Written, member: &Member) -> Tried<()>
 }
 
 /// The methods of a class.
-fn class_bodies(owner: &Owner, written: &mut Written, list: &Vec<Member>) -> Tried<()>
+fn class_bodies(owner: &Owner, written: &mut Written, list: &Vec<Member>) -> Named<()>
     ensures { Gives (λ _. methods_seen written.new) result (run (body_step (table_of owner.now.tables.now) owner.now.number)
         (methods_seen written.old) (members list.now.items)) }
 {
@@ -154,7 +154,7 @@ fn class_bodies(owner: &Owner, written: &mut Written, list: &Vec<Member>) -> Tri
 }
 
 /// The methods of an interface.
-fn interface_bodies(owner: &Owner, written: &mut Written, list: &Vec<Head>) -> Tried<()>
+fn interface_bodies(owner: &Owner, written: &mut Written, list: &Vec<Head>) -> Named<()>
     ensures { Gives (λ _. methods_seen written.new) result (run (head_body_step (table_of owner.now.tables.now) owner.now.number)
         (methods_seen written.old) (heads list.now.items)) }
 {
@@ -165,7 +165,7 @@ fn interface_bodies(owner: &Owner, written: &mut Written, list: &Vec<Head>) -> T
 }
 
 /// The methods of one type more, and the number of the next type.
-fn decl_bodies(owner: &Owner, written: &mut Written, decl: &Decl) -> Tried<u32>
+fn decl_bodies(owner: &Owner, written: &mut Written, decl: &Decl) -> Named<u32>
     ensures { Gives {A = ℕ} {B = ℕ × Methods} (λ k. (k, methods_seen written.new)) result
         (decl_bodies (table_of owner.now.tables.now) (owner.now.number, methods_seen written.old) (decl_of decl.now)) }
 {
@@ -177,7 +177,7 @@ fn decl_bodies(owner: &Owner, written: &mut Written, decl: &Decl) -> Tried<u32>
 }
 
 /// All methods of a tree.
-pub fn methods_of(alloc: Global, tables: &Tables, list: &[Decl]) -> Tried<Vec<Method>>
+pub fn methods_of(alloc: Global, tables: &Tables, list: &[Decl]) -> Named<Vec<Method>>
     ensures { Gives {A = Vec Method Global} {B = List PlainMethod} (λ v. map (method_seen at_place) v.items)
         result (methods_of (table_of tables.now) (decls list.now)) }
 {

@@ -20,7 +20,7 @@ use crate::meanings::{
     Callee, call_meaning, cast_type, class_before, name_meaning, next, static_field_of,
     static_method_of,
 };
-use crate::{Tried, make};
+use crate::{Named, make};
 use java_core::{BinOp, Op, RExpr, UnOp};
 use java_lex::Mark;
 use java_tree::{Expr, Id};
@@ -70,7 +70,7 @@ fn bin_op(mark: Mark) -> BinOp
 /// An expression with its names resolved. `number` is the next free number of a creation, a cast or
 /// an `instanceof`.
 #[cycle(exprs)]
-pub fn expr(within: &Enclosing, scope: &Scope, number: &mut u32, tree: &Expr) -> Tried<RExpr>
+pub fn expr(within: &Enclosing, scope: &Scope, number: &mut u32, tree: &Expr) -> Named<RExpr>
     ensures given { Gives {A = RExpr} {B = Ex × ℕ} (λ e. (core.expr_of at_place e, number.new)) result
         (walk (table_at within.now) within.now.here scope.now number.old (expr_of tree.now)) }
 {
@@ -214,7 +214,7 @@ pub fn expr(within: &Enclosing, scope: &Scope, number: &mut u32, tree: &Expr) ->
 
 /// The same, as a part of another.
 #[cycle(exprs)]
-fn boxed(within: &Enclosing, scope: &Scope, number: &mut u32, tree: &Expr) -> Tried<Box<RExpr>>
+fn boxed(within: &Enclosing, scope: &Scope, number: &mut u32, tree: &Expr) -> Named<Box<RExpr>>
     ensures given { Gives {A = Box RExpr Global} {B = Ex × ℕ} (λ e. (core.expr_of at_place e.value, number.new)) result
         (walk (table_at within.now) within.now.here scope.now number.old (expr_of tree.now)) }
 {
@@ -231,7 +231,7 @@ fn callee_of(
     base: &Expr,
     name: &Name,
     place: Place,
-) -> Tried<Callee>
+) -> Named<Callee>
     ensures given { Gives {A = Callee} {B = Receiver × ℕ} (λ c. (receiver_of c, number.new)) result
         (receiver (table_at within.now) number.old name.now place
         (class_before (table_at within.now) within.now.here scope.now (expr_of base.now))
@@ -256,7 +256,7 @@ fn applied(
     name: &Name,
     args: &Vec<Expr>,
     place: Place,
-) -> Tried<RExpr>
+) -> Named<RExpr>
     ensures given { Gives {A = RExpr} {B = Ex × ℕ} (λ e. (core.expr_of at_place e, number.new)) result
         (after (walk_all (table_at within.now) within.now.here scope.now no_ex number.old (exprs args.now.items))
         (λ xs. called_on (receiver_of on) name.now xs place)) }
@@ -275,7 +275,7 @@ fn new_object(
     class: &Id,
     args: &Vec<Expr>,
     place: Place,
-) -> Tried<RExpr>
+) -> Named<RExpr>
     ensures given { Gives {A = RExpr} {B = Ex × ℕ} (λ e. (core.expr_of at_place e, number.new)) result
         (walk (table_at within.now) within.now.here scope.now number.old
         (NewOf class.now (exprs args.now.items) place)) }
@@ -289,7 +289,7 @@ fn new_object(
 /// Arguments with their names resolved.
 #[cycle(exprs)]
 #[tactic(auto, using(crate::proofs::Rows::exprs_push))]
-fn all(within: &Enclosing, scope: &Scope, number: &mut u32, list: &Vec<Expr>) -> Tried<Vec<RExpr>>
+fn all(within: &Enclosing, scope: &Scope, number: &mut u32, list: &Vec<Expr>) -> Named<Vec<RExpr>>
     ensures given { Gives {A = Vec RExpr Global} {B = Exs × ℕ} (λ v. (core.exprs at_place v.items, number.new)) result
         (walk_all (table_at within.now) within.now.here scope.now no_ex number.old (exprs list.now.items)) }
 {

@@ -17,4 +17,4 @@ pub use met::blocks_of_names;
 use name_rules::Refusal;
 
 /// What a step gives, or why the tree is refused.
-type Tried<T> = Result<T, Refusal>;
+type Named<T> = Result<T, Refusal>;

@@ -12,7 +12,7 @@ ghost use Rattle.name_outcome.specs.Answers.{Gives};
 ghost use Rattle.name_outcome.specs.Statements.{State, clash, walk_expr, walk_value, walk_local};
 ghost use Rattle.resolved_bodies.specs.Views.{table_at, state_of};
 
-use crate::Tried;
+use crate::Named;
 use crate::declarations::Enclosing;
 use crate::exprs::expr;
 use crate::meanings::next;
@@ -51,7 +51,7 @@ fn clash(
 }
 
 /// An expression of a statement.
-pub fn part(within: &Enclosing, scope: &Scope, body: &mut Body, tree: &Expr) -> Tried<RExpr>
+pub fn part(within: &Enclosing, scope: &Scope, body: &mut Body, tree: &Expr) -> Named<RExpr>
     ensures given { Gives {A = RExpr} {B = Ex × State} (λ e. (core.expr_of at_place e, state_of body.new))
         result (walk_expr (table_at within.now) within.now.here scope.now (state_of body.old) (expr_of tree.now)) }
 {
@@ -64,7 +64,7 @@ pub fn value(
     scope: &Scope,
     body: &mut Body,
     tree: &Option<Expr>,
-) -> Tried<Option<RExpr>>
+) -> Named<Option<RExpr>>
     ensures given { Gives {A = Option RExpr} {B = Option Ex × State}
         (λ e. (core.value_of at_place e, state_of body.new)) result
         (walk_value (table_at within.now) within.now.here scope.now (state_of body.old) (value_of tree.now)) }
@@ -84,7 +84,7 @@ pub fn declaration(
     name: &Name,
     first: &Option<Expr>,
     place: Place,
-) -> Tried<RStmt>
+) -> Named<RStmt>
     ensures given { Gives {A = RStmt} {B = St × List Bound × State}
         (λ s. (core.stmt_of at_place s, scope.new, state_of body.new)) result
         (walk_local (table_at within.now) within.now.here scope.old (state_of body.old) ty.now name.now

@@ -11,7 +11,7 @@ ghost use Rattle.resolved_bodies.specs.Views.{table_at, receiver_of};
 ghost use Rattle.name_outcome.specs.Expressions.{cast_type, cast_base, name_meaning, is_variable, class_before, is_static_field, is_static_method, static_field_of, static_method_of, call_meaning};
 ghost use Rattle.name_outcome.specs.Expressions as spec;
 
-use crate::Tried;
+use crate::Named;
 use crate::declarations::Enclosing;
 use crate::tables::{method_met, nearest_field, own_field, own_method};
 use java_core::{RExpr, Ty, TyBase};
@@ -29,7 +29,7 @@ pub enum Callee {
     Static(u32),
 }
 
-fn cast_base(within: &Enclosing, base: &TypeBase, place: Place) -> Tried<TyBase>
+fn cast_base(within: &Enclosing, base: &TypeBase, place: Place) -> Named<TyBase>
     ensures { Gives (λ b. b) result (cast_base (table_at within.now) base.now place) }
 {
     match base {
@@ -44,7 +44,7 @@ fn cast_base(within: &Enclosing, base: &TypeBase, place: Place) -> Tried<TyBase>
 }
 
 /// The type of a cast.
-pub fn cast_type(within: &Enclosing, ty: &TypeName) -> Tried<Ty>
+pub fn cast_type(within: &Enclosing, ty: &TypeName) -> Named<Ty>
     ensures { Gives (λ t. t) result (cast_type (table_at within.now) ty.now) }
 {
     let base = cast_base(within, &ty.base, ty.place)?;
@@ -52,7 +52,7 @@ pub fn cast_type(within: &Enclosing, ty: &TypeName) -> Tried<Ty>
 }
 
 /// The number of a field or method.
-fn id_of(number: usize) -> Tried<u32>
+fn id_of(number: usize) -> Named<u32>
     ensures { Gives (λ k. k) result (Ok number) }
 {
     match u32::try_from(number) {
@@ -62,7 +62,7 @@ fn id_of(number: usize) -> Tried<u32>
 }
 
 /// A field by its simple name.
-fn field_use(within: &Enclosing, name: &Name, place: Place, found: Option<usize>) -> Tried<RExpr>
+fn field_use(within: &Enclosing, name: &Name, place: Place, found: Option<usize>) -> Named<RExpr>
     ensures { Gives (λ e. core.expr_of at_place e) result (spec.field_named (table_at within.now) within.now.here name.now place found) }
 {
     let Some(number) = found else {
@@ -94,7 +94,7 @@ fn field_use(within: &Enclosing, name: &Name, place: Place, found: Option<usize>
 
 /// What a simple name means.
 #[tactic(auto, unfolding(name_outcome::specs::Expressions::name_meaning))]
-pub fn name_meaning(within: &Enclosing, scope: &Scope, name: &Name, place: Place) -> Tried<RExpr>
+pub fn name_meaning(within: &Enclosing, scope: &Scope, name: &Name, place: Place) -> Named<RExpr>
     ensures { Gives (λ e. core.expr_of at_place e) result (name_meaning (table_at within.now) within.now.here scope.now name.now place) }
 {
     match scope.number_of(name) {
@@ -117,7 +117,7 @@ fn is_variable(within: &Enclosing, scope: &Scope, name: &Name) -> bool
 }
 
 /// The name before a dot that is no variable.
-pub fn class_before(within: &Enclosing, scope: &Scope, base: &Expr) -> Tried<Option<Id>>
+pub fn class_before(within: &Enclosing, scope: &Scope, base: &Expr) -> Named<Option<Id>>
     ensures { Gives (λ c. c) result (Ok (class_before (table_at within.now) within.now.here scope.now (expr_of base.now))) }
 {
     match base {
@@ -158,7 +158,7 @@ fn static_member(
     place: Place,
     found: Option<usize>,
     is_static: Option<bool>,
-) -> Tried<u32>
+) -> Named<u32>
     ensures { Gives (λ k. k) result (member_found name.now place found is_static) }
 {
     match is_static {
@@ -171,7 +171,7 @@ fn static_member(
 }
 
 /// The static field of a class itself.
-pub fn static_field_of(within: &Enclosing, class: &Id, name: &Name, place: Place) -> Tried<u32>
+pub fn static_field_of(within: &Enclosing, class: &Id, name: &Name, place: Place) -> Named<u32>
     ensures { Gives (λ k. k) result (static_field_of (table_at within.now) class.now name.now place) }
 {
     let owner = asked(within.alloc, &within.tables.known, &class.name, class.place)?;
@@ -180,7 +180,7 @@ pub fn static_field_of(within: &Enclosing, class: &Id, name: &Name, place: Place
 }
 
 /// The static method of a class itself.
-pub fn static_method_of(within: &Enclosing, class: &Id, name: &Name, place: Place) -> Tried<u32>
+pub fn static_method_of(within: &Enclosing, class: &Id, name: &Name, place: Place) -> Named<u32>
     ensures { Gives (λ k. k) result (static_method_of (table_at within.now) class.now name.now place) }
 {
     let owner = asked(within.alloc, &within.tables.known, &class.name, class.place)?;
@@ -188,7 +188,7 @@ pub fn static_method_of(within: &Enclosing, class: &Id, name: &Name, place: Plac
     static_member(within, name, place, found, static_method(within, found))
 }
 
-fn method_use(within: &Enclosing, name: &Name, place: Place, found: Option<usize>) -> Tried<Callee>
+fn method_use(within: &Enclosing, name: &Name, place: Place, found: Option<usize>) -> Named<Callee>
     ensures { Gives (λ c. receiver_of c) result (spec.method_named (table_at within.now) within.now.here name.now place found) }
 {
     let Some(number) = found else {
@@ -212,7 +212,7 @@ fn method_use(within: &Enclosing, name: &Name, place: Place, found: Option<usize
 
 /// What a call by a simple name is on.
 #[tactic(auto, unfolding(name_outcome::specs::Expressions::call_meaning))]
-pub fn call_meaning(within: &Enclosing, name: &Name, place: Place) -> Tried<Callee>
+pub fn call_meaning(within: &Enclosing, name: &Name, place: Place) -> Named<Callee>
     ensures { Gives (λ c. receiver_of c) result (call_meaning (table_at within.now) within.now.here name.now place) }
 {
     let found = method_met(within.tables, within.here.owner, name);
@@ -220,7 +220,7 @@ pub fn call_meaning(within: &Enclosing, name: &Name, place: Place) -> Tried<Call
 }
 
 /// The next number of a creation, a cast or an `instanceof`.
-pub fn next(number: &mut u32) -> Tried<u32>
+pub fn next(number: &mut u32) -> Named<u32>
     ensures { Gives {A = ℕ} {B = ℕ × ℕ} (λ k. (k, number.new)) result (Ok (number.old, suc number.old)) }
 {
     let own = *number;

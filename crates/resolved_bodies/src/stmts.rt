@@ -18,7 +18,7 @@ ghost use Rattle.resolved_bodies.specs.Views.{table_at, state_of};
 
 use crate::declarations::{Enclosing, in_loop};
 use crate::locals::{Body, declaration, part, value};
-use crate::{Tried, make};
+use crate::{Named, make};
 use java_core::{RArm, RExpr, RStmt};
 use java_tree::{Arm, Expr, Stmt};
 use kaba_base::{Place, made};
@@ -27,7 +27,7 @@ use name_tables::Scope;
 
 /// A statement.
 #[cycle(stmts)]
-fn stmt(within: &Enclosing, scope: &mut Scope, body: &mut Body, tree: &Stmt) -> Tried<RStmt>
+fn stmt(within: &Enclosing, scope: &mut Scope, body: &mut Body, tree: &Stmt) -> Named<RStmt>
     ensures given { Gives {A = RStmt} {B = St × List Bound × State}
         (λ s. (core.stmt_of at_place s, scope.new, state_of body.new)) result
         (walk_st (table_at within.now) within.now.here within.now.inside scope.old (state_of body.old) (stmt_of tree.now)) }
@@ -134,7 +134,7 @@ fn assign(
     target: &Expr,
     value: &Expr,
     place: Place,
-) -> Tried<RStmt>
+) -> Named<RStmt>
     ensures given { Gives {A = RStmt} {B = St × List Bound × State}
         (λ s. (core.stmt_of at_place s, scope.now, state_of body.new)) result
         (walk_st (table_at within.now) within.now.here true scope.now (state_of body.old)
@@ -157,7 +157,7 @@ fn block(
     body: &mut Body,
     items: &Vec<Stmt>,
     place: Place,
-) -> Tried<RStmt>
+) -> Named<RStmt>
     ensures given { Gives {A = RStmt} {B = St × List Bound × State}
         (λ s. (core.stmt_of at_place s, scope.now, state_of body.new)) result
         (walk_st (table_at within.now) within.now.here within.now.inside scope.now (state_of body.old)
@@ -177,7 +177,7 @@ fn choice(
     arms: Vec<RArm>,
     other: &Option<Vec<Stmt>>,
     place: Place,
-) -> Tried<RStmt>
+) -> Named<RStmt>
     ensures given { Gives {A = RStmt} {B = St × List Bound × State}
         (λ s. (core.stmt_of at_place s, scope.now, state_of body.new)) result
         (kept (walk_else (table_at within.now) within.now.here within.now.inside scope.now (state_of body.old)
@@ -197,7 +197,7 @@ fn while_loop(
     test: &Expr,
     run: &Vec<Stmt>,
     place: Place,
-) -> Tried<RStmt>
+) -> Named<RStmt>
     ensures given { Gives {A = RStmt} {B = St × List Bound × State}
         (λ s. (core.stmt_of at_place s, scope.now, state_of body.new)) result
         (walk_st (table_at within.now) within.now.here true scope.now (state_of body.old)
@@ -219,7 +219,7 @@ fn for_body(
     step: Option<Box<RStmt>>,
     run: &Vec<Stmt>,
     place: Place,
-) -> Tried<RStmt>
+) -> Named<RStmt>
     ensures given { (outer : List Bound) → Gives {A = RStmt} {B = St × List Bound × State}
         (λ s. (core.stmt_of at_place s, outer, state_of body.new)) result
         (kept (walk_sts (table_at within.now) within.now.here true no_st inner.now (state_of body.old)
@@ -237,7 +237,7 @@ fn optional(
     scope: &mut Scope,
     body: &mut Body,
     tree: &Option<Box<Stmt>>,
-) -> Tried<Option<Box<RStmt>>>
+) -> Named<Option<Box<RStmt>>>
     ensures given { Gives {A = Option (Box RStmt Global)} {B = Sts × List Bound × State}
         (λ s. (core.step_seen at_place s, scope.new, state_of body.new)) result
         (walk_optional (table_at within.now) within.now.here within.now.inside scope.old (state_of body.old)
@@ -259,7 +259,7 @@ fn otherwise(
     scope: &Scope,
     body: &mut Body,
     tree: &Option<Vec<Stmt>>,
-) -> Tried<Option<Vec<RStmt>>>
+) -> Named<Option<Vec<RStmt>>>
     ensures given { Gives {A = Option (Vec RStmt Global)} {B = Arms × State}
         (λ o. (core.else_seen at_place o, state_of body.new)) result
         (walk_else (table_at within.now) within.now.here within.now.inside scope.now (state_of body.old)
@@ -273,7 +273,7 @@ fn otherwise(
 
 /// An arm of an `if`.
 #[cycle(stmts)]
-fn arm(within: &Enclosing, scope: &Scope, body: &mut Body, tree: &Arm) -> Tried<RArm>
+fn arm(within: &Enclosing, scope: &Scope, body: &mut Body, tree: &Arm) -> Named<RArm>
     ensures given { Gives {A = RArm} {B = Ex × Sts × State}
         (λ a. (core.expr_of at_place a.test, core.stmts at_place a.body.items, state_of body.new)) result
         (walk_arm (table_at within.now) within.now.here within.now.inside scope.now (state_of body.old)
@@ -286,7 +286,7 @@ fn arm(within: &Enclosing, scope: &Scope, body: &mut Body, tree: &Arm) -> Tried<
 
 /// The arms of an `if`.
 #[cycle(stmts)]
-fn arms(within: &Enclosing, scope: &Scope, body: &mut Body, list: &Vec<Arm>) -> Tried<Vec<RArm>>
+fn arms(within: &Enclosing, scope: &Scope, body: &mut Body, list: &Vec<Arm>) -> Named<Vec<RArm>>
     ensures given { Gives {A = Vec RArm Global} {B = Arms × State}
         (λ v. (core.arms_seen at_place v.items no_other, state_of body.new)) result
         (walk_arms (table_at within.now) within.now.here within.now.inside no_other scope.now (state_of body.old)
@@ -309,7 +309,7 @@ pub fn statements(
     scope: &Scope,
     body: &mut Body,
     list: &Vec<Stmt>,
-) -> Tried<Vec<RStmt>>
+) -> Named<Vec<RStmt>>
     ensures given { Gives {A = Vec RStmt Global} {B = Sts × State}
         (λ v. (core.stmts at_place v.items, state_of body.new)) result
         (walk_sts (table_at within.now) within.now.here within.now.inside no_st scope.now (state_of body.old)
