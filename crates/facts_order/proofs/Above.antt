@@ -38,9 +38,8 @@ module _ (P Q : Plain) (placed : IsPlaced P Q) (formed : IsFormed P) where
       let n = chain-above P (λ k. own_field_of P k x) (nearest_of-nearest P (λ k. own_field_of P k x) e) in
       let z = position-passes (λ f. is_field_of n.holder x f) P.fields f n.found in
       let q = placed.placed_field f z.0 z.1 in
-      let w = placed.fields f q.0 q.1 in
       let o = eqb-true z.0.owner n.holder (and_left (z.0.owner == n.holder) (bytes_eq z.0.name x) z.2) in
-      subst (λ y. IsSubclass P c y) (sym o ∙ ap (λ k. k.owner) (same_Some _ _ (sym z.1 ∙ w.stands)) ∙ w.owner
+      subst (λ y. IsSubclass P c y) (sym o ∙ ap (λ k. k.owner) (same_Some _ _ (sym z.1 ∙ placed.fields f q.0 q.1))
       ∙ sym (ap (λ y. option_map_or (λ k. k.owner) y 0) q.1)) n.above
 
   instance_found : (o : Option ℕ) (f : ℕ) → when_instance P o ≡ Some f → o ≡ Some f

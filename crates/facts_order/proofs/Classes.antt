@@ -8,6 +8,7 @@ use Rattle.kaba_base.specs.declared.ClassId.{ClassId}
 use Rattle.java_core.specs.Programs.{Plain, PlainClass}
 use Rattle.java_core.specs.Classes.{IsSubclass, same_class, through, supers_of, parent_of, faces_of}
 use Rattle.java_core.specs.Formed.{IsFormed, IsFormedClass}
+use Rattle.java_core.specs.Untagged.{untag_class, untag_field}
 use Rattle.java_core.proofs.Subclasses.{parent-super, ArePassed, passed_more, none_passed, one_left}
 use Rattle.fact_model.specs.Items.{column_class, column_kind}
 use Rattle.fact_model.specs.Classes.{IsBelow, same, through as by_super, IsAcyclic, is_interface, parent_of as parent_in, faces_of as faces_in, supers_of as supers_in}
@@ -52,14 +53,13 @@ module _ (P Q : Plain) (placed : IsPlaced P Q) (F : Facts) (facts : IsFactsOf P 
   class_at c i e =
       let z = at_each facts_at 0 Q.classes c (class_seen i) (subst (λ w. slice_get w c ≡ Some (class_seen i)) facts.classes
       (at_map class_seen F.classes.items c i e)) in
-      let k = placed.classes c z.0 z.1 in
       record {
-        plain = k.plain;
-        stands = k.stands;
-        name = sym (ap (λ w. w.name) z.2) ∙ sym k.name;
-        parent = sym (ap (λ w. w.parent) z.2) ∙ sym k.parent;
-        faces = sym (ap (λ w. w.faces) z.2) ∙ sym k.faces;
-        interface = sym (ap (λ w. w.is_interface) z.2) ∙ sym k.interface;
+        plain = untag_class z.0;
+        stands = placed.classes c z.0 z.1;
+        name = sym (ap (λ w. w.name) z.2);
+        parent = sym (ap (λ w. w.parent) z.2);
+        faces = sym (ap (λ w. w.faces) z.2);
+        interface = sym (ap (λ w. w.is_interface) z.2);
         holder = sym (ap (λ w. w.holder) z.2) ∙ ap (is_holder Q) (omega arith);
       }
 
@@ -187,10 +187,8 @@ module _ (P Q : Plain) (placed : IsPlaced P Q) (F : Facts) (facts : IsFactsOf P 
 
     holder_class : (i : ColumnItem) → Stands Q i → (kind_of i ≡ kind.Fld) ⊎ (kind_of i ≡ kind.Def) → is_interface F (owner_of Q i) ≡ false
     holder_class _ (for_field f k e s) h =
-        let z = placed.fields f k e in
-        let y = formed.fields f z.plain z.stands in
-        ap (λ o. is_interface F (option_map_or (λ k. k.owner) o 0)) e ∙ ap (is_interface F) (sym z.owner)
-        ∙ interface_same z.plain.owner y.holder y.stands ∙ y.class
+        let y = formed.fields f (untag_field k) (placed.fields f k e) in
+        ap (λ o. is_interface F (option_map_or (λ k. k.owner) o 0)) e ∙ interface_same k.owner y.holder y.stands ∙ y.class
     holder_class _ (for_body m k e s b) h =
         let z = placed.methods m k e in
         let y = formed.methods m z.plain z.stands in

@@ -1,14 +1,15 @@
 -- The labels of a body: each part that is a flow point has its own.
 use Rattle.std.proofs.Common.{◌≡◌, ℕ, zero, suc, ◌+◌, List, [], ◌∷◌, ◌++◌, Option, Some, None, refl, sym, ◌∙◌, arith}
 use Rattle.std.specs.Prelude.{◌≤◌, Bool, true, false, Contains}
-use Rattle.java_core.specs.Trees.{Tag, Ex, Exs, no_ex, ex_then, local, own_field, field, index, call, static_call, super_call, create, create_array, cast, instance_of, unary, binary, Target, to_local, to_static, to_own, to_field, to_element, no_target, St, Sts, Arms, declare, block, assign, act, print, choose, loop, return, break, continue, no_st, st_then, no_other, otherwise, arm}
+use Rattle.java_core.specs.Trees.{Tag, Ex, Exs, no_ex, ex_then, own_field, field, index, call, static_call, super_call, create, create_array, cast, instance_of, unary, binary, Target, to_local, to_static, to_own, to_field, to_element, no_target, Sts}
 use Rattle.java_core.specs.Programs.{Plain, PlainMethod}
 use Rattle.flow_rules.specs.declared.items.ObjectType.{ObjectType}
 use Rattle.flow_rules.specs.declared.items.PointItem.{PointItem}
 use Rattle.flow_rules.specs.declared.items.PointItem.TheVariants as point
-use Rattle.flow_rules.specs.Labels.{size, sizes, label, label_all, size_if, label_if, size_put, size_target, label_target, size_st, size_sts, size_arms, label_st, label_sts, label_arms}
-use Rattle.flow_rules.specs.Parts.{Part, a_load, an_element, a_creation, a_call, a_static_call, a_super_call, a_test, is_accessed, parts, parts_all, parts_if, parts_set, parts_return, parts_assign, parts_st, parts_sts, parts_arms, parts_body, parts_of}
+use Rattle.flow_rules.specs.Labels.{size, sizes, label, label_all, label_if, size_put, size_target, label_target, size_sts, label_sts}
+use Rattle.flow_rules.specs.Parts.{Part, a_load, an_element, a_creation, a_call, a_static_call, a_super_call, a_test, is_accessed, parts, parts_all, parts_set, parts_return, parts_assign, parts_sts, parts_body, parts_of}
 use Rattle.flow_rules.specs.Operands.{type_in}
+use Rattle.run_cover.proofs.StatementParts.{of_sts}
 
 -- the label of what an expression gives
 abbrev pub label_in : Option PointItem → Option ℕ
@@ -94,10 +95,6 @@ module _ (P : Plain) (type : Ex → Option ObjectType) (m : ℕ) (k : PlainMetho
     all_labels n u no_ex = none (omega arith)
     all_labels n u (ex_then e es) = upto (omega arith) (join (ex_labels n u e) (all_labels (n + size e) u es))
 
-  if_labels : (n : ℕ) (e : Option Ex) → Labelled n (parts_if P type m k (label_if n e)) (n + size_if e)
-  if_labels n None = none (omega arith)
-  if_labels n (Some e) = ex_labels n false e
-
   set_labels : (n : ℕ) (v : Ex) (e : Option Ex) → Labelled n (parts_set P type m k v (label_if n e)) (n + size_put e)
   set_labels n v None = none (omega arith)
   set_labels n v (Some e) = join (ex_labels n false e) (plain refl (none (omega arith)))
@@ -117,30 +114,9 @@ module _ (P : Plain) (type : Ex → Option ObjectType) (m : ℕ) (k : PlainMetho
       (ex_labels (n + (size b + size i)) true e))) (plain refl (none (omega arith)))
   assign_labels n t no_target e = from {b = n + 0} (omega arith) (join (ex_labels (n + 0) false e) (plain refl (none (omega arith))))
 
-  mutual
-    st_labels : (n : ℕ) (x : St) → Labelled n (parts_st P type m k (label_st n x)) (n + size_st x)
-    st_labels n (declare t i e) = set_labels n (local t i) e
-    st_labels n (block t xs) = sts_labels n xs
-    st_labels n (assign t b e) = assign_labels n t b e
-    st_labels n (act t e) = ex_labels n false e
-    st_labels n (print t l e) = if_labels n e
-    st_labels n (choose t xs) = arms_labels n xs
-    st_labels n (loop t is_while first test step body) =
-        upto (omega arith) (join (join (join (sts_labels n first) (if_labels (n + size_sts first) test))
-        (sts_labels (n + size_sts first + size_if test) step)) (sts_labels (n + size_sts first + size_if test + size_sts step) body))
-    st_labels n (return t e) = return_labels n e
-    st_labels n (break t) = none (omega arith)
-    st_labels n (continue t) = none (omega arith)
-
-    sts_labels : (n : ℕ) (xs : Sts) → Labelled n (parts_sts P type m k (label_sts n xs)) (n + size_sts xs)
-    sts_labels n no_st = none (omega arith)
-    sts_labels n (st_then x xs) = upto (omega arith) (join (st_labels n x) (sts_labels (n + size_st x) xs))
-
-    arms_labels : (n : ℕ) (xs : Arms) → Labelled n (parts_arms P type m k (label_arms n xs)) (n + size_arms xs)
-    arms_labels n no_other = none (omega arith)
-    arms_labels n (otherwise xs) = sts_labels n xs
-    arms_labels n (arm e xs more) =
-        upto (omega arith) (join (join (ex_labels n false e) (sts_labels (n + size e) xs)) (arms_labels (n + size e + size_sts xs) more))
+  sts_labels : (n : ℕ) (xs : Sts) → Labelled n (parts_sts P type m k (label_sts n xs)) (n + size_sts xs)
+  sts_labels = of_sts P type m k (λ a ps b xs. Labelled a ps b) (λ n. none (omega arith)) (λ a b c ps qs xs ys v w. join v w) (λ n e. ex_labels n false e)
+      set_labels return_labels assign_labels
 
 body_labels : (P : Plain) (type : Ex → Option ObjectType) (m : ℕ) (k : PlainMethod) (b : Option Sts) (p q : Part) (l : ℕ)
     → Contains (parts_body P type m k b) p → Contains (parts_body P type m k b) q → part_label p ≡ Some l → part_label q ≡ Some l → p ≡ q

@@ -6,6 +6,7 @@ use Rattle.std.proofs.lemmas.Option.{same_Some}
 use Rattle.java_core.specs.Programs.{Plain, PlainMethod}
 use Rattle.java_core.specs.Classes.{IsSubclass}
 use Rattle.java_core.specs.Formed.{IsFormed, IsInSlot}
+use Rattle.java_core.specs.Untagged.{untag_field}
 use Rattle.fact_model.specs.Items.{column_at as info_at, column_class, column_kind, column_slot}
 use Rattle.fact_model.specs.Classes.{IsBelow}
 use Rattle.fact_model.specs.InOrder.{name_of, AreMembersInOrder}
@@ -57,12 +58,10 @@ module _ (P Q : Plain) (placed : IsPlaced P Q) (formed : IsFormed P) where
   two_fields : (i j : ColumnItem) → Stands Q i → Stands Q j → kind_of i ≡ kind.Fld → kind_of j ≡ kind.Fld → owner_of Q i ≡ owner_of Q j
       → name_in Q i ≡ name_in Q j → i ≡ j
   two_fields _ _ (for_field f h e s) (for_field g k d t) a b o n =
-      let x = placed.fields f h e in
-      let y = placed.fields g k d in
       ap (λ z. column.Fld z)
-      (formed.field_names f g x.plain y.plain x.stands y.stands
-      (x.owner ∙ sym (ap (λ z. option_map_or (λ k. k.owner) z 0) e) ∙ o ∙ ap (λ z. option_map_or (λ k. k.owner) z 0) d ∙ sym y.owner)
-      (x.name ∙ sym (ap (λ z. option_map_or (λ k. k.name) z []) e) ∙ n ∙ ap (λ z. option_map_or (λ k. k.name) z []) d ∙ sym y.name))
+      (formed.field_names f g (untag_field h) (untag_field k) (placed.fields f h e) (placed.fields g k d)
+      (sym (ap (λ z. option_map_or (λ k. k.owner) z 0) e) ∙ o ∙ ap (λ z. option_map_or (λ k. k.owner) z 0) d)
+      (sym (ap (λ z. option_map_or (λ k. k.name) z []) e) ∙ n ∙ ap (λ z. option_map_or (λ k. k.name) z []) d))
   two_fields _ _ (for_field f h e s) (for_declaration m k d t) a b o n = absurd (cc)
   two_fields _ _ (for_field f h e s) (for_body m k d t c) a b o n = absurd (cc)
   two_fields _ _ (for_field f h e s) (for_mark c) a b o n = absurd (cc)

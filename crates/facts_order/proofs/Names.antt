@@ -18,6 +18,7 @@ use Rattle.ucd_table.specs.Rows.{in_ranges}
 use Rattle.java_lex.specs.Writable.{IsName}
 use Rattle.java_core.specs.Programs.{Plain, PlainClass, PlainField, PlainMethod}
 use Rattle.java_core.specs.Formed.{IsFormed, IsVariableName}
+use Rattle.java_core.specs.Untagged.{untag_class, untag_field}
 use Rattle.fact_model.specs.Items.{column_kind}
 use Rattle.fact_model.specs.InOrder.{IsMember as IsMemberColumn, name_of, AreNamesInOrder}
 use Rattle.fact_model.specs.declared.facts.Facts.{Facts}
@@ -78,10 +79,10 @@ module _ (P Q : Plain) (placed : IsPlaced P Q) (formed : IsFormed P) where
 
   -- and an identifier
   class_named : (c : ℕ) (k : PlainClass) → slice_get Q.classes (suc c) ≡ Some k → IsName k.name
-  class_named c k e = let z = placed.classes (suc c) k e in subst (λ x. IsName x) z.name (formed.classes c z.plain z.stands).name
+  class_named c k e = (formed.classes c (untag_class k) (placed.classes (suc c) k e)).name
 
   field_named : (f : ℕ) (k : PlainField) → slice_get Q.fields f ≡ Some k → IsVariableName P k.name
-  field_named f k e = let z = placed.fields f k e in subst (λ x. IsVariableName P x) z.name (formed.fields f z.plain z.stands).name
+  field_named f k e = (formed.fields f (untag_field k) (placed.fields f k e)).name
 
   method_named : (m : ℕ) (k : PlainMethod) (x : List ℕ) → slice_get Q.methods m ≡ Some k → Contains (own_names k) x → IsName x
   method_named m k x e (zero, lt, d) = let z = placed.methods m k e in subst (λ x. IsName x) (z.name ∙ d) (formed.methods m z.plain z.stands).name
@@ -139,8 +140,8 @@ module _ (P Q : Plain) (placed : IsPlaced P Q) (formed : IsFormed P) where
     -- a class with static members is not Object
     holding : (c : ℕ) → is_holder Q c ≡ true → c ≢ 0
     holding c h e = ⊎_elim
-        (λ d. let z = any_at (λ f. f.is_static && (f.owner == c)) Q.fields d in let w = at_contains Q.fields z.0 z.1 in let y = placed.fields w.0 z.0 w.1 in
-        (formed.fields w.0 y.plain y.stands).no_object (y.owner ∙ eqb-true z.0.owner c (and_parts z.0.is_static (z.0.owner == c) z.2).1 ∙ e))
+        (λ d. let z = any_at (λ f. f.is_static && (f.owner == c)) Q.fields d in let w = at_contains Q.fields z.0 z.1 in
+        (formed.fields w.0 (untag_field z.0) (placed.fields w.0 z.0 w.1)).no_object (eqb-true z.0.owner c (and_parts z.0.is_static (z.0.owner == c) z.2).1 ∙ e))
         (λ d. let z = any_at (λ m. m.is_static && (m.owner == c)) Q.methods d in let w = at_contains Q.methods z.0 z.1 in let y = placed.methods w.0 z.0 w.1 in
         (formed.methods w.0 y.plain y.stands).no_object (y.owner ∙ eqb-true z.0.owner c (and_parts z.0.is_static (z.0.owner == c) z.2).1 ∙ e))
         (or_cases (list_any (λ f. f.is_static && (f.owner == c)) Q.fields) (list_any (λ m. m.is_static && (m.owner == c)) Q.methods) h)
@@ -153,8 +154,7 @@ module _ (P Q : Plain) (placed : IsPlaced P Q) (formed : IsFormed P) where
     holders = all_of (λ k. k.holder ≡ true → Contains F.words.items k.name) F.classes.items
         (λ k c h. let z = at_contains F.classes.items k c in let w = class_at P Q placed F facts z.0 k z.1 in
         let y = placed.placed_class z.0 w.plain w.stands in
-        let q = placed.classes z.0 y.0 y.1 in
-        let e = sym q.name ∙ ap (λ k. k.name) (same_Some _ _ (sym q.stands ∙ w.stands)) ∙ sym w.name in
+        let e = ap (λ k. k.name) (same_Some _ _ (sym (placed.classes z.0 y.0 y.1) ∙ w.stands)) ∙ sym w.name in
         subst (λ x. Contains F.words.items x) e (word y.0.name (holder_name z.0 y.0 y.1 (holding z.0 (sym w.holder ∙ h)))))
 
     item_name : (i : ColumnItem) → Stands Q i → ((kind_of i ≡ kind.Is) → ⊥) → Contains (all_names Q) (name_in Q i)

@@ -13,7 +13,7 @@ use Rattle.flow_rules.specs.declared.items.ObjectType.{ObjectType}
 use Rattle.flow_rules.specs.declared.items.RowItem.{RowItem}
 use Rattle.flow_rules.specs.declared.items.RowItem.TheVariants as row
 use Rattle.flow_rules.specs.declared.items.Row.{Row}
-use Rattle.flow_rules.specs.Operands.{object_of, object_if, variable_in, variable_row, result_in}
+use Rattle.flow_rules.specs.Operands.{object_if, variable_in, variable_row, result_in}
 use Rattle.flow_rules.specs.Types.{field_object, slot_object, method_object, variable_object}
 use Rattle.flow_rules.specs.Parts.{Part, parts_of}
 use Rattle.flow_rules.specs.Numbered.{rows_of}
@@ -72,8 +72,7 @@ module _ (P Q : Plain) (placed : IsPlaced P Q) (formed : IsFormed P) (typed : Is
       go : Types P Q x → field_object P f ≡ Some x.ty
       go (for_field g k d i u) =
           let s : g ≡ f = cc in
-          let z = placed.fields g k d in
-          ap (field_object P) (sym s) ∙ ap (λ o. object_if (option_map (λ k. k.ty) o)) z.stands ∙ ap object_of z.type ∙ u
+          ap (field_object P) (sym s) ∙ ap (λ o. object_if (option_map (λ k. k.ty) o)) (placed.fields g k d) ∙ u
       go (for_this m k d b s i u) = absurd (cc)
       go (for_result m k d i u) = absurd (let g = sym (all_results field_number None (λ s. refl) (λ m. refl) k.slot m) ∙ sym (ap field_number i)
           ∙ ap field_number h in cc)

@@ -10,20 +10,11 @@ use Rattle.java_core.specs.declared.RStmt.{RStmt}
 use Rattle.java_core.specs.Trees.{at_place, no_place, body_seen}
 use Rattle.java_core.specs.Types.{types_of}
 use Rattle.java_core.specs.Programs.{Plain, PlainClass, PlainField, PlainMethod, local_seen, class_seen, field_seen, method_seen, program_of}
-use Rattle.java_core.specs.Untagged.{bare_sts}
+use Rattle.java_core.specs.Untagged.{bare_sts, untag_class, untag_field}
 use Rattle.java_core.proofs.Untagged.{bare_list}
 use Rattle.flow_rules.proofs.Listed.{at_map, map_at}
 
--- a field with its place, and without
-pub record IsFieldOf (P : Plain) (f : ℕ) (k : PlainField) : Type 0 where
-  pub plain : PlainField
-  pub stands : slice_get P.fields f ≡ Some plain
-  pub owner : plain.owner ≡ k.owner
-  pub name : plain.name ≡ k.name
-  pub static : plain.is_static ≡ k.is_static
-  pub type : plain.ty ≡ k.ty
-
--- the types of variables, place by place
+-- a method with its places, and without
 pub record IsMethodOf (P : Plain) (m : ℕ) (k : PlainMethod) : Type 0 where
   pub plain : PlainMethod
   pub stands : slice_get P.methods m ≡ Some plain
@@ -38,19 +29,11 @@ pub record IsMethodOf (P : Plain) (m : ℕ) (k : PlainMethod) : Type 0 where
   pub body : option_map bare_sts k.body ≡ plain.body
   pub bodied : is_some plain.body ≡ is_some k.body
 
-pub record IsClassOf (P : Plain) (c : ℕ) (k : PlainClass) : Type 0 where
-  pub plain : PlainClass
-  pub stands : slice_get P.classes c ≡ Some plain
-  pub name : plain.name ≡ k.name
-  pub interface : plain.is_interface ≡ k.is_interface
-  pub parent : plain.parent ≡ k.parent
-  pub faces : plain.faces ≡ k.faces
-
 -- Q is the program P with its places
 pub record IsPlaced (P Q : Plain) : Type 0 where
-  pub fields : (f : ℕ) (k : PlainField) → slice_get Q.fields f ≡ Some k → IsFieldOf P f k
+  pub fields : (f : ℕ) (k : PlainField) → slice_get Q.fields f ≡ Some k → slice_get P.fields f ≡ Some (untag_field k)
   pub methods : (m : ℕ) (k : PlainMethod) → slice_get Q.methods m ≡ Some k → IsMethodOf P m k
-  pub classes : (c : ℕ) (k : PlainClass) → slice_get Q.classes c ≡ Some k → IsClassOf P c k
+  pub classes : (c : ℕ) (k : PlainClass) → slice_get Q.classes c ≡ Some k → slice_get P.classes c ≡ Some (untag_class k)
   pub placed_method : (m : ℕ) (h : PlainMethod) → slice_get P.methods m ≡ Some h → (k : PlainMethod) × (slice_get Q.methods m ≡ Some k)
   pub placed_field : (f : ℕ) (h : PlainField) → slice_get P.fields f ≡ Some h → (k : PlainField) × (slice_get Q.fields f ≡ Some k)
   pub placed_class : (c : ℕ) (h : PlainClass) → slice_get P.classes c ≡ Some h → (k : PlainClass) × (slice_get Q.classes c ≡ Some k)
@@ -89,9 +72,9 @@ module _ (p : Program) where
   abbrev Q : Plain
   Q = program_of at_place p
 
-  field_pair : (f : ℕ) (k : PlainField) → slice_get Q.fields f ≡ Some k → IsFieldOf P f k
+  field_pair : (f : ℕ) (k : PlainField) → slice_get Q.fields f ≡ Some k → slice_get P.fields f ≡ Some (untag_field k)
   field_pair f k e = let z = both (field_seen at_place) (field_seen no_place) p.fields.items f k e in
-      subst (λ k. IsFieldOf P f k) z.2 (record { plain = field_seen no_place z.0; stands = z.1; owner = refl; name = refl; static = refl; type = refl })
+      subst (λ k. slice_get P.fields f ≡ Some (untag_field k)) z.2 z.1
 
   method_pair : (m : ℕ) (k : PlainMethod) → slice_get Q.methods m ≡ Some k → IsMethodOf P m k
   method_pair m k e =
@@ -111,10 +94,9 @@ module _ (p : Program) where
         bodied = body_there z.0.body;
       })
 
-  class_pair : (c : ℕ) (k : PlainClass) → slice_get Q.classes c ≡ Some k → IsClassOf P c k
+  class_pair : (c : ℕ) (k : PlainClass) → slice_get Q.classes c ≡ Some k → slice_get P.classes c ≡ Some (untag_class k)
   class_pair c k e = let z = both (class_seen at_place) (class_seen no_place) p.classes.items c k e in
-      subst (λ k. IsClassOf P c k) z.2
-      (record { plain = class_seen no_place z.0; stands = z.1; name = refl; interface = refl; parent = refl; faces = refl })
+      subst (λ k. slice_get P.classes c ≡ Some (untag_class k)) z.2 z.1
 
   pub placed : IsPlaced P Q
   placed = record {

@@ -13,6 +13,7 @@ use Rattle.java_core.specs.Programs.{Plain, PlainField, PlainMethod, PlainLocal}
 use Rattle.java_core.specs.Types.{types_of}
 use Rattle.java_core.specs.Typing.{IsTyped}
 use Rattle.java_core.specs.Formed.{IsFormed, IsKnownResult, variables_of}
+use Rattle.java_core.specs.Untagged.{untag_field}
 use Rattle.fact_model.specs.InRange.{AreCounted, InRange, IsRow, IsCol, IsSite, IsClass, IsPoint}
 use Rattle.fact_model.specs.declared.facts.Facts.{Facts}
 use Rattle.fact_model.specs.declared.facts.NewInfo.{NewInfo}
@@ -94,8 +95,7 @@ module _ (P Q : Plain) (placed : IsPlaced P Q) (formed : IsFormed P) (typed : Is
   owner_bound c k e = class_bound c (slice_get_within P.classes c k e)
 
   field_owner : (f : ℕ) (k : PlainField) → slice_get Q.fields f ≡ Some k → k.owner < length F.classes.items
-  field_owner f k e = let z = placed.fields f k e in let y = formed.fields f z.plain z.stands in subst (λ c. c < length F.classes.items) z.owner
-      (owner_bound z.plain.owner y.holder y.stands)
+  field_owner f k e = let y = formed.fields f (untag_field k) (placed.fields f k e) in owner_bound k.owner y.holder y.stands
 
   method_owner : (m : ℕ) (k : PlainMethod) → slice_get Q.methods m ≡ Some k → k.owner < length F.classes.items
   method_owner m k e = let z = placed.methods m k e in let y = formed.methods m z.plain z.stands in subst (λ c. c < length F.classes.items) z.owner
@@ -134,7 +134,7 @@ module _ (P Q : Plain) (placed : IsPlaced P Q) (formed : IsFormed P) (typed : Is
 
   row_known : (x : Row) → Types P Q x → x.ty.class.0 < length F.classes.items
   row_known x (types_field f k e i t) =
-      let z = placed.fields f k e in known_bound x.ty (known_type P z.plain.ty x.ty (formed.fields f z.plain z.stands).type (ap object_of z.type ∙ t))
+      known_bound x.ty (known_type P k.ty x.ty (formed.fields f (untag_field k) (placed.fields f k e)).type t)
   row_known x (types_this m k e b s i t) = subst (λ y. y.class.0 < length F.classes.items) (same_Some _ x.ty t) (method_owner m k e)
   row_known x (types_result m k e i t) = let z = placed.methods m k e in result_known z.plain.result x.ty (formed.methods m z.plain z.stands).result
       (ap object_if z.result ∙ t)

@@ -1,6 +1,6 @@
 -- Tests and array creations: the rows, casts, marks and cells that they have.
 use Rattle.std.proofs.Common.{◌≡◌, ℕ, suc, ◌+◌, List, [], ◌∷◌, Option, Some, None, length, refl, sym, ap, ◌∙◌, subst, arith, ⊎_elim}
-use Rattle.std.specs.Prelude.{◌⊎◌, ◌<◌, ◌==◌, if◌then◌else◌, not, Bool, true, false, Contains, All, slice_get}
+use Rattle.std.specs.Prelude.{◌<◌, ◌==◌, if◌then◌else◌, not, Bool, true, false, Contains, All, slice_get}
 use Rattle.std.specs.Option.{is_some}
 use Rattle.std.specs.List.{flat_map}
 use Rattle.std.proofs.lemmas.Option.{same_Some, slice_get_within}

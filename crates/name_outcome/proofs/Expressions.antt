@@ -30,6 +30,7 @@ use Rattle.name_rules.specs.Meanings.{class_named, MeansCast, MeansCastBase, to_
 use Rattle.name_rules.specs.Resolves.{Counts, no_number, next_number, ResolvesTo, r_number, r_character, r_text, r_truth, r_null, r_this, r_local, r_static_field, r_own_field, r_class_field, r_field, r_index, r_own_static_call, r_own_call, r_static_call, r_call, r_super_call, r_create, r_create_array, r_cast, r_instance_of, r_unary, r_binary, AllResolve, r_no_more, r_and_more}
 use Rattle.name_rules.specs.Conditions.{IsUnknownCast, no_such_cast, FaultIn, this_in_static, no_variable, static_above, own_in_static, no_class_of_field, no_static_field, in_base, in_array, in_index, no_method, static_method_above, call_in_static, in_arguments, no_class_of_call, no_static_method, in_receiver, in_call_arguments, super_in_static, in_super_arguments, no_class_of_new, in_new_arguments, no_type_of_array, in_size, no_type_of_cast, in_cast, no_class_of_test, in_tested, in_operand, in_left, in_right, FaultInOne, in_first, in_later}
 use Rattle.name_outcome.proofs.TypeNames.{asked-tells, type-tells}
+use Rattle.name_outcome.proofs.Pushed.{listed, pushed, pushed-all}
 use Rattle.name_outcome.proofs.Sees.{Sees, StandsField, OwnMethod, MetMethod, Tells, tell, turn, bound-local, unbound-local, same_some}
 
 -- ---- numbers
@@ -43,19 +44,11 @@ counts_one k = next_number no_number
 
 -- ---- arguments
 
-pub ex_append : Exs → Exs → Exs
-ex_append no_ex ys = ys
-ex_append (ex_then x xs) ys = ex_then x (ex_append xs ys)
+abbrev pub exs : List Ex → Exs
+exs xs = listed no_ex ex_then xs
 
-pub append-last : (xs : Exs) (x : Ex) (ys : Exs) → ex_append (ex_last xs x) ys ≡ ex_append xs (ex_then x ys)
-unfolding ex_append
-append-last no_ex x ys = refl
-append-last (ex_then y xs) x ys = ap (ex_then y) (append-last xs x ys)
-
-pub append-none : (xs : Exs) → ex_append xs no_ex ≡ xs
-unfolding ex_append
-append-none no_ex = refl
-append-none (ex_then x xs) = ap (ex_then x) (append-none xs)
+exs-pushed : (xs : List Ex) → pushed ex_last no_ex xs ≡ exs xs
+exs-pushed = pushed-all no_ex ex_then ex_last (λ x. refl) (λ x xs y. refl)
 
 -- ---- types of casts
 
@@ -243,10 +236,13 @@ module _ (t : Table) (O : Plain) (sees : Sees t O) where
       pub numbered : Counts k (numbers w.0) w.1
 
     pub record WalksAll (done : Exs) (es : Expressions) (k : ℕ) (w : Exs × ℕ) : Type 0 where
-      pub more : Exs
-      pub joined : w.0 ≡ ex_append done more
-      pub to : AllResolve O here scope es more
-      pub numbered : Counts k (numbers_all more) w.1
+      pub more : List Ex
+      pub joined : w.0 ≡ pushed ex_last done more
+      pub to : AllResolve O here scope es (exs more)
+      pub numbered : Counts k (numbers_all (exs more)) w.1
+
+    whole : {es : Expressions} {k : ℕ} {w : Exs × ℕ} (u : WalksAll no_ex es k w) → w.0 ≡ exs u.more
+    whole u = u.joined ∙ exs-pushed u.more
 
     abbrev Fault : Expression → Refusal → Type 0
     Fault e = FaultIn O here (bound_names scope) e
@@ -295,8 +291,6 @@ module _ (t : Table) (O : Plain) (sees : Sees t O) where
         at false bad good = good refl
 
     mutual
-      unfolding ex_append
-
       pub walk-tells : (k : ℕ) (e : Expression) → Tells (Walks e k) (Fault e) (walk t here scope k e)
       walk-tells k (IntLit v p) = record { to = r_number; numbered = no_number }
       walk-tells k (CharLit c p) = record { to = r_character; numbered = no_number }
@@ -316,26 +310,26 @@ module _ (t : Table) (O : Plain) (sees : Sees t O) where
       walk-tells k (CallOf n es p) =
           tell (Walks (CallOf n es p) k) (Fault (CallOf n es p)) (call_meaning t here n p) _ (call-tells n p es)
           (λ m s. tell (Walks (CallOf n es p) k) (Fault (CallOf n es p)) (walk_all t here scope no_ex k es) _ (all-tells k es no_ex)
-          (λ y u. let g = s u.more u.to in record { to = rw (u.joined) (g.0); numbered = rw (u.joined, g.1) (u.numbered) }) (λ r f. in_arguments f))
+          (λ y u. let g = s (exs u.more) u.to in record { to = rw (whole u) (g.0); numbered = rw (whole u, g.1) (u.numbered) }) (λ r f. in_arguments f))
           (λ r f. f)
       walk-tells k (CallOn e n es p) =
           tell (Walks (CallOn e n es p) k) (Fault (CallOn e n es p)) (receiver t k n p (class_before t here scope e) (walk t here scope k e)) _
           (receiver-tells k e n p es (class_before t here scope e) (walk t here scope k e) (class-before e) (walk-tells k e))
           (λ x s. tell (Walks (CallOn e n es p) k) (Fault (CallOn e n es p)) (walk_all t here scope no_ex x.1 es) _ (all-tells x.1 es no_ex)
           (λ y u. record {
-            to = rw (u.joined) (s.to es u.more u.to);
-            numbered = rw (u.joined, s.before u.more)
+            to = rw (whole u) (s.to es (exs u.more) u.to);
+            numbered = rw (whole u, s.before (exs u.more))
                 (counts_append s.numbered u.numbered);
           }) (λ r f. in_call_arguments f))
           (λ r f. f)
       walk-tells k (SuperCallOf n es p) =
           in_body-tells (Walks (SuperCallOf n es p) k) (Fault (SuperCallOf n es p)) p _ super_in_static
           (λ h. tell (Walks (SuperCallOf n es p) k) (Fault (SuperCallOf n es p)) (walk_all t here scope no_ex k es) _ (all-tells k es no_ex)
-          (λ y u. record { to = rw (u.joined) (r_super_call h u.to); numbered = rw (u.joined) (u.numbered) }) (λ r f. in_super_arguments f))
+          (λ y u. record { to = rw (whole u) (r_super_call h u.to); numbered = rw (whole u) (u.numbered) }) (λ r f. in_super_arguments f))
       walk-tells k (NewOf c es p) =
           tell (Walks (NewOf c es p) k) (Fault (NewOf c es p)) (asked t.known c.name c.place) _ (asked-tells t.known O sees.types c.name c.place)
           (λ d e. tell (Walks (NewOf c es p) k) (Fault (NewOf c es p)) (walk_all t here scope no_ex (suc k) es) _ (all-tells (suc k) es no_ex)
-          (λ y u. record { to = rw (u.joined) (r_create e u.to); numbered = rw (u.joined) (next_number u.numbered) }) (λ r f. in_new_arguments f))
+          (λ y u. record { to = rw (whole u) (r_create e u.to); numbered = rw (whole u) (next_number u.numbered) }) (λ r f. in_new_arguments f))
           (λ r h. subst (Fault (NewOf c es p)) (sym h.0) (no_class_of_new h.1))
       walk-tells k (NewArrayOf u e p) =
           tell (Walks (NewArrayOf u e p) k) (Fault (NewArrayOf u e p)) (type_of t.known u) _ (type-tells t.known O sees.types u)
@@ -364,13 +358,13 @@ module _ (t : Table) (O : Plain) (sees : Sees t O) where
 
       pub all-tells : (k : ℕ) (es : Expressions) (done : Exs) → Tells (WalksAll done es k) (FaultInOne O here (bound_names scope) es)
           (walk_all t here scope done k es)
-      all-tells k no_more done = record { more = no_ex; joined = sym (append-none done); to = r_no_more; numbered = no_number }
+      all-tells k no_more done = record { more = []; joined = refl; to = r_no_more; numbered = no_number }
       all-tells k (and_more e es) done =
           tell (WalksAll done (and_more e es) k) (FaultInOne O here (bound_names scope) (and_more e es)) (walk t here scope k e) _ (walk-tells k e)
           (λ x s. turn (walk_all t here scope (ex_last done x.0) x.1 es) (all-tells x.1 es (ex_last done x.0))
           (λ y u. record {
-            more = ex_then x.0 u.more;
-            joined = u.joined ∙ append-last done x.0 u.more;
+            more = x.0 ∷ u.more;
+            joined = u.joined;
             to = r_and_more s.to u.to;
             numbered =
                 counts_append s.numbered u.numbered;

@@ -1,6 +1,7 @@
 mod Worked
 pub mod Sees
 pub mod TypeNames
+pub mod Pushed
 pub mod Expressions
 pub mod Statements
 pub mod Runs

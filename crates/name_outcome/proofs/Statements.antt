@@ -30,6 +30,7 @@ use Rattle.name_rules.specs.Resolves.{Counts, no_number, next_number, ResolvesTo
 use Rattle.name_rules.specs.Conditions.{FaultIn, FaultInValue, in_value, names_after, names_after_part, StFault, no_type_of_local, type_as_local, local_twice, in_first_value, in_block, in_target, in_assigned, in_call, in_printed, in_choice, in_else, in_while_test, in_while, in_first_part, in_for_test, in_last_part, in_for, in_returned, break_outside, continue_outside, StsFault, in_statement, in_rest, ArmsFault, in_test, in_arm, in_more_arms, PartFault, in_part}
 use Rattle.name_outcome.proofs.TypeNames.{type-tells}
 use Rattle.name_outcome.proofs.Sees.{Sees, Tells, tell, turn, bound-local, unbound-local}
+use Rattle.name_outcome.proofs.Pushed.{listed, pushed, pushed-all}
 use Rattle.name_outcome.proofs.Expressions.{counts_append, walk-tells}
 
 -- ---- states
@@ -69,19 +70,11 @@ within-before {k} {a} {b} g w = record {
 
 -- ---- lists of statements
 
-pub st_append : Sts → Sts → Sts
-st_append no_st ys = ys
-st_append (st_then x xs) ys = st_then x (st_append xs ys)
+abbrev pub sts : List St → Sts
+sts xs = listed no_st st_then xs
 
-pub st_append-last : (xs : Sts) (x : St) (ys : Sts) → st_append (st_last xs x) ys ≡ st_append xs (st_then x ys)
-unfolding st_append
-st_append-last no_st x ys = refl
-st_append-last (st_then y xs) x ys = ap (st_then y) (st_append-last xs x ys)
-
-pub st_append-none : (xs : Sts) → st_append xs no_st ≡ xs
-unfolding st_append
-st_append-none no_st = refl
-st_append-none (st_then x xs) = ap (st_then x) (st_append-none xs)
+sts-pushed : (xs : List St) → pushed st_last no_st xs ≡ sts xs
+sts-pushed = pushed-all no_st st_then st_last (λ x. refl) (λ x xs y. refl)
 
 pub arms_append-last : (xs : Arms) (e : Ex) (ss : Sts) (ys : Arms) → ending (arm_last xs e ss) ys ≡ ending xs (arm e ss ys)
 arms_append-last no_other e ss ys = refl
@@ -172,10 +165,10 @@ module _ (t : Table) (O : Plain) (sees : Sees t O) (here : Here) where
     pub to : (k : PlainMethod) → Within k r.2 → StResolves O here k inside scope x r.0
 
   pub record StsWalks (inside : Bool) (done : Sts) (scope : List Bound) (s : State) (xs : Statements) (r : Sts × State) : Type 0 where
-    pub more : Sts
-    pub joined : r.0 ≡ st_append done more
-    pub grown : Grown s r.1 (declares_all more) (numbers_sts more)
-    pub to : (k : PlainMethod) → Within k r.1 → StsResolve O here k inside scope xs more
+    pub more : List St
+    pub joined : r.0 ≡ pushed st_last done more
+    pub grown : Grown s r.1 (declares_all (sts more)) (numbers_sts (sts more))
+    pub to : (k : PlainMethod) → Within k r.1 → StsResolve O here k inside scope xs (sts more)
 
   pub record PartWalks (inside : Bool) (scope : List Bound) (s : State) (x : OptionalStatement) (r : Sts × List Bound × State) : Type 0 where
     pub grown : Grown s r.2 (declares_all r.0) (numbers_sts r.0)
@@ -260,13 +253,11 @@ module _ (t : Table) (O : Plain) (sees : Sees t O) (here : Here) where
 
   pub whole-grown : {inside : Bool} {scope : List Bound} {s : State} {xs : Statements} {r : Sts × State} → StsWalks inside no_st scope s xs r
       → Grown s r.1 (declares_all r.0) (numbers_sts r.0)
-  unfolding st_append
-  whole-grown h = rw (h.joined) (h.grown)
+  whole-grown h = rw (h.joined ∙ sts-pushed h.more) (h.grown)
 
   pub whole-to : {inside : Bool} {scope : List Bound} {s : State} {xs : Statements} {r : Sts × State} → StsWalks inside no_st scope s xs r
       → (k : PlainMethod) → Within k r.1 → StsResolve O here k inside scope xs r.0
-  unfolding st_append
-  whole-to h k w = rw (h.joined) (h.to k w)
+  whole-to h k w = rw (h.joined ∙ sts-pushed h.more) (h.to k w)
 
   break-tells : (inside : Bool) (scope : List Bound) (s : State) (p : Place)
       → Tells (StWalks inside scope s (BreakOf p)) (StFault O here inside (bound_names scope) (BreakOf p))
@@ -384,16 +375,16 @@ module _ (t : Table) (O : Plain) (sees : Sees t O) (here : Here) where
     pub sts-tells : (inside : Bool) (done : Sts) (scope : List Bound) (s : State) (xs : Statements) → AreFormedStmts xs
         → Tells (StsWalks inside done scope s xs) (StsFault O here inside (bound_names scope) xs) (walk_sts t here inside done scope s xs)
     sts-tells inside done scope s no_statements g =
-        record { more = no_st; joined = sym (st_append-none done); grown = grown-same s; to = λ k w. r_no_statements }
+        record { more = []; joined = refl; grown = grown-same s; to = λ k w. r_no_statements }
     sts-tells inside done scope s (and_then x xs) g =
         tell (StsWalks inside done scope s (and_then x xs)) (StsFault O here inside (bound_names scope) (and_then x xs))
         (walk_st t here inside scope s x) _ (st-tells inside scope s x g.0)
         (λ r h. turn (walk_sts t here inside (st_last done r.0) r.1 r.2 xs) (sts-tells inside (st_last done r.0) r.1 r.2 xs g.1)
         (λ y u. record {
-          more = st_then r.0 u.more;
-          joined = u.joined ∙ st_append-last done r.0 u.more;
+          more = r.0 ∷ u.more;
+          joined = u.joined;
           grown = grown-then h.grown u.grown;
-          to = λ k w. r_and_then (h.to k (within-before u.grown w)) (subst (λ z. StsResolve O here k inside z xs u.more) h.scope_then (u.to k w));
+          to = λ k w. r_and_then (h.to k (within-before u.grown w)) (subst (λ z. StsResolve O here k inside z xs (sts u.more)) h.scope_then (u.to k w));
         })
         (λ r f. in_rest (subst (λ z. StsFault O here inside z xs r) h.names_then f)))
         (λ r f. in_statement f)

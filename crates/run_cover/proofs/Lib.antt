@@ -22,6 +22,7 @@ pub mod TypedBodies
 pub mod Found
 pub mod Bodies
 pub mod Cells
+pub mod StatementParts
 pub mod Numbers
 pub mod Unique
 pub mod Covered

@@ -6,17 +6,18 @@ use Rattle.std.specs.List.{flat_map}
 use Rattle.std.proofs.lemmas.Option.{same_Some, slice_get_within}
 use Rattle.std.proofs.lemmas.Grind.{flat_map-append}
 use Rattle.std.proofs.lemmas.List.Elements.{Contains-append_left, Contains-append_right}
-use Rattle.java_core.specs.Trees.{Tag, Ex, Exs, no_ex, ex_then, local, field, index, call, static_call, super_call, create, create_array, cast, instance_of, unary, binary, Target, to_local, to_static, to_own, to_field, to_element, no_target, St, Sts, Arms, declare, block, assign, act, print, choose, loop, return, break, continue, no_st, st_then, no_other, otherwise, arm}
+use Rattle.java_core.specs.Trees.{Tag, Ex, Exs, no_ex, ex_then, field, index, call, static_call, super_call, create, create_array, cast, instance_of, unary, binary, Target, to_local, to_static, to_own, to_field, to_element, no_target, Sts}
 use Rattle.java_core.specs.Programs.{Plain, PlainMethod}
-use Rattle.java_core.specs.Formed.{HasNoTwice, numbers, numbers_all, numbers_if, numbers_target, numbers_st, numbers_sts, numbers_arms, numbers_body, numbers_methods}
-use Rattle.java_core.specs.Untagged.{bare, bare_all, bare_if, bare_target, bare_st, bare_sts, bare_arms}
+use Rattle.java_core.specs.Formed.{HasNoTwice, numbers, numbers_all, numbers_if, numbers_target, numbers_sts, numbers_body, numbers_methods}
+use Rattle.java_core.specs.Untagged.{bare, bare_all, bare_if, bare_target, bare_sts}
 use Rattle.flow_rules.specs.declared.items.ObjectType.{ObjectType}
 use Rattle.flow_rules.specs.declared.items.RowItem.{RowItem}
 use Rattle.flow_rules.specs.declared.items.RowItem.TheVariants as row
-use Rattle.flow_rules.specs.Labels.{size, label, label_all, size_if, label_if, size_target, label_target, size_st, size_sts, label_st, label_sts, label_arms}
-use Rattle.flow_rules.specs.Parts.{Part, a_creation, a_test, is_accessed, parts, parts_all, parts_if, parts_set, parts_return, parts_assign, parts_st, parts_sts, parts_arms, parts_body, parts_of}
+use Rattle.flow_rules.specs.Labels.{size, label, label_all, label_if, size_target, label_target, label_sts}
+use Rattle.flow_rules.specs.Parts.{Part, a_creation, a_test, is_accessed, parts, parts_all, parts_set, parts_return, parts_assign, parts_sts, parts_body, parts_of}
 use Rattle.flow_rules.specs.Operands.{type_in}
 use Rattle.flow_rules.proofs.Listed.{at_contains, flat_has, at_left}
+use Rattle.run_cover.proofs.StatementParts.{of_sts}
 
 -- the number of what has a row of its own
 abbrev pub number_in : Option RowItem → List ℕ
@@ -76,10 +77,6 @@ module _ (P : Plain) (type : Ex → Option ObjectType) (m : ℕ) (k : PlainMetho
     all_numbers n u (ex_then e es) = join (in_ex u (label n e)) (in_all u (label_all (n + size e) es)) (numbers (bare e)) (numbers_all (bare_all es))
         (ex_numbers n u e) (all_numbers (n + size e) u es)
 
-  if_numbers : (n : ℕ) (e : Option Ex) → numbers_in (parts_if P type m k (label_if n e)) ≡ numbers_if (bare_if e)
-  if_numbers n None = refl
-  if_numbers n (Some e) = ex_numbers n false e
-
   set_numbers : (n : ℕ) (v : Ex) (e : Option Ex) → numbers_in (parts_set P type m k v (label_if n e)) ≡ numbers_if (bare_if e)
   set_numbers n v None = refl
   set_numbers n v (Some e) = joined (in_ex false (label n e)) _ (numbers (bare e)) (ex_numbers n false e) refl
@@ -108,45 +105,9 @@ module _ (P : Plain) (type : Ex → Option ObjectType) (m : ℕ) (k : PlainMetho
       (ex_numbers n true b) (ex_numbers (n + size b) false i)) (ex_numbers (n + (size b + size i)) true e)) refl
   assign_numbers n t no_target e = joined (in_ex false (label (n + 0) e)) _ (numbers (bare e)) (ex_numbers (n + 0) false e) refl
 
-  mutual
-    st_numbers : (n : ℕ) (x : St) → numbers_in (parts_st P type m k (label_st n x)) ≡ numbers_st (bare_st x)
-    st_numbers n (declare t i e) = set_numbers n (local t i) e
-    st_numbers n (block t xs) = sts_numbers n xs
-    st_numbers n (assign t b e) = assign_numbers n t b e
-    st_numbers n (act t e) = ex_numbers n false e
-    st_numbers n (print t l e) = if_numbers n e
-    st_numbers n (choose t xs) = arms_numbers n xs
-    st_numbers n (loop t is_while first test step body) =
-        join (((parts_sts P type m k (label_sts n first)) ++ parts_if P type m k (label_if (n + size_sts first) test)) ++ parts_sts P type m k
-        (label_sts (n + size_sts first + size_if test) step))
-        (parts_sts P type m k (label_sts (n + size_sts first + size_if test + size_sts step) body))
-        ((numbers_sts (bare_sts first) ++ numbers_if (bare_if test)) ++ numbers_sts (bare_sts step)) (numbers_sts (bare_sts body))
-        (join ((parts_sts P type m k (label_sts n first)) ++ parts_if P type m k (label_if (n + size_sts first) test))
-        (parts_sts P type m k (label_sts (n + size_sts first + size_if test) step)) (numbers_sts (bare_sts first) ++ numbers_if (bare_if test))
-        (numbers_sts (bare_sts step))
-        (join (parts_sts P type m k (label_sts n first)) (parts_if P type m k (label_if (n + size_sts first) test)) (numbers_sts (bare_sts first))
-        (numbers_if (bare_if test)) (sts_numbers n first) (if_numbers (n + size_sts first) test))
-        (sts_numbers (n + size_sts first + size_if test) step))
-        (sts_numbers (n + size_sts first + size_if test + size_sts step) body)
-    st_numbers n (return t e) = return_numbers n e
-    st_numbers n (break t) = refl
-    st_numbers n (continue t) = refl
-
-    sts_numbers : (n : ℕ) (xs : Sts) → numbers_in (parts_sts P type m k (label_sts n xs)) ≡ numbers_sts (bare_sts xs)
-    sts_numbers n no_st = refl
-    sts_numbers n (st_then x xs) = join (parts_st P type m k (label_st n x)) (parts_sts P type m k (label_sts (n + size_st x) xs))
-        (numbers_st (bare_st x)) (numbers_sts (bare_sts xs)) (st_numbers n x) (sts_numbers (n + size_st x) xs)
-
-    arms_numbers : (n : ℕ) (xs : Arms) → numbers_in (parts_arms P type m k (label_arms n xs)) ≡ numbers_arms (bare_arms xs)
-    arms_numbers n no_other = refl
-    arms_numbers n (otherwise xs) = sts_numbers n xs
-    arms_numbers n (arm e xs more) =
-        join (in_ex false (label n e) ++ parts_sts P type m k (label_sts (n + size e) xs))
-        (parts_arms P type m k (label_arms (n + size e + size_sts xs) more)) (numbers (bare e) ++ numbers_sts (bare_sts xs))
-        (numbers_arms (bare_arms more))
-        (join (in_ex false (label n e)) (parts_sts P type m k (label_sts (n + size e) xs)) (numbers (bare e)) (numbers_sts (bare_sts xs))
-        (ex_numbers n false e) (sts_numbers (n + size e) xs))
-        (arms_numbers (n + size e + size_sts xs) more)
+  sts_numbers : (n : ℕ) (xs : Sts) → numbers_in (parts_sts P type m k (label_sts n xs)) ≡ numbers_sts (bare_sts xs)
+  sts_numbers = of_sts P type m k (λ a ps b xs. numbers_in ps ≡ xs) (λ n. refl) (λ a b c ps qs xs ys e d. join ps qs xs ys e d)
+      (λ n e. ex_numbers n false e) set_numbers return_numbers assign_numbers
 
 body_numbers : (P : Plain) (type : Ex → Option ObjectType) (m : ℕ) (k : PlainMethod) (b : Option Sts) → numbers_in (parts_body P type m k b)
     ≡ numbers_body (option_map bare_sts b)

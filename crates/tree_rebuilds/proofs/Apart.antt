@@ -53,9 +53,9 @@ holder_placed P Q placed c h =
     ⊎_elim
     (λ a. let z = any_at (λ (f : PlainField). f.is_static && (f.owner == c)) P.fields a in
     let k = placed.placed_field z.0 z.1 z.2 in
-    let w = placed.fields z.0 k.0 k.1 in
-    of_member z.1.is_static z.1.owner k.0.is_static k.0.owner z.3 (ap (λ (y : PlainField). y.is_static) (same_Some _ _ (sym z.2 ∙ w.stands)) ∙ w.static)
-    (ap (λ (y : PlainField). y.owner) (same_Some _ _ (sym z.2 ∙ w.stands)) ∙ w.owner) (field_holder Q z.0 k.0 k.1))
+    let same = same_Some _ _ (sym z.2 ∙ placed.fields z.0 k.0 k.1) in
+    of_member z.1.is_static z.1.owner k.0.is_static k.0.owner z.3 (ap (λ (y : PlainField). y.is_static) same)
+    (ap (λ (y : PlainField). y.owner) same) (field_holder Q z.0 k.0 k.1))
     (λ a. let z = any_at (λ (f : PlainMethod). f.is_static && (f.owner == c)) P.methods a in
     let k = placed.placed_method z.0 z.1 z.2 in
     let w = placed.methods z.0 k.0 k.1 in

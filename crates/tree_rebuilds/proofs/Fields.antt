@@ -161,7 +161,7 @@ module _ {P Q : Plain} {F : Facts} {pt : PointsTo} {H : Hierarchy} {V : Plain} (
       go (column.Fld f) (subst (IsOfText Q) x.2 (column_stands P Q s.number x.0 x.1)) refl
     where
       go : (i : ColumnItem) → IsOfText Q i → i ≡ column.Fld f → (k : PlainField) × (slice_get P.fields f ≡ Some k)
-      go _ (for_field g k e h) d = let z = G.placed.fields g k e in let same : g ≡ f = cc (d) in (z.plain, ap (slice_get P.fields) (sym same) ∙ z.stands)
+      go _ (for_field g k e h) d = let same : g ≡ f = cc (d) in (untag_field k, ap (slice_get P.fields) (sym same) ∙ G.placed.fields g k e)
       go _ (for_declaration m k e h) d = absurd (cc d)
       go _ (for_body m k e h b) d = absurd (cc d)
       go _ (for_mark c) d = absurd (cc d)

@@ -202,35 +202,29 @@ module _ (P Q : Plain) (F : Facts) (H : Hierarchy) where
             let one = one_tree a.0 b.0 (node_tree n) (node_tree m) a.1 b.1 (sym (node_number n a.0 a.1) ∙ same ∙ node_number m b.0 b.1) in
             types_apart F pt H none n m ln lm (sym (tree_name (is_class_node F H n) n) ∙ ap name_of one ∙ tree_name (is_class_node F H m) m)
 
-        pub holders_once : (c d : ℕ) → is_holder P c ≡ true → is_holder P d ≡ true → places.holder_of c ≡ places.holder_of d → c ≡ d
-        unfolding HasNoTwice
-        holders_once c d hc hd same =
-            let k = holder_there formed c hc in
-            let h = holder_there formed d hd in
-            let one = one_tree k.2 h.2 (old_tree c k.0) (old_tree d h.0) k.3 h.3
-            (sym (holder_number c k.2 k.0 k.1 k.3) ∙ same ∙ holder_number d h.2 h.0 h.1 h.3) in
-            let name : k.0.name ≡ h.0.name = ap name_of one in
-            formed.class_names c d h.0.name (at_map (λ k. k.name) P.classes c k.0 k.1 ∙ ap Some name) (at_map (λ k. k.name) P.classes d h.0 h.1)
-
-        pub apart : (n c : ℕ) → is_live H.order n ≡ true → is_holder P c ≡ true → places.type_of n ≢ places.holder_of c
-        apart n c ln hc same =
-            let k = holder_class P formed c hc in
-            let a = node_at n ln in
-            let b = holder_at c k.0 k.1 hc in
-            let one = one_tree a.0 b.0 (node_tree n) (old_tree c k.0) a.1 b.1 (sym (node_number n a.0 a.1) ∙ same ∙ holder_number c b.0 k.0 k.1 b.1) in
-            no_holder F pt H none P Q placed facts n c k.0 ln hc k.1 (sym (tree_name (is_class_node F H n) n) ∙ ap name_of one)
-
         which : (i k : ℕ) (d : DeclTree) → slice_get tree i ≡ Some d → k ≡ suc i → Declares d
             → ((n : ℕ) × (is_live H.order n ≡ true) × (k ≡ places.type_of n)) ⊎ ((c : ℕ) × (is_holder P c ≡ true) × (k ≡ places.holder_of c))
         which i k _ e at (a_node n h) = inl (n, h, at ∙ sym (node_number n i e))
         which i k _ e at (a_holder c old s h) = inr (c, h, at ∙ sym (holder_number c i old s e))
 
         pub are_types : AreTypes P Q F H (untagged V) places
+        unfolding HasNoTwice
         are_types = record {
           nodes = node_type;
           holders = holder_type;
           nodes_once = nodes_once;
-          holders_once = holders_once;
-          apart = apart;
+          holders_once = λ c d hc hd same.
+              let k = holder_there formed c hc in
+              let h = holder_there formed d hd in
+              let one = one_tree k.2 h.2 (old_tree c k.0) (old_tree d h.0) k.3 h.3
+              (sym (holder_number c k.2 k.0 k.1 k.3) ∙ same ∙ holder_number d h.2 h.0 h.1 h.3) in
+              let name : k.0.name ≡ h.0.name = ap name_of one in
+              formed.class_names c d h.0.name (at_map (λ k. k.name) P.classes c k.0 k.1 ∙ ap Some name) (at_map (λ k. k.name) P.classes d h.0 h.1);
+          apart = λ n c ln hc same.
+              let k = holder_class P formed c hc in
+              let a = node_at n ln in
+              let b = holder_at c k.0 k.1 hc in
+              let one = one_tree a.0 b.0 (node_tree n) (old_tree c k.0) a.1 b.1 (sym (node_number n a.0 a.1) ∙ same ∙ holder_number c b.0 k.0 k.1 b.1) in
+              no_holder F pt H none P Q placed facts n c k.0 ln hc k.1 (sym (tree_name (is_class_node F H n) n) ∙ ap name_of one);
           all = λ k class e. ⊎_elim (λ z. inl z) (λ z. inr (which z.0 k z.1 z.3 z.2 (declares z.0 z.1 z.3))) (class_back tree V resolves new k class e);
         }

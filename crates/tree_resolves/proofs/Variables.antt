@@ -101,8 +101,7 @@ module _ {P Q : Plain} {F : Facts} {pt : PointsTo} {H : Hierarchy} (G : Given P 
   field_variable : (f : ℕ) (k : PlainField) → slice_get P.fields f ≡ Some k → Contains (all_variables Q) k.name
   field_variable f k e =
       let z = G.placed.placed_field f k e in
-      let w = G.placed.fields f z.0 z.1 in
-      let name : z.0.name ≡ k.name = sym w.name ∙ ap (λ (y : PlainField). y.name) (same_Some _ _ (sym w.stands ∙ e)) in
+      let name : z.0.name ≡ k.name = ap (λ (y : PlainField). y.name) (same_Some _ _ (sym (G.placed.fields f z.0 z.1) ∙ e)) in
       Contains-append_left (map (λ (f : PlainField). f.name) Q.fields) (flat_map variable_names Q.methods) k.name
       (subst (Contains (map (λ (f : PlainField). f.name) Q.fields)) name (map_has (λ (f : PlainField). f.name) Q.fields z.0 (contains_at Q.fields f z.0 z.1)))
 
