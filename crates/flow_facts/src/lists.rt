@@ -284,42 +284,34 @@ pub fn add_calls(given: &Given, part: &Part, calls: &mut Vec<PlacedCall>) -> Tri
     ensures value { OnOk result (calls_seen calls.new.items
         ≡ calls_seen calls.old.items ++ calls_of (numbers_seen given.now.numbering.now) (part_seen part.now)) }
 {
+    let Part::Call(place, base, Some(slot), _, args, own) = part else {
+        return Ok(());
+    };
     let n = given.numbering;
-    match part {
-        Part::Call(place, base, Some(slot), _, args, own) => {
-            match point_at(n, base) {
-                Some(receiver) => {
-                    let result = point_at(n, own);
-                    let args = made!(points_at(given.alloc, n, args));
-                    let call = CallInfo {
-                        receiver,
-                        slot: *slot,
-                        args,
-                        result,
-                    };
-                    let place = *place;
-                    put(calls, PlacedCall { place, call })
-                }
-                None => Ok(()),
-            }
-        }
-        _ => Ok(()),
-    }
+    let Some(receiver) = point_at(n, base) else {
+        return Ok(());
+    };
+    let call = CallInfo {
+        receiver,
+        slot: *slot,
+        result: point_at(n, own),
+        args: made!(points_at(given.alloc, n, args)),
+    };
+    let place = *place;
+    put(calls, PlacedCall { place, call })
 }
 
 /// Adds the casts and `instanceof`, as what passes them.
 pub fn add_casts(n: &Numbering, part: &Part, casts: &mut Vec<CastInfo>) -> Tried<()>
     ensures value { OnOk result (casts.new.items ≡ casts.old.items ++ casts_of (numbers_seen n.now) (part_seen part.now)) }
 {
-    match part {
-        Part::Test(_, operand, own) => {
-            match (point_at(n, operand), point_at(n, own), own.ty) {
-                (Some(from), Some(into), Some(ty)) => {
-                    let class = ty.class;
-                    put(casts, CastInfo { from, into, class })
-                }
-                _ => Ok(()),
-            }
+    let Part::Test(_, operand, own) = part else {
+        return Ok(());
+    };
+    match (point_at(n, operand), point_at(n, own), own.ty) {
+        (Some(from), Some(into), Some(ty)) => {
+            let class = ty.class;
+            put(casts, CastInfo { from, into, class })
         }
         _ => Ok(()),
     }
@@ -329,23 +321,21 @@ pub fn add_casts(n: &Numbering, part: &Part, casts: &mut Vec<CastInfo>) -> Tried
 pub fn add_tests(n: &Numbering, part: &Part, tests: &mut Vec<TestInfo>) -> Tried<()>
     ensures value { OnOk result (tests.new.items ≡ tests.old.items ++ tests_of (numbers_seen n.now) (part_seen part.now)) }
 {
-    match part {
-        Part::Test(place, operand, own) => {
-            match (point_at(n, operand), row_at(n, own), own.ty) {
-                (Some(from), Some(target), Some(ty)) => {
-                    let (target, class, place) = (RowId(target), ty.class, *place);
-                    put(
-                        tests,
-                        TestInfo {
-                            from,
-                            target,
-                            class,
-                            place,
-                        },
-                    )
-                }
-                _ => Ok(()),
-            }
+    let Part::Test(place, operand, own) = part else {
+        return Ok(());
+    };
+    match (point_at(n, operand), row_at(n, own), own.ty) {
+        (Some(from), Some(target), Some(ty)) => {
+            let (target, class, place) = (RowId(target), ty.class, *place);
+            put(
+                tests,
+                TestInfo {
+                    from,
+                    target,
+                    class,
+                    place,
+                },
+            )
         }
         _ => Ok(()),
     }
@@ -372,17 +362,15 @@ pub fn add_accesses(n: &Numbering, part: &Part, accesses: &mut Vec<AccessInfo>) 
 pub fn add_supers(n: &Numbering, m: u64, part: &Part, supers: &mut Vec<SuperInfo>) -> Tried<()>
     ensures value { OnOk result (supers.new.items ≡ supers.old.items ++ supers_of (numbers_seen n.now) m (part_seen part.now)) }
 {
-    match part {
-        Part::SuperCall(_, Some(callee), _, _) => {
-            let row = n.row(RowItem::This(m));
-            let column = n.column(ColumnItem::Def(*callee as u64));
-            match (row, column) {
-                (Some(row), Some(column)) => {
-                    let (row, column) = (RowId(row), ColId(column));
-                    put(supers, SuperInfo { row, column })
-                }
-                _ => Ok(()),
-            }
+    let Part::SuperCall(_, Some(callee), _, _) = part else {
+        return Ok(());
+    };
+    let row = n.row(RowItem::This(m));
+    let column = n.column(ColumnItem::Def(*callee as u64));
+    match (row, column) {
+        (Some(row), Some(column)) => {
+            let (row, column) = (RowId(row), ColId(column));
+            put(supers, SuperInfo { row, column })
         }
         _ => Ok(()),
     }
