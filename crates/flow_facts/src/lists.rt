@@ -197,30 +197,18 @@ pub fn add_flows(n: &Numbering, m: u64, part: &Part, flows: &mut Vec<FlowInfo>) 
 pub fn add_loads(n: &Numbering, part: &Part, loads: &mut Vec<LoadInfo>) -> Tried<()>
     ensures value { OnOk result (loads.new.items ≡ loads.old.items ++ loads_of (numbers_seen n.now) (part_seen part.now)) }
 {
-    match part {
+    let (base, column, own) = match part {
         Part::Load(_, base, Some(field), own) => {
-            let column = n.column(ColumnItem::Fld(*field as u64));
-            match (point_at(n, base), column, point_at(n, own)) {
-                (Some(base), Some(column), Some(into)) => {
-                    let column = Some(ColId(column));
-                    put(loads, LoadInfo { base, column, into })
-                }
-                _ => Ok(()),
+            match n.column(ColumnItem::Fld(*field as u64)) {
+                Some(column) => (base, Some(ColId(column)), own),
+                None => return Ok(()),
             }
         }
-        Part::Element(_, base, own) => match (point_at(n, base), point_at(n, own)) {
-            (Some(base), Some(into)) => {
-                put(
-                    loads,
-                    LoadInfo {
-                        base,
-                        column: None,
-                        into,
-                    },
-                )
-            }
-            _ => Ok(()),
-        },
+        Part::Element(_, base, own) => (base, None, own),
+        _ => return Ok(()),
+    };
+    match (point_at(n, base), point_at(n, own)) {
+        (Some(base), Some(into)) => put(loads, LoadInfo { base, column, into }),
         _ => Ok(()),
     }
 }
@@ -229,40 +217,27 @@ pub fn add_loads(n: &Numbering, part: &Part, loads: &mut Vec<LoadInfo>) -> Tried
 pub fn add_stores(n: &Numbering, part: &Part, stores: &mut Vec<StoreInfo>) -> Tried<()>
     ensures value { OnOk result (stores.new.items ≡ stores.old.items ++ stores_of (numbers_seen n.now) (part_seen part.now)) }
 {
-    match part {
+    let (place, base, column, value) = match part {
         Part::Store(place, base, Some(field), value) => {
-            let column = n.column(ColumnItem::Fld(*field as u64));
-            match (point_at(n, base), column, point_at(n, value)) {
-                (Some(base), Some(column), Some(value)) => {
-                    let (column, place) = (Some(ColId(column)), *place);
-                    put(
-                        stores,
-                        StoreInfo {
-                            base,
-                            column,
-                            value,
-                            place,
-                        },
-                    )
-                }
-                _ => Ok(()),
+            match n.column(ColumnItem::Fld(*field as u64)) {
+                Some(column) => (*place, base, Some(ColId(column)), value),
+                None => return Ok(()),
             }
         }
-        Part::ElementStore(place, base, value) => {
-            match (point_at(n, base), point_at(n, value)) {
-                (Some(base), Some(value)) => {
-                    put(
-                        stores,
-                        StoreInfo {
-                            base,
-                            column: None,
-                            value,
-                            place: *place,
-                        },
-                    )
-                }
-                _ => Ok(()),
-            }
+        Part::ElementStore(place, base, value) => (*place, base, None, value),
+        _ => return Ok(()),
+    };
+    match (point_at(n, base), point_at(n, value)) {
+        (Some(base), Some(value)) => {
+            put(
+                stores,
+                StoreInfo {
+                    base,
+                    column,
+                    value,
+                    place,
+                },
+            )
         }
         _ => Ok(()),
     }
