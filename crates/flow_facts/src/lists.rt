@@ -197,30 +197,18 @@ pub fn add_flows(n: &Numbering, m: u64, part: &Part, flows: &mut Vec<FlowInfo>) 
 pub fn add_loads(n: &Numbering, part: &Part, loads: &mut Vec<LoadInfo>) -> Tried<()>
     ensures value { OnOk result (loads.new.items ≡ loads.old.items ++ loads_of (numbers_seen n.now) (part_seen part.now)) }
 {
-    match part {
+    let (base, column, own) = match part {
         Part::Load(_, base, Some(field), own) => {
-            let column = n.column(ColumnItem::Fld(*field as u64));
-            match (point_at(n, base), column, point_at(n, own)) {
-                (Some(base), Some(column), Some(into)) => {
-                    let column = Some(ColId(column));
-                    put(loads, LoadInfo { base, column, into })
-                }
-                _ => Ok(()),
+            match n.column(ColumnItem::Fld(*field as u64)) {
+                Some(column) => (base, Some(ColId(column)), own),
+                None => return Ok(()),
             }
         }
-        Part::Element(_, base, own) => match (point_at(n, base), point_at(n, own)) {
-            (Some(base), Some(into)) => {
-                put(
-                    loads,
-                    LoadInfo {
-                        base,
-                        column: None,
-                        into,
-                    },
-                )
-            }
-            _ => Ok(()),
-        },
+        Part::Element(_, base, own) => (base, None, own),
+        _ => return Ok(()),
+    };
+    match (point_at(n, base), point_at(n, own)) {
+        (Some(base), Some(into)) => put(loads, LoadInfo { base, column, into }),
         _ => Ok(()),
     }
 }
@@ -229,40 +217,27 @@ pub fn add_loads(n: &Numbering, part: &Part, loads: &mut Vec<LoadInfo>) -> Tried
 pub fn add_stores(n: &Numbering, part: &Part, stores: &mut Vec<StoreInfo>) -> Tried<()>
     ensures value { OnOk result (stores.new.items ≡ stores.old.items ++ stores_of (numbers_seen n.now) (part_seen part.now)) }
 {
-    match part {
+    let (place, base, column, value) = match part {
         Part::Store(place, base, Some(field), value) => {
-            let column = n.column(ColumnItem::Fld(*field as u64));
-            match (point_at(n, base), column, point_at(n, value)) {
-                (Some(base), Some(column), Some(value)) => {
-                    let (column, place) = (Some(ColId(column)), *place);
-                    put(
-                        stores,
-                        StoreInfo {
-                            base,
-                            column,
-                            value,
-                            place,
-                        },
-                    )
-                }
-                _ => Ok(()),
+            match n.column(ColumnItem::Fld(*field as u64)) {
+                Some(column) => (*place, base, Some(ColId(column)), value),
+                None => return Ok(()),
             }
         }
-        Part::ElementStore(place, base, value) => {
-            match (point_at(n, base), point_at(n, value)) {
-                (Some(base), Some(value)) => {
-                    put(
-                        stores,
-                        StoreInfo {
-                            base,
-                            column: None,
-                            value,
-                            place: *place,
-                        },
-                    )
-                }
-                _ => Ok(()),
-            }
+        Part::ElementStore(place, base, value) => (*place, base, None, value),
+        _ => return Ok(()),
+    };
+    match (point_at(n, base), point_at(n, value)) {
+        (Some(base), Some(value)) => {
+            put(
+                stores,
+                StoreInfo {
+                    base,
+                    column,
+                    value,
+                    place,
+                },
+            )
         }
         _ => Ok(()),
     }
@@ -284,42 +259,34 @@ pub fn add_calls(given: &Given, part: &Part, calls: &mut Vec<PlacedCall>) -> Tri
     ensures value { OnOk result (calls_seen calls.new.items
         ≡ calls_seen calls.old.items ++ calls_of (numbers_seen given.now.numbering.now) (part_seen part.now)) }
 {
+    let Part::Call(place, base, Some(slot), _, args, own) = part else {
+        return Ok(());
+    };
     let n = given.numbering;
-    match part {
-        Part::Call(place, base, Some(slot), _, args, own) => {
-            match point_at(n, base) {
-                Some(receiver) => {
-                    let result = point_at(n, own);
-                    let args = made!(points_at(given.alloc, n, args));
-                    let call = CallInfo {
-                        receiver,
-                        slot: *slot,
-                        args,
-                        result,
-                    };
-                    let place = *place;
-                    put(calls, PlacedCall { place, call })
-                }
-                None => Ok(()),
-            }
-        }
-        _ => Ok(()),
-    }
+    let Some(receiver) = point_at(n, base) else {
+        return Ok(());
+    };
+    let call = CallInfo {
+        receiver,
+        slot: *slot,
+        result: point_at(n, own),
+        args: made!(points_at(given.alloc, n, args)),
+    };
+    let place = *place;
+    put(calls, PlacedCall { place, call })
 }
 
 /// Adds the casts and `instanceof`, as what passes them.
 pub fn add_casts(n: &Numbering, part: &Part, casts: &mut Vec<CastInfo>) -> Tried<()>
     ensures value { OnOk result (casts.new.items ≡ casts.old.items ++ casts_of (numbers_seen n.now) (part_seen part.now)) }
 {
-    match part {
-        Part::Test(_, operand, own) => {
-            match (point_at(n, operand), point_at(n, own), own.ty) {
-                (Some(from), Some(into), Some(ty)) => {
-                    let class = ty.class;
-                    put(casts, CastInfo { from, into, class })
-                }
-                _ => Ok(()),
-            }
+    let Part::Test(_, operand, own) = part else {
+        return Ok(());
+    };
+    match (point_at(n, operand), point_at(n, own), own.ty) {
+        (Some(from), Some(into), Some(ty)) => {
+            let class = ty.class;
+            put(casts, CastInfo { from, into, class })
         }
         _ => Ok(()),
     }
@@ -329,23 +296,21 @@ pub fn add_casts(n: &Numbering, part: &Part, casts: &mut Vec<CastInfo>) -> Tried
 pub fn add_tests(n: &Numbering, part: &Part, tests: &mut Vec<TestInfo>) -> Tried<()>
     ensures value { OnOk result (tests.new.items ≡ tests.old.items ++ tests_of (numbers_seen n.now) (part_seen part.now)) }
 {
-    match part {
-        Part::Test(place, operand, own) => {
-            match (point_at(n, operand), row_at(n, own), own.ty) {
-                (Some(from), Some(target), Some(ty)) => {
-                    let (target, class, place) = (RowId(target), ty.class, *place);
-                    put(
-                        tests,
-                        TestInfo {
-                            from,
-                            target,
-                            class,
-                            place,
-                        },
-                    )
-                }
-                _ => Ok(()),
-            }
+    let Part::Test(place, operand, own) = part else {
+        return Ok(());
+    };
+    match (point_at(n, operand), row_at(n, own), own.ty) {
+        (Some(from), Some(target), Some(ty)) => {
+            let (target, class, place) = (RowId(target), ty.class, *place);
+            put(
+                tests,
+                TestInfo {
+                    from,
+                    target,
+                    class,
+                    place,
+                },
+            )
         }
         _ => Ok(()),
     }
@@ -372,17 +337,15 @@ pub fn add_accesses(n: &Numbering, part: &Part, accesses: &mut Vec<AccessInfo>) 
 pub fn add_supers(n: &Numbering, m: u64, part: &Part, supers: &mut Vec<SuperInfo>) -> Tried<()>
     ensures value { OnOk result (supers.new.items ≡ supers.old.items ++ supers_of (numbers_seen n.now) m (part_seen part.now)) }
 {
-    match part {
-        Part::SuperCall(_, Some(callee), _, _) => {
-            let row = n.row(RowItem::This(m));
-            let column = n.column(ColumnItem::Def(*callee as u64));
-            match (row, column) {
-                (Some(row), Some(column)) => {
-                    let (row, column) = (RowId(row), ColId(column));
-                    put(supers, SuperInfo { row, column })
-                }
-                _ => Ok(()),
-            }
+    let Part::SuperCall(_, Some(callee), _, _) = part else {
+        return Ok(());
+    };
+    let row = n.row(RowItem::This(m));
+    let column = n.column(ColumnItem::Def(*callee as u64));
+    match (row, column) {
+        (Some(row), Some(column)) => {
+            let (row, column) = (RowId(row), ColId(column));
+            put(supers, SuperInfo { row, column })
         }
         _ => Ok(()),
     }
