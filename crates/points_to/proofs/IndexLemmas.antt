@@ -1,5 +1,5 @@
 -- Lists of lists: one element more, and what a loop over the facts lists.
-use Rattle.std.proofs.Common.{◌≡◌, ℕ, ◌+◌, ◌<◌, List, Contains, sym, ◌∙◌, subst, arith, ⊎_elim}
+use Rattle.std.proofs.Common.{◌≡◌, ℕ, ◌+◌, ◌<◌, List, length, Contains, None, sym, ◌∙◌, subst, arith, ⊎_elim}
 use Rattle.std.specs.List.{All}
 use Rattle.std.specs.declared.vec.Vec.{Vec}
 use Rattle.std.specs.declared.alloc.Global.{Global}
@@ -7,8 +7,7 @@ use Rattle.std.proofs.lemmas.Bool.{cases_lt}
 use Rattle.std.proofs.lemmas.List.{get_or_default}
 use Rattle.fact_model.specs.Items.{cell_at}
 use Rattle.fact_model.specs.declared.facts.Facts.{Facts}
-use Rattle.fact_model.specs.declared.facts.BodyInfo.{BodyInfo}
-use Rattle.points_to.specs.Listed.{numbers_at, IsAt, KeepNumbers, HaveCells, HaveBodies}
+use Rattle.points_to.specs.Listed.{numbers_at, IsAt, KeepNumbers, HaveItems, HaveCells}
 
 pub at_same : {X : Type 0} (xs : List X) (i : ℕ) (x y : X) → IsAt xs i x → IsAt xs i y → x ≡ y
 at_same xs i x y a b = sym a.1 ∙ (get_or_default xs i x y a.0 ∙ b.1)
@@ -24,12 +23,17 @@ at_all P xs i x all a = subst P a.1 (all i x a.0)
 pub next_number : (P : ℕ → Type 0) (i : ℕ) → ((k : ℕ) → k < i → P k) → P i → (k : ℕ) → k < i + 1 → P k
 next_number P i before here k lt = ⊎_elim (λ b. before k b) (λ past. let e : i ≡ k = omega (arith, past, lt) in subst P e here) (cases_lt k i)
 
-module _ (F : Facts) (old new : List (Vec ℕ Global)) (i : ℕ) (kept : KeepNumbers old new) where
-  pub cells_more : Contains (numbers_at new (cell_at F i).site.0) i → HaveCells F old i → HaveCells F new (i + 1)
-  cells_more here before = next_number (λ c. Contains (numbers_at new (cell_at F c).site.0) c) i (λ c lt. kept.each (cell_at F c).site.0 c (before c lt)) here
+-- one item on
+pub items_more : {X : Type 0} (to : X → ℕ) (xs : List X) (old new : List (Vec ℕ Global)) (i : ℕ) (y : X) → KeepNumbers old new → IsAt xs i y
+    → Contains (numbers_at new (to y)) i → HaveItems to xs old i → HaveItems to xs new (i + 1)
+items_more {X} to xs old new i y kept is here before =
+    next_number (λ k. (x : X) → IsAt xs k x → Contains (numbers_at new (to x)) k) i
+    (λ k lt x a. kept.each (to x) k (before k lt x a))
+    (λ x a. subst (λ z. Contains (numbers_at new (to z)) i) (at_same xs i y x is a) here)
 
-  pub bodies_more : (y : BodyInfo) → IsAt F.bodies.items i y → Contains (numbers_at new y.column.0) i → HaveBodies F old i → HaveBodies F new (i + 1)
-  bodies_more y is here before =
-      next_number (λ k. (x : BodyInfo) → IsAt F.bodies.items k x → Contains (numbers_at new x.column.0) k) i
-      (λ k lt x a. kept.each x.column.0 k (before k lt x a))
-      (λ x a. subst (λ (z : BodyInfo). Contains (numbers_at new z.column.0) i) (at_same F.bodies.items i y x is a) here)
+-- the cells, by their number
+pub cells_noted : (F : Facts) (lists : List (Vec ℕ Global)) → HaveItems (λ x. x.site.0) F.cells.items lists (length F.cells.items)
+    → HaveCells F lists (length F.cells.items)
+cells_noted F lists noted c lt =
+    noted c lt (cell_at F c)
+    (lt, get_or_default F.cells.items c (cell_at F c) (record { site = record { 0 = 0 }; column = None; row = record { 0 = 0 } }) lt)

@@ -1,5 +1,5 @@
 -- Sound and closed sets are the least ones.
-use Rattle.std.proofs.Common.{◌≡◌, ℕ, ◌+◌, ◌<◌, Bool, true, List, [], length, take, drop, Contains, refl, ap, ◌∙◌, subst, arith, get_or-take, get_or-drop, length-take-le, length-drop}
+use Rattle.std.proofs.Common.{◌≡◌, ℕ, ◌+◌, ◌<◌, ◌↔◌, Bool, true, List, [], length, take, drop, Contains, refl, ap, ◌∙◌, subst, arith, get_or-take, get_or-drop, length-take-le, length-drop}
 use Rattle.std.specs.List.{AllByRecursion, All}
 use Rattle.std.specs.Option.{IfSome, option_map}
 use Rattle.std.proofs.lemmas.List.Elements.{All-contains}
@@ -124,14 +124,8 @@ module _ (F : Facts) (t : PointsTo) (points : ArePoints F t.points.items) (cells
 
   pub are_sets : AreUnions F t.rows.items → PointsJoined F t.points.items t.rows.items (length F.points.items)
       → CellsJoined F t.cells.items t.rows.items (length F.cells.items) → AreSets F t
-  are_sets unions joined more = record {
-    point_count = points.len;
-    cell_count = cells.len;
-    row_count = unions.len;
-    point_widths = points.widths;
-    cell_widths = cells.widths;
-    row_widths = unions.widths;
-    points = λ p s. (points.sound p s, all p s);
-    cells = λ c s. (cells.sound c s, held c s);
-    rows = λ r s. (unions.sound r s, in_row joined more r s);
-  }
+  are_sets unions joined more =
+      let in_points : (p s : ℕ) → (bit (row t.points.items p) s ≡ true) ↔ Holds F (in_point p s) = λ p s. (points.sound p s, all p s) in
+      let in_cells : (c s : ℕ) → (bit (row t.cells.items c) s ≡ true) ↔ Holds F (in_cell c s) = λ c s. (cells.sound c s, held c s) in
+      let in_rows : (r s : ℕ) → (bit (row t.rows.items r) s ≡ true) ↔ IsInRow F r s = λ r s. (unions.sound r s, in_row joined more r s) in
+      assumption (points, cells, unions, in_points, in_cells, in_rows)

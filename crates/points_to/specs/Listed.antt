@@ -25,12 +25,15 @@ pub record KeepNumbers (old new : List (Vec ℕ Global)) : Type 0 where
   pub len : length new ≡ length old
   pub each : (k x : ℕ) → Contains (numbers_at old k) x → Contains (numbers_at new k) x
 
--- each of the first n cells or bodies is listed where it belongs
+-- each of the first n items is listed where it belongs; so the cells and the bodies
+abbrev pub HaveItems : {X : Type 0} → (X → ℕ) → List X → List (Vec ℕ Global) → ℕ → Type 0
+HaveItems {X} to xs lists n = (k : ℕ) → k < n → (x : X) → IsAt xs k x → Contains (numbers_at lists (to x)) k
+
 abbrev pub HaveCells : Facts → List (Vec ℕ Global) → ℕ → Type 0
 HaveCells F lists n = (c : ℕ) → c < n → Contains (numbers_at lists (cell_at F c).site.0) c
 
 abbrev pub HaveBodies : Facts → List (Vec ℕ Global) → ℕ → Type 0
-HaveBodies F lists n = (b : ℕ) → b < n → (x : BodyInfo) → IsAt F.bodies.items b x → Contains (numbers_at lists x.column.0) b
+HaveBodies F = HaveItems (λ x. x.column.0) F.bodies.items
 
 pub record IsIndex (F : Facts) (index : Index) : Type 0 where
   pub cells : HaveCells F index.cells.items (length F.cells.items)

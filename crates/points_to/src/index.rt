@@ -1,10 +1,10 @@
 //! What is looked up of the facts again and again, made once.
 
-ghost use Rattle.std.specs.Prelude.{◌≡◌, ℕ, ◌<◌, length, Contains, IfOk, OnOk};
+ghost use Rattle.std.specs.Prelude.{◌≡◌, ℕ, ◌<◌, length, All, Contains, IfOk, OnOk};
 ghost use Rattle.fact_model.specs.Items.{cell_at};
 ghost use Rattle.fact_model.specs.InRange.{InRange};
 ghost use Rattle.fact_model.specs.declared.facts.BodyInfo.{BodyInfo};
-ghost use Rattle.points_to.specs.Listed.{numbers_at, IsAt, IsIndex, HaveCells, HaveBodies, KeepNumbers};
+ghost use Rattle.points_to.specs.Listed.{numbers_at, IsAt, IsIndex, HaveItems, KeepNumbers};
 
 use crate::above::sites_below;
 use crate::bodies::{Bodies, bodies_of};
@@ -68,26 +68,40 @@ pub fn empty(alloc: Global, count: usize) -> Result<Vec<Vec<usize>>, AllocError>
     Ok(lists)
 }
 
-/// Each cell by its site. An error comes only for want of memory.
-fn note_cells(facts: &Facts, lists: &mut [Vec<usize>]) -> Result<(), AllocError>
-    requires facts { InRange facts.now }
-    requires count { length lists.old ≡ length facts.now.sites.items }
-    ensures { OnOk result (HaveCells facts.now lists.new (length facts.now.cells.items)) }
-{
-    for c in 0..facts.cells.len() {
-        note(lists, cell_at(facts, c).site.0 as usize, c)?;
-    }
-    Ok(())
+/// An item of the facts that is listed by number where it belongs.
+trait Belongs {
+    ghost belongs_to: { Self → ℕ };
+
+    /// Where it is listed.
+    fn place(&self) -> usize
+        ensures { result ≡ belongs_to self.now };
 }
 
-/// Each body by its column. An error comes only for want of memory.
-fn note_bodies(facts: &Facts, lists: &mut [Vec<usize>]) -> Result<(), AllocError>
-    requires facts { InRange facts.now }
-    requires count { length lists.old ≡ length facts.now.columns.items }
-    ensures { OnOk result (HaveBodies facts.now lists.new (length facts.now.bodies.items)) }
+/// A cell is listed by its site.
+impl Belongs for CellInfo {
+    ghost belongs_to = { λ x. x.site.0 };
+
+    fn place(&self) -> usize {
+        self.site.0 as usize
+    }
+}
+
+/// A body is listed by its column.
+impl Belongs for BodyInfo {
+    ghost belongs_to = { λ x. x.column.0 };
+
+    fn place(&self) -> usize {
+        self.column.0 as usize
+    }
+}
+
+/// Each item where it belongs. An error comes only for want of memory.
+fn note_all<T: Belongs>(items: &Vec<T>, lists: &mut [Vec<usize>]) -> Result<(), AllocError>
+    requires within { All (λ x. T.belongs_to x < length lists.old) items.now.items }
+    ensures { OnOk result (HaveItems T.belongs_to items.now.items lists.new (length items.now.items)) }
 {
-    for b in 0..facts.bodies.len() {
-        note(lists, body_at(facts, b).column.0 as usize, b)?;
+    for k in 0..items.len() {
+        note(lists, items[k].place(), k)?;
     }
     Ok(())
 }
@@ -99,8 +113,8 @@ pub fn index_of(alloc: Global, facts: &Facts) -> Result<Index, AllocError>
 {
     let mut cells = empty(alloc, facts.sites.len())?;
     let mut bodies = empty(alloc, facts.columns.len())?;
-    note_cells(facts, &mut cells)?;
-    note_bodies(facts, &mut bodies)?;
+    note_all(&facts.cells, &mut cells)?;
+    note_all(&facts.bodies, &mut bodies)?;
     let chains = bodies_of(alloc, facts)?;
     let below = sites_below(alloc, facts)?;
     Ok(Index {
