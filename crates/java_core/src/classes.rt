@@ -215,10 +215,7 @@ fn met_upwards(p: &Program, class: ClassId, name: &Name) -> Option<MemberId>
         if own.is_some() || steps == 0 {
             return own;
         }
-        let Some(above) = one_above(p, at) else {
-            return None;
-        };
-        at = above;
+        at = one_above(p, at)?;
         steps -= 1;
     }
 }

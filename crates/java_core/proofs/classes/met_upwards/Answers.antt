@@ -12,4 +12,4 @@ returns-then-is_some c = met-slot (program_of no_place c.args.p.now) c.requires 
     c.up.invariant c.own_method-own.ensures
 
 pub up-preserved : goal.up-preserved
-up-preserved c = one_up (program_of no_place c.args.p.now) c.args.class.0 c.up.at.0 c.in-Some.above c.up.invariant c.in-Some.ensures
+up-preserved c = one_up (program_of no_place c.args.p.now) c.args.class.0 c.up.at.0 c.in_ok-at.at c.up.invariant c.in_ok-at.ensures
