@@ -17,7 +17,7 @@ use crate::front::{
 };
 use crate::parts::{
     Base, base_of, call_of, call_on_of, cast_of, field_of, instance_of_named, literal_of, name_of,
-    new_array_of, new_object_of, super_call_of,
+    new_array_of, new_object_of,
 };
 use crate::{End, Stop};
 use java_lex::{Mark, Token};
@@ -156,7 +156,7 @@ fn atom(alloc: Global, tokens: &[Token]) -> Result<((Expr, End), &[Token]), Stop
             return Ok(((whole, End::Name), rest));
         };
         let (args, rest) = args(alloc, inner)?;
-        let whole = call_of(alloc, found, args, place)?;
+        let whole = call_of(alloc, false, found, args, place)?;
         return Ok(((whole, End::Call), rest));
     }
     if let Some((_, inner)) = mark_at(Mark::OpenRound, tokens) {
@@ -182,7 +182,7 @@ fn above(alloc: Global, tokens: &[Token]) -> Result<((Expr, End), &[Token]), Sto
     found!((found, place, behind) = word_at(dotted), dotted);
     found!((_, inner) = mark_at(Mark::OpenRound, behind), behind);
     let (args, rest) = args(alloc, inner)?;
-    let whole = super_call_of(alloc, found, args, place)?;
+    let whole = call_of(alloc, true, found, args, place)?;
     Ok(((whole, End::Call), rest))
 }
 

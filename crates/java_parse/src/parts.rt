@@ -1,7 +1,7 @@
 //! Parts of expressions and statements that are made of tokens and of trees that are read.
 #![tactic(auto)]
 
-ghost use Rattle.std.specs.Prelude.{◌≡◌, IfOk};
+ghost use Rattle.std.specs.Prelude.{◌≡◌, IfOk, if◌then◌else◌};
 ghost use Rattle.java_tree.specs.Syntax.{NameRef, FieldOf, CallOf, CallOn, SuperCallOf, NewOf, NewArrayOf, CastOf, InstanceOfClass, WhileOf, ForOf, expr_of, exprs, stmt_of, stmts, value_of, step_seen};
 ghost use Rattle.java_tree.specs.Statements.{as_body};
 ghost use Rattle.java_parse.specs.Seen.{base_seen, literal_seen};
@@ -92,17 +92,22 @@ pub fn field_of(alloc: Global, base: Expr, found: &Name, place: Place) -> Result
     field(alloc, base, name, place)
 }
 
-/// A call without a base. `AllocError` where memory is short.
+/// A call without a base, of the method above where it follows `super`. `AllocError` where memory is short.
 pub fn call_of(
     alloc: Global,
+    above: bool,
     found: &Name,
     args: Vec<Expr>,
     place: Place,
 ) -> Result<Expr, AllocError>
-    ensures value { IfOk result (λ e. expr_of e ≡ CallOf found.now (exprs args.items) place) }
+    ensures value { IfOk result (λ e. expr_of e ≡ (if above then SuperCallOf else CallOf) found.now (exprs args.items) place) }
 {
     let name = made!(found.copy(alloc); args);
-    Ok(call(name, args, place))
+    if above {
+        Ok(super_call(name, args, place))
+    } else {
+        Ok(call(name, args, place))
+    }
 }
 
 /// A call with a base. `AllocError` where memory is short.
@@ -117,19 +122,6 @@ pub fn call_on_of(
 {
     let name = made!(found.copy(alloc); base, args);
     call_on(alloc, base, name, args, place)
-}
-
-/// A call of a method above. `AllocError` where memory is short.
-pub fn super_call_of(
-    alloc: Global,
-    found: &Name,
-    args: Vec<Expr>,
-    place: Place,
-) -> Result<Expr, AllocError>
-    ensures value { IfOk result (λ e. expr_of e ≡ SuperCallOf found.now (exprs args.items) place) }
-{
-    let name = made!(found.copy(alloc); args);
-    Ok(super_call(name, args, place))
 }
 
 /// A new object of the class of this name, which stands `at` there. `AllocError` where memory is short.
