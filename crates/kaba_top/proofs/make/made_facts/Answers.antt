@@ -27,7 +27,7 @@ returns c =
     made c.args.program.now F script p c.in-Written.hier c.in-Written.log.items c.in-Written.text.items c.in_ok-counts-in-Written.counts
     c.made_text.result c.new-script.ensures.items
     (subst (IsProposed usual_concepts script F) c.in-Edited.is c.in_ok-proposal.ensures.proposed)
-    (subst (IsWrittenOver c.args.program.now F p.sets p.edited.hier) c.in-Written.is c.in_ok-written.ensures.regenerated)
+    (subst (IsWrittenOver c.args.program.now F p.sets p.edited.hier) c.in-Written.is c.in_ok-hier.ensures.regenerated)
     c.in_ok-counts-in-Written.ensures c.made_text.ensures
 
 pub unreachable-requires : goal.unreachable-requires
@@ -39,4 +39,4 @@ unreachable-requires c =
     (subst (IsProposed usual_concepts script F) c.in-Edited.is c.in_ok-proposal.ensures.proposed)
     c.requires.facts.in_range c.requires.facts.in_order
     (no_interface (program_of no_place c.args.program.now) (program_of at_place c.args.program.now) F c.requires.facts)
-    (subst (IsWrittenOver c.args.program.now F p.sets p.edited.hier) c.in-Stuck.is c.in_ok-written.ensures.regenerated)
+    (subst (IsWrittenOver c.args.program.now F p.sets p.edited.hier) c.in-Stuck.is c.in_ok-hier.ensures.regenerated)

@@ -18,7 +18,7 @@ returns-in-Written c =
     regenerated c.args.task.now.bound c.args.task.now.script.now.items c.args.program.now F p c.in-Written.hier c.in-Written.log.items
     c.in-Written.text.items c.written_reply.result
     (subst (IsProposed c.args.task.now.bound c.args.task.now.script.now.items F) c.in-Edited.is c.in_ok-proposal.ensures.proposed)
-    (subst (IsWrittenOver c.args.program.now F p.sets p.edited.hier) c.in-Written.is c.in_ok-written.ensures.regenerated)
+    (subst (IsWrittenOver c.args.program.now F p.sets p.edited.hier) c.in-Written.is c.in_ok-log.ensures.regenerated)
     c.written_reply.ensures
 
 pub returns : goal.returns
@@ -29,5 +29,5 @@ returns c =
     (subst (IsProposed c.args.task.now.bound c.args.task.now.script.now.items F) c.in-Edited.is c.in_ok-proposal.ensures.proposed)
     c.requires.facts.in_range c.requires.facts.in_order
     (no_interface (program_of no_place c.args.program.now) (program_of at_place c.args.program.now) F c.requires.facts)
-    (subst (IsWrittenOver c.args.program.now F p.sets p.edited.hier) c.in-Stuck.is c.in_ok-written.ensures.regenerated)
+    (subst (IsWrittenOver c.args.program.now F p.sets p.edited.hier) c.in-Stuck.is c.in_ok-log.ensures.regenerated)
     c.stuck.ensures
