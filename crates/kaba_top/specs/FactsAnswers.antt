@@ -16,7 +16,8 @@ use Rattle.program_facts.specs.Known.{AreProgramFacts}
 use Rattle.lattice_view.specs.Table.{table_text}
 use Rattle.lattice_view.specs.Text.{lattice_text}
 use Rattle.lattice_view.specs.Json.{lattice_json}
-use Rattle.kaba_top.specs.CauseWords.{limit_text}
+use Rattle.kaba_top.specs.declared.cause_words.Cause.TheVariants as cause
+use Rattle.kaba_top.specs.CauseWords.{cause_text}
 use Rattle.kaba_top.specs.Lines.{Says, Gives}
 
 -- the program declares an interface, the first of which is named
@@ -31,7 +32,7 @@ pub record IsOverLimit (program : Program) (status : ℕ) (out err : List ℕ) :
   pub what : Counted
   pub number : ℕ
   pub over : too_many (program_of no_place program) (program_of at_place program) ≡ Some (record { what = what; number = number })
-  pub says : Says 67 (codes "too large: " ++ limit_text what) status out err
+  pub says : Says 67 (codes "too large: " ++ cause_text (cause.Limit what)) status out err
 
 -- no facts, and why
 abbrev pub IsNotAnalysed : Program → ℕ → List ℕ → List ℕ → Type 0

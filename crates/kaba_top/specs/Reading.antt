@@ -22,7 +22,8 @@ use Rattle.name_rules.specs.Causes.{HasNoCondition}
 use Rattle.name_rules.specs.Resolves.{Resolves}
 use Rattle.java_check.specs.declared.Kind.{Kind}
 use Rattle.java_check.specs.Fails.{FailsIn}
-use Rattle.kaba_top.specs.CauseWords.{form_word, kind_word}
+use Rattle.kaba_top.specs.declared.cause_words.Cause.TheVariants as cause
+use Rattle.kaba_top.specs.CauseWords.{cause_text}
 use Rattle.kaba_top.specs.Lines.{Says}
 
 -- the text of a refusal
@@ -81,11 +82,11 @@ naming_text (naming.Overload name p) = on_name (codes "Overload") name p
 naming_text (naming.TwoKinds name p) = on_name (codes "TwoKinds") name p
 naming_text (naming.PrivateReused name p) = on_name (codes "PrivateReused") name p
 naming_text naming.NoMain = codes "NoMain"
-naming_text (naming.NotInProfile form p) = on_what (codes "NotInProfile") (form_word form) p
+naming_text (naming.NotInProfile form p) = on_what (codes "NotInProfile") (cause_text (cause.Form form)) p
 naming_text naming.Memory = []
 
 abbrev pub typing_text : Kind → Place → List ℕ
-typing_text kind p = on_what (codes "IllTyped") (kind_word kind) p
+typing_text kind p = on_what (codes "IllTyped") (cause_text (cause.Rule kind)) p
 
 -- the most entries that the nesting stack may have
 abbrev pub most_nesting : ℕ

@@ -5,13 +5,14 @@ use Rattle.java_core.specs.Trees.{no_place}
 use Rattle.java_core.specs.Programs.{program_of}
 use Rattle.java_meaning.specs.Moment as meaning
 use Rattle.java_run.specs.Outcomes.{meant}
-use Rattle.kaba_top.specs.CauseWords.{fault_word}
+use Rattle.kaba_top.specs.declared.cause_words.Cause.TheVariants as cause
+use Rattle.kaba_top.specs.CauseWords.{cause_text}
 use Rattle.kaba_top.specs.Lines.{Gives, line}
 
 -- what the end of a run gives, with what was printed until then; a typed program has no other end
 abbrev pub EndGives : meaning.End → List ℕ → ℕ → List ℕ → List ℕ → Type 0
 EndGives meaning.Ended bytes = Gives 0 bytes []
-EndGives (meaning.Faulted kind) bytes = Gives 10 bytes (line (codes "fault " ++ fault_word kind))
+EndGives (meaning.Faulted kind) bytes = Gives 10 bytes (line (codes "fault " ++ cause_text (cause.Fault kind)))
 EndGives meaning.Going bytes = Gives 11 bytes (line (codes "going"))
 EndGives _ bytes = λ status out err. ⊥
 

@@ -7,7 +7,7 @@ ghost use Rattle.kaba_top.specs.FactsAnswers.{TableOf, LatticeOf, shown, too_man
 ghost use Rattle.kaba_top.specs.Analyses.{IsAnalysis};
 
 use crate::Tried;
-use crate::cause_words::limit_text;
+use crate::cause_words::{Cause, cause_text};
 use crate::reading::{Reading, read_program};
 use crate::reply::Reply;
 use concept_build::{LatticeFault, concepts};
@@ -38,7 +38,7 @@ pub fn analyse(alloc: Global, program: &Checked) -> Tried<Analysed>
             Ok(Analysed::Refused(Reply::line(alloc, 75, text.as_bytes())?))
         }
         Err(FactsFault::TooMany(what, _)) => {
-            let limit = limit_text(what);
+            let limit = cause_text(Cause::Limit(what));
             let text = format!(in alloc; "too large: {limit}")?;
             Ok(Analysed::Refused(Reply::line(alloc, 67, text.as_bytes())?))
         }

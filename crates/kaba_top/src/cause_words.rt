@@ -2,65 +2,55 @@
 #![tactic(auto)]
 
 ghost use Rattle.std.specs.Prelude.{◌≡◌};
-ghost use Rattle.kaba_top.specs.CauseWords.{form_word, kind_word, limit_text, fault_word};
+ghost use Rattle.kaba_top.specs.CauseWords.{cause_text};
 
 use java_check::Kind;
 use java_core::Fault;
 use java_resolve::Form;
 use program_facts::Counted;
-/// The word of a form that the language leaves out.
-pub fn form_word(form: Form) -> &'static str
-    ensures { result.now ≡ form_word form }
-{
-    match form {
-        Form::Modifier => "Modifier",
-        Form::Body => "Body",
-        Form::ThisInStatic => "ThisInStatic",
-        Form::BreakOutside => "BreakOutside",
-    }
+
+/// What the line of an answer names.
+#[derive(Clone, Copy)]
+pub enum Cause {
+    /// A form that the language leaves out.
+    Form(Form),
+    /// A rule of types.
+    Rule(Kind),
+    /// What there is too much of.
+    Limit(Counted),
+    /// What went wrong in a run.
+    Fault(Fault),
 }
 
-/// The word of a rule of types.
-pub fn kind_word(kind: Kind) -> &'static str
-    ensures { result.now ≡ kind_word kind }
+/// The words of a cause.
+pub fn cause_text(cause: Cause) -> &'static str
+    ensures { result.now ≡ cause_text cause }
 {
-    match kind {
-        Kind::Operand => "Operand",
-        Kind::Condition => "Condition",
-        Kind::Assign => "Assign",
-        Kind::Arguments => "Arguments",
-        Kind::Return => "Return",
-        Kind::Cast => "Cast",
-        Kind::NoMember => "NoMember",
-        Kind::AbstractNew => "AbstractNew",
-        Kind::MissingBody => "MissingBody",
-        Kind::NotPublic => "NotPublic",
-    }
-}
-
-/// What there is too much of, and the limit.
-pub fn limit_text(what: Counted) -> &'static str
-    ensures { result.now ≡ limit_text what }
-{
-    match what {
-        Counted::Rows => "rows 16384",
-        Counted::Columns => "columns 8192",
-        Counted::Sites => "sites 8192",
-        Counted::Points => "points 65536",
-    }
-}
-
-/// The word of what went wrong in a run.
-pub fn fault_word(fault: Fault) -> &'static str
-    ensures { result.now ≡ fault_word fault }
-{
-    match fault {
-        Fault::Null => "Null",
-        Fault::Bounds => "Bounds",
-        Fault::NegativeSize => "NegativeSize",
-        Fault::ArrayStore => "ArrayStore",
-        Fault::ClassCast => "ClassCast",
-        Fault::DivZero => "DivZero",
-        Fault::TooLong => "TooLong",
+    match cause {
+        Cause::Form(Form::Modifier) => "Modifier",
+        Cause::Form(Form::Body) => "Body",
+        Cause::Form(Form::ThisInStatic) => "ThisInStatic",
+        Cause::Form(Form::BreakOutside) => "BreakOutside",
+        Cause::Rule(Kind::Operand) => "Operand",
+        Cause::Rule(Kind::Condition) => "Condition",
+        Cause::Rule(Kind::Assign) => "Assign",
+        Cause::Rule(Kind::Arguments) => "Arguments",
+        Cause::Rule(Kind::Return) => "Return",
+        Cause::Rule(Kind::Cast) => "Cast",
+        Cause::Rule(Kind::NoMember) => "NoMember",
+        Cause::Rule(Kind::AbstractNew) => "AbstractNew",
+        Cause::Rule(Kind::MissingBody) => "MissingBody",
+        Cause::Rule(Kind::NotPublic) => "NotPublic",
+        Cause::Limit(Counted::Rows) => "rows 16384",
+        Cause::Limit(Counted::Columns) => "columns 8192",
+        Cause::Limit(Counted::Sites) => "sites 8192",
+        Cause::Limit(Counted::Points) => "points 65536",
+        Cause::Fault(Fault::Null) => "Null",
+        Cause::Fault(Fault::Bounds) => "Bounds",
+        Cause::Fault(Fault::NegativeSize) => "NegativeSize",
+        Cause::Fault(Fault::ArrayStore) => "ArrayStore",
+        Cause::Fault(Fault::ClassCast) => "ClassCast",
+        Cause::Fault(Fault::DivZero) => "DivZero",
+        Cause::Fault(Fault::TooLong) => "TooLong",
     }
 }

@@ -10,7 +10,7 @@ ghost use Rattle.kaba_top.specs.Reading.{refused, at_byte, at_token, on_name, on
 ghost use Rattle.kaba_top.specs.Readings.{IsReading, IsReadingOfProgram, IsReadingOfTree};
 
 use crate::Tried;
-use crate::cause_words::{form_word, kind_word};
+use crate::cause_words::{Cause, cause_text};
 use crate::reply::Reply;
 use java_check::{CheckFault, Kind, check};
 use java_core::{Checked, Program};
@@ -127,7 +127,12 @@ fn not_resolved(alloc: Global, refusal: &Refusal) -> Tried<Reply>
         Refusal::PrivateReused(name, place) => on_name(alloc, "PrivateReused", name, *place),
         Refusal::NoMain => Reply::line(alloc, 65, b"refused: NoMain"),
         Refusal::NotInProfile(form, place) => {
-            on_what(alloc, "NotInProfile", form_word(*form), *place)
+            on_what(
+                alloc,
+                "NotInProfile",
+                cause_text(Cause::Form(*form)),
+                *place,
+            )
         }
         Refusal::Memory => Err(AllocError),
     }
@@ -137,7 +142,7 @@ fn not_resolved(alloc: Global, refusal: &Refusal) -> Tried<Reply>
 fn not_typed(alloc: Global, kind: Kind, place: Place) -> Tried<Reply>
     ensures { IfOk result (λ reply. Says 65 (refused (typing_text kind place)) reply.status reply.out.items reply.err.items) }
 {
-    on_what(alloc, "IllTyped", kind_word(kind), place)
+    on_what(alloc, "IllTyped", cause_text(Cause::Rule(kind)), place)
 }
 
 /// The program where it is typed, or the reply that it is not.

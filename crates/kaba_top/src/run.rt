@@ -6,7 +6,7 @@ ghost use Rattle.kaba_top.specs.Words.{no_place, program_of, end_of, texts, most
 ghost use Rattle.kaba_top.specs.RunAnswers.{EndGives, RunAnswers};
 
 use crate::Tried;
-use crate::cause_words::fault_word;
+use crate::cause_words::{Cause, cause_text};
 use crate::reading::{Reading, read_program};
 use crate::reply::Reply;
 use java_core::Checked;
@@ -24,7 +24,7 @@ pub fn ran(alloc: Global, outcome: Outcome) -> Tried<Reply>
             err: Vec::new(alloc),
         }),
         End::Fault(fault) => {
-            let word = fault_word(fault);
+            let word = cause_text(Cause::Fault(fault));
             let text = format!(in alloc; "fault {word}")?;
             Reply::with_line(alloc, 10, outcome.out, text.as_bytes())
         }

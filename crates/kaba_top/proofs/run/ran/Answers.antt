@@ -11,7 +11,7 @@ returns-in-Ended c = at_end c.args.outcome.end ends.Ended c.args.outcome.out.ite
 
 pub returns-in_ok-text-in-Fault : goal.returns-in_ok-text-in-Fault
 returns-in_ok-text-in-Fault c =
-    let said = c.as_bytes.ensures.value ∙ c.in_ok-text-in-Fault.ensures.ok ∙ ap (λ word. codes "fault " ++ word) c.fault_word-word.ensures in
+    let said = c.as_bytes.ensures.value ∙ c.in_ok-text-in-Fault.ensures.ok ∙ ap (λ word. codes "fault " ++ word) c.cause_text-word.ensures in
     at_end c.args.outcome.end (ends.Fault c.in-Fault.fault) c.args.outcome.out.items c.with_line.result c.in-Fault.is
     (subst (λ text. IfOk c.with_line.result (λ reply. Gives 10 c.args.outcome.out.items (line text) reply.status reply.out.items reply.err.items))
     said c.with_line.ensures.gives)
