@@ -8,12 +8,10 @@ use Rattle.std.specs.declared.vec.Vec.{Vec}
 use Rattle.std.specs.declared.alloc.Global.{Global}
 use Rattle.std.proofs.lemmas.Bool.{and_parts, eqb-true, eq-eqb, false≢true}
 use Rattle.std.proofs.lemmas.Slice.Eq.{bytes_eq-Decides}
-use Rattle.java_core.specs.declared.Field.{Field}
 use Rattle.java_core.specs.declared.Method.{Method}
-use Rattle.java_core.specs.Trees.{no_place}
-use Rattle.java_core.specs.Programs.{Plain, field_seen, method_seen}
+use Rattle.java_core.specs.Programs.{Plain, method_seen}
 use Rattle.java_core.specs.Own.{offers}
-use Rattle.java_core.specs.Classes.{below, is_field_of, is_method_of, has_slot, is_slot}
+use Rattle.java_core.specs.Classes.{below, has_slot, is_slot}
 use Rattle.java_core.specs.Owned.{AreOwned, listed, first_among}
 use Rattle.java_core.specs.MemberKeys.{MemberKeys, method_keys}
 use Rattle.java_core.specs.Nearest.{has_name}
@@ -37,27 +35,27 @@ same_slot n c s None e = absurd (false≢true e)
 same_slot n c s (Some r) e = ap (λ i. slot_bucket n c (Some i)) (eqb-true r s e)
 
 -- a method of a slot in a class is in the bucket of the two
-pub slot_there : (n c s : ℕ) (m : Method) → has_slot c s (method_seen no_place m) ≡ true → place_by key.OwnerAndSlot n (method_keys m)
+pub slot_there : (n c s : ℕ) (m : Method) → has_slot c s (method_seen m) ≡ true → place_by key.OwnerAndSlot n (method_keys m)
     ≡ slot_bucket n c (Some s)
 slot_there n c s m e =
     let z = and_parts (m.owner.0 == c) (is_slot m.slot s) e in
     ap (λ k. slot_bucket n k m.slot) (eqb-true m.owner.0 c z.0) ∙ same_slot n c s m.slot z.1
 
 -- an instance method of a name at or above a type is in the bucket of the name
-pub offer_there : (n : ℕ) (P : Plain) (c : ℕ) (x : List ℕ) (m : Method) → offers P c x (method_seen no_place m) ≡ true
+pub offer_there : (n : ℕ) (P : Plain) (c : ℕ) (x : List ℕ) (m : Method) → offers P c x (method_seen m) ≡ true
     → place_by key.Name n (method_keys m) ≡ name_bucket n 0 x
 offer_there n P c x m e =
     let z = and_parts (below P c m.owner.0) (not m.is_static && bytes_eq m.name x) e in
     ap (name_bucket n 0) ((bytes_eq-Decides m.name x).0 (and_parts (not m.is_static) (bytes_eq m.name x) z.1).1)
 
 -- the owner of a method of a slot in a class
-pub slot_owner : (c s : ℕ) (m : Method) → has_slot c s (method_seen no_place m) ≡ true → m.owner.0 ≡ c
+pub slot_owner : (c s : ℕ) (m : Method) → has_slot c s (method_seen m) ≡ true → m.owner.0 ≡ c
 slot_owner c s m e = eqb-true m.owner.0 c (and_parts (m.owner.0 == c) (is_slot m.slot s) e).0
 
 -- a body of a slot in a class is of the slot
-pub body_slot : (c s : ℕ) (m : Method) → (has_slot c s (method_seen no_place m) && is_some (method_seen no_place m).body) ≡ true
-    → has_slot c s (method_seen no_place m) ≡ true
-body_slot c s m e = (and_parts ((m.owner.0 == c) && is_slot m.slot s) (is_some (method_seen no_place m).body) e).0
+pub body_slot : (c s : ℕ) (m : Method) → (has_slot c s (method_seen m) && is_some (method_seen m).body) ≡ true
+    → has_slot c s (method_seen m) ≡ true
+body_slot c s m e = (and_parts ((m.owner.0 == c) && is_slot m.slot s) (is_some (method_seen m).body) e).0
 
 -- a member of a name that is looked for from below is in the bucket of the name
 pub named_there : {A : Type 0} (keys : A → MemberKeys) (n : ℕ) (x : List ℕ) (a : A) → has_name keys x a ≡ true → place_by key.Name n (keys a)

@@ -1,11 +1,12 @@
 pub mod Rows
+pub mod Forms
 pub mod Subclasses
 pub mod Positions
 pub mod NumbersBelow
 pub mod SearchOrder
 pub mod Upwards
 pub mod Offered
-pub mod Untagged
+pub mod Retagging
 pub mod Words
 pub mod Locals
 pub mod OwnedLemmas

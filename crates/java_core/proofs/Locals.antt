@@ -2,12 +2,11 @@
 use Rattle.std.proofs.Common.{◌≡◌, ℕ, zero, suc, ◌+◌, ◌<◌, List, [], ◌∷◌, ◌++◌, map, length, refl, ap, arith}
 use Rattle.std.specs.Prelude.{slice_get}
 use Rattle.java_core.specs.declared.Local.{Local}
-use Rattle.java_core.specs.Trees.{no_place}
 use Rattle.java_core.specs.Programs.{PlainLocal, local_seen}
 use Rattle.java_core.specs.Types.{types_of}
 
 abbrev seen : List Local → List PlainLocal
-seen ls = map (local_seen no_place) ls
+seen ls = map local_seen ls
 
 pub type_of_param : (ps ls : List Local) (i : ℕ) → i < length ps → slice_get (types_of (seen ps)) i ≡ slice_get (types_of (seen ps ++ seen ls)) i
 type_of_param [] ls i h = absurd (omega arith)

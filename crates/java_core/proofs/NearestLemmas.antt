@@ -15,9 +15,7 @@ use Rattle.std.specs.declared.alloc.Global.{Global}
 use Rattle.kaba_base.specs.declared.ClassId.{ClassId}
 use Rattle.version_map.specs.declared.VersionMap.{VersionMap}
 use Rattle.version_map.specs.Held.{holds}
-use Rattle.kaba_base.specs.declared.Place.{Place}
 use Rattle.java_core.specs.declared.Class.{Class}
-use Rattle.java_core.specs.Trees.{Tag}
 use Rattle.java_core.specs.Plain.{Plain, class_seen}
 use Rattle.java_core.specs.Subtypes.{of_classes}
 use Rattle.java_core.specs.Classes.{parent_of, first_or, nearest, nearest_of, is_slot}
@@ -78,16 +76,16 @@ module _ (parents : List (Option ClassId)) where
         ∥∥₁_elim h (hlevel props) (λ h. first-nearest (subst (λ o. IsFirst parents own c (first_or o r)) here (lower up (first-same e h))))
 
 -- what a program has nearest is what its list of superclasses has
-module _ (tag : Place → Tag) (classes : List Class) where
-  superclass-seen : (c : ℕ) → parent_at (superclasses classes) c ≡ parent_of (of_classes (map (class_seen tag) classes)) c
+module _ (classes : List Class) where
+  superclass-seen : (c : ℕ) → parent_at (superclasses classes) c ≡ parent_of (of_classes (map class_seen classes)) c
   superclass-seen c = ap (option_and_then (λ o. o)) (slice_get-map (λ k. k.parent) classes c) ∙ go (slice_get classes c)
-      ∙ ap (option_and_then (λ k. k.parent)) (sym (slice_get-map (class_seen tag) classes c))
+      ∙ ap (option_and_then (λ k. k.parent)) (sym (slice_get-map class_seen classes c))
     where
-      go : (o : Option Class) → option_and_then (λ o. o) (option_map (λ k. k.parent) o) ≡ option_and_then (λ k. k.parent) (option_map (class_seen tag) o)
+      go : (o : Option Class) → option_and_then (λ o. o) (option_map (λ k. k.parent) o) ≡ option_and_then (λ k. k.parent) (option_map class_seen o)
       go None = refl
       go (Some k) = refl
 
-  pub nearest-seen : (P : Plain) → P.classes ≡ map (class_seen tag) classes → (own : ℕ → Option ℕ) (n c : ℕ)
+  pub nearest-seen : (P : Plain) → P.classes ≡ map class_seen classes → (own : ℕ → Option ℕ) (n c : ℕ)
       → nearest_by (superclasses classes) own n c ≡ nearest P own n c
   nearest-seen P is own zero c = refl
   nearest-seen P is own (suc n) c =
@@ -100,16 +98,16 @@ module _ (tag : Place → Tag) (classes : List Class) where
       up None h = refl
       up (Some p) h = h p.0
 
-  nearest-told : (P : Plain) → P.classes ≡ map (class_seen tag) classes → (parents : List (Option ClassId)) → parents ≡ superclasses classes
+  nearest-told : (P : Plain) → P.classes ≡ map class_seen classes → (parents : List (Option ClassId)) → parents ≡ superclasses classes
       → (own : ℕ → Option ℕ) (c : ℕ) (r : Option ℕ) → IsNearestBy parents own c r → own c ≡ None → r ≡ nearest_of P own c
   nearest-told P is parents up own c r h here =
       sym (h here) ∙ ap (λ ps. nearest_by ps own (length ps) c) up
       ∙ ap (λ n. nearest_by (superclasses classes) own n c)
-      (length-map classes (λ k. k.parent) ∙ sym (length-map classes (class_seen tag)) ∙ ap length (sym is))
+      (length-map classes (λ k. k.parent) ∙ sym (length-map classes class_seen) ∙ ap length (sym is))
       ∙ nearest-seen P is own (length P.classes) c
 
   -- the same where it is told of whatever finds what the classes themselves have, by a test of the members as they are seen
-  pub told-nearest : (P : Plain) → P.classes ≡ map (class_seen tag) classes → (parents : List (Option ClassId)) → parents ≡ superclasses classes
+  pub told-nearest : (P : Plain) → P.classes ≡ map class_seen classes → (parents : List (Option ClassId)) → parents ≡ superclasses classes
       → {A B : Type 0} (view : A → B) (test : ℕ → B → Bool) (members shown : List A) → shown ≡ members
       → (own : ℕ → Option ℕ) → ((k : ℕ) → position (test k) (map view members) ≡ own k) → (c : ℕ) (o : Option (Option ℕ))
       → IfSome o (λ r. (f : ℕ → Option ℕ) → ((k : ℕ) → position (λ a. test k (view a)) shown ≡ f k) → IsNearestBy parents f c r)

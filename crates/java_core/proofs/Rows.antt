@@ -10,49 +10,48 @@ use Rattle.java_core.specs.declared.RStmt.{RStmt, If, For}
 use Rattle.java_core.specs.declared.RArm.{RArm}
 use Rattle.java_core.specs.declared.RExpr.TheBlock.{Row_of-RExpr, end_of-RExpr, more_of-RExpr, items-the_row-RExpr, hidden-the_row-RExpr-0, items_hidden-the_row-RExpr-0}
 use Rattle.java_core.specs.declared.RStmt.TheBlock.{Row_of-RStmt, end_of-RStmt, more_of-RStmt, items-the_row-RStmt, hidden-the_row-RStmt-0, items_hidden-the_row-RStmt-0, shown-the_row-RStmt-0, items_shown-the_row-RStmt-0, Row_of-RArm, end_of-RArm, more_of-RArm, items-the_row-RArm, hidden-the_row-RArm-1, items_hidden-the_row-RArm-1}
-use Rattle.java_core.specs.Trees.{Tag, ex_then, this, call, no_st, st_then, Arms, no_other, otherwise, arm, choose, loop, expr_of, exprs_of, exprs, value_of, stmt_of, stmts_of, stmts, arms_of, arms_seen, else_seen, step_seen, base_seen}
+use Rattle.java_core.specs.Trees.{at_place, ex_then, this, call, no_st, st_then, Arms, no_other, otherwise, arm, choose, loop, expr_of, exprs_of, exprs, value_of, stmt_of, stmts_of, stmts, arms_of, arms_seen, else_seen, step_seen, base_seen}
 
-module _ (tag : Place → Tag) where
-  pub exprs-items : {n : _} (k : Row_of-RExpr n) → exprs_of tag k ≡ exprs tag (items-the_row-RExpr _ k)
-  exprs-items end_of-RExpr = refl
-  exprs-items (more_of-RExpr e rest) = ap (ex_then (expr_of tag e)) (exprs-items rest)
+pub exprs-items : {n : _} (k : Row_of-RExpr n) → exprs_of k ≡ exprs (items-the_row-RExpr _ k)
+exprs-items end_of-RExpr = refl
+exprs-items (more_of-RExpr e rest) = ap (ex_then (expr_of e)) (exprs-items rest)
 
-  pub exprs_vec : (v : Vec RExpr Global) → exprs_of tag (hidden-the_row-RExpr-0 v) ≡ exprs tag v.items
-  exprs_vec v = exprs-items (hidden-the_row-RExpr-0 v) ∙ ap (exprs tag) (items_hidden-the_row-RExpr-0 v)
+pub exprs_vec : (v : Vec RExpr Global) → exprs_of (hidden-the_row-RExpr-0 v) ≡ exprs v.items
+exprs_vec v = exprs-items (hidden-the_row-RExpr-0 v) ∙ ap exprs (items_hidden-the_row-RExpr-0 v)
 
-  pub stmts-items : {n : _} (k : Row_of-RStmt n) → stmts_of tag k ≡ stmts tag (items-the_row-RStmt _ k)
-  stmts-items end_of-RStmt = refl
-  stmts-items (more_of-RStmt s rest) = ap (st_then (stmt_of tag s)) (stmts-items rest)
+pub stmts-items : {n : _} (k : Row_of-RStmt n) → stmts_of k ≡ stmts (items-the_row-RStmt _ k)
+stmts-items end_of-RStmt = refl
+stmts-items (more_of-RStmt s rest) = ap (st_then (stmt_of s)) (stmts-items rest)
 
-  pub stmts_vec : (v : Vec RStmt Global) → stmts_of tag (hidden-the_row-RStmt-0 v) ≡ stmts tag v.items
-  stmts_vec v = stmts-items (hidden-the_row-RStmt-0 v) ∙ ap (stmts tag) (items_hidden-the_row-RStmt-0 v)
+pub stmts_vec : (v : Vec RStmt Global) → stmts_of (hidden-the_row-RStmt-0 v) ≡ stmts v.items
+stmts_vec v = stmts-items (hidden-the_row-RStmt-0 v) ∙ ap stmts (items_hidden-the_row-RStmt-0 v)
 
-  stmts_shown : (s : _) (k : _) → stmts_of tag k ≡ stmts tag (shown-the_row-RStmt-0 s k).items
-  stmts_shown s k = stmts-items k ∙ sym (ap (stmts tag) (items_shown-the_row-RStmt-0 s k))
+stmts_shown : (s : _) (k : _) → stmts_of k ≡ stmts (shown-the_row-RStmt-0 s k).items
+stmts_shown s k = stmts-items k ∙ sym (ap stmts (items_shown-the_row-RStmt-0 s k))
 
-  pub arms-items : {n : _} (k : Row_of-RArm n) (other : Arms) → arms_of tag k other ≡ arms_seen tag (items-the_row-RArm _ k) other
-  arms-items end_of-RArm other = refl
-  arms-items (more_of-RArm t s body rest) other =
-      ap (λ b. arm (expr_of tag t) b (arms_of tag rest other)) (stmts_shown s body)
-      ∙ ap (arm (expr_of tag t) (stmts tag (shown-the_row-RStmt-0 s body).items)) (arms-items rest other)
+pub arms-items : {n : _} (k : Row_of-RArm n) (other : Arms) → arms_of k other ≡ arms_seen (items-the_row-RArm _ k) other
+arms-items end_of-RArm other = refl
+arms-items (more_of-RArm t s body rest) other =
+    ap (λ b. arm (expr_of t) b (arms_of rest other)) (stmts_shown s body)
+    ∙ ap (arm (expr_of t) (stmts (shown-the_row-RStmt-0 s body).items)) (arms-items rest other)
 
-  pub arms_vec : (v : Vec RArm Global) (other : Arms) → arms_of tag (hidden-the_row-RArm-1 v) other ≡ arms_seen tag v.items other
-  arms_vec v other = arms-items (hidden-the_row-RArm-1 v) other ∙ ap (λ xs. arms_seen tag xs other) (items_hidden-the_row-RArm-1 v)
+pub arms_vec : (v : Vec RArm Global) (other : Arms) → arms_of (hidden-the_row-RArm-1 v) other ≡ arms_seen v.items other
+arms_vec v other = arms-items (hidden-the_row-RArm-1 v) other ∙ ap (λ xs. arms_seen xs other) (items_hidden-the_row-RArm-1 v)
 
-  pub call_as : (b : Option (Box RExpr Global)) (x : List ℕ) (v : Vec RExpr Global) (p : Place) → expr_of tag (Call b x v p)
-      ≡ call (tag p) (base_seen tag b p) x (exprs tag v.items)
-  call_as None x v p = ap (call (tag p) (this (tag p)) x) (exprs_vec v)
-  call_as (Some b) x v p = ap (call (tag p) (expr_of tag b.value) x) (exprs_vec v)
+pub call_as : (b : Option (Box RExpr Global)) (x : List ℕ) (v : Vec RExpr Global) (p : Place) → expr_of (Call b x v p)
+    ≡ call (at_place p) (base_seen b p) x (exprs v.items)
+call_as None x v p = ap (call (at_place p) (this (at_place p)) x) (exprs_vec v)
+call_as (Some b) x v p = ap (call (at_place p) (expr_of b.value) x) (exprs_vec v)
 
-  pub if_as : (v : Vec RArm Global) (o : Option (Vec RStmt Global)) (p : Place) → stmt_of tag (If v o p)
-      ≡ choose (tag p) (arms_seen tag v.items (else_seen tag o))
-  if_as v None p = ap (choose (tag p)) (arms_vec v no_other)
-  if_as v (Some w) p = ap (λ s. choose (tag p) (arms_of tag (hidden-the_row-RArm-1 v) (otherwise s))) (stmts_vec w)
-      ∙ ap (choose (tag p)) (arms_vec v (otherwise (stmts tag w.items)))
+pub if_as : (v : Vec RArm Global) (o : Option (Vec RStmt Global)) (p : Place) → stmt_of (If v o p)
+    ≡ choose (at_place p) (arms_seen v.items (else_seen o))
+if_as v None p = ap (choose (at_place p)) (arms_vec v no_other)
+if_as v (Some w) p = ap (λ s. choose (at_place p) (arms_of (hidden-the_row-RArm-1 v) (otherwise s))) (stmts_vec w)
+    ∙ ap (choose (at_place p)) (arms_vec v (otherwise (stmts w.items)))
 
-  pub for_as : (f : Option (Box RStmt Global)) (t : Option RExpr) (g : Option (Box RStmt Global)) (v : Vec RStmt Global) (p : Place)
-      → stmt_of tag (For f t g v p) ≡ loop (tag p) false (step_seen tag f) (value_of tag t) (step_seen tag g) (stmts tag v.items)
-  for_as None t None v p = ap (loop (tag p) false no_st (value_of tag t) no_st) (stmts_vec v)
-  for_as None t (Some g) v p = ap (loop (tag p) false no_st (value_of tag t) (step_seen tag (Some g))) (stmts_vec v)
-  for_as (Some f) t None v p = ap (loop (tag p) false (step_seen tag (Some f)) (value_of tag t) no_st) (stmts_vec v)
-  for_as (Some f) t (Some g) v p = ap (loop (tag p) false (step_seen tag (Some f)) (value_of tag t) (step_seen tag (Some g))) (stmts_vec v)
+pub for_as : (f : Option (Box RStmt Global)) (t : Option RExpr) (g : Option (Box RStmt Global)) (v : Vec RStmt Global) (p : Place)
+    → stmt_of (For f t g v p) ≡ loop (at_place p) false (step_seen f) (value_of t) (step_seen g) (stmts v.items)
+for_as None t None v p = ap (loop (at_place p) false no_st (value_of t) no_st) (stmts_vec v)
+for_as None t (Some g) v p = ap (loop (at_place p) false no_st (value_of t) (step_seen (Some g))) (stmts_vec v)
+for_as (Some f) t None v p = ap (loop (at_place p) false (step_seen (Some f)) (value_of t) no_st) (stmts_vec v)
+for_as (Some f) t (Some g) v p = ap (loop (at_place p) false (step_seen (Some f)) (value_of t) (step_seen (Some g))) (stmts_vec v)

@@ -1,17 +1,14 @@
--- Subtyping among the classes of a program, whatever their tags.
-use Rattle.std.proofs.Common.{◌≡◌, ℕ, zero, suc, ◌<◌, ◌⊎◌, inl, inr, ⊎_elim, Bool, true, ◌||◌, List, [], ◌∷◌, ◌++◌, map, length, Option, Some, None, Contains, refl, sym, ap, ◌∙◌, subst, arith}
+-- Subtyping among the classes of a program.
+use Rattle.std.proofs.Common.{◌≡◌, ℕ, zero, suc, ◌<◌, ◌⊎◌, inl, inr, ⊎_elim, Bool, true, ◌||◌, List, [], ◌++◌, map, length, Option, Some, None, Contains, refl, sym, ap, ◌∙◌, subst, arith}
 use Rattle.std.specs.Prelude.{slice_get, ◌==◌, ◌↔◌}
 use Rattle.std.specs.Option.{option_to_list, option_and_then, option_map_or}
 use Rattle.std.proofs.lemmas.Bool.{or_cases, or_left, or_right, eqb-true, eq-eqb}
-use Rattle.std.proofs.lemmas.List.{length-map}
 use Rattle.std.proofs.lemmas.List.Elements.{Contains-append_cases}
 use Rattle.std.proofs.lemmas.Option.{slice_get_within}
-use Rattle.kaba_base.specs.declared.Place.{Place}
 use Rattle.kaba_base.specs.declared.ClassId.{ClassId}
 use Rattle.kaba_base.proofs.ListLemmas.{one_from, no-member}
 use Rattle.kaba_base.proofs.TestLemmas.{same_truth}
 use Rattle.java_core.specs.declared.Class.{Class}
-use Rattle.java_core.specs.Trees.{Tag}
 use Rattle.java_core.specs.Plain.{Plain, PlainClass, class_seen}
 use Rattle.java_core.specs.Classes.{supers_of, IsSubclass, same_class, through, below}
 use Rattle.java_core.specs.Formed.{IsFormed}
@@ -19,12 +16,6 @@ use Rattle.java_core.specs.Squares.{is_above}
 use Rattle.java_core.specs.Subtypes.{of_classes, subtype_rows}
 use Rattle.java_core.proofs.Subclasses.{below-subclass, subclass-below}
 use Rattle.java_core.proofs.Reached.{reached-sound, reached-whole}
-
-supers-seen : (t u : Place → Tag) (cs : List Class) (a : ℕ) → supers_of (of_classes (map (class_seen t) cs)) a
-    ≡ supers_of (of_classes (map (class_seen u) cs)) a
-supers-seen t u [] a = refl
-supers-seen t u (c ∷ cs) zero = refl
-supers-seen t u (c ∷ cs) (suc a) = supers-seen t u cs a
 
 subclass-same : (P Q : Plain) → ((a : ℕ) → supers_of P a ≡ supers_of Q a) → {a b : ℕ} → IsSubclass P a b → IsSubclass Q a b
 subclass-same P Q same same_class = same_class
@@ -56,15 +47,15 @@ subclass-stands P formed same_class = inl refl
 subclass-stands P formed (through {a = a} {c = c} direct rest) =
     ⊎_elim (λ e. inr (subst (λ b. b < length P.classes) e (super-stands P formed a c direct))) (λ lt. inr lt) (subclass-stands P formed rest)
 
-module _ (P : Plain) (t u : Place → Tag) (cs : List Class) (is : P.classes ≡ map (class_seen u) cs) (formed : IsFormed P) where
+module _ (P : Plain) (cs : List Class) (is : P.classes ≡ map class_seen cs) (formed : IsFormed P) where
   abbrev shown : Plain
-  shown = of_classes (map (class_seen t) cs)
+  shown = of_classes (map class_seen cs)
 
   supers-shown : (a : ℕ) → supers_of shown a ≡ supers_of P a
-  supers-shown a = supers-seen t u cs a ∙ ap (λ l. supers_of (of_classes l) a) (sym is)
+  supers-shown a = ap (λ l. supers_of (of_classes l) a) (sym is)
 
   abbrev rows_say : ℕ → ℕ → Bool
-  rows_say a b = is_above (subtype_rows (map (class_seen t) cs)) a b
+  rows_say a b = is_above (subtype_rows (map class_seen cs)) a b
 
   rows-sound : (a b : ℕ) → (a == b) || rows_say a b ≡ true → IsSubclass P a b
   rows-sound a b h = ⊎_elim
@@ -78,8 +69,8 @@ module _ (P : Plain) (t u : Place → Tag) (cs : List Class) (is : P.classes ≡
       (λ lt. or_right (a == b) (rows_say a b) (reached-whole shown a b (inside lt) (subclass-same P shown (λ x. sym (supers-shown x)) h)))
       (subclass-stands P formed h)
     where
-      inside : b < length P.classes → b < length (map (class_seen t) cs)
-      inside lt = let l = length-map cs (class_seen t) in let m = length-map cs (class_seen u) in let n = ap length is in omega (arith, lt, l, m, n)
+      inside : b < length P.classes → b < length (map class_seen cs)
+      inside lt = let n = ap length is in omega (arith, lt, n)
 
   -- the test by rows is subtyping
   pub rows-subclass : (a b : ℕ) (r : Bool) → r ≡ ((a == b) || rows_say a b) → (r ≡ true) ↔ IsSubclass P a b

@@ -2,6 +2,7 @@ pub mod Trees
 pub mod Plain
 pub mod Programs
 pub mod Untagged
+pub mod Retagged
 pub mod MemberKeys
 pub mod Classes
 pub mod Found

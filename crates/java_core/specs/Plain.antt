@@ -1,6 +1,5 @@
 -- A resolved program as plain data, and which plain data its parts are.
 use Rattle.std.specs.Prelude.{ℕ, Bool, List, Option, map}
-use Rattle.kaba_base.specs.declared.Place.{Place}
 use Rattle.kaba_base.specs.declared.ClassId.{ClassId}
 use Rattle.java_core.specs.declared.Ty.{Ty}
 use Rattle.java_core.specs.declared.Local.{Local}
@@ -8,7 +7,7 @@ use Rattle.java_core.specs.declared.Class.{Class}
 use Rattle.java_core.specs.declared.Field.{Field}
 use Rattle.java_core.specs.declared.Method.{Method}
 use Rattle.java_core.specs.declared.Slot.{Slot}
-use Rattle.java_core.specs.Trees.{Tag, Sts, body_seen}
+use Rattle.java_core.specs.Trees.{Tag, Sts, at_place, body_seen}
 
 -- a parameter or a local
 pub record PlainLocal : Type 0 where
@@ -58,32 +57,31 @@ pub record Plain : Type 0 where
   pub slots : List PlainSlot
   pub main : ℕ
 
--- which plain data they are, with tags that their places give
-module _ (tag : Place → Tag) where
-  abbrev pub local_seen : Local → PlainLocal
-  local_seen l = record { name = l.name; ty = l.ty; tag = tag l.place }
+-- which plain data they are
+abbrev pub local_seen : Local → PlainLocal
+local_seen l = record { name = l.name; ty = l.ty; tag = at_place l.place }
 
-  abbrev pub class_seen : Class → PlainClass
-  class_seen c =
-      record { name = c.name; is_interface = c.is_interface; is_abstract = c.is_abstract; parent = c.parent; faces = c.faces.items; tag = tag c.place }
+abbrev pub class_seen : Class → PlainClass
+class_seen c =
+    record { name = c.name; is_interface = c.is_interface; is_abstract = c.is_abstract; parent = c.parent; faces = c.faces.items; tag = at_place c.place }
 
-  abbrev pub field_seen : Field → PlainField
-  field_seen f = record { owner = f.owner.0; name = f.name; is_static = f.is_static; ty = f.ty; tag = tag f.place }
+abbrev pub field_seen : Field → PlainField
+field_seen f = record { owner = f.owner.0; name = f.name; is_static = f.is_static; ty = f.ty; tag = at_place f.place }
 
-  abbrev pub method_seen : Method → PlainMethod
-  method_seen m =
-      record {
-        owner = m.owner.0;
-        name = m.name;
-        is_static = m.is_static;
-        is_public = m.is_public;
-        slot = m.slot;
-        params = map local_seen m.params.items;
-        locals = map local_seen m.locals.items;
-        result = m.result;
-        body = body_seen tag m.body;
-        tag = tag m.place;
-      }
+abbrev pub method_seen : Method → PlainMethod
+method_seen m =
+    record {
+      owner = m.owner.0;
+      name = m.name;
+      is_static = m.is_static;
+      is_public = m.is_public;
+      slot = m.slot;
+      params = map local_seen m.params.items;
+      locals = map local_seen m.locals.items;
+      result = m.result;
+      body = body_seen m.body;
+      tag = at_place m.place;
+    }
 
-  abbrev pub slot_seen : Slot → PlainSlot
-  slot_seen s = record { name = s.name; params = s.params.items; result = s.result; first = s.first.0 }
+abbrev pub slot_seen : Slot → PlainSlot
+slot_seen s = record { name = s.name; params = s.params.items; result = s.result; first = s.first.0 }

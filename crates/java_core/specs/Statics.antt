@@ -3,7 +3,7 @@ use Rattle.std.specs.Prelude.{ℕ, Option, Some, None}
 use Rattle.java_core.specs.declared.Ty.{Ty}
 use Rattle.java_core.specs.declared.Program.{Program}
 use Rattle.java_core.specs.declared.Method.{Method}
-use Rattle.java_core.specs.Trees.{Ex, no_place}
+use Rattle.java_core.specs.Trees.{Ex}
 use Rattle.java_core.specs.Programs.{program_of, method_seen}
 use Rattle.java_core.specs.Types as types
 use Rattle.java_core.specs.Types.{a_value, null_value, no_value, LengthOf, CharAt, env_of, static as static_of}
@@ -19,7 +19,7 @@ static_seen form.Nothing = no_value
 
 -- the static type of an expression in the body of a method of a program; b is the method's number, which no type depends on
 abbrev pub static_in : Program → ℕ → Method → Ex → types.Static
-static_in p b m e = static_of (program_of no_place p) (env_of b (method_seen no_place m)) e
+static_in p b m e = static_of (program_of p) (env_of b (method_seen m)) e
 
 -- a value of the type, or nothing
 abbrev pub given_of : Option Ty → Static

@@ -82,116 +82,112 @@ mutual
     otherwise : Sts → Arms
     arm : Ex → Sts → Arms → Arms
 
--- the tag of a form that is not numbered, at a place or without one
+-- the tag of a form at a place: a program numbers none of its forms
 abbrev pub at_place : Place → Tag
 at_place p = record { label = 0; place = p }
 
-abbrev pub no_place : Place → Tag
-no_place p = record { label = 0; place = record { at = 0; line = 0 } }
+-- which plain tree a tree is: each form carries its place
+abbrev mutual
+  pub expr_of : RExpr → Ex
+  expr_of (ex.Int v p) = number (at_place p) v
+  expr_of (ex.Char c p) = character (at_place p) c
+  expr_of (ex.Str u p) = text (at_place p) u
+  expr_of (ex.Bool b p) = truth (at_place p) b
+  expr_of (ex.Null p) = null (at_place p)
+  expr_of (ex.This p) = this (at_place p)
+  expr_of (ex.Local n p) = local (at_place p) n
+  expr_of (ex.Static f p) = static_field (at_place p) f.0
+  expr_of (ex.Own f p) = own_field (at_place p) f.0
+  expr_of (ex.Field' b e n p) = field (at_place p) (expr_of e) n
+  expr_of (ex.Index' b e c i p) = index (at_place p) (expr_of e) (expr_of i)
+  expr_of (ex.Call' b n s args p) = call_of b n (exprs_of args) p
+  expr_of (ex.StaticCall' m s args p) = static_call (at_place p) m.0 (exprs_of args)
+  expr_of (ex.SuperCall' n s args p) = super_call (at_place p) n (exprs_of args)
+  expr_of (ex.New' k c s args p) = create (at_place p) k c.0 (exprs_of args)
+  expr_of (ex.NewArray' k t b e p) = create_array (at_place p) k t (expr_of e)
+  expr_of (ex.Cast' k t b e p) = cast (at_place p) k t (expr_of e)
+  expr_of (ex.InstanceOf' k b e c p) = instance_of (at_place p) k (expr_of e) c.0
+  expr_of (ex.Unary' o b e p) = unary (at_place p) o (expr_of e)
+  expr_of (ex.Binary' o b l c r p) = binary (at_place p) o (expr_of l) (expr_of r)
 
--- which plain tree a tree is, with tags that its places give
-module _ (tag : Place → Tag) where
-  abbrev mutual
-    pub expr_of : RExpr → Ex
-    expr_of (ex.Int v p) = number (tag p) v
-    expr_of (ex.Char c p) = character (tag p) c
-    expr_of (ex.Str u p) = text (tag p) u
-    expr_of (ex.Bool b p) = truth (tag p) b
-    expr_of (ex.Null p) = null (tag p)
-    expr_of (ex.This p) = this (tag p)
-    expr_of (ex.Local n p) = local (tag p) n
-    expr_of (ex.Static f p) = static_field (tag p) f.0
-    expr_of (ex.Own f p) = own_field (tag p) f.0
-    expr_of (ex.Field' b e n p) = field (tag p) (expr_of e) n
-    expr_of (ex.Index' b e c i p) = index (tag p) (expr_of e) (expr_of i)
-    expr_of (ex.Call' b n s args p) = call_of b n (exprs_of args) p
-    expr_of (ex.StaticCall' m s args p) = static_call (tag p) m.0 (exprs_of args)
-    expr_of (ex.SuperCall' n s args p) = super_call (tag p) n (exprs_of args)
-    expr_of (ex.New' k c s args p) = create (tag p) k c.0 (exprs_of args)
-    expr_of (ex.NewArray' k t b e p) = create_array (tag p) k t (expr_of e)
-    expr_of (ex.Cast' k t b e p) = cast (tag p) k t (expr_of e)
-    expr_of (ex.InstanceOf' k b e c p) = instance_of (tag p) k (expr_of e) c.0
-    expr_of (ex.Unary' o b e p) = unary (tag p) o (expr_of e)
-    expr_of (ex.Binary' o b l c r p) = binary (tag p) o (expr_of l) (expr_of r)
+  pub call_of : ex.Held-RExpr-Call-0 → List ℕ → Exs → Place → Ex
+  call_of ex.None' n args p = call (at_place p) (this (at_place p)) n args
+  call_of (ex.Some' b e) n args p = call (at_place p) (expr_of e) n args
 
-    pub call_of : ex.Held-RExpr-Call-0 → List ℕ → Exs → Place → Ex
-    call_of ex.None' n args p = call (tag p) (this (tag p)) n args
-    call_of (ex.Some' b e) n args p = call (tag p) (expr_of e) n args
+  pub exprs_of : {n : _} → ex.Row_of-RExpr n → Exs
+  exprs_of ex.end_of-RExpr = no_ex
+  exprs_of (ex.more_of-RExpr e rest) = ex_then (expr_of e) (exprs_of rest)
 
-    pub exprs_of : {n : _} → ex.Row_of-RExpr n → Exs
-    exprs_of ex.end_of-RExpr = no_ex
-    exprs_of (ex.more_of-RExpr e rest) = ex_then (expr_of e) (exprs_of rest)
+abbrev pub value_of : Option RExpr → Option Ex
+value_of None = None
+value_of (Some e) = Some (expr_of e)
 
-  abbrev pub value_of : Option RExpr → Option Ex
-  value_of None = None
-  value_of (Some e) = Some (expr_of e)
+-- what an assignment to an expression changes
+abbrev pub target_of : RExpr → Target
+target_of (ex.Local n p) = to_local (at_place p) n
+target_of (ex.Static f p) = to_static (at_place p) f.0
+target_of (ex.Own f p) = to_own (at_place p) f.0
+target_of (ex.Field' b e n p) = to_field (at_place p) (expr_of e) n
+target_of (ex.Index' b e c i p) = to_element (at_place p) (expr_of e) (expr_of i)
+target_of _ = no_target
 
-  -- what an assignment to an expression changes
-  abbrev pub target_of : RExpr → Target
-  target_of (ex.Local n p) = to_local (tag p) n
-  target_of (ex.Static f p) = to_static (tag p) f.0
-  target_of (ex.Own f p) = to_own (tag p) f.0
-  target_of (ex.Field' b e n p) = to_field (tag p) (expr_of e) n
-  target_of (ex.Index' b e c i p) = to_element (tag p) (expr_of e) (expr_of i)
-  target_of _ = no_target
+abbrev mutual
+  pub stmt_of : RStmt → St
+  stmt_of (st.Local n v p) = declare (at_place p) n (value_of v)
+  stmt_of (st.Block' s items p) = block (at_place p) (stmts_of items)
+  stmt_of (st.Assign t v p) = assign (at_place p) (target_of t) (expr_of v)
+  stmt_of (st.Do c p) = act (at_place p) (expr_of c)
+  stmt_of (st.Print l v p) = print (at_place p) l (value_of v)
+  stmt_of (st.If' s arms other p) = choose (at_place p) (arms_of arms (else_of other))
+  stmt_of (st.While' t s body p) = loop (at_place p) true no_st (Some (expr_of t)) no_st (stmts_of body)
+  stmt_of (st.For' f t g s body p) = loop (at_place p) false (step_of f) (value_of t) (step_of g) (stmts_of body)
+  stmt_of (st.Return v p) = return (at_place p) (value_of v)
+  stmt_of (st.Break p) = break (at_place p)
+  stmt_of (st.Continue p) = continue (at_place p)
 
-  abbrev mutual
-    pub stmt_of : RStmt → St
-    stmt_of (st.Local n v p) = declare (tag p) n (value_of v)
-    stmt_of (st.Block' s items p) = block (tag p) (stmts_of items)
-    stmt_of (st.Assign t v p) = assign (tag p) (target_of t) (expr_of v)
-    stmt_of (st.Do c p) = act (tag p) (expr_of c)
-    stmt_of (st.Print l v p) = print (tag p) l (value_of v)
-    stmt_of (st.If' s arms other p) = choose (tag p) (arms_of arms (else_of other))
-    stmt_of (st.While' t s body p) = loop (tag p) true no_st (Some (expr_of t)) no_st (stmts_of body)
-    stmt_of (st.For' f t g s body p) = loop (tag p) false (step_of f) (value_of t) (step_of g) (stmts_of body)
-    stmt_of (st.Return v p) = return (tag p) (value_of v)
-    stmt_of (st.Break p) = break (tag p)
-    stmt_of (st.Continue p) = continue (tag p)
+  pub else_of : st.Held-RStmt-If-1 → Arms
+  else_of st.RStmt-If-1-None' = no_other
+  else_of (st.RStmt-If-1-Some' s body) = otherwise (stmts_of body)
 
-    pub else_of : st.Held-RStmt-If-1 → Arms
-    else_of st.RStmt-If-1-None' = no_other
-    else_of (st.RStmt-If-1-Some' s body) = otherwise (stmts_of body)
+  pub step_of : st.Held-RStmt-For-0 → Sts
+  step_of st.RStmt-For-0-None' = no_st
+  step_of (st.RStmt-For-0-Some' b s) = st_then (stmt_of s) no_st
 
-    pub step_of : st.Held-RStmt-For-0 → Sts
-    step_of st.RStmt-For-0-None' = no_st
-    step_of (st.RStmt-For-0-Some' b s) = st_then (stmt_of s) no_st
+  pub stmts_of : {n : _} → st.Row_of-RStmt n → Sts
+  stmts_of st.end_of-RStmt = no_st
+  stmts_of (st.more_of-RStmt s rest) = st_then (stmt_of s) (stmts_of rest)
 
-    pub stmts_of : {n : _} → st.Row_of-RStmt n → Sts
-    stmts_of st.end_of-RStmt = no_st
-    stmts_of (st.more_of-RStmt s rest) = st_then (stmt_of s) (stmts_of rest)
+  pub arms_of : {n : _} → st.Row_of-RArm n → Arms → Arms
+  arms_of st.end_of-RArm other = other
+  arms_of (st.more_of-RArm t s body rest) other = arm (expr_of t) (stmts_of body) (arms_of rest other)
 
-    pub arms_of : {n : _} → st.Row_of-RArm n → Arms → Arms
-    arms_of st.end_of-RArm other = other
-    arms_of (st.more_of-RArm t s body rest) other = arm (expr_of t) (stmts_of body) (arms_of rest other)
+-- lists of trees
+abbrev pub exprs : List RExpr → Exs
+exprs [] = no_ex
+exprs (e ∷ es) = ex_then (expr_of e) (exprs es)
 
-  -- lists of trees
-  abbrev pub exprs : List RExpr → Exs
-  exprs [] = no_ex
-  exprs (e ∷ es) = ex_then (expr_of e) (exprs es)
+abbrev pub stmts : List RStmt → Sts
+stmts [] = no_st
+stmts (s ∷ ss) = st_then (stmt_of s) (stmts ss)
 
-  abbrev pub stmts : List RStmt → Sts
-  stmts [] = no_st
-  stmts (s ∷ ss) = st_then (stmt_of s) (stmts ss)
+abbrev pub arms_seen : List RArm → Arms → Arms
+arms_seen [] other = other
+arms_seen (a ∷ more) other = arm (expr_of a.test) (stmts a.body.items) (arms_seen more other)
 
-  abbrev pub arms_seen : List RArm → Arms → Arms
-  arms_seen [] other = other
-  arms_seen (a ∷ more) other = arm (expr_of a.test) (stmts a.body.items) (arms_seen more other)
+-- the `else` of an `if`
+abbrev pub else_seen : Option (Vec RStmt Global) → Arms
+else_seen None = no_other
+else_seen (Some v) = otherwise (stmts v.items)
 
-  -- the `else` of an `if`
-  abbrev pub else_seen : Option (Vec RStmt Global) → Arms
-  else_seen None = no_other
-  else_seen (Some v) = otherwise (stmts v.items)
+abbrev pub step_seen : Option (Box RStmt Global) → Sts
+step_seen None = no_st
+step_seen (Some b) = st_then (stmt_of b.value) no_st
 
-  abbrev pub step_seen : Option (Box RStmt Global) → Sts
-  step_seen None = no_st
-  step_seen (Some b) = st_then (stmt_of b.value) no_st
+abbrev pub body_seen : Option (Vec RStmt Global) → Option Sts
+body_seen None = None
+body_seen (Some v) = Some (stmts v.items)
 
-  abbrev pub body_seen : Option (Vec RStmt Global) → Option Sts
-  body_seen None = None
-  body_seen (Some v) = Some (stmts v.items)
-
-  -- the receiver of a call
-  abbrev pub base_seen : Option (Box RExpr Global) → Place → Ex
-  base_seen None p = this (tag p)
-  base_seen (Some b) p = expr_of b.value
+-- the receiver of a call
+abbrev pub base_seen : Option (Box RExpr Global) → Place → Ex
+base_seen None p = this (at_place p)
+base_seen (Some b) p = expr_of b.value

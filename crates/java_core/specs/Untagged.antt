@@ -1,4 +1,4 @@
--- A program without the tags of its forms: trees whose forms all have one tag, and the program that typing sees.
+-- A program without the tags of its forms: trees whose forms all have one tag. Two programs that are one so are one, places aside.
 use Rattle.std.specs.Prelude.{Option, Some, None, map}
 use Rattle.java_core.specs.Trees.{Tag, Ex, Exs, no_ex, ex_then, number, character, text, truth, null, this, local, static_field, own_field, field, index, call, static_call, super_call, create, create_array, cast, instance_of, unary, binary, Target, to_local, to_static, to_own, to_field, to_element, no_target, St, Sts, Arms, declare, block, assign, act, print, choose, loop, return, break, continue, no_st, st_then, no_other, otherwise, arm}
 use Rattle.java_core.specs.Plain.{Plain, PlainClass, PlainField, PlainMethod, PlainLocal}
@@ -85,13 +85,13 @@ untag_field k = record k { tag = bare_tag }
 abbrev pub untag_method : PlainMethod → PlainMethod
 untag_method k = record k { params = map untag_local k.params; locals = map untag_local k.locals; body = untag_body k.body; tag = bare_tag }
 
--- the program as typing sees it
+-- the program without its tags
 abbrev pub untagged : Plain → Plain
-untagged Q = record {
-  classes = map untag_class Q.classes;
-  fields = map untag_field Q.fields;
-  methods = map untag_method Q.methods;
+untagged P = record {
+  classes = map untag_class P.classes;
+  fields = map untag_field P.fields;
+  methods = map untag_method P.methods;
   slots =
-      Q.slots;
-  main = Q.main;
+      P.slots;
+  main = P.main;
 }

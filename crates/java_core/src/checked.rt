@@ -1,7 +1,6 @@
 //! Programs that the rules of types accept.
 
 ghost use Rattle.std.specs.Prelude.{◌≡◌};
-ghost use Rattle.java_core.specs.Trees.{no_place};
 ghost use Rattle.java_core.specs.Programs.{program_of};
 ghost use Rattle.java_core.specs.Formed.{IsFormed};
 ghost use Rattle.java_core.specs.Typing.{IsTyped};
@@ -27,21 +26,20 @@ impl Model for Checked {
 
     ghost coded = { Prim.hlevel (codes, expr.the_row.coded, stmt.the_row.coded, tree.the_row.coded) };
 
-    ghost use Rattle.java_core.specs.Trees.{no_place};
     ghost use Rattle.java_core.specs.Programs.{program_of};
     ghost use Rattle.java_core.specs.Formed.{IsFormed};
     ghost use Rattle.java_core.specs.Typing.{IsTyped};
 
     ghost view = { λ checked. checked.program };
 
-    ghost invariant = { λ checked. IsFormed (program_of no_place checked.program) × IsTyped (program_of no_place checked.program) };
+    ghost invariant = { λ checked. IsFormed (program_of checked.program) × IsTyped (program_of checked.program) };
 }
 
 impl Checked {
     /// A program that is formed and typed, as one that is known to be so.
     pub fn new(program: Program) -> Checked
-        requires formed { IsFormed (program_of no_place program) }
-        requires typed { IsTyped (program_of no_place program) }
+        requires formed { IsFormed (program_of program) }
+        requires typed { IsTyped (program_of program) }
         ensures value { result ≡ program }
     {
         Checked { program }
@@ -50,8 +48,8 @@ impl Checked {
     /// The program.
     pub fn program(&self) -> &Program
         ensures value { result.now ≡ self.now }
-        ensures formed { IsFormed (program_of no_place self.now) }
-        ensures typed { IsTyped (program_of no_place self.now) }
+        ensures formed { IsFormed (program_of self.now) }
+        ensures typed { IsTyped (program_of self.now) }
     {
         &self.program
     }

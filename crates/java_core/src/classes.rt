@@ -4,7 +4,6 @@ ghost use Rattle.std.specs.Prelude.{◌≡◌, ℕ, ◌<◌, ◌↔◌, length, 
 ghost use Rattle.std.specs.Option.{option_map};
 ghost use Rattle.kaba_base.specs.declared.ClassId.{ClassId};
 ghost use Rattle.kaba_base.specs.declared.MemberId.{MemberId};
-ghost use Rattle.java_core.specs.Trees.{no_place};
 ghost use Rattle.java_core.specs.Programs.{program_of};
 ghost use Rattle.java_core.specs.Classes.{IsSubclass, below, parent_of, faces_of, supers_of, field_of, member_field, is_static_field, own_method, own_declaration, own_body, nearest_of, faces_above, first_found, declaration_of, slot_of_method, slot_of, lookup, nearest_declaration, super_method};
 ghost use Rattle.java_core.specs.Found.{Runs, IsOffered};
@@ -21,23 +20,23 @@ use kaba_base::{ClassId, MemberId, Name};
 /// Whether a class or interface is at or below another (Java Language Specification, 4.10.2).
 #[tactic(auto, unfolding(crate::specs::Classes::below))]
 pub fn is_subtype(p: &Program, a: ClassId, b: ClassId) -> bool
-    requires { IsFormed (program_of no_place p.now) }
-    ensures value { result ≡ below (program_of no_place p.now) a.0 b.0 }
-    ensures exact { IsTrue result ↔ IsSubclass (program_of no_place p.now) a.0 b.0 }
+    requires { IsFormed (program_of p.now) }
+    ensures value { result ≡ below (program_of p.now) a.0 b.0 }
+    ensures exact { IsTrue result ↔ IsSubclass (program_of p.now) a.0 b.0 }
 {
     (a == b) | p.above.is_above(a.0, b.0)
 }
 
 /// How many classes and interfaces there are: no way upwards is longer.
 fn class_count(p: &Program) -> usize
-    ensures { result ≡ length (program_of no_place p.now).classes }
+    ensures { result ≡ length (program_of p.now).classes }
 {
     p.classes.len()
 }
 
 /// The superclass of a class; that of an interface is `Object`, and `Object` has none.
 pub fn parent_of(p: &Program, a: ClassId) -> Option<ClassId>
-    ensures value { result ≡ parent_of (program_of no_place p.now) a.0 }
+    ensures value { result ≡ parent_of (program_of p.now) a.0 }
 {
     match p.classes.get(a.0 as usize) {
         Some(class) => class.parent,
@@ -47,7 +46,7 @@ pub fn parent_of(p: &Program, a: ClassId) -> Option<ClassId>
 
 /// The interfaces that a class or an interface names as its supertypes.
 pub fn faces_of(p: &Program, a: ClassId) -> &[ClassId]
-    ensures value { result.now ≡ faces_of (program_of no_place p.now) a.0 }
+    ensures value { result.now ≡ faces_of (program_of p.now) a.0 }
 {
     match p.classes.get(a.0 as usize) {
         Some(class) => &class.faces,
@@ -58,8 +57,8 @@ pub fn faces_of(p: &Program, a: ClassId) -> &[ClassId]
 /// The nearest field of a name upwards, an instance or a static one (Java Language Specification, 8.3, 15.11).
 #[tactic(auto, unfolding(crate::specs::Classes::field_of))]
 pub fn field_of(p: &Program, class: ClassId, name: &Name) -> Option<MemberId>
-    requires { IsFormed (program_of no_place p.now) }
-    ensures value { option_map (λ d. d.0) result ≡ field_of (program_of no_place p.now) class.0 name.now }
+    requires { IsFormed (program_of p.now) }
+    ensures value { option_map (λ d. d.0) result ≡ field_of (program_of p.now) class.0 name.now }
 {
     nearest_of_name(p, class, name, Named::Field)
 }
@@ -67,8 +66,8 @@ pub fn field_of(p: &Program, class: ClassId, name: &Name) -> Option<MemberId>
 /// The field that an object of the type has under a name: the nearest upwards, where that one is an instance field.
 #[tactic(auto, unfolding(crate::specs::Classes::member_field))]
 pub fn member_field(p: &Program, class: ClassId, name: &Name) -> Option<MemberId>
-    requires { IsFormed (program_of no_place p.now) }
-    ensures value { option_map (λ d. d.0) result ≡ member_field (program_of no_place p.now) class.0 name.now }
+    requires { IsFormed (program_of p.now) }
+    ensures value { option_map (λ d. d.0) result ≡ member_field (program_of p.now) class.0 name.now }
 {
     match field_of(p, class, name) {
         Some(field) if !is_static_field(p, field) => Some(field),
@@ -78,7 +77,7 @@ pub fn member_field(p: &Program, class: ClassId, name: &Name) -> Option<MemberId
 
 /// Whether a field is static.
 fn is_static_field(p: &Program, field: MemberId) -> bool
-    ensures { result ≡ is_static_field (program_of no_place p.now) field.0 }
+    ensures { result ≡ is_static_field (program_of p.now) field.0 }
 {
     match p.fields.get(field.0 as usize) {
         Some(field) => field.is_static,
@@ -89,8 +88,8 @@ fn is_static_field(p: &Program, field: MemberId) -> bool
 /// The nearest instance method of a name strictly above a class: what `super.name(..)` in it finds (Java Language Specification, 15.12).
 #[tactic(auto, unfolding(crate::specs::Classes::super_method))]
 pub fn super_method(p: &Program, class: ClassId, name: &Name) -> Option<MemberId>
-    requires { IsFormed (program_of no_place p.now) }
-    ensures value { option_map (λ d. d.0) result ≡ super_method (program_of no_place p.now) class.0 name.now }
+    requires { IsFormed (program_of p.now) }
+    ensures value { option_map (λ d. d.0) result ≡ super_method (program_of p.now) class.0 name.now }
 {
     match parent_of(p, class) {
         Some(parent) => nearest_of_name(p, parent, name, Named::Method),
@@ -101,10 +100,10 @@ pub fn super_method(p: &Program, class: ClassId, name: &Name) -> Option<MemberId
 /// The body that an object of the class runs for a slot: the nearest upwards (Java Language Specification, 15.12.4.4).
 #[tactic(auto, unfolding(crate::specs::Classes::lookup))]
 pub fn lookup(p: &Program, class: ClassId, slot: u32) -> Option<MemberId>
-    requires { IsFormed (program_of no_place p.now) }
-    ensures value { option_map (λ d. d.0) result ≡ lookup (program_of no_place p.now) class.0 slot }
-    ensures found { IfSome result (λ d. Runs (program_of no_place p.now) class.0 slot d.0) }
-    ensures none { IfNone result ((d : ℕ) → Runs (program_of no_place p.now) class.0 slot d → ⊥) }
+    requires { IsFormed (program_of p.now) }
+    ensures value { option_map (λ d. d.0) result ≡ lookup (program_of p.now) class.0 slot }
+    ensures found { IfSome result (λ d. Runs (program_of p.now) class.0 slot d.0) }
+    ensures none { IfNone result ((d : ℕ) → Runs (program_of p.now) class.0 slot d → ⊥) }
 {
     nearest_up(p, class, |at| own_body(p, at, slot))
 }
@@ -112,16 +111,16 @@ pub fn lookup(p: &Program, class: ClassId, slot: u32) -> Option<MemberId>
 /// The nearest declaration of a slot in a class and its superclasses.
 #[tactic(auto, unfolding(crate::specs::Classes::nearest_declaration))]
 pub fn nearest_declaration(p: &Program, class: ClassId, slot: u32) -> Option<MemberId>
-    requires { IsFormed (program_of no_place p.now) }
-    ensures value { option_map (λ d. d.0) result ≡ nearest_declaration (program_of no_place p.now) class.0 slot }
+    requires { IsFormed (program_of p.now) }
+    ensures value { option_map (λ d. d.0) result ≡ nearest_declaration (program_of p.now) class.0 slot }
 {
     nearest_up(p, class, |at| own_declaration(p, at, slot))
 }
 
 /// The declaration that a call of a name on a type finds: in the type and its superclasses, then in the interfaces that these name (Java Language Specification, 15.12).
 pub fn declaration_of(p: &Program, class: ClassId, name: &Name) -> Option<MemberId>
-    requires { IsFormed (program_of no_place p.now) }
-    ensures value { option_map (λ d. d.0) result ≡ declaration_of (program_of no_place p.now) class.0 name.now }
+    requires { IsFormed (program_of p.now) }
+    ensures value { option_map (λ d. d.0) result ≡ declaration_of (program_of p.now) class.0 name.now }
 {
     match nearest_of_name(p, class, name, Named::Method) {
         Some(own) => Some(own),
@@ -131,8 +130,8 @@ pub fn declaration_of(p: &Program, class: ClassId, name: &Name) -> Option<Member
 
 /// The first of the interfaces directly above one at or above which an instance method of the name stands.
 fn face_towards(p: &Program, class: ClassId, name: &Name) -> Option<ClassId>
-    requires { IsFormed (program_of no_place p.now) }
-    ensures { result ≡ towards (program_of no_place p.now) name.now (faces_of (program_of no_place p.now) class.0) }
+    requires { IsFormed (program_of p.now) }
+    ensures { result ≡ towards (program_of p.now) name.now (faces_of (program_of p.now) class.0) }
 {
     for face in faces_of(p, class) {
         if offered_at(p, *face, name).is_some() {
@@ -144,9 +143,9 @@ fn face_towards(p: &Program, class: ClassId, name: &Name) -> Option<ClassId>
 
 /// What the interfaces above a class or an interface declare of a name, the first in the order of the search.
 fn in_faces(p: &Program, class: ClassId, name: &Name) -> Option<MemberId>
-    requires { IsFormed (program_of no_place p.now) }
-    ensures { option_map (λ d. d.0) result ≡ first_found (λ k. own_method (program_of no_place p.now) k name.now)
-        (faces_above (program_of no_place p.now) (length (program_of no_place p.now).classes) class.0) }
+    requires { IsFormed (program_of p.now) }
+    ensures { option_map (λ d. d.0) result ≡ first_found (λ k. own_method (program_of p.now) k name.now)
+        (faces_above (program_of p.now) (length (program_of p.now).classes) class.0) }
 {
     let mut at = class;
     let mut steps = class_count(p);
@@ -168,17 +167,17 @@ fn in_faces(p: &Program, class: ClassId, name: &Name) -> Option<MemberId>
 
 /// The slot that a type offers under a name.
 pub fn slot_of(p: &Program, class: ClassId, name: &Name) -> Option<u32>
-    requires { IsFormed (program_of no_place p.now) }
-    ensures value { result ≡ slot_of (program_of no_place p.now) class.0 name.now }
-    ensures found { IfSome result (λ s. IsOffered (program_of no_place p.now) class.0 name.now s) }
-    ensures none { IfNone result ((s : ℕ) → IsOffered (program_of no_place p.now) class.0 name.now s → ⊥) }
+    requires { IsFormed (program_of p.now) }
+    ensures value { result ≡ slot_of (program_of p.now) class.0 name.now }
+    ensures found { IfSome result (λ s. IsOffered (program_of p.now) class.0 name.now s) }
+    ensures none { IfNone result ((s : ℕ) → IsOffered (program_of p.now) class.0 name.now s → ⊥) }
 {
     declared_slot(p, class, name)
 }
 
 /// A type directly above one: the superclass, or else the first interface.
 fn one_above(p: &Program, class: ClassId) -> Option<ClassId>
-    ensures { IfSome result (λ k. Contains (supers_of (program_of no_place p.now) class.0) k) }
+    ensures { IfSome result (λ k. Contains (supers_of (program_of p.now) class.0) k) }
 {
     match parent_of(p, class) {
         Some(parent) if parent.0 != 0 => Some(parent),
@@ -188,7 +187,7 @@ fn one_above(p: &Program, class: ClassId) -> Option<ClassId>
 
 /// The first of the interfaces directly above a type.
 fn first_face(p: &Program, class: ClassId) -> Option<ClassId>
-    ensures { IfSome result (λ k. Contains (supers_of (program_of no_place p.now) class.0) k) }
+    ensures { IfSome result (λ k. Contains (supers_of (program_of p.now) class.0) k) }
 {
     first_of(faces_of(p, class))
 }
@@ -205,8 +204,8 @@ fn first_of(list: &[ClassId]) -> Option<ClassId>
 
 /// An instance method of a name in a type or on the way up through superclasses and first interfaces, no farther than there are methods of the name.
 fn met_upwards(p: &Program, class: ClassId, name: &Name) -> Option<MemberId>
-    requires { IsFormed (program_of no_place p.now) }
-    ensures { IfSome result (λ d. slot_of_method (program_of no_place p.now) d.0 ≡ slot_of (program_of no_place p.now) class.0 name.now) }
+    requires { IsFormed (program_of p.now) }
+    ensures { IfSome result (λ d. slot_of_method (program_of p.now) d.0 ≡ slot_of (program_of p.now) class.0 name.now) }
 {
     let mut at = class;
     let mut steps = methods_named(p, name).len();
@@ -222,8 +221,8 @@ fn met_upwards(p: &Program, class: ClassId, name: &Name) -> Option<MemberId>
 
 /// The slot that a type offers under a name: that of any method of the name at or above it, since these are all of one slot.
 fn declared_slot(p: &Program, class: ClassId, name: &Name) -> Option<u32>
-    requires { IsFormed (program_of no_place p.now) }
-    ensures { result ≡ slot_of (program_of no_place p.now) class.0 name.now }
+    requires { IsFormed (program_of p.now) }
+    ensures { result ≡ slot_of (program_of p.now) class.0 name.now }
 {
     if let Some(met) = met_upwards(p, class, name) {
         return slot_of_method(p, met.0 as usize);
@@ -236,7 +235,7 @@ fn declared_slot(p: &Program, class: ClassId, name: &Name) -> Option<u32>
 
 /// The slot of an instance method.
 fn slot_of_method(p: &Program, at: usize) -> Option<u32>
-    ensures { result ≡ slot_of_method (program_of no_place p.now) at }
+    ensures { result ≡ slot_of_method (program_of p.now) at }
 {
     match p.methods.get(at) {
         Some(method) => method.slot,
@@ -261,7 +260,7 @@ fn nearest_up<F: Fn(ClassId) -> Option<MemberId>>(
 ) -> Option<MemberId>
     requires { F.IsAlwaysCallable own }
     ensures { (f : ℕ → Option ℕ) → ((k : ClassId) (r : Option MemberId) → F.post own k r → option_map (λ d. d.0) r ≡ f k.0)
-        → option_map (λ d. d.0) result ≡ nearest_of (program_of no_place p.now) f class.0 }
+        → option_map (λ d. d.0) result ≡ nearest_of (program_of p.now) f class.0 }
 {
     let mut at = class;
     let mut steps = class_count(p);
@@ -290,9 +289,9 @@ fn numbered(at: Option<u32>) -> Option<MemberId>
 
 /// What is nearest upwards of a name to a class that has nothing itself, where the tables tell it.
 fn told_above(p: &Program, class: ClassId, name: &Name, kind: Named) -> Option<Option<u32>>
-    requires { IsFormed (program_of no_place p.now) }
-    ensures { IfSome result (λ r. own_named (program_of no_place p.now) kind class.0 name.now ≡ None
-        → r ≡ nearest_of (program_of no_place p.now) (λ k. own_named (program_of no_place p.now) kind k name.now) class.0) }
+    requires { IsFormed (program_of p.now) }
+    ensures { IfSome result (λ r. own_named (program_of p.now) kind class.0 name.now ≡ None
+        → r ≡ nearest_of (program_of p.now) (λ k. own_named (program_of p.now) kind k name.now) class.0) }
 {
     let at = class.0 as usize;
     let parents = &p.tables.parents;
@@ -308,8 +307,8 @@ fn told_above(p: &Program, class: ClassId, name: &Name, kind: Named) -> Option<O
 
 /// What is nearest upwards of a name.
 fn nearest_of_name(p: &Program, class: ClassId, name: &Name, kind: Named) -> Option<MemberId>
-    requires { IsFormed (program_of no_place p.now) }
-    ensures { option_map (λ d. d.0) result ≡ nearest_of (program_of no_place p.now) (λ k. own_named (program_of no_place p.now) kind k name.now) class.0 }
+    requires { IsFormed (program_of p.now) }
+    ensures { option_map (λ d. d.0) result ≡ nearest_of (program_of p.now) (λ k. own_named (program_of p.now) kind k name.now) class.0 }
 {
     let own = own_named(p, class, name, kind);
     if own.is_some() {
@@ -323,8 +322,8 @@ fn nearest_of_name(p: &Program, class: ClassId, name: &Name, kind: Named) -> Opt
 
 /// What a class itself has of a name.
 fn own_named(p: &Program, class: ClassId, name: &Name, kind: Named) -> Option<MemberId>
-    requires { IsFormed (program_of no_place p.now) }
-    ensures { option_map (λ d. d.0) result ≡ own_named (program_of no_place p.now) kind class.0 name.now }
+    requires { IsFormed (program_of p.now) }
+    ensures { option_map (λ d. d.0) result ≡ own_named (program_of p.now) kind class.0 name.now }
 {
     match kind {
         Named::Field => member(own_field_at(p, class, name)),
@@ -334,8 +333,8 @@ fn own_named(p: &Program, class: ClassId, name: &Name, kind: Named) -> Option<Me
 
 /// The instance method of a name that a class or an interface itself declares.
 fn own_method(p: &Program, class: ClassId, name: &Name) -> Option<MemberId>
-    requires { IsFormed (program_of no_place p.now) }
-    ensures { option_map (λ d. d.0) result ≡ own_method (program_of no_place p.now) class.0 name.now }
+    requires { IsFormed (program_of p.now) }
+    ensures { option_map (λ d. d.0) result ≡ own_method (program_of p.now) class.0 name.now }
 {
     member(own_method_at(p, class, name))
 }
@@ -353,16 +352,16 @@ fn member(at: Option<usize>) -> Option<MemberId>
 
 /// The method of a slot that a class itself declares, with a body or without one.
 fn own_declaration(p: &Program, class: ClassId, slot: u32) -> Option<MemberId>
-    requires { IsFormed (program_of no_place p.now) }
-    ensures { option_map (λ d. d.0) result ≡ own_declaration (program_of no_place p.now) class.0 slot }
+    requires { IsFormed (program_of p.now) }
+    ensures { option_map (λ d. d.0) result ≡ own_declaration (program_of p.now) class.0 slot }
 {
     member(own_declaration_at(p, class, slot))
 }
 
 /// The body of a slot that a class itself has.
 fn own_body(p: &Program, class: ClassId, slot: u32) -> Option<MemberId>
-    requires { IsFormed (program_of no_place p.now) }
-    ensures { option_map (λ d. d.0) result ≡ own_body (program_of no_place p.now) class.0 slot }
+    requires { IsFormed (program_of p.now) }
+    ensures { option_map (λ d. d.0) result ≡ own_body (program_of p.now) class.0 slot }
 {
     member(own_body_at(p, class, slot))
 }

@@ -3,7 +3,6 @@
 
 ghost use Rattle.std.specs.Prelude.{◌≡◌, ◌∷◌, [], length, map, IfOk};
 ghost use Rattle.std.specs.Option.{option_to_list};
-ghost use Rattle.java_core.specs.Trees.{at_place};
 ghost use Rattle.java_core.specs.Plain.{class_seen};
 ghost use Rattle.java_core.specs.Subtypes.{supers_in, Entered, AreEmpty, AreDirect};
 ghost use Rattle.java_core.specs.Owned.{listed};
@@ -56,7 +55,7 @@ fn enter_parent(lists: &mut [Vec<u32>], x: u32, parent: Option<ClassId>) -> Trie
 
 /// Enters the class `x` directly below its superclass and its interfaces.
 fn enter_class(lists: &mut [Vec<u32>], x: u32, class: &Class) -> Tried<()>
-    ensures { IfOk result (λ _. Entered x (supers_in (class_seen at_place class.now)) lists.old lists.new) }
+    ensures { IfOk result (λ _. Entered x (supers_in (class_seen class.now)) lists.old lists.new) }
 {
     enter_parent(lists, x, class.parent)?;
     enter_all(lists, x, class.faces.as_slice())?;
@@ -77,8 +76,8 @@ fn empty_lists(alloc: Global, count: usize) -> Tried<Vec<Vec<u32>>>
 /// Enters each class directly below its superclass and its interfaces.
 fn enter_classes(lists: &mut [Vec<u32>], all: &Vec<Class>, count: u32) -> Tried<()>
     requires count { length all.now.items ≡ count }
-    requires before { AreDirect (map (class_seen at_place) all.now.items) 0 lists.old }
-    ensures { IfOk result (λ _. AreDirect (map (class_seen at_place) all.now.items) count lists.new) }
+    requires before { AreDirect (map class_seen all.now.items) 0 lists.old }
+    ensures { IfOk result (λ _. AreDirect (map class_seen all.now.items) count lists.new) }
 {
     for x in 0..count {
         enter_class(lists, x, &all[x as usize])?;
@@ -89,7 +88,7 @@ fn enter_classes(lists: &mut [Vec<u32>], all: &Vec<Class>, count: u32) -> Tried<
 /// For each type those directly below it.
 pub fn direct_of(alloc: Global, all: &Vec<Class>, count: u32) -> Tried<Vec<Vec<u32>>>
     requires { length all.now.items ≡ count }
-    ensures { IfOk result (λ v. AreDirect (map (class_seen at_place) all.now.items) count v.items) }
+    ensures { IfOk result (λ v. AreDirect (map class_seen all.now.items) count v.items) }
 {
     let mut lists = empty_lists(alloc, all.len())?;
     enter_classes(lists.as_mut_slice(), all, count)?;

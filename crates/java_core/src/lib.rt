@@ -2,7 +2,6 @@
 #![tactic(auto)]
 
 ghost use Rattle.std.specs.Prelude.{◌≡◌, map};
-ghost use Rattle.java_core.specs.Trees.{at_place};
 ghost use Rattle.java_core.specs.Plain.{class_seen};
 ghost use Rattle.java_core.specs.Tables.{AreTables};
 ghost use Rattle.java_core.specs.Subtypes.{subtype_rows};
@@ -413,5 +412,5 @@ pub struct Program {
     /// Which classes and interfaces are above which.
     above: Hierarchy,
     ghost tables_shown: { AreTables classes.items fields.items methods.items tables },
-    ghost above_shown: { above ≡ subtype_rows (map (class_seen at_place) classes.items) },
+    ghost above_shown: { above ≡ subtype_rows (map class_seen classes.items) },
 }

@@ -2,7 +2,6 @@
 #![tactic(auto)]
 
 ghost use Rattle.std.specs.Prelude.{◌≡◌, map, IfOk};
-ghost use Rattle.java_core.specs.Trees.{at_place};
 ghost use Rattle.java_core.specs.Plain.{class_seen};
 ghost use Rattle.java_core.specs.Nearest.{superclasses};
 ghost use Rattle.java_core.specs.Tables.{AreFieldTables};
@@ -28,7 +27,7 @@ impl Program {
         parents: Vec<Option<ClassId>>,
         field_tables: MemberTables,
     ) -> Result<Program, AllocError>
-        requires above { above ≡ subtype_rows (map (class_seen at_place) classes.items) }
+        requires above { above ≡ subtype_rows (map class_seen classes.items) }
         requires parents { parents.items ≡ superclasses classes.items }
         requires tables { AreFieldTables parents.items fields.items field_tables }
         ensures { IfOk result (λ p. IsMadeOf classes fields methods slots main p) }

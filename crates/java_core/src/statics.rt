@@ -3,8 +3,7 @@
 ghost use Rattle.std.specs.Prelude.{◌≡◌, ◌++◌, ℕ, List, Option, map, slice_get, option_and_then};
 ghost use Rattle.std.specs.Str.{bytes_eq, encode_utf8_all};
 ghost use Rattle.std.specs.Option.{option_map};
-ghost use Rattle.kaba_base.specs.declared.Place.{Place};
-ghost use Rattle.java_core.specs.Trees.{Tag, no_place, expr_of};
+ghost use Rattle.java_core.specs.Trees.{expr_of};
 ghost use Rattle.java_core.specs.Programs.{program_of, local_seen, method_seen};
 ghost use Rattle.java_core.specs.Formed.{IsFormed};
 ghost use Rattle.java_core.specs.Classes.{slot_of};
@@ -66,7 +65,7 @@ fn plain(base: TyBase) -> Static
 
 /// The type of one of several parameters or locals, by its place among them.
 pub fn type_at(variables: &[Local], at: usize) -> Option<Ty>
-    ensures value { result ≡ slice_get (types_of (map (local_seen no_place) variables.now)) at }
+    ensures value { result ≡ slice_get (types_of (map local_seen variables.now)) at }
 {
     match variables.get(at) {
         Some(variable) => Some(variable.ty),
@@ -76,7 +75,7 @@ pub fn type_at(variables: &[Local], at: usize) -> Option<Ty>
 
 /// The type of a parameter or a local of a method, by its number: the parameters first, then the locals.
 pub fn local_type(method: &Method, local: u32) -> Option<Ty>
-    ensures value { result ≡ slice_get (types_of ((method_seen no_place method.now).params ++ (method_seen no_place method.now).locals)) local }
+    ensures value { result ≡ slice_get (types_of ((method_seen method.now).params ++ (method_seen method.now).locals)) local }
 {
     let at = local as usize;
     let count = method.params.len();
@@ -89,7 +88,7 @@ pub fn local_type(method: &Method, local: u32) -> Option<Ty>
 
 /// The type of a field.
 pub fn field_type(p: &Program, field: MemberId) -> Option<Ty>
-    ensures value { result ≡ types.field_type (program_of no_place p.now) field.0 }
+    ensures value { result ≡ types.field_type (program_of p.now) field.0 }
 {
     match p.fields.get(field.0 as usize) {
         Some(field) => Some(field.ty),
@@ -195,8 +194,8 @@ pub fn string_result(method: StringMethod) -> Ty
 /// The instance field that the object of an expression has under a name.
 #[tactic(auto, unfolding(crate::specs::Types::field_in))]
 pub fn field_in(p: &Program, found: Static, name: &Name) -> Option<MemberId>
-    requires { IsFormed (program_of no_place p.now) }
-    ensures value { option_map (λ d. d.0) result ≡ types.field_in (program_of no_place p.now) (static_seen found) name.now }
+    requires { IsFormed (program_of p.now) }
+    ensures value { option_map (λ d. d.0) result ≡ types.field_in (program_of p.now) (static_seen found) name.now }
 {
     match class_of(found) {
         Some(class) => member_field(p, class, name),
@@ -206,8 +205,8 @@ pub fn field_in(p: &Program, found: Static, name: &Name) -> Option<MemberId>
 
 /// The type of the instance field that the object of an expression has under a name.
 pub fn value_type(p: &Program, found: Static, name: &Name) -> Option<Ty>
-    requires { IsFormed (program_of no_place p.now) }
-    ensures value { result ≡ types.value_type (program_of no_place p.now) (static_seen found) name.now }
+    requires { IsFormed (program_of p.now) }
+    ensures value { result ≡ types.value_type (program_of p.now) (static_seen found) name.now }
 {
     match field_in(p, found, name) {
         Some(field) => field_type(p, field),
@@ -218,8 +217,8 @@ pub fn value_type(p: &Program, found: Static, name: &Name) -> Option<Ty>
 /// What an access to a name gives: the length of an array, or a field's value.
 #[tactic(auto, unfolding(crate::specs::Types::access_type))]
 pub fn access_type(p: &Program, found: Static, name: &Name) -> Option<Ty>
-    requires { IsFormed (program_of no_place p.now) }
-    ensures value { result ≡ types.access_type (program_of no_place p.now) (static_seen found) name.now }
+    requires { IsFormed (program_of p.now) }
+    ensures value { result ≡ types.access_type (program_of p.now) (static_seen found) name.now }
 {
     match element_of(found) {
         Some(_) => {
@@ -235,8 +234,8 @@ pub fn access_type(p: &Program, found: Static, name: &Name) -> Option<Ty>
 
 /// The slot that a call of a name on the object of an expression calls.
 pub fn slot_in(p: &Program, found: Static, name: &Name) -> Option<u32>
-    requires { IsFormed (program_of no_place p.now) }
-    ensures value { result ≡ option_and_then (λ c. slot_of (program_of no_place p.now) c name.now) (types.class_of (static_seen found)) }
+    requires { IsFormed (program_of p.now) }
+    ensures value { result ≡ option_and_then (λ c. slot_of (program_of p.now) c name.now) (types.class_of (static_seen found)) }
 {
     match class_of(found) {
         Some(class) => slot_of(p, class, name),
@@ -247,8 +246,8 @@ pub fn slot_in(p: &Program, found: Static, name: &Name) -> Option<u32>
 /// What a call of a name gives.
 #[tactic(auto, unfolding(crate::specs::Types::call_signature))]
 fn call_result(p: &Program, found: Static, name: &Name) -> Static
-    requires { IsFormed (program_of no_place p.now) }
-    ensures { static_seen result ≡ types.result_of (call_signature (program_of no_place p.now) (static_seen found) name.now) }
+    requires { IsFormed (program_of p.now) }
+    ensures { static_seen result ≡ types.result_of (call_signature (program_of p.now) (static_seen found) name.now) }
 {
     if is_string(found) {
         return match string_method(name) {
@@ -267,7 +266,7 @@ fn call_result(p: &Program, found: Static, name: &Name) -> Static
 
 /// What a method gives.
 fn method_result(p: &Program, method: MemberId) -> Static
-    ensures { static_seen result ≡ types.result_of (signature_of_method (program_of no_place p.now) method.0) }
+    ensures { static_seen result ≡ types.result_of (signature_of_method (program_of p.now) method.0) }
 {
     match p.methods.get(method.0 as usize) {
         Some(method) => given_of(method.result),
@@ -278,8 +277,8 @@ fn method_result(p: &Program, method: MemberId) -> Static
 /// What `super.name(..)` in a class gives.
 #[tactic(auto, unfolding(crate::specs::Types::super_signature))]
 fn super_result(p: &Program, class: ClassId, name: &Name) -> Static
-    requires { IsFormed (program_of no_place p.now) }
-    ensures { static_seen result ≡ types.result_of (super_signature (program_of no_place p.now) class.0 name.now) }
+    requires { IsFormed (program_of p.now) }
+    ensures { static_seen result ≡ types.result_of (super_signature (program_of p.now) class.0 name.now) }
 {
     match super_method(p, class, name) {
         Some(method) => method_result(p, method),
@@ -308,11 +307,10 @@ pub fn unary_type(op: UnOp) -> Ty
     }
 }
 
-/// The static type of an expression in a method, whatever tags its forms have.
+/// The static type of an expression in a method.
 pub fn static_of(p: &Program, method: &Method, e: &RExpr) -> Static
-    requires { IsFormed (program_of no_place p.now) }
-    ensures value { (tag : Place → Tag) (b : ℕ)
-        → static_seen result ≡ static_in p.now b method.now (expr_of tag e.now) }
+    requires { IsFormed (program_of p.now) }
+    ensures value { (b : ℕ) → static_seen result ≡ static_in p.now b method.now (expr_of e.now) }
 {
     match e {
         RExpr::Int { .. } => plain(TyBase::Int),

@@ -4,7 +4,6 @@
 ghost use Rattle.std.specs.Prelude.{◌≡◌, ℕ, ◌<◌, ◌≤◌, ◌||◌, ◌⊎◌, ◌↔◌, Bool, List, ◌∷◌, [], length, map, IfOk, OnOk, IsTrue, MatchOption, Contains, false};
 ghost use Rattle.std.specs.Bool.{OnTrue, OnFalse};
 ghost use Rattle.kaba_bits.specs.Sets.{bit, size, IsEmpty, IsLeastFrom};
-ghost use Rattle.java_core.specs.Trees.{at_place};
 ghost use Rattle.java_core.specs.Plain.{class_seen};
 ghost use Rattle.java_core.specs.Squares.{meet};
 ghost use Rattle.java_core.specs.Squares.{in_row, AreRows};
@@ -284,7 +283,7 @@ fn fill(graph: &Graph, rows: &mut [BitRow], order: &[u32]) -> Tried<()>
 /// Which types are above which; `AllocError` where memory is short.
 pub fn subtypes_of(alloc: Global, all: &Vec<Class>, count: u32) -> Result<Hierarchy, AllocError>
     requires { length all.now.items ≡ count }
-    ensures { IfOk result (λ r. r ≡ subtype_rows (map (class_seen at_place) all.now.items)) }
+    ensures { IfOk result (λ r. r ≡ subtype_rows (map class_seen all.now.items)) }
 {
     let lists = direct_of(alloc, all, count)?;
     let order = order_of(alloc, lists.as_slice(), count)?;

@@ -14,7 +14,10 @@ pub mod FormedBodies
 pub mod Layouts
 pub mod Bodies
 pub mod TypedPrograms
+pub mod Pairs
 pub mod Unwatched
 pub mod Plain
 pub mod WatchedPrograms
 mod Looks
+pub mod UntaggedLooks
+pub mod UntaggedRuns

@@ -1,7 +1,6 @@
 -- Steps of two runs that are the same but for the record: what looks at no value goes on the same in both.
-use Rattle.std.proofs.Common.{◌≡◌, ℕ, zero, suc, List, [], ◌∷◌, Option, Some, None, length, refl, sym, subst, inl, inr}
+use Rattle.std.proofs.Common.{◌≡◌, ℕ, zero, suc, List, [], ◌∷◌, Option, Some, None, length, refl, sym, subst}
 use Rattle.std.specs.Prelude.{ℤ, Bool, true, false, ◌&&◌, ◌||◌, slice_get}
-use Rattle.std.specs.Prelude.{◌⊎◌}
 use Rattle.std.specs.Option.{option_and_then}
 use Rattle.std.specs.declared.result.Result.{Result}
 use Rattle.std.specs.declared.result.Result.TheVariants.{Ok, Err}
@@ -19,91 +18,90 @@ use Rattle.java_meaning.specs.Meaning.{Flow, Next, Broke, Continued, Gave, ToVal
 abbrev pub re : State → List Met → State
 re s m = record s { met = m }
 
--- the first escapes, or is the second but for what it noted; in the second this was noted
-unfoldable pub OrIs : List Met → Outcome → Outcome → Type 0
-OrIs m o p = (o.end ≡ Escaped) ⊎ (record o { met = m } ≡ p)
+-- the first escapes, which means E, or is the second but for what it noted; in the second this was noted
+pub data OrIs (E : Type 0) (m : List Met) (o p : Outcome) : Type 0 where
+  it_escapes : E → o.end ≡ Escaped → OrIs E m o p
+  it_is : record o { met = m } ≡ p → OrIs E m o p
 
-pub is_stop : (e : End) (s : State) (m : List Met) → OrIs m (stop e s) (stop e (re s m))
-unfolding OrIs
-is_stop e s m = inr refl
+pub is_stop : {E : Type 0} (e : End) (s : State) (m : List Met) → OrIs E m (stop e s) (stop e (re s m))
+is_stop e s m = it_is refl
 
-pub escapes : (s : State) (m : List Met) (o : Outcome) → OrIs m (stop Escaped s) o
-unfolding OrIs
-escapes s m o = inl refl
+pub escapes : {E : Type 0} → E → (s : State) (m : List Met) (o : Outcome) → OrIs E m (stop Escaped s) o
+escapes h s m o = it_escapes h refl
 
 -- continuations that are the same but for the record
-abbrev pub KS : (State → Outcome) → (State → Outcome) → Type 0
-KS k j = (s : State) (m : List Met) → OrIs m (k s) (j (re s m))
+abbrev pub KS : Type 0 → (State → Outcome) → (State → Outcome) → Type 0
+KS E k j = (s : State) (m : List Met) → OrIs E m (k s) (j (re s m))
 
-abbrev pub KV : ToValue → ToValue → Type 0
-KV k j = (v : Value) (s : State) (m : List Met) → OrIs m (k v s) (j v (re s m))
+abbrev pub KV : Type 0 → ToValue → ToValue → Type 0
+KV E k j = (v : Value) (s : State) (m : List Met) → OrIs E m (k v s) (j v (re s m))
 
-abbrev pub KL : (List Value → State → Outcome) → (List Value → State → Outcome) → Type 0
-KL k j = (v : List Value) (s : State) (m : List Met) → OrIs m (k v s) (j v (re s m))
+abbrev pub KL : Type 0 → (List Value → State → Outcome) → (List Value → State → Outcome) → Type 0
+KL E k j = (v : List Value) (s : State) (m : List Met) → OrIs E m (k v s) (j v (re s m))
 
-abbrev pub KF : ToFlow → ToFlow → Type 0
-KF k j = (w : Flow) (f : Frame) (s : State) (m : List Met) → OrIs m (k w f s) (j w f (re s m))
+abbrev pub KF : Type 0 → ToFlow → ToFlow → Type 0
+KF E k j = (w : Flow) (f : Frame) (s : State) (m : List Met) → OrIs E m (k w f s) (j w f (re s m))
 
-pub some_r : {A : Type 0} (o : Option A) (s : State) (m : List Met) (k j : A → Outcome) → ((a : A) → OrIs m (k a) (j a))
-    → OrIs m (with_some o s k) (with_some o (re s m) j)
+pub some_r : {E : Type 0} {A : Type 0} (o : Option A) (s : State) (m : List Met) (k j : A → Outcome) → ((a : A) → OrIs E m (k a) (j a))
+    → OrIs E m (with_some o s k) (with_some o (re s m) j)
 some_r None s m k j e = is_stop Wrong s m
 some_r (Some a) s m k j e = e a
 
-pub some_as : {A : Type 0} (o p : Option A) (s : State) (m : List Met) (k j : A → Outcome) → p ≡ o → ((a : A) → OrIs m (k a) (j a))
-    → OrIs m (with_some o s k) (with_some p (re s m) j)
-some_as o p s m k j q e = subst (λ z. OrIs m (with_some o s k) (with_some z (re s m) j)) (sym q) (some_r o s m k j e)
+pub some_as : {E : Type 0} {A : Type 0} (o p : Option A) (s : State) (m : List Met) (k j : A → Outcome) → p ≡ o → ((a : A) → OrIs E m (k a) (j a))
+    → OrIs E m (with_some o s k) (with_some p (re s m) j)
+some_as {E} o p s m k j q e = subst (λ z. OrIs E m (with_some o s k) (with_some z (re s m) j)) (sym q) (some_r o s m k j e)
 
-pub fault_r : {A : Type 0} (x : Fault) (o : Option A) (s : State) (m : List Met) (k j : A → Outcome) → ((a : A) → OrIs m (k a) (j a))
-    → OrIs m (or_fault x o s k) (or_fault x o (re s m) j)
+pub fault_r : {E : Type 0} {A : Type 0} (x : Fault) (o : Option A) (s : State) (m : List Met) (k j : A → Outcome) → ((a : A) → OrIs E m (k a) (j a))
+    → OrIs E m (or_fault x o s k) (or_fault x o (re s m) j)
 fault_r x None s m k j e = is_stop (Faulted x) s m
 fault_r x (Some a) s m k j e = e a
 
-result_r : {A : Type 0} (o : Result A Fault) (s : State) (m : List Met) (k j : A → Outcome) → ((a : A) → OrIs m (k a) (j a))
-    → OrIs m (with_result o s k) (with_result o (re s m) j)
+result_r : {E : Type 0} {A : Type 0} (o : Result A Fault) (s : State) (m : List Met) (k j : A → Outcome) → ((a : A) → OrIs E m (k a) (j a))
+    → OrIs E m (with_result o s k) (with_result o (re s m) j)
 result_r (Err x) s m k j e = is_stop (Faulted x) s m
 result_r (Ok a) s m k j e = e a
 
-pub cell_r : (v : Value) (s : State) (m : List Met) (k j : ℕ → Cell → Outcome) → ((a : ℕ) (c : Cell) → OrIs m (k a c) (j a c))
-    → OrIs m (with_cell v s k) (with_cell v (re s m) j)
+pub cell_r : {E : Type 0} (v : Value) (s : State) (m : List Met) (k j : ℕ → Cell → Outcome) → ((a : ℕ) (c : Cell) → OrIs E m (k a c) (j a c))
+    → OrIs E m (with_cell v s k) (with_cell v (re s m) j)
 cell_r Nothing s m k j e = is_stop (Faulted fault.Null) s m
 cell_r (Object a) s m k j e = some_r (slice_get s.cells a) s m _ _ (λ c. e a c)
 cell_r v s m k j e = is_stop Wrong s m
 
-pub bool_r : (b : Bool) (s : State) (m : List Met) (k j k2 j2 : State → Outcome) → KS k j → KS k2 j2 → OrIs m (on_bool b s k k2) (on_bool b (re s m) j j2)
+pub bool_r : {E : Type 0} (b : Bool) (s : State) (m : List Met) (k j k2 j2 : State → Outcome) → KS E k j → KS E k2 j2 → OrIs E m (on_bool b s k k2) (on_bool b (re s m) j j2)
 bool_r true s m k j k2 j2 e d = e s m
 bool_r false s m k j k2 j2 e d = d s m
 
-pub test_r : (v : Value) (s : State) (m : List Met) (k j k2 j2 : State → Outcome) → KS k j → KS k2 j2 → OrIs m (on_test v s k k2) (on_test v (re s m) j j2)
+pub test_r : {E : Type 0} (v : Value) (s : State) (m : List Met) (k j k2 j2 : State → Outcome) → KS E k j → KS E k2 j2 → OrIs E m (on_test v s k k2) (on_test v (re s m) j j2)
 test_r (Truth b) s m k j k2 j2 e d = bool_r b s m k j k2 j2 e d
 test_r Nothing s m k j k2 j2 e d = is_stop Wrong s m
 test_r v s m k j k2 j2 e d = is_stop Wrong s m
 
-pub step_r : (s : State) (m : List Met) (k j : State → Outcome) → KS k j → OrIs m (step s k) (step (re s m) j)
-step_r s m k j e = go s.left
+pub step_r : {E : Type 0} (s : State) (m : List Met) (k j : State → Outcome) → KS E k j → OrIs E m (step s k) (step (re s m) j)
+step_r {E} s m k j e = go s.left
   where
-    go : (n : ℕ) → OrIs m (step_of n s k) (step_of n (re s m) j)
+    go : (n : ℕ) → OrIs E m (step_of n s k) (step_of n (re s m) j)
     go zero = is_stop Going s m
     go (suc n) = e (record s { left = n }) m
 
-pub one_r : (w : Flow) (f : Frame) (s : State) (m : List Met) (k j : ToFlow) (a c : Frame → State → Outcome) → KF k j → OrIs m (a f s) (c f (re s m))
-    → OrIs m (after_one w f s a k) (after_one w f (re s m) c j)
+pub one_r : {E : Type 0} (w : Flow) (f : Frame) (s : State) (m : List Met) (k j : ToFlow) (a c : Frame → State → Outcome) → KF E k j → OrIs E m (a f s) (c f (re s m))
+    → OrIs E m (after_one w f s a k) (after_one w f (re s m) c j)
 one_r Next f s m k j a c r d = d
 one_r Broke f s m k j a c r d = r Broke f s m
 one_r Continued f s m k j a c r d = r Continued f s m
 one_r (Gave v) f s m k j a c r d = r (Gave v) f s m
 
-pub turn_r : (w : Flow) (f : Frame) (s : State) (m : List Met) (k j : ToFlow) (a c : Frame → State → Outcome) → KF k j → OrIs m (a f s) (c f (re s m))
-    → OrIs m (after_turn w f s a k) (after_turn w f (re s m) c j)
+pub turn_r : {E : Type 0} (w : Flow) (f : Frame) (s : State) (m : List Met) (k j : ToFlow) (a c : Frame → State → Outcome) → KF E k j → OrIs E m (a f s) (c f (re s m))
+    → OrIs E m (after_turn w f s a k) (after_turn w f (re s m) c j)
 turn_r Next f s m k j a c r d = d
 turn_r Continued f s m k j a c r d = d
 turn_r Broke f s m k j a c r d = r Next f s m
 turn_r (Gave v) f s m k j a c r d = r (Gave v) f s m
 
-pub give_r : (u : List ℕ) (s : State) (m : List Met) (k j : ToValue) → KV k j → OrIs m (give_string u s k) (give_string u (re s m) j)
+pub give_r : {E : Type 0} (u : List ℕ) (s : State) (m : List Met) (k j : ToValue) → KV E k j → OrIs E m (give_string u s k) (give_string u (re s m) j)
 give_r u s m k j r = r (Text (length s.strings)) (add_string u s) m
 
-pub string_r : (x : StringMethod) (u : List ℕ) (vs : List Value) (s : State) (m : List Met) (k j : ToValue) → KV k j
-    → OrIs m (string_call x u vs s k) (string_call x u vs (re s m) j)
+pub string_r : {E : Type 0} (x : StringMethod) (u : List ℕ) (vs : List Value) (s : State) (m : List Met) (k j : ToValue) → KV E k j
+    → OrIs E m (string_call x u vs s k) (string_call x u vs (re s m) j)
 string_r LengthOf u [] s m k j r = r _ s m
 string_r LengthOf u (v ∷ vs) s m k j r = is_stop Wrong s m
 string_r CharAt u [] s m k j r = is_stop Wrong s m
@@ -114,25 +112,25 @@ string_r Equals u [] s m k j r = is_stop Wrong s m
 string_r Equals u (v ∷ []) s m k j r = some_r (equals_value s.strings u v) s m _ _ (λ b. r (Truth b) s m)
 string_r Equals u (v ∷ w ∷ vs) s m k j r = is_stop Wrong s m
 
-pub left_r : (o : BinOp) (v : Value) (s : State) (m : List Met) (x y : State → Outcome) (k j : ToValue) → KS x y → KV k j
-    → OrIs m (after_left o v s x k) (after_left o v (re s m) y j)
+pub left_r : {E : Type 0} (o : BinOp) (v : Value) (s : State) (m : List Met) (x y : State → Outcome) (k j : ToValue) → KS E x y → KV E k j
+    → OrIs E m (after_left o v s x k) (after_left o v (re s m) y j)
 left_r bin.Both v s m x y k j e r = test_r v s m x y (λ s1. k (Truth false) s1) (λ s1. j (Truth false) s1) e (r (Truth false))
 left_r bin.Either v s m x y k j e r = test_r v s m (λ s1. k (Truth true) s1) (λ s1. j (Truth true) s1) x y (r (Truth true)) e
 left_r _ v s m x y k j e r = e s m
 
-join_r : (v w : Value) (s : State) (m : List Met) (k j : ToValue) → KV k j → OrIs m (join_values v w s k) (join_values v w (re s m) j)
+join_r : {E : Type 0} (v w : Value) (s : State) (m : List Met) (k j : ToValue) → KV E k j → OrIs E m (join_values v w s k) (join_values v w (re s m) j)
 join_r v w s m k j r =
     some_r (text_of s.strings v) s m _ _ (λ a. some_r (text_of s.strings w) s m _ _ (λ b. result_r (join a b) s m _ _ (λ u. give_r u s m k j r)))
 
-compute_r : (joins : Bool) (a b : Option ℤ) (v w : Value) (o : Op) (s : State) (m : List Met) (k j : ToValue) → KV k j
-    → OrIs m (compute joins a b v w o s k) (compute joins a b v w o (re s m) j)
+compute_r : {E : Type 0} (joins : Bool) (a b : Option ℤ) (v w : Value) (o : Op) (s : State) (m : List Met) (k j : ToValue) → KV E k j
+    → OrIs E m (compute joins a b v w o s k) (compute joins a b v w o (re s m) j)
 compute_r joins (Some a) (Some b) v w o s m k j r = result_r (op_arith o a b) s m _ _ (λ n. r (Number n) s m)
 compute_r joins (Some a) None v w o s m k j r = bool_r joins s m (λ s1. join_values v w s1 k) (λ s1. join_values v w s1 j) (stop Wrong) (stop Wrong)
     (λ s1 m1. join_r v w s1 m1 k j r) (is_stop Wrong)
 compute_r joins None b v w o s m k j r = bool_r joins s m (λ s1. join_values v w s1 k) (λ s1. join_values v w s1 j) (stop Wrong) (stop Wrong)
     (λ s1 m1. join_r v w s1 m1 k j r) (is_stop Wrong)
 
-pub operate_r : (o : BinOp) (v w : Value) (s : State) (m : List Met) (k j : ToValue) → KV k j → OrIs m (operate o v w s k) (operate o v w (re s m) j)
+pub operate_r : {E : Type 0} (o : BinOp) (v w : Value) (s : State) (m : List Met) (k j : ToValue) → KV E k j → OrIs E m (operate o v w s k) (operate o v w (re s m) j)
 operate_r (bin.Int o) v w s m k j r = compute_r (is_plus o && (is_text v || is_text w)) (number_of v) (number_of w) v w o s m k j r
 operate_r bin.Same v w s m k j r = some_r (same_value v w) s m _ _ (λ b. r (Truth b) s m)
 operate_r bin.Differs v w s m k j r = some_r (same_value v w) s m _ _ (λ b. bool_r b s m (λ s1. k (Truth false) s1) (λ s1. j (Truth false) s1)

@@ -1,42 +1,34 @@
 -- A run of a program with labels, a watch and a record is the run of the program, unless it escapes.
-use Rattle.std.proofs.Common.{◌≡◌, ℕ, List, Option, Some, None, refl, ap, ◌∙◌}
-use Rattle.std.specs.Option.{option_map, option_and_then}
-use Rattle.java_core.specs.Trees.{Ex, field, index, call, binary, Sts}
+use Rattle.std.proofs.Common.{◌≡◌, ℕ, List, Option, Some, None, refl, sym, ap}
+use Rattle.std.specs.Option.{option_and_then}
+use Rattle.java_core.specs.Trees.{Sts}
 use Rattle.java_core.specs.Programs.{Plain}
 use Rattle.java_core.specs.Classes.{slot_of, lookup, super_method}
-use Rattle.java_core.specs.Types.{Env, class_of, element_of, or_nothing, field_in, access_type, call_signature, result_of, binary_type, a_value, static}
+use Rattle.java_core.specs.Types.{class_of, field_in}
+use Rattle.java_core.proofs.Retagging.{static_same}
 use Rattle.java_meaning.specs.Languages.{body_of, language_of, run}
-use Rattle.java_core.specs.Untagged.{bare}
 use Rattle.java_meaning.specs.Moment.{Body}
-use Rattle.java_meaning.specs.Watched.{bare_body, IsBare, Eyes, coded_body, watched_with, watched, IsCodeOf, EscapesOrIs, watched_run}
+use Rattle.java_meaning.specs.Meaning.{run_in}
+use Rattle.java_meaning.specs.Watched.{RetaggedBody, s_no_body, IsUnwatched, Eyes, coded_body, watched_with, IsCodeOf, EscapesOrIs, watched_run}
 use Rattle.java_meaning.proofs.Plain.{run_r}
 
--- the static type of an expression does not depend on its tags
-pub bare_static : (P : Plain) (g : Env) (e : Ex) → static P g (bare e) ≡ static P g e
-bare_static P g (field t e x) = ap (λ z. or_nothing (access_type P z x)) (bare_static P g e)
-bare_static P g (index t e i) = ap (λ z. or_nothing (element_of z)) (bare_static P g e)
-bare_static P g (call t e x es) = ap (λ z. result_of (call_signature P z x)) (bare_static P g e)
-bare_static P g (binary t o e d) = ap (λ z. a_value (binary_type o z (static P g (bare d)))) (bare_static P g e)
-    ∙ ap (λ z. a_value (binary_type o (static P g e) z)) (bare_static P g d)
-bare_static P g e = refl
+found : {body other : ℕ → Option Body} → ((m : ℕ) → RetaggedBody (body m) (other m)) → (o : Option ℕ)
+    → RetaggedBody (option_and_then body o) (option_and_then other o)
+found h None = s_no_body
+found h (Some m) = h m
 
-found_bare : (P : Plain) (body : ℕ → Option Body) → ((m : ℕ) → body_of P m ≡ option_map bare_body (body m)) → (o : Option ℕ)
-    → option_and_then (body_of P) o ≡ option_map bare_body (option_and_then body o)
-found_bare P body h None = refl
-found_bare P body h (Some m) = h m
-
--- bodies that are those of the program without their tags
-pub watched_bare : (P : Plain) (body : ℕ → Option Body) (eyes : Eyes) → ((m : ℕ) → body_of P m ≡ option_map bare_body (body m))
-    → IsBare (watched_with P body eyes) (language_of P)
-watched_bare P body eyes h = record {
-  field = λ g e x. ap (λ z. field_in P z x) (bare_static P g e);
-  slot = λ g e x. ap (λ z. option_and_then (λ c. slot_of P c x) (class_of z)) (bare_static P g e);
+-- bodies that are those of the program but for their tags
+unwatched : (P : Plain) (body : ℕ → Option Body) (eyes : Eyes) → ((m : ℕ) → RetaggedBody (body m) (body_of P m))
+    → IsUnwatched (watched_with P body eyes) (language_of P)
+unwatched P body eyes h = record {
+  field = λ g e d x r. ap (λ z. field_in P z x) (sym (static_same P g r));
+  slot = λ g e d x r. ap (λ z. option_and_then (λ c. slot_of P c x) (class_of z)) (sym (static_same P g r));
   typed_field = λ f. refl;
   index = λ c f. refl;
   fresh = λ c. refl;
-  body = λ c s. found_bare P body h (lookup P c s);
+  body = λ c s. found h (lookup P c s);
   static_body = h;
-  super_body = λ c x. found_bare P body h (super_method P c x);
+  super_body = λ c x. found h (super_method P c x);
   is_sub = λ s t. refl;
   statics = refl;
   sees = λ p v hs. refl;
@@ -46,7 +38,11 @@ watched_bare P body eyes h = record {
 }
 
 -- the theorem: for all words and every bound
+pub watched_runs : (P : Plain) (body : ℕ → Option Body) (eyes : Eyes) → ((m : ℕ) → RetaggedBody (body m) (body_of P m)) → (words : List (List ℕ)) (n : ℕ)
+    → EscapesOrIs (run_in (watched_with P body eyes) P.main words n) (run P words n)
+watched_runs P body eyes h words n = run_r (watched_with P body eyes) (language_of P) (unwatched P body eyes h) P.main words n
+
 pub watched_is_run : (P : Plain) (code : ℕ → Option Sts) (eyes : Eyes) → IsCodeOf P code → (words : List (List ℕ)) (n : ℕ)
     → EscapesOrIs (watched_run P code eyes words n) (run P words n)
 unfolding IsCodeOf
-watched_is_run P code eyes h words n = run_r (watched P code eyes) (language_of P) (watched_bare P (coded_body P code) eyes h) P.main words n
+watched_is_run P code eyes h words n = watched_runs P (coded_body P code) eyes h words n

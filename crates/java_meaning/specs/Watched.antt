@@ -1,29 +1,43 @@
--- Trees without what tells their forms apart, and runs that are watched: over trees with labels, with a watch and a record.
+-- Runs that are watched: over trees with labels, with a watch and a record.
 use Rattle.std.specs.Prelude.{◌≡◌, ◌⊎◌, ℕ, Bool, List, Option, Some, None}
 use Rattle.std.specs.Option.{option_map, option_and_then}
 use Rattle.java_core.specs.declared.Ty.{Ty}
 use Rattle.java_core.specs.Types.{Env}
-use Rattle.java_core.specs.Trees.{Ex, Sts}
+use Rattle.java_core.specs.Trees.{Ex, Target, Sts}
 use Rattle.java_core.specs.Programs.{Plain}
 use Rattle.java_core.specs.Classes.{lookup, super_method}
-use Rattle.java_core.specs.Untagged.{bare, bare_sts}
+use Rattle.java_core.specs.Retagged.{Retagged, RetaggedTarget}
+use Rattle.java_meaning.specs.Paired.{PairedSts}
 use Rattle.java_meaning.specs.Moment.{Value, Cell, Spot, Met, Body, Lang, Outcome, unnoted, Escaped}
 use Rattle.java_meaning.specs.Meaning.{run_in}
 use Rattle.java_meaning.specs.Languages.{body_of, language_of}
 
-abbrev pub bare_body : Body → Body
-bare_body b = record b { code = bare_sts b.code }
+-- bodies that are the same but for their tags; the value that an assignment puts somewhere is free
+abbrev pub SameTarget : Ex → Target → Target → Type 0
+SameTarget e a b = RetaggedTarget a b
 
--- the second language is the first over bare trees, without its watch and its record: all passes in it, and nothing is noted
-pub record IsBare (L M : Lang) : Type 0 where
-  pub field : (g : Env) (e : Ex) (x : List ℕ) → M.field g (bare e) x ≡ L.field g e x
-  pub slot : (g : Env) (e : Ex) (x : List ℕ) → M.slot g (bare e) x ≡ L.slot g e x
+abbrev pub RetaggedSts : Sts → Sts → Type 0
+RetaggedSts = PairedSts Retagged SameTarget
+
+-- the body of a method with other code, as the code with labels
+abbrev pub recoded : Sts → Body → Body
+recoded xs b = record b { code = xs }
+
+-- two bodies that are the same but for the tags of their code
+pub data RetaggedBody : Option Body → Option Body → Type 0 where
+  s_no_body : RetaggedBody None None
+  s_body : {b : Body} {ys : Sts} → RetaggedSts b.code ys → RetaggedBody (Some b) (Some (recoded ys b))
+
+-- the second language is the first over trees with other tags, without its watch and its record: all passes in it, and nothing is noted
+pub record IsUnwatched (L M : Lang) : Type 0 where
+  pub field : (g : Env) (e d : Ex) (x : List ℕ) → Retagged e d → M.field g d x ≡ L.field g e x
+  pub slot : (g : Env) (e d : Ex) (x : List ℕ) → Retagged e d → M.slot g d x ≡ L.slot g e x
   pub typed_field : (f : ℕ) → M.field_type f ≡ L.field_type f
   pub index : (c f : ℕ) → M.index c f ≡ L.index c f
   pub fresh : (c : ℕ) → M.fresh c ≡ L.fresh c
-  pub body : (c s : ℕ) → M.body c s ≡ option_map bare_body (L.body c s)
-  pub static_body : (m : ℕ) → M.static_body m ≡ option_map bare_body (L.static_body m)
-  pub super_body : (c : ℕ) (x : List ℕ) → M.super_body c x ≡ option_map bare_body (L.super_body c x)
+  pub body : (c s : ℕ) → RetaggedBody (L.body c s) (M.body c s)
+  pub static_body : (m : ℕ) → RetaggedBody (L.static_body m) (M.static_body m)
+  pub super_body : (c : ℕ) (x : List ℕ) → RetaggedBody (L.super_body c x) (M.super_body c x)
   pub is_sub : (s t : Ty) → M.is_sub s t ≡ L.is_sub s t
   pub statics : M.statics ≡ L.statics
   pub sees : (p : Spot) (v : Value) (h : List Cell) → M.sees p v h ≡ Bool.true
@@ -37,10 +51,6 @@ pub record Eyes : Type 0 where
   pub sees_all : ℕ → List Value → List Cell → Bool
   pub note : Spot → Value → List Cell → List Met → List Met
   pub note_all : ℕ → List Value → List Cell → List Met → List Met
-
--- the body of a method with other code, as the code with labels
-abbrev pub recoded : Sts → Body → Body
-recoded xs b = record b { code = xs }
 
 abbrev pub with_code : Option Sts → Option Body → Option Body
 with_code None b = None
@@ -66,9 +76,9 @@ watched_with P body eyes =
 abbrev pub watched : Plain → (ℕ → Option Sts) → Eyes → Lang
 watched P code eyes = watched_with P (coded_body P code) eyes
 
--- the code is that of the program, but for what tells its forms apart
+-- the code is that of the program, but for its tags
 unfoldable pub IsCodeOf : Plain → (ℕ → Option Sts) → Type 0
-IsCodeOf P code = (m : ℕ) → body_of P m ≡ option_map bare_body (coded_body P code m)
+IsCodeOf P code = (m : ℕ) → RetaggedBody (coded_body P code m) (body_of P m)
 
 -- a run that does not escape is the other, but for what it noted: the other noted nothing
 unfoldable pub EscapesOrIs : Outcome → Outcome → Type 0

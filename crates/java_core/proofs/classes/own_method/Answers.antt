@@ -1,5 +1,4 @@
 use Rattle.std.proofs.Common.{sym, ◌∙◌}
-use Rattle.java_core.specs.Trees.{no_place}
 use Rattle.java_core.specs.Programs.{method_seen}
 use Rattle.java_core.specs.Classes.{is_method_of}
 use Rattle.java_core.proofs.Positions.{position-map}
@@ -7,4 +6,4 @@ use Rattle.java_core.proofs.classes.own_method.Goals as goal
 
 pub returns : goal.returns
 returns c = c.member.ensures ∙ c.own_method_at.ensures.value
-    ∙ sym (position-map (method_seen no_place) (λ m. is_method_of c.args.class.0 c.args.name.now m) c.args.p.now.methods.items)
+    ∙ sym (position-map method_seen (λ m. is_method_of c.args.class.0 c.args.name.now m) c.args.p.now.methods.items)

@@ -2,14 +2,13 @@ use Rattle.std.proofs.Common.{◌+◌, ◌-◌, ◌≡◌, ◌<◌, ℕ, List, O
 use Rattle.java_core.specs.declared.Ty.{Ty}
 use Rattle.java_core.specs.declared.Local.{Local}
 use Rattle.std.specs.Prelude.{map, slice_get}
-use Rattle.java_core.specs.Trees.{no_place}
 use Rattle.java_core.specs.Programs.{local_seen}
 use Rattle.java_core.specs.Types.{types_of}
 use Rattle.java_core.proofs.Locals.{type_of_param, type_of_local}
 use Rattle.java_core.proofs.statics.local_type.Goals as goal
 
 abbrev typed : List Local → ℕ → Option Ty
-typed ls i = slice_get (types_of (map (local_seen no_place) ls)) i
+typed ls i = slice_get (types_of (map local_seen ls)) i
 
 pub returns-then-at-count : goal.returns-then-at-count
 returns-then-at-count c =

@@ -3,20 +3,19 @@ use Rattle.std.specs.Option.{option_map}
 use Rattle.std.proofs.lemmas.Option.{slice_get-map, slice_get_read, slice_get_past}
 use Rattle.java_core.specs.declared.Local.{Local}
 use Rattle.java_core.specs.declared.Ty.{Ty}
-use Rattle.java_core.specs.Trees.{no_place}
 use Rattle.java_core.specs.Programs.{PlainLocal, local_seen}
 use Rattle.java_core.specs.Types.{types_of}
 use Rattle.java_core.proofs.statics.type_at.Goals as goal
 
 abbrev seen : List Local → List PlainLocal
-seen xs = map (local_seen no_place) xs
+seen xs = map local_seen xs
 
 abbrev typed : Option PlainLocal → Option Ty
 typed o = option_map (λ (l : PlainLocal). l.ty) o
 
-there : (xs : List Local) (i : ℕ) (o : Option Local) → o ≡ slice_get xs i → typed (option_map (local_seen no_place) o) ≡ slice_get (types_of (seen xs)) i
+there : (xs : List Local) (i : ℕ) (o : Option Local) → o ≡ slice_get xs i → typed (option_map local_seen o) ≡ slice_get (types_of (seen xs)) i
 there xs i o e =
-    ap (λ o. typed (option_map (local_seen no_place) o)) e ∙ ap typed (sym (slice_get-map (local_seen no_place) xs i))
+    ap (λ o. typed (option_map local_seen o)) e ∙ ap typed (sym (slice_get-map local_seen xs i))
     ∙ sym (slice_get-map (λ (l : PlainLocal). l.ty) (seen xs) i)
 
 pub returns-in-Some : goal.returns-in-Some
