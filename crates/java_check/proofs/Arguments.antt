@@ -41,7 +41,7 @@ pub asked-holds : {A : Type 0} (b : Bool) (k : Kind) (t : Tag) (x y : A) → ask
 asked-holds true k t x y e = refl
 asked-holds false k t x y e = absurd (cc e)
 
-pub create-arguments : (b : Bool) (xs : List RExpr) (c : ℕ) (t : Tag) → b ≡ true → 1 ≤ length xs → create_answer b (exprs at_place xs) c t ≡ refused Arguments t
+pub create-arguments : (b : Bool) (xs : List RExpr) (c : ℕ) (t : Tag) → b ≡ true → 1 ≤ length xs → create_answer b (exprs xs) c t ≡ refused Arguments t
 create-arguments b [] c t e h = absurd (omega (arith, h))
 create-arguments b (x ∷ xs) c t e h = rw e refl
 
@@ -52,50 +52,47 @@ pub and_then-err : {A B : Type 0} {r : Result A CheckFault} (f : A → Result B 
 and_then-err f e = ap (λ r. and_then r f) e
 
 module _ (P : Plain) (g : Env) (t : Tag) (xs : List RExpr) (us : List Ty) (i : ℕ) where
-  pub no_parameter : (d : RExpr) → slice_get us i ≡ None → i < length xs → args_answer P g (exprs at_place (drop i xs)) t (drop i us) ≡ refused Arguments t
+  pub no_parameter : (d : RExpr) → slice_get us i ≡ None → i < length xs → args_answer P g (exprs (drop i xs)) t (drop i us) ≡ refused Arguments t
   no_parameter d e h = rw (drop-none us i (sym e), drop-cons xs i d) refl
 
   pub argument : (d : RExpr) (u : Ty) → d ≡ get_or xs i d → slice_get us i ≡ Some u → i < length xs
-      → args_answer P g (exprs at_place (drop i xs)) t (drop i us)
-      ≡ and_then (and_then (answer P g (expr_of at_place d)) (λ s. asked (fits P (seen s) u) Arguments t (tt {0})))
-      (λ _. args_answer P g (exprs at_place (drop (i + 1) xs)) t (drop (i + 1) us))
+      → args_answer P g (exprs (drop i xs)) t (drop i us)
+      ≡ and_then (and_then (answer P g (expr_of d)) (λ s. asked (fits P (seen s) u) Arguments t (tt {0})))
+      (λ _. args_answer P g (exprs (drop (i + 1) xs)) t (drop (i + 1) us))
   argument d u here e h =
       rw (drop-some us i u (sym e), drop-cons xs i d, add-one)
-      (ap (λ d. and_then (and_then (answer P g (expr_of at_place d)) (λ s. asked (fits P (seen s) u) Arguments t (tt {0})))
-      (λ _. args_answer P g (exprs at_place (drop (suc i) xs)) t (drop (suc i) us))) (sym here))
+      (ap (λ d. and_then (and_then (answer P g (expr_of d)) (λ s. asked (fits P (seen s) u) Arguments t (tt {0})))
+      (λ _. args_answer P g (exprs (drop (suc i) xs)) t (drop (suc i) us))) (sym here))
 
-  pub all_given : length xs ≤ i → slice_get us i ≡ None → args_answer P g (exprs at_place (drop i xs)) t (drop i us) ≡ Ok (tt {0})
+  pub all_given : length xs ≤ i → slice_get us i ≡ None → args_answer P g (exprs (drop i xs)) t (drop i us) ≡ Ok (tt {0})
   all_given h e = rw (drop-none us i (sym e), drop-all xs i h) refl
 
-  pub more_wanted : (u : Ty) → length xs ≤ i → slice_get us i ≡ Some u → args_answer P g (exprs at_place (drop i xs)) t (drop i us) ≡ refused Arguments t
+  pub more_wanted : (u : Ty) → length xs ≤ i → slice_get us i ≡ Some u → args_answer P g (exprs (drop i xs)) t (drop i us) ≡ refused Arguments t
   more_wanted u h e = rw (drop-some us i u (sym e), drop-all xs i h) refl
 
 -- forms of expressions with arguments
 module _ (P : Plain) (g : Env) where
-  seen_as : {e d : RExpr} → e ≡ d → answer P g (expr_of at_place e) ≡ answer P g (expr_of at_place d)
-  seen_as h = ap (λ e. answer P g (expr_of at_place e)) h
+  seen_as : {e d : RExpr} → e ≡ d → answer P g (expr_of e) ≡ answer P g (expr_of d)
+  seen_as h = ap (λ e. answer P g (expr_of e)) h
 
   -- a call of an instance method by its name, where its receiver gives s, or a fault
   pub named_answer : {e : RExpr} (b : Option (Box RExpr Global)) (x : List ℕ) (v : Vec RExpr Global) (p : Place) {s : declared.Static} {r : Answer}
-      → e ≡ Call b x v p → r ≡ answer P g (base_seen at_place b p) → r ≡ Ok s
-      → call_answer (call_signature P (seen s) x) (args_answer P g (exprs at_place v.items) (at_place p)) (at_place p) ≡ answer P g (expr_of at_place e)
-  named_answer b x v p h k o = sym (seen_as h ∙ ap (answer P g) (call_as at_place b x v p) ∙ and_then-ok _ (sym k ∙ o))
+      → e ≡ Call b x v p → r ≡ answer P g (base_seen b p) → r ≡ Ok s
+      → call_answer (call_signature P (seen s) x) (args_answer P g (exprs v.items) (at_place p)) (at_place p) ≡ answer P g (expr_of e)
+  named_answer b x v p h k o = sym (seen_as h ∙ ap (answer P g) (call_as b x v p) ∙ and_then-ok _ (sym k ∙ o))
 
   pub named_fault : {e : RExpr} (b : Option (Box RExpr Global)) (x : List ℕ) (v : Vec RExpr Global) (p : Place) {f : CheckFault} {r : Answer}
-      → e ≡ Call b x v p → r ≡ answer P g (base_seen at_place b p) → r ≡ Err f
-      → Err f ≡ answer P g (expr_of at_place e)
-  named_fault b x v p h k o = sym (seen_as h ∙ ap (answer P g) (call_as at_place b x v p) ∙ and_then-err _ (sym k ∙ o))
+      → e ≡ Call b x v p → r ≡ answer P g (base_seen b p) → r ≡ Err f → Err f ≡ answer P g (expr_of e)
+  named_fault b x v p h k o = sym (seen_as h ∙ ap (answer P g) (call_as b x v p) ∙ and_then-err _ (sym k ∙ o))
 
   pub static_answer : {e : RExpr} (m : MemberId) (v : Vec RExpr Global) (p : Place) → e ≡ StaticCall m v p
-      → call_answer (signature_of_method P m.0) (args_answer P g (exprs at_place v.items) (at_place p)) (at_place p) ≡ answer P g (expr_of at_place e)
-  static_answer m v p h = sym (seen_as h ∙ ap (λ es. call_answer (signature_of_method P m.0) (args_answer P g es (at_place p)) (at_place p))
-      (exprs_vec at_place v))
+      → call_answer (signature_of_method P m.0) (args_answer P g (exprs v.items) (at_place p)) (at_place p) ≡ answer P g (expr_of e)
+  static_answer m v p h = sym (seen_as h ∙ ap (λ es. call_answer (signature_of_method P m.0) (args_answer P g es (at_place p)) (at_place p)) (exprs_vec v))
 
   pub super_call_answer : {e : RExpr} (x : List ℕ) (v : Vec RExpr Global) (p : Place) → e ≡ SuperCall x v p
-      → super_answer P (super_method P g.self x) (args_answer P g (exprs at_place v.items) (at_place p)) (at_place p) ≡ answer P g (expr_of at_place e)
-  super_call_answer x v p h = sym (seen_as h ∙ ap (λ es. super_answer P (super_method P g.self x) (args_answer P g es (at_place p)) (at_place p))
-      (exprs_vec at_place v))
+      → super_answer P (super_method P g.self x) (args_answer P g (exprs v.items) (at_place p)) (at_place p) ≡ answer P g (expr_of e)
+  super_call_answer x v p h = sym (seen_as h ∙ ap (λ es. super_answer P (super_method P g.self x) (args_answer P g es (at_place p)) (at_place p)) (exprs_vec v))
 
   pub new_answer : {e : RExpr} (k : ℕ) (c : ClassId) (v : Vec RExpr Global) (p : Place) → e ≡ New k c v p
-      → create_answer (is_concrete P c.0) (exprs at_place v.items) c.0 (at_place p) ≡ answer P g (expr_of at_place e)
-  new_answer k c v p h = sym (seen_as h ∙ ap (λ es. create_answer (is_concrete P c.0) es c.0 (at_place p)) (exprs_vec at_place v))
+      → create_answer (is_concrete P c.0) (exprs v.items) c.0 (at_place p) ≡ answer P g (expr_of e)
+  new_answer k c v p h = sym (seen_as h ∙ ap (λ es. create_answer (is_concrete P c.0) es c.0 (at_place p)) (exprs_vec v))

@@ -1,13 +1,14 @@
 -- A class that breaks no rule for the slot of a method without a body breaks none as a whole.
 use Rattle.std.proofs.Common.{◌≡◌, ◌==◌, ◌&&◌, ◌||◌, ℕ, zero, suc, ◌+◌, ◌<◌, Bool, true, false, not, List, [], ◌∷◌, Option, Some, None, length, refl, sym, ap, ◌∙◌, subst, arith, slice_get}
 use Rattle.std.specs.Option.{option_map_or, is_some}
-use Rattle.std.proofs.lemmas.Bool.{and_parts, eq-eqb, eqb-true, false≢true}
+use Rattle.std.proofs.lemmas.Bool.{and_parts, and_from, eq-eqb, eqb-true, false≢true}
 use Rattle.java_core.specs.Programs.{Plain, PlainClass, PlainMethod}
 use Rattle.java_core.specs.Classes.{IsSubclass, below, is_slot, has_slot, own_declaration, nearest_declaration, has_body, is_interface, is_concrete}
 use Rattle.java_core.specs.Formed.{IsFormed}
 use Rattle.java_core.specs.Typing.{is_public_method}
 use Rattle.java_core.proofs.Subclasses.{below-subclass, subclass-below, nearest_of-nearest}
 use Rattle.java_core.proofs.Upwards.{IsAbove, IsMemberClass, chain-above, along, chain-there}
+use Rattle.java_core.proofs.SearchOrder.{slot_is}
 use Rattle.java_core.proofs.Positions.{position-passes, passes-position}
 use Rattle.java_check.specs.ClassOutcome.{first_rule, below_rule, slot_rule, method_rule, class_rule, is_quiet, is_kept, all_quiet}
 use Rattle.java_check.specs.declared.Kind.{Kind}
@@ -44,15 +45,12 @@ class_quiet : (P : Plain) (c : ℕ) (ks : List PlainMethod) → c < length P.cla
 class_quiet P c [] lt all = refl
 class_quiet P c (k ∷ ks) lt all =
     let parts = and_parts (is_some k.body || is_kept P k 0 P.classes) (all_quiet P ks) all in
-    both (or_step (is_some k.body) parts.0 (λ kept. subst (λ i. not (is_some (method_rule P i k)) ≡ true) (let z : 0 + c ≡ c = omega arith in z)
+    and_from _ _ (or_step (is_some k.body) parts.0 (λ kept. subst (λ i. not (is_some (method_rule P i k)) ≡ true) (let z : 0 + c ≡ c = omega arith in z)
     (each_kept P k 0 P.classes kept c lt))) (class_quiet P c ks lt parts.1)
   where
     or_step : (b : Bool) {x y : Bool} → b || x ≡ true → (x ≡ true → y ≡ true) → b || y ≡ true
     or_step true h f = refl
     or_step false h f = f h
-
-    both : {a b : Bool} → a ≡ true → b ≡ true → a && b ≡ true
-    both e f = rw (e, f) refl
 
 first_fine : (con int own p : Bool) → con ≡ false → own ≡ false → first_rule con (not int && (own && not p)) ≡ None
 first_fine true int own p e f = absurd (false≢true (sym e))
@@ -67,11 +65,7 @@ module _ (P : Plain) (formed : IsFormed P) where
         → is_concrete P c && not (has_body P d) ≡ true → is_some (method_rule P c k) ≡ true
     bare_rule h s d k up has near bare =
         let parts = and_parts (k.owner == h) (is_slot k.slot s) has in
-        rw (slot k.slot parts.1, eqb-true k.owner h parts.0, subclass-below P formed.acyclic up, near, bare) refl
-      where
-        slot : (o : Option ℕ) → is_slot o s ≡ true → o ≡ Some s
-        slot None h = absurd (false≢true h)
-        slot (Some r) h = ap Some (eqb-true r s h)
+        rw (slot_is k.slot s parts.1, eqb-true k.owner h parts.0, subclass-below P formed.acyclic up, near, bare) refl
 
     no_body : (d : ℕ) (k : PlainMethod) → slice_get P.methods d ≡ Some k → not (has_body P d) ≡ true → is_some k.body ≡ false
     no_body d k at e = go (is_some k.body) (ap (λ o. not (option_map_or (λ (x : PlainMethod). is_some x.body) o false)) (sym at) ∙ e)

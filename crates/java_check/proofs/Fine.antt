@@ -1,15 +1,13 @@
 -- A class that is clear by the tables of each 64 slots breaks no rule as a whole.
 use Rattle.std.proofs.Common.{◌≡◌, ◌==◌, ◌&&◌, ◌||◌, ◌∷◌, ℕ, zero, suc, ◌+◌, ◌*◌, ◌/◌, ◌%◌, ◌<◌, Bool, true, false, not, cond, List, [], Option, Some, None, Contains, length, map, refl, sym, ap, ◌∙◌, subst, arith, ⊎_elim, slice_get}
-use Rattle.std.specs.Option.{option_map, option_map_or, is_some}
+use Rattle.std.specs.Option.{option_map_or, is_some}
 use Rattle.std.specs.declared.vec.Vec.{Vec}
 use Rattle.std.specs.declared.alloc.Global.{Global}
-use Rattle.std.proofs.lemmas.Bool.{and_parts, eq-eqb, false≢true}
+use Rattle.std.proofs.lemmas.Bool.{and_parts, and_from, or_parts, or_right, eq-eqb, false≢true}
 use Rattle.std.proofs.lemmas.List.{length-map}
-use Rattle.std.proofs.lemmas.Option.{same_Some, slice_get-map, slice_get_within}
-use Rattle.kaba_base.proofs.ListLemmas.{first, contains_cases, later}
-use Rattle.java_core.specs.declared.Method.{Method}
+use Rattle.std.proofs.lemmas.Option.{same_Some, slice_get_within}
+use Rattle.kaba_base.proofs.ListLemmas.{map_at, at_map, first, contains_cases, later}
 use Rattle.java_core.specs.declared.Program.{Program}
-use Rattle.java_core.specs.Trees.{no_place}
 use Rattle.java_core.specs.Programs.{Plain, PlainClass, PlainMethod, program_of, method_seen, slot_seen}
 use Rattle.java_core.specs.Owned.{AreOwned, listed, owned_from}
 use Rattle.java_core.specs.Classes.{below, nearest_declaration, has_body, is_interface, is_concrete}
@@ -48,19 +46,11 @@ quiet_first false bod false true true e f = refl
 quiet_first false bod false true false e f = absurd (false≢true f)
 quiet_first false bod false false p e f = refl
 
-or_last : (b : Bool) → (b || true) ≡ true
-or_last true = refl
-or_last false = refl
-
 shown_none : (int p : Bool) → (p || not (not int && false)) ≡ true
 shown_none true true = refl
 shown_none true false = refl
 shown_none false true = refl
 shown_none false false = refl
-
-or_second : (a b : Bool) → (a || b) ≡ false → b ≡ false
-or_second true b e = absurd (false≢true (sym e))
-or_second false b e = e
 
 or_told : (a b : Bool) → (a || b) ≡ true → a ≡ false → b ≡ true
 or_told true b e f = absurd (false≢true (sym f))
@@ -136,7 +126,7 @@ module _ (P : Plain) where
         quiet_first con bod int own pub_near (body con refl parts.0) (shown own refl parts.1)
       where
         body : (x : Bool) → con ≡ x → (not con || are_apart (word_at found.offered.items c) (word_at found.bare.items c)) ≡ true → (bod || not con) ≡ true
-        body false f h = rw f (or_last bod)
+        body false f h = rw f (or_right bod true refl)
         body true f h = rw (has_body_where (or_told (not con) _ h (ap not f))) refl
 
         shown : (x : Bool) → own ≡ x → are_apart (word_at found.faced.items c) (word_at found.hidden.items c) ≡ true
@@ -171,60 +161,45 @@ module _ (P : Plain) where
           ⊎_elim
           (λ (f : n ≡ m). false≢true (sym e ∙ ap (λ j. is_bare P j || has_bare P ms) f
           ∙ ap (λ o. option_map_or (λ (x : PlainMethod). not (is_some x.body)) o false || has_bare P ms) at ∙ ap (λ x. not x || has_bare P ms) bare))
-          (λ more. one ms more (or_second (is_bare P n) (has_bare P ms) e))
+          (λ more. one ms more (or_parts (is_bare P n) (has_bare P ms) e).1)
           (contains_cases n ms m h)
-
-  and_true : {a b : Bool} → a ≡ true → b ≡ true → a && b ≡ true
-  and_true e f = rw (e, f) refl
 
   quiet_each : (c : ℕ) (ks : List PlainMethod) → ((m : ℕ) (k : PlainMethod) → slice_get ks m ≡ Some k → is_some k.body ≡ false → method_rule P c k ≡ None)
       → is_quiet P c ks ≡ true
   quiet_each c [] each = refl
-  quiet_each c (k ∷ ks) each = and_true (go (is_some k.body) refl) (quiet_each c ks (λ m. each (suc m)))
+  quiet_each c (k ∷ ks) each = and_from _ _ (go (is_some k.body) refl) (quiet_each c ks (λ m. each (suc m)))
     where
       go : (b : Bool) → is_some k.body ≡ b → is_some k.body || not (is_some (method_rule P c k)) ≡ true
       go true e = rw e refl
       go false e = rw (e, each zero k refl e) refl
 
 module _ (p : Program) where
-  P : Plain
-  P = program_of no_place p
-
-  places : List ℕ
-  places = map (λ m. method_batch (length p.slots.items) m) p.methods.items
-
-  method_at : (xs : List Method) (m : ℕ) (k : PlainMethod) → slice_get (map (method_seen no_place) xs) m ≡ Some k
-      → (x : Method) × (slice_get xs m ≡ Some x) × (method_seen no_place x ≡ k)
-  method_at [] m k e = absurd (cc e)
-  method_at (x ∷ xs) zero k e = (x, refl, same_Some _ _ e)
-  method_at (x ∷ xs) (suc m) k e = method_at xs m k e
-
   -- the lists have the methods of each 64 slots
   pub batch_listed : (lists : List (Vec ℕ Global)) → AreOwned (map (λ m. method_batch (length p.slots.items) m) p.methods.items) lists
-      → (b : ℕ) → AreListed (program_of no_place p) b (listed lists b)
-  unfolding P places
+      → (b : ℕ) → AreListed (program_of p) b (listed lists b)
   batch_listed lists owned b m i k at lt e =
-      let x = method_at p.methods.items m k at in
-      let slot : x.0.slot ≡ Some (64 * b + i) = ap (λ (q : PlainMethod). q.slot) x.2 ∙ e in
+      let x = map_at method_seen p.methods.items m k at in
+      let slots = length p.slots.items in
       let number : (64 * b + i) / 64 ≡ b = omega (arith, lt) in
-      let place : slice_get places m ≡ Some b
-      = slice_get-map (λ m. method_batch (length p.slots.items) m) p.methods.items m
-      ∙ ap (option_map (λ m. method_batch (length p.slots.items) m)) x.1 ∙ ap Some (ap (batch_place (length p.slots.items)) slot ∙ number) in
+      let place = at_map (λ m. method_batch slots m) p.methods.items m x.0 x.1
+      ∙ ap Some (ap (λ (q : PlainMethod). batch_place slots q.slot) x.2 ∙ ap (batch_place slots) e ∙ number) in
+      let places = map (λ m. method_batch slots m) p.methods.items in
       subst (λ ms. Contains ms m) (sym (owned.exact b)) (subst (λ j. Contains (owned_from 0 b places) j) (let z : 0 + m ≡ m = omega arith in z)
       (owned-every places 0 b m place))
 
   -- the classes that are fine for each 64 slots break no rule
-  pub fine_class : IsFormed (program_of no_place p) → (until : ℕ)
-      → ((b c : ℕ) → b < length p.slots.items / 64 + 1 → c < until → IsFineFor (program_of no_place p) b c)
-      → (c : ℕ) → c < until → class_rule (program_of no_place p) c (program_of no_place p).methods ≡ None
-  unfolding P
+  pub fine_class : IsFormed (program_of p) → (until : ℕ) → ((b c : ℕ) → b < length p.slots.items / 64 + 1 → c < until → IsFineFor (program_of p) b c)
+      → (c : ℕ) → c < until → class_rule (program_of p) c (program_of p).methods ≡ None
   fine_class formed until fine c lt = class_fine P formed c (quiet_each P c P.methods (λ m k at none. each m k at none k.slot refl))
     where
+      P : Plain
+      P = program_of p
+
       each : (m : ℕ) (k : PlainMethod) → slice_get P.methods m ≡ Some k → is_some k.body ≡ false → (o : Option ℕ) → k.slot ≡ o → method_rule P c k ≡ None
       each m k at none None e = ap (slot_rule P c k.owner) e
       each m k at none (Some s) e =
           let i = ((formed.methods m k at).slots s).0 e in
           let within = slice_get_within P.slots s i.slot i.stands in
-          let few : s < length p.slots.items = subst (λ n. s < n) (length-map p.slots.items (slot_seen no_place)) within in
+          let few : s < length p.slots.items = subst (λ n. s < n) (length-map p.slots.items slot_seen) within in
           let number : s ≡ 64 * (s / 64) + s % 64 = omega arith in
           fine (s / 64) c (omega (arith, few)) lt m (s % 64) k at (omega arith) (e ∙ ap Some number) none

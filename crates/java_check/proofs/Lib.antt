@@ -3,7 +3,6 @@ pub mod Judged
 pub mod Refuted
 pub mod JudgedStatements
 pub mod RefutedStatements
-pub mod Places
 pub mod Forms
 pub mod JudgedClasses
 pub mod JudgedPrograms

@@ -9,7 +9,6 @@ use Rattle.std.proofs.lemmas.List.{length-map}
 use Rattle.kaba_base.specs.declared.ClassId.{ClassId}
 use Rattle.java_core.specs.declared.Method.{Method}
 use Rattle.java_core.specs.declared.Program.{Program}
-use Rattle.java_core.specs.Trees.{no_place}
 use Rattle.java_core.specs.Programs.{Plain, PlainMethod, program_of, method_seen, class_seen}
 use Rattle.java_core.specs.Owned.{AreOwned, listed, owned_from, passes}
 use Rattle.java_core.specs.Classes.{parent_of, first_or, nearest, is_slot, has_slot, own_declaration, nearest_declaration}
@@ -58,23 +57,22 @@ module _ (P : Plain) where
       ∙ ap (first_or near) (ap (λ o. first_or (own_of P at s) (found_in P s n o)) e ∙ sym (found-step s n at)))
 
 -- what is found in all classes on the way
-pub walked : (p : Program) (class : ClassId) (s : ℕ) → found_in (program_of no_place p) s (length p.classes.items + 1) (Some class)
-    ≡ nearest_declaration (program_of no_place p) class.0 s
+pub walked : (p : Program) (class : ClassId) (s : ℕ) → found_in (program_of p) s (length p.classes.items + 1) (Some class)
+    ≡ nearest_declaration (program_of p) class.0 s
 unfolding nearest_declaration
 walked p class s =
     let all : length p.classes.items + 1 ≡ suc (length p.classes.items) = omega arith in
-    let P = program_of no_place p in
-    ap (λ n. found_in P s n (Some class)) all ∙ ap (λ n. nearest P (λ k. own_declaration P k s) n class.0)
-    (sym (length-map p.classes.items (class_seen no_place)))
+    let P = program_of p in
+    ap (λ n. found_in P s n (Some class)) all ∙ ap (λ n. nearest P (λ k. own_declaration P k s) n class.0) (sym (length-map p.classes.items class_seen))
 
-pub owners_seen : (xs : List Method) → map (λ (k : PlainMethod). k.owner) (map (method_seen no_place) xs) ≡ map (λ m. method_owner m) xs
+pub owners_seen : (xs : List Method) → map (λ (k : PlainMethod). k.owner) (map method_seen xs) ≡ map (λ m. method_owner m) xs
 owners_seen [] = refl
 owners_seen (x ∷ xs) = ap (λ ys. x.owner.0 ∷ ys) (owners_seen xs)
 
 -- what a class declares is found in its list
 pub declared_listed : (p : Program) (lists : List (Vec ℕ Global)) → AreOwned (map (λ m. method_owner m) p.methods.items) lists → (c s : ℕ)
-    → declared_among (program_of no_place p) c s (listed lists c) ≡ own_declaration (program_of no_place p) c s
+    → declared_among (program_of p) c s (listed lists c) ≡ own_declaration (program_of p) c s
 declared_listed p lists owned c s =
-    let ks = (program_of no_place p).methods in
-    ap (declared_among (program_of no_place p) c s) (owned.exact c ∙ ap (owned_from 0 c) (sym (owners_seen p.methods.items)))
+    let ks = (program_of p).methods in
+    ap (declared_among (program_of p) c s) (owned.exact c ∙ ap (owned_from 0 c) (sym (owners_seen p.methods.items)))
     ∙ own-position (λ (k : PlainMethod). k.owner) (λ k. has_slot c s k) c (λ k h. (and_parts (k.owner == c) (is_slot k.slot s) h).0) ks

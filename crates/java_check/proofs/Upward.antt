@@ -4,19 +4,18 @@ use Rattle.std.specs.Prelude.{bit_or}
 use Rattle.std.specs.Option.{option_map_or, option_and_then}
 use Rattle.std.specs.List.{list_any}
 use Rattle.std.proofs.lemmas.Bool.{and_parts, eq-eqb, eqb-true, false≢true, cases_lt}
-use Rattle.std.proofs.lemmas.List.{get_or_past, length-map}
+use Rattle.std.proofs.lemmas.List.{get_or_past}
 use Rattle.std.proofs.lemmas.List.Folds.{Any-from_list_any, list_any-from_Any}
 use Rattle.std.proofs.lemmas.Option.{slice_get_within}
 use Rattle.kaba_base.specs.declared.ClassId.{ClassId}
 use Rattle.kaba_base.proofs.ListLemmas.{contains_cases}
-use Rattle.java_core.specs.declared.Program.{Program}
-use Rattle.java_core.specs.Trees.{no_place}
-use Rattle.java_core.specs.Programs.{Plain, PlainMethod, program_of, class_seen}
+use Rattle.java_core.specs.Programs.{Plain, PlainMethod}
 use Rattle.java_core.specs.Classes.{parent_of, faces_of, IsSubclass, same_class, through, first_or, nearest, is_slot, has_slot, own_declaration, nearest_declaration, below}
 use Rattle.java_core.specs.Formed.{IsFormed}
 use Rattle.java_core.proofs.Subclasses.{ArePassed, one_left, passed_more, none_passed, parent-super, below-subclass}
 use Rattle.java_core.proofs.Upwards.{super_cases}
 use Rattle.java_core.proofs.Positions.{position-passes, passes-position}
+use Rattle.java_core.proofs.SearchOrder.{slot_is}
 use Rattle.java_check.specs.SlotOutcome.{bit, IsWithin, is_within, has_faces, full, word_at, own_at, answers, says, AreListed, parent_word, IsNearestAt, IsAboveAt, is_nearest_at, is_above_at, is_told, HasNearest, HasAbove}
 use Rattle.java_check.specs.declared.tables.Asked.{Asked}
 use Rattle.java_check.proofs.Words.{bit-or, bit-zero, bit-full, within-full, within-bits}
@@ -89,10 +88,6 @@ module _ (P : Plain) where
       (cases_lt c (length table))
 
   -- what a class declares itself of a slot
-  slot_of : (o : Option ℕ) (s : ℕ) → is_slot o s ≡ true → o ≡ Some s
-  slot_of None s h = absurd (false≢true h)
-  slot_of (Some r) s h = ap Some (eqb-true r s h)
-
   says-has : (q : Asked) (c s m : ℕ) (o : Option PlainMethod) → slice_get P.methods m ≡ o
       → option_map_or (λ k. has_slot c s k && answers P q k) o false ≡ true
       → (k : PlainMethod) × (slice_get P.methods m ≡ Some k) × (has_slot c s k ≡ true)
@@ -114,57 +109,47 @@ module _ (P : Plain) where
       → answers P q k ≡ true → list_any (λ m. says P q c s m) ms ≡ true
   says_one q c s m k ms there at has having = list_any-from_Any (λ m. says P q c s m) ms (there.0, m, there.1, there.2, rw (at, has, having) refl)
 
-  module _ (formed : IsFormed P) where
-    owner_within : (m : ℕ) (k : PlainMethod) → slice_get P.methods m ≡ Some k → k.owner < length P.classes
-    owner_within m k at = let f = formed.methods m k at in slice_get_within P.classes k.owner f.holder f.stands
+  module _ (formed : IsFormed P) (b : ℕ) (ms : List ℕ) (listed : AreListed P b ms) (count : ℕ) (many : length P.classes ≡ count) where
+    -- the bits of what the classes declare themselves
+    abbrev pub AreBits : Asked → List ℕ → Type 0
+    AreBits q own = (c i : ℕ) → c < count → i < 64 → bit (own_at own c) i ≡ list_any (λ m. says P q c (64 * b + i) m) ms
 
-    module _ (b i : ℕ) (lt : i < 64) (ms : List ℕ) (listed : AreListed P b ms) where
-      s : ℕ
+    module _ (i : ℕ) (lt : i < 64) where
+      abbrev s : ℕ
       s = 64 * b + i
 
-      -- the bits of what the classes declare themselves
-      pub IsOwn : Asked → List ℕ → Type 0
-      IsOwn q own = (c : ℕ) → c < length P.classes → bit (own_at own c) i ≡ list_any (λ m. says P q c s m) ms
-
-      own_none : (q : Asked) (own : List ℕ) → length own ≡ length P.classes → IsOwn q own → (c : ℕ) → own_declaration P c s ≡ None
-          → bit (own_at own c) i ≡ false
-      unfolding IsOwn s
+      own_none : (q : Asked) (own : List ℕ) → length own ≡ count → AreBits q own → (c : ℕ) → own_declaration P c s ≡ None → bit (own_at own c) i ≡ false
       own_none q own len bits c none =
-          ⊎_elim (λ within. bits c within ∙ says_none q c s ms none) (λ past. own_past own c i (omega (arith, len, past))) (cases_lt c (length P.classes))
+          ⊎_elim (λ within. bits c i within lt ∙ says_none q c s ms none) (λ past. own_past own c i (omega (arith, len, past))) (cases_lt c count)
 
-      own_one : (q : Asked) (own : List ℕ) → IsOwn q own → (c m : ℕ) (k : PlainMethod) → slice_get P.methods m ≡ Some k → has_slot c s k ≡ true
+      own_one : (q : Asked) (own : List ℕ) → AreBits q own → (c m : ℕ) (k : PlainMethod) → slice_get P.methods m ≡ Some k → has_slot c s k ≡ true
           → answers P q k ≡ true → bit (own_at own c) i ≡ true
-      unfolding IsOwn s
       own_one q own bits c m k at has having =
           let parts = and_parts (k.owner == c) (is_slot k.slot s) has in
-          let within = subst (λ o. o < length P.classes) (eqb-true k.owner c parts.0) (owner_within m k at) in
-          bits c within ∙ says_one q c s m k ms (listed m i k at lt (slot_of k.slot s parts.1)) at has having
+          let f = formed.methods m k at in
+          let within = slice_get_within P.classes k.owner f.holder f.stands in
+          bits c i (omega (arith, within, many, eqb-true k.owner c parts.0)) lt
+          ∙ says_one q c s m k ms (listed m i k at lt (slot_is k.slot s parts.1)) at has having
 
       module _ (q r : Asked) (none : Bool) (other : (k : PlainMethod) → answers P r k ≡ not (answers P q k)) (table having lacking : List ℕ)
-          (len : length having ≡ length P.classes) (has : IsOwn q having) (lacks : IsOwn r lacking)
+          (len : length having ≡ count) (has : AreBits q having) (lacks : AreBits r lacking)
           (right : (c : ℕ) → IsNearestAt P table having lacking (cond none 0 full) c) where
-        own : ℕ → Option ℕ
-        own c = own_declaration P c s
-
         here : (c d : ℕ) → own_declaration P c s ≡ Some d → is_told P q none (Some d) ≡ false → bit (word_at table c) i ≡ true
-        unfolding s
         here c d e told =
             let it = position-passes (λ m. has_slot c s m) P.methods d e in
             let no_answer : answers P q it.0 ≡ false = sym (ap (λ o. option_map_or (answers P q) o none) it.1) ∙ told in
             (right c).own i lt (own_one r lacking lacks c d it.0 it.1 it.2 (other it.0 ∙ ap not no_answer))
 
-        up : (c : ℕ) → own_declaration P c s ≡ None → bit (parent_word P table (cond none 0 full) c) i ≡ true → bit (word_at table c) i ≡ true
-        up c e h =
-            or_left_of (bit (word_at table c) i) (bit (own_at having c) i) (sym (bit-or (word_at table c) (own_at having c) i) ∙ (right c).above i lt h)
+        -- the bit of the superclass, or of none
+        up : (c : ℕ) → own_declaration P c s ≡ None → (o : Option ClassId) → parent_of P c ≡ o
+            → bit (option_map_or (λ p. word_at table p.0) o (cond none 0 full)) i ≡ true → bit (word_at table c) i ≡ true
+        up c e o at h =
+            let above = (right c).above i lt (ap (λ o. bit (option_map_or (λ p. word_at table p.0) o (cond none 0 full)) i) at ∙ h) in
+            or_left_of (bit (word_at table c) i) (bit (own_at having c) i) (sym (bit-or (word_at table c) (own_at having c) i) ∙ above)
             (own_none q having len has c e)
 
         top : (c : ℕ) → own_declaration P c s ≡ None → parent_of P c ≡ None → none ≡ false → bit (word_at table c) i ≡ true
-        top c e p n = up c e (ap (λ o. bit (option_map_or (λ p. word_at table p.0) o (cond none 0 full)) i) p
-            ∙ (ap (λ x. bit (cond x 0 full) i) n ∙ bit-full i lt))
-
-        parent : (c : ℕ) (p : ClassId) → own_declaration P c s ≡ None → parent_of P c ≡ Some p → bit (word_at table p.0) i ≡ true
-            → bit (word_at table c) i ≡ true
-        parent c p e at h = up c e (ap (λ o. bit (option_map_or (λ p. word_at table p.0) o (cond none 0 full)) i) at ∙ h)
+        top c e p n = up c e None p (ap (λ x. bit (cond x 0 full) i) n ∙ bit-full i lt)
 
         abbrev near : ℕ → ℕ → Option ℕ
         near n c = nearest P (λ x. own_declaration P x s) n c
@@ -180,7 +165,7 @@ module _ (P : Plain) where
             → is_told P q none (first_or o (option_and_then (λ p. near n p.0) r)) ≡ false → bit (word_at table c) i ≡ true
         more n c (Some d) f r g rest t = here c d f t
         more n c None f None g rest t = top c f g t
-        more n c None f (Some p) g rest t = parent c p f g (rest p g t)
+        more n c None f (Some p) g rest t = up c f (Some p) g (rest p g t)
 
         missed : (n : ℕ) (seen : List ℕ) (c : ℕ) → n + length seen ≡ length P.classes → ArePassed P seen c
             → is_told P q none (near n c) ≡ false → bit (word_at table c) i ≡ true
@@ -189,11 +174,11 @@ module _ (P : Plain) where
             more n c (own_declaration P c s) refl (parent_of P c) refl
             (λ p g t. missed n (c ∷ seen) p.0 (omega (arith, e)) (passed_more P formed.acyclic seen (parent-super P c p g) h) t) told
 
-        pub nearest_bit : (c : ℕ) → is_told P q none (nearest_declaration P c (64 * b + i)) ≡ false → bit (word_at table c) i ≡ true
-        unfolding nearest_declaration s
+        nearest_bit : (c : ℕ) → is_told P q none (nearest_declaration P c s) ≡ false → bit (word_at table c) i ≡ true
+        unfolding nearest_declaration
         nearest_bit c told = missed (length P.classes) [] c (omega arith) (none_passed P c) told
 
-      module _ (q : Asked) (table own : List ℕ) (has : IsOwn q own) (right : (c : ℕ) → IsAboveAt P table own c) where
+      module _ (q : Asked) (table own : List ℕ) (has : AreBits q own) (right : (c : ℕ) → IsAboveAt P table own c) where
         raised : {c h : ℕ} → IsSubclass P c h → bit (word_at table h) i ≡ true → bit (word_at table c) i ≡ true
         raised same_class e = e
         raised {c} (through {c = k} direct rest) e =
@@ -202,42 +187,20 @@ module _ (P : Plain) where
             (λ f. (right c).faces k f i lt (raised rest e))
             (super_cases P c k direct)
 
-        pub above_bit : (c m : ℕ) (k : PlainMethod) → slice_get P.methods m ≡ Some k → k.slot ≡ Some (64 * b + i) → answers P q k ≡ true
+        above_bit : (c m : ℕ) (k : PlainMethod) → slice_get P.methods m ≡ Some k → k.slot ≡ Some s → answers P q k ≡ true
             → below P c k.owner ≡ true → bit (word_at table c) i ≡ true
-        unfolding s
         above_bit c m k at slot having up =
             let has_it : has_slot k.owner s k ≡ true = rw (eq-eqb k.owner k.owner refl, slot, eq-eqb s s refl) refl in
             raised (below-subclass P c k.owner up) ((right k.owner).own i lt (own_one q own has k.owner m k at has_it having))
 
-module _ (p : Program) (formed : IsFormed (program_of no_place p)) (b : ℕ) (ms : List ℕ) (listed : AreListed (program_of no_place p) b ms) where
-  P : Plain
-  P = program_of no_place p
+    pub nearest_found : (q r : Asked) (none : Bool) → ((k : PlainMethod) → answers P r k ≡ not (answers P q k)) → (table having lacking : List ℕ)
+        → length having ≡ count → AreBits q having → AreBits r lacking
+        → ((c : ℕ) → c < length table → is_nearest_at P table having lacking (cond none 0 full) c ≡ true) → HasNearest P q none b table
+    nearest_found q r none other table having lacking len has lacks checked c i lt told =
+        nearest_bit i lt q r none other table having lacking len has lacks (nearest_all table having lacking (cond none 0 full) checked) c told
 
-  abbrev pub AreBits : Asked → List ℕ → Type 0
-  AreBits q own = (c i : ℕ) → c < length p.classes.items → i < 64 → bit (own_at own c) i ≡ list_any (λ m. says (program_of no_place p) q c (64 * b + i) m) ms
-
-  many : length P.classes ≡ length p.classes.items
-  unfolding P
-  many = length-map p.classes.items (class_seen no_place)
-
-  own_is : (q : Asked) (own : List ℕ) → AreBits q own → (i : ℕ) (lt : i < 64) → IsOwn (program_of no_place p) formed b i lt ms listed q own
-  unfolding P many IsOwn s
-  own_is q own bits i lt = λ c within. bits c i (subst (λ n. c < n) many within) lt
-
-  pub nearest_found : (q r : Asked) (none : Bool) → ((k : PlainMethod) → answers (program_of no_place p) r k ≡ not (answers (program_of no_place p) q k))
-      → (table having lacking : List ℕ) → length having ≡ length p.classes.items → AreBits q having → AreBits r lacking
-      → ((c : ℕ) → c < length table → is_nearest_at (program_of no_place p) table having lacking (cond none 0 full) c ≡ true)
-      → HasNearest (program_of no_place p) q none b table
-  unfolding P many
-  nearest_found q r none other table having lacking len has lacks checked c i lt told =
-      nearest_bit P formed b i lt ms listed q r none other table having lacking (len ∙ sym many) (own_is q having has i lt) (own_is r lacking lacks i lt)
-      (nearest_all P table having lacking (cond none 0 full) checked) c told
-
-  pub above_found : (q : Asked) (table own : List ℕ) → AreBits q own
-      → ((c : ℕ) → c < length table → is_above_at (program_of no_place p) table own c ≡ true) → HasAbove (program_of no_place p) q b table
-  unfolding P
-  above_found q table own has checked c i m k lt at slot having up =
-      above_bit P formed b i lt ms listed q table own (own_is q own has i lt) (above_all P table own checked) c m k at slot having up
+    pub above_found : (q : Asked) (table own : List ℕ) → AreBits q own → ((c : ℕ) → c < length table → is_above_at P table own c ≡ true) → HasAbove P q b table
+    above_found q table own has checked c i m k lt at slot having up = above_bit i lt q table own has (above_all table own checked) c m k at slot having up
 
 -- an empty table has all bits
 pub nearest_empty : (P : Plain) (q : Asked) (none : Bool) (b : ℕ) (table : List ℕ) → table ≡ [] → HasNearest P q none b table

@@ -5,16 +5,14 @@ use Rattle.kaba_base.specs.declared.Place.{Place}
 use Rattle.java_core.specs.declared.Ty.{Ty}
 use Rattle.java_core.specs.declared.UnOp.{UnOp}
 use Rattle.java_core.specs.declared.BinOp.{BinOp}
-use Rattle.java_core.specs.Trees.{Tag, Ex, Exs, no_ex, ex_then, number, character, text, truth, null, this, local, static_field, own_field, field, index, call, static_call, super_call, create, create_array, cast, instance_of, unary, binary, Target, to_local, to_field, to_element, no_target, St, Sts, Arms, declare, block, assign, act, print, choose, loop, return, st_then, otherwise, arm, at_place, no_place}
-use Rattle.java_core.specs.Programs.{Plain, PlainClass, PlainMethod, program_of}
+use Rattle.java_core.specs.Trees.{Tag, Ex, Exs, no_ex, ex_then, number, character, text, truth, null, this, local, static_field, own_field, field, index, call, static_call, super_call, create, create_array, cast, instance_of, unary, binary, Target, to_local, to_field, to_element, no_target, St, Sts, Arms, declare, block, assign, act, print, choose, loop, return, st_then, otherwise, arm}
+use Rattle.java_core.specs.Programs.{Plain, PlainClass, PlainMethod}
 use Rattle.java_core.specs.Classes.{super_method, has_body, is_concrete, is_interface, nearest_declaration}
-use Rattle.java_core.specs.Types.{Env, class_of, element_of, is_numeric, is_boolean, is_printable, fits, fits_in, Signature, call_signature, signature_of_method, access_type, field_in, static, target_type}
+use Rattle.java_core.specs.Types.{Env, env_of, class_of, element_of, is_numeric, is_boolean, is_printable, fits, fits_in, Signature, call_signature, signature_of_method, access_type, field_in, static, target_type}
 use Rattle.java_core.specs.Typing.{takes_one, takes_two, are_related, can_cast, Typed, TypedTarget, Offers, is_public_method}
 use Rattle.java_check.specs.declared.Kind.{Kind}
-use Rattle.java_core.specs.declared.Program.{Program}
 use Rattle.java_check.specs.declared.CheckFault.{CheckFault}
 use Rattle.java_check.specs.declared.CheckFault.TheVariants.{IllTyped, Memory}
-use Rattle.java_check.specs.Outcome.{env_in}
 use Rattle.java_check.specs.declared.Kind.TheVariants.{Operand, Condition, Assign, Arguments, Return, Cast, NoMember, AbstractNew, MissingBody, NotPublic}
 
 -- the tag of an expression
@@ -163,13 +161,13 @@ pub data BreaksClass (P : Plain) (c : ℕ) : Kind → Type 0 where
   not_public : {s m : ℕ} → is_interface P c ≡ false → (o : Offers P c s m) → is_interface P o.method.owner ≡ true
       → is_public_method P (nearest_declaration P c s) ≡ false → BreaksClass P c NotPublic
 
--- P is the program and Q the same with its places: a rule fails in P, at this place of Q
-pub data FailsIn (P Q : Plain) : Kind → Place → Type 0 where
-  in_method : (m : ℕ) {k : PlainMethod} {xs : Sts} {r : Kind} {p : Place} → slice_get Q.methods m ≡ Some k → k.body ≡ Some xs
-      → FailsSts P (env_in P m) xs r p → FailsIn P Q r p
-  at_class : {c : ℕ} {k : PlainClass} {r : Kind} → slice_get Q.classes c ≡ Some k → BreaksClass P c r → FailsIn P Q r k.tag.place
+-- a rule fails in a program, at this place
+pub data FailsIn (P : Plain) : Kind → Place → Type 0 where
+  in_method : (m : ℕ) {k : PlainMethod} {xs : Sts} {r : Kind} {p : Place} → slice_get P.methods m ≡ Some k → k.body ≡ Some xs
+      → FailsSts P (env_of m k) xs r p → FailsIn P r p
+  at_class : {c : ℕ} {k : PlainClass} {r : Kind} → slice_get P.classes c ≡ Some k → BreaksClass P c r → FailsIn P r k.tag.place
 
 -- why a program is refused: a rule fails at the place; want of memory never comes
-unfoldable pub IsRefused : Program → CheckFault → Type 0
-IsRefused p (IllTyped k place) = FailsIn (program_of no_place p) (program_of at_place p) k place
-IsRefused p Memory = ⊥
+unfoldable pub IsRefused : Plain → CheckFault → Type 0
+IsRefused P (IllTyped k place) = FailsIn P k place
+IsRefused P Memory = ⊥

@@ -4,7 +4,6 @@ use Rattle.std.specs.Option.{option_map_or, is_some}
 use Rattle.std.specs.Int.{bit_at}
 use Rattle.kaba_base.specs.declared.ClassId.{ClassId}
 use Rattle.java_core.specs.declared.Method.{Method}
-use Rattle.java_core.specs.Trees.{no_place}
 use Rattle.java_core.specs.Programs.{Plain, PlainMethod, program_of}
 use Rattle.java_core.specs.Formed.{IsFormed}
 use Rattle.java_core.specs.Classes.{parent_of, faces_of, has_slot, below, nearest_declaration, is_concrete, is_interface}
@@ -64,8 +63,8 @@ AreListed P b ms = (m i : ℕ) (k : PlainMethod) → slice_get P.methods m ≡ S
 
 -- a formed program, and each of its methods that has one of the 64 slots is listed
 pub record IsBatch (b : Batch) : Type 0 where
-  pub formed : IsFormed (program_of no_place b.p.now)
-  pub listed : AreListed (program_of no_place b.p.now) b.number b.list.now
+  pub formed : IsFormed (program_of b.p.now)
+  pub listed : AreListed (program_of b.p.now) b.number b.list.now
 
 -- the word of the superclass, or another one where there is none
 abbrev pub parent_word : Plain → List ℕ → ℕ → ℕ → ℕ

@@ -3,9 +3,7 @@
 ghost use Rattle.std.specs.Prelude.{◌≡◌, ℕ, List, Option, Some, None, map, slice_get, option_and_then, if◌then◌else◌};
 ghost use Rattle.std.specs.Option.{option_map};
 ghost use Rattle.std.specs.Str.{bytes_eq, encode_utf8_all};
-ghost use Rattle.java_core.specs.Programs.{Plain};
-ghost use Rattle.java_core.specs.Trees.{no_place};
-ghost use Rattle.java_core.specs.Programs.{program_of, local_seen};
+ghost use Rattle.java_core.specs.Programs.{Plain, program_of, local_seen};
 ghost use Rattle.java_core.specs.Classes as classes;
 ghost use Rattle.java_core.specs.Formed.{IsFormed};
 ghost use Rattle.java_core.specs.Types as types;
@@ -33,8 +31,8 @@ pub(crate) enum Callee {
 /// What a call of a name on an expression calls: a method of `String`, or the slot that the class offers.
 #[tactic(auto, unfolding(java_core::specs::Types::call_signature))]
 pub(crate) fn called(p: &Program, given: Static, name: &Name) -> Option<Callee>
-    requires { IsFormed (program_of no_place p.now) }
-    ensures { option_map (signature_of (program_of no_place p.now)) result ≡ types.call_signature (program_of no_place p.now) (seen given) name.now }
+    requires { IsFormed (program_of p.now) }
+    ensures { option_map (signature_of (program_of p.now)) result ≡ types.call_signature (program_of p.now) (seen given) name.now }
 {
     if is_string(given) {
         return text_called(name);
@@ -57,10 +55,9 @@ fn text_called(name: &Name) -> Option<Callee>
 
 /// The slot that a class offers under a name.
 fn offered(p: &Program, class: ClassId, name: &Name) -> Option<Callee>
-    requires { IsFormed (program_of no_place p.now) }
-    ensures { option_map (signature_of (program_of no_place p.now)) result
-        ≡ option_and_then (types.signature_of_slot (program_of no_place p.now))
-        (classes.slot_of (program_of no_place p.now) class.0 name.now) }
+    requires { IsFormed (program_of p.now) }
+    ensures { option_map (signature_of (program_of p.now)) result
+        ≡ option_and_then (types.signature_of_slot (program_of p.now)) (classes.slot_of (program_of p.now) class.0 name.now) }
 {
     match slot_of(p, class, name) {
         Some(slot) if p.slots.get(slot as usize).is_some() => Some(Callee::Slot(slot)),
@@ -70,7 +67,7 @@ fn offered(p: &Program, class: ClassId, name: &Name) -> Option<Callee>
 
 /// A method that is called, where it is there.
 pub(crate) fn method_called(p: &Program, method: MemberId) -> Option<Callee>
-    ensures { option_map (signature_of (program_of no_place p.now)) result ≡ types.signature_of_method (program_of no_place p.now) method.0 }
+    ensures { option_map (signature_of (program_of p.now)) result ≡ types.signature_of_method (program_of p.now) method.0 }
 {
     match method_by_number(p, method.0 as usize) {
         Some(_) => Some(Callee::Method(method)),
@@ -80,7 +77,7 @@ pub(crate) fn method_called(p: &Program, method: MemberId) -> Option<Callee>
 
 /// The type of a parameter.
 pub(crate) fn param_at(p: &Program, callee: Callee, at: usize) -> Option<Ty>
-    ensures { result ≡ slice_get (signature_of (program_of no_place p.now) callee).params at }
+    ensures { result ≡ slice_get (signature_of (program_of p.now) callee).params at }
 {
     match callee {
         Callee::Text(method) => string_param(method, at),
@@ -102,7 +99,7 @@ fn string_param(method: StringMethod, at: usize) -> Option<Ty>
 
 /// The type of a parameter of a slot.
 fn slot_param(p: &Program, slot: u32, at: usize) -> Option<Ty>
-    ensures { result ≡ slice_get (signature_of (program_of no_place p.now) (Callee.Slot slot)).params at }
+    ensures { result ≡ slice_get (signature_of (program_of p.now) (Callee.Slot slot)).params at }
 {
     match p.slots.get(slot as usize) {
         Some(slot) => slot.params.get(at).copied(),
@@ -112,7 +109,7 @@ fn slot_param(p: &Program, slot: u32, at: usize) -> Option<Ty>
 
 /// The type of a parameter of a method.
 fn method_param(p: &Program, method: MemberId, at: usize) -> Option<Ty>
-    ensures { result ≡ slice_get (signature_of (program_of no_place p.now) (Callee.Method method)).params at }
+    ensures { result ≡ slice_get (signature_of (program_of p.now) (Callee.Method method)).params at }
 {
     match method_by_number(p, method.0 as usize) {
         Some(method) => type_at(&method.params, at),
@@ -122,7 +119,7 @@ fn method_param(p: &Program, method: MemberId, at: usize) -> Option<Ty>
 
 /// What a call gives.
 pub(crate) fn result_of(p: &Program, callee: Callee) -> Static
-    ensures { result ≡ given_of (signature_of (program_of no_place p.now) callee).result }
+    ensures { result ≡ given_of (signature_of (program_of p.now) callee).result }
 {
     match callee {
         Callee::Text(method) => Static::Value(string_result(method)),
@@ -133,7 +130,7 @@ pub(crate) fn result_of(p: &Program, callee: Callee) -> Static
 
 /// What a call of a slot gives.
 fn slot_result(p: &Program, slot: u32) -> Static
-    ensures { result ≡ given_of (signature_of (program_of no_place p.now) (Callee.Slot slot)).result }
+    ensures { result ≡ given_of (signature_of (program_of p.now) (Callee.Slot slot)).result }
 {
     match p.slots.get(slot as usize) {
         Some(slot) => given_of(slot.result),
@@ -143,7 +140,7 @@ fn slot_result(p: &Program, slot: u32) -> Static
 
 /// What a call of a method gives.
 fn method_result(p: &Program, method: MemberId) -> Static
-    ensures { result ≡ given_of (signature_of (program_of no_place p.now) (Callee.Method method)).result }
+    ensures { result ≡ given_of (signature_of (program_of p.now) (Callee.Method method)).result }
 {
     match method_by_number(p, method.0 as usize) {
         Some(method) => given_of(method.result),

@@ -3,7 +3,7 @@
 ghost use Rattle.std.specs.Prelude.{◌≡◌, ◌&&◌, ◌++◌, map, Some, slice_get};
 ghost use Rattle.std.specs.Option.{option_map, is_some};
 ghost use Rattle.kaba_base.specs.declared.Place.{Place};
-ghost use Rattle.java_core.specs.Trees.{at_place, no_place, expr_of, exprs, base_seen};
+ghost use Rattle.java_core.specs.Trees.{at_place, expr_of, exprs, base_seen};
 ghost use Rattle.java_core.specs.Programs.{program_of, local_seen};
 ghost use Rattle.java_core.specs.Classes as classes;
 ghost use Rattle.java_core.specs.Formed.{IsFormed};
@@ -36,7 +36,7 @@ pub(crate) fn ask(holds: bool, kind: Kind, place: Place) -> Answered<()>
 
 /// The class that holds the body.
 fn self_class(p: &Program, body: MemberId) -> ClassId
-    ensures { result.0 ≡ (env_in (program_of no_place p.now) body.0).self }
+    ensures { result.0 ≡ (env_in (program_of p.now) body.0).self }
 {
     match method_by_number(p, body.0 as usize) {
         Some(method) => method.owner,
@@ -46,14 +46,14 @@ fn self_class(p: &Program, body: MemberId) -> ClassId
 
 /// The type of `this` in the body.
 fn self_type(p: &Program, body: MemberId) -> Ty
-    ensures { result ≡ types.class_type (env_in (program_of no_place p.now) body.0).self }
+    ensures { result ≡ types.class_type (env_in (program_of p.now) body.0).self }
 {
     plain_type(TyBase::Class(self_class(p, body)))
 }
 
 /// The type of a parameter or a local of the body.
 pub(crate) fn local_type(p: &Program, body: MemberId, local: u32) -> Option<Ty>
-    ensures { result ≡ slice_get (env_in (program_of no_place p.now) body.0).locals local }
+    ensures { result ≡ slice_get (env_in (program_of p.now) body.0).locals local }
 {
     match method_by_number(p, body.0 as usize) {
         Some(method) => java_core::local_type(method, local),
@@ -63,7 +63,7 @@ pub(crate) fn local_type(p: &Program, body: MemberId, local: u32) -> Option<Ty>
 
 /// Whether objects of the class can be made.
 pub(crate) fn is_concrete(p: &Program, class: ClassId) -> bool
-    ensures { result ≡ classes.is_concrete (program_of no_place p.now) class.0 }
+    ensures { result ≡ classes.is_concrete (program_of p.now) class.0 }
 {
     match class_by_number(p, class.0 as usize) {
         Some(class) => !class.is_interface && !class.is_abstract,
@@ -73,7 +73,7 @@ pub(crate) fn is_concrete(p: &Program, class: ClassId) -> bool
 
 /// Whether a method has a body.
 pub(crate) fn has_body(p: &Program, method: MemberId) -> bool
-    ensures { result ≡ classes.has_body (program_of no_place p.now) method.0 }
+    ensures { result ≡ classes.has_body (program_of p.now) method.0 }
 {
     match method_by_number(p, method.0 as usize) {
         Some(method) => method.body.is_some(),
@@ -84,8 +84,8 @@ pub(crate) fn has_body(p: &Program, method: MemberId) -> bool
 /// What an expression gives, or the first rule that fails in it.
 #[cycle(expressions)]
 pub(crate) fn type_of(p: &Program, body: MemberId, e: &RExpr) -> Answered<Static>
-    requires { IsFormed (program_of no_place p.now) }
-    ensures { result ≡ answer (program_of no_place p.now) (env_in (program_of no_place p.now) body.0) (expr_of at_place e.now) }
+    requires { IsFormed (program_of p.now) }
+    ensures { result ≡ answer (program_of p.now) (env_in (program_of p.now) body.0) (expr_of e.now) }
 {
     match e {
         RExpr::Int { .. } => Ok(Static::Value(plain_type(TyBase::Int))),
@@ -161,8 +161,8 @@ pub(crate) fn type_of(p: &Program, body: MemberId, e: &RExpr) -> Answered<Static
 /// What the receiver of a call gives; where none is written, it is `this`.
 #[cycle(expressions)]
 fn type_of_base(p: &Program, body: MemberId, base: &Option<Box<RExpr>>) -> Answered<Static>
-    requires { IsFormed (program_of no_place p.now) }
-    ensures { (place : Place) → result ≡ answer (program_of no_place p.now) (env_in (program_of no_place p.now) body.0) (base_seen at_place base.now place) }
+    requires { IsFormed (program_of p.now) }
+    ensures { (place : Place) → result ≡ answer (program_of p.now) (env_in (program_of p.now) body.0) (base_seen base.now place) }
 {
     match base {
         Some(base) => type_of(p, body, base),
@@ -179,10 +179,9 @@ fn type_of_call(
     args: &Vec<RExpr>,
     place: Place,
 ) -> Answered<Static>
-    requires { IsFormed (program_of no_place p.now) }
-    ensures { result ≡ call_answer (option_map (signature_of (program_of no_place p.now)) callee)
-        (args_answer (program_of no_place p.now) (env_in (program_of no_place p.now) body.0)
-        (exprs at_place args.now.items) (at_place place)) (at_place place) }
+    requires { IsFormed (program_of p.now) }
+    ensures { result ≡ call_answer (option_map (signature_of (program_of p.now)) callee)
+        (args_answer (program_of p.now) (env_in (program_of p.now) body.0) (exprs args.now.items) (at_place place)) (at_place place) }
 {
     match callee {
         Some(callee) => {
@@ -202,11 +201,9 @@ fn type_of_super(
     args: &Vec<RExpr>,
     place: Place,
 ) -> Answered<Static>
-    requires { IsFormed (program_of no_place p.now) }
-    ensures { result ≡ super_answer (program_of no_place p.now)
-        (classes.super_method (program_of no_place p.now) (env_in (program_of no_place p.now) body.0).self
-        name.now) (args_answer (program_of no_place p.now) (env_in (program_of no_place p.now) body.0)
-        (exprs at_place args.now.items) (at_place place)) (at_place place) }
+    requires { IsFormed (program_of p.now) }
+    ensures { result ≡ super_answer (program_of p.now) (classes.super_method (program_of p.now) (env_in (program_of p.now) body.0).self name.now)
+        (args_answer (program_of p.now) (env_in (program_of p.now) body.0) (exprs args.now.items) (at_place place)) (at_place place) }
 {
     match super_method(p, self_class(p, body), name) {
         Some(method) if has_body(p, method) => {
@@ -225,9 +222,9 @@ fn check_args(
     args: &[RExpr],
     place: Place,
 ) -> Answered<()>
-    requires { IsFormed (program_of no_place p.now) }
-    ensures { result ≡ args_answer (program_of no_place p.now) (env_in (program_of no_place p.now) body.0)
-        (exprs at_place args.now) (at_place place) (signature_of (program_of no_place p.now) callee).params }
+    requires { IsFormed (program_of p.now) }
+    ensures { result ≡ args_answer (program_of p.now) (env_in (program_of p.now) body.0)
+        (exprs args.now) (at_place place) (signature_of (program_of p.now) callee).params }
 {
     for (i, arg) in args.iter().enumerate() {
         let Some(ty) = param_at(p, callee, i) else {
@@ -246,19 +243,17 @@ fn check_args(
 /// Whether an argument fits its parameter.
 #[cycle(expressions)]
 fn check_arg(p: &Program, body: MemberId, arg: &RExpr, ty: Ty, place: Place) -> Answered<()>
-    requires { IsFormed (program_of no_place p.now) }
-    ensures { result ≡ and_then (answer (program_of no_place p.now)
-        (env_in (program_of no_place p.now) body.0) (expr_of at_place arg.now))
-        (λ s. asked (types.fits (program_of no_place p.now) (seen s) ty) Kind.Arguments
-        (at_place place) (tt {0})) }
+    requires { IsFormed (program_of p.now) }
+    ensures { result ≡ and_then (answer (program_of p.now) (env_in (program_of p.now) body.0) (expr_of arg.now))
+        (λ s. asked (types.fits (program_of p.now) (seen s) ty) Kind.Arguments (at_place place) (tt {0})) }
 {
     ask(fits(p, type_of(p, body, arg)?, ty), Kind::Arguments, place)
 }
 
 /// What a field access gives.
 fn access(p: &Program, given: Static, name: &Name, place: Place) -> Answered<Static>
-    requires { IsFormed (program_of no_place p.now) }
-    ensures { result ≡ member_answer (types.access_type (program_of no_place p.now) (seen given) name.now) (at_place place) }
+    requires { IsFormed (program_of p.now) }
+    ensures { result ≡ member_answer (types.access_type (program_of p.now) (seen given) name.now) (at_place place) }
 {
     match access_type(p, given, name) {
         Some(ty) => Ok(Static::Value(ty)),
@@ -278,7 +273,7 @@ pub(crate) fn element(base: Static, index: Static, place: Place) -> Answered<Sta
 
 /// What a creation gives.
 fn creation(p: &Program, class: ClassId, args: &Vec<RExpr>, place: Place) -> Answered<Static>
-    ensures { result ≡ create_answer (classes.is_concrete (program_of no_place p.now) class.0) (exprs at_place args.now.items) class.0 (at_place place) }
+    ensures { result ≡ create_answer (classes.is_concrete (program_of p.now) class.0) (exprs args.now.items) class.0 (at_place place) }
 {
     ask(is_concrete(p, class), Kind::AbstractNew, place)?;
     match args.as_slice() {
@@ -297,8 +292,8 @@ fn array(size: Static, ty: Ty, place: Place) -> Answered<Static>
 
 /// What a cast gives.
 fn cast(p: &Program, given: Static, ty: Ty, place: Place) -> Answered<Static>
-    requires { IsFormed (program_of no_place p.now) }
-    ensures { result ≡ asked (typing.can_cast (program_of no_place p.now) (seen given) ty) Kind.Cast (at_place place) (Static.Value ty) }
+    requires { IsFormed (program_of p.now) }
+    ensures { result ≡ asked (typing.can_cast (program_of p.now) (seen given) ty) Kind.Cast (at_place place) (Static.Value ty) }
 {
     ask(can_cast(p, given, ty), Kind::Cast, place)?;
     Ok(Static::Value(ty))
@@ -306,8 +301,8 @@ fn cast(p: &Program, given: Static, ty: Ty, place: Place) -> Answered<Static>
 
 /// What an `instanceof` gives.
 fn instance(p: &Program, given: Static, class: ClassId, place: Place) -> Answered<Static>
-    requires { IsFormed (program_of no_place p.now) }
-    ensures { result ≡ asked (typing.are_related (program_of no_place p.now) (types.class_of (seen given))
+    requires { IsFormed (program_of p.now) }
+    ensures { result ≡ asked (typing.are_related (program_of p.now) (types.class_of (seen given))
         (Some class.0)) Kind.Cast (at_place place) (Static.Value (types.plain_type TyBase.Boolean)) }
 {
     ask(
@@ -328,8 +323,8 @@ fn unary(op: UnOp, given: Static, place: Place) -> Answered<Static>
 
 /// What a binary operator gives.
 fn binary(p: &Program, op: BinOp, left: Static, right: Static, place: Place) -> Answered<Static>
-    requires { IsFormed (program_of no_place p.now) }
-    ensures { result ≡ asked (typing.takes_two (program_of no_place p.now) op (seen left) (seen right))
+    requires { IsFormed (program_of p.now) }
+    ensures { result ≡ asked (typing.takes_two (program_of p.now) op (seen left) (seen right))
         Kind.Operand (at_place place) (Static.Value (types.binary_type op (seen left) (seen right))) }
 {
     ask(takes_two(p, op, left, right), Kind::Operand, place)?;

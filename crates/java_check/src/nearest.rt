@@ -2,7 +2,6 @@
 
 ghost use Rattle.std.specs.Prelude.{◌≡◌, ℕ, ◌<◌, ◌∷◌, [], Some, None, false, cond, length, map, IfOk};
 ghost use Rattle.std.specs.Option.{option_and_then, option_map_or};
-ghost use Rattle.java_core.specs.Trees.{no_place};
 ghost use Rattle.java_core.specs.Programs.{program_of, method_seen};
 ghost use Rattle.java_core.specs.Owned.{AreOwned};
 ghost use Rattle.java_core.specs.Classes as classes;
@@ -58,8 +57,7 @@ fn keep_for(near: &mut [Option<usize>], slot: Option<u32>, at: usize)
 /// The same of a method of a class.
 fn keep(p: &Program, near: &mut [Option<usize>], class: ClassId, at: usize)
     ensures len { length near.new ≡ length near.old }
-    ensures kept { (s : ℕ) → s < length near.old
-        → kept_at near.new s ≡ first_or (kept_at near.old s) (declared_among (program_of no_place p.now) class.0 s (at ∷ [])) }
+    ensures kept { (s : ℕ) → s < length near.old → kept_at near.new s ≡ first_or (kept_at near.old s) (declared_among (program_of p.now) class.0 s (at ∷ [])) }
 {
     match method_by_number(p, at) {
         Some(method) => {
@@ -74,8 +72,7 @@ fn keep(p: &Program, near: &mut [Option<usize>], class: ClassId, at: usize)
 /// The same of each of these.
 fn keep_all(p: &Program, near: &mut [Option<usize>], class: ClassId, list: &[usize])
     ensures len { length near.new ≡ length near.old }
-    ensures kept { (s : ℕ) → s < length near.old
-        → kept_at near.new s ≡ first_or (kept_at near.old s) (declared_among (program_of no_place p.now) class.0 s list.now) }
+    ensures kept { (s : ℕ) → s < length near.old → kept_at near.new s ≡ first_or (kept_at near.old s) (declared_among (program_of p.now) class.0 s list.now) }
 {
     for at in list {
         keep(p, near, class, *at);
@@ -90,9 +87,9 @@ fn step(
     at: Option<ClassId>,
 ) -> Option<ClassId>
     requires { AreOwned (map (λ m. method_owner m) p.now.methods.items) lists.now.items }
-    ensures next { result ≡ option_and_then (λ h. classes.parent_of (program_of no_place p.now) h.0) at }
+    ensures next { result ≡ option_and_then (λ h. classes.parent_of (program_of p.now) h.0) at }
     ensures len { length near.new ≡ length near.old }
-    ensures kept { (s : ℕ) → s < length near.old → kept_at near.new s ≡ first_or (kept_at near.old s) (own_of (program_of no_place p.now) at s) }
+    ensures kept { (s : ℕ) → s < length near.old → kept_at near.new s ≡ first_or (kept_at near.old s) (own_of (program_of p.now) at s) }
 {
     match at {
         Some(class) => {
@@ -108,7 +105,7 @@ fn walk(p: &Program, lists: &Vec<Vec<usize>>, near: &mut [Option<usize>], class:
     requires { AreOwned (map (λ m. method_owner m) p.now.methods.items) lists.now.items }
     ensures len { length near.new ≡ length near.old }
     ensures kept { (s : ℕ) → s < length near.old
-        → kept_at near.new s ≡ first_or (kept_at near.old s) (classes.nearest_declaration (program_of no_place p.now) class.0 s) }
+        → kept_at near.new s ≡ first_or (kept_at near.old s) (classes.nearest_declaration (program_of p.now) class.0 s) }
 {
     let mut at = Some(class);
     for _done in 0..p.classes.len() + 1 {
@@ -118,7 +115,7 @@ fn walk(p: &Program, lists: &Vec<Vec<usize>>, near: &mut [Option<usize>], class:
 
 /// For each slot the nearest declaration in a class and its superclasses; `AllocError` where memory is short.
 fn near_of(alloc: Global, p: &Program, class: ClassId) -> Result<Vec<Option<usize>>, AllocError>
-    ensures { IfOk result (λ v. (s : ℕ) → s < length v.items → kept_at v.items s ≡ classes.nearest_declaration (program_of no_place p.now) class.0 s) }
+    ensures { IfOk result (λ v. (s : ℕ) → s < length v.items → kept_at v.items s ≡ classes.nearest_declaration (program_of p.now) class.0 s) }
 {
     let lists = methods_of_classes(alloc, &p.methods)?;
     let mut near = vec![in alloc; None; p.slots.len()]?;
@@ -128,9 +125,9 @@ fn near_of(alloc: Global, p: &Program, class: ClassId) -> Result<Vec<Option<usiz
 
 /// The nearest declaration of a slot: what is kept for it, or what is found upwards.
 fn nearest_at(p: &Program, near: &[Option<usize>], class: ClassId, slot: u32) -> Option<usize>
-    requires formed { IsFormed (program_of no_place p.now) }
-    requires near { (s : ℕ) → s < length near.now → kept_at near.now s ≡ classes.nearest_declaration (program_of no_place p.now) class.0 s }
-    ensures { result ≡ classes.nearest_declaration (program_of no_place p.now) class.0 slot }
+    requires formed { IsFormed (program_of p.now) }
+    requires near { (s : ℕ) → s < length near.now → kept_at near.now s ≡ classes.nearest_declaration (program_of p.now) class.0 s }
+    ensures { result ≡ classes.nearest_declaration (program_of p.now) class.0 slot }
 {
     if (slot as usize) < near.len() {
         return kept_at(near, slot);
@@ -143,7 +140,7 @@ fn nearest_at(p: &Program, near: &[Option<usize>], class: ClassId, slot: u32) ->
 
 /// Whether there is a method, and it has a body.
 fn is_bodied_at(p: &Program, at: Option<usize>) -> bool
-    ensures { result ≡ option_map_or (has_body (program_of no_place p.now)) at false }
+    ensures { result ≡ option_map_or (has_body (program_of p.now)) at false }
 {
     match at {
         Some(at) => match method_by_number(p, at) {
@@ -156,7 +153,7 @@ fn is_bodied_at(p: &Program, at: Option<usize>) -> bool
 
 /// Whether a method, where there is one, is public.
 fn is_shown_at(p: &Program, at: Option<usize>) -> bool
-    ensures { result ≡ is_public_method (program_of no_place p.now) at }
+    ensures { result ≡ is_public_method (program_of p.now) at }
 {
     match at {
         Some(at) => match method_by_number(p, at) {
@@ -169,9 +166,9 @@ fn is_shown_at(p: &Program, at: Option<usize>) -> bool
 
 /// The rule that a class or an interface breaks for the slot of a method that stands at or above it.
 fn rule_near(p: &Program, near: &[Option<usize>], class: ClassId, method: &Method) -> Option<Kind>
-    requires formed { IsFormed (program_of no_place p.now) }
-    requires near { (s : ℕ) → s < length near.now → kept_at near.now s ≡ classes.nearest_declaration (program_of no_place p.now) class.0 s }
-    ensures { result ≡ method_rule (program_of no_place p.now) class.0 (method_seen no_place method.now) }
+    requires formed { IsFormed (program_of p.now) }
+    requires near { (s : ℕ) → s < length near.now → kept_at near.now s ≡ classes.nearest_declaration (program_of p.now) class.0 s }
+    ensures { result ≡ method_rule (program_of p.now) class.0 (method_seen method.now) }
 {
     match method.slot {
         Some(slot) if is_subtype(p, class, method.owner) => {
@@ -198,9 +195,9 @@ fn broken_near(
     class: ClassId,
     methods: &[Method],
 ) -> Option<Kind>
-    requires formed { IsFormed (program_of no_place p.now) }
-    requires near { (s : ℕ) → s < length near.now → kept_at near.now s ≡ classes.nearest_declaration (program_of no_place p.now) class.0 s }
-    ensures { result ≡ class_rule (program_of no_place p.now) class.0 (map (method_seen no_place) methods.now) }
+    requires formed { IsFormed (program_of p.now) }
+    requires near { (s : ℕ) → s < length near.now → kept_at near.now s ≡ classes.nearest_declaration (program_of p.now) class.0 s }
+    ensures { result ≡ class_rule (program_of p.now) class.0 (map method_seen methods.now) }
 {
     for method in methods {
         if let Some(kind) = rule_near(p, near, class, method) {
@@ -212,8 +209,8 @@ fn broken_near(
 
 /// The rule that a class or an interface breaks as a whole.
 pub(crate) fn fault_near(alloc: Global, p: &Program, class: ClassId) -> Option<Kind>
-    requires { IsFormed (program_of no_place p.now) }
-    ensures { result ≡ class_rule (program_of no_place p.now) class.0 (program_of no_place p.now).methods }
+    requires { IsFormed (program_of p.now) }
+    ensures { result ≡ class_rule (program_of p.now) class.0 (program_of p.now).methods }
 {
     match near_of(alloc, p, class) {
         Ok(near) => broken_near(p, &near, class, &p.methods),

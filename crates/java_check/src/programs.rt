@@ -1,7 +1,7 @@
 //! The rules of types of a whole program.
 
 ghost use Rattle.std.specs.Prelude.{◌≡◌, ℕ, ◌<◌, None, length, map, IfOk, IfErr};
-ghost use Rattle.java_core.specs.Trees.{at_place, no_place, body_seen};
+ghost use Rattle.java_core.specs.Trees.{body_seen};
 ghost use Rattle.java_core.specs.Programs.{program_of, class_seen, method_seen};
 ghost use Rattle.java_core.specs.Formed.{IsFormed};
 ghost use Rattle.java_core.specs.Typing.{IsTyped};
@@ -23,11 +23,11 @@ use std::alloc::Global;
 /// where the rules of types refuse the program (Java Language Specification, chapters 8, 14 and 15,
 /// the subset's part). Want of memory never comes.
 pub fn check(alloc: Global, program: Program) -> Result<Checked, CheckFault>
-    requires { IsFormed (program_of no_place program) }
+    requires { IsFormed (program_of program) }
     ensures given { IfOk result (λ checked. checked ≡ program) }
-    ensures typed { IfOk result (λ _. IsTyped (program_of no_place program)) }
-    ensures refused { IfErr result (λ fault. IsRefused program fault) }
-    ensures untyped { IfErr result (λ _. IsTyped (program_of no_place program) → ⊥) }
+    ensures typed { IfOk result (λ _. IsTyped (program_of program)) }
+    ensures refused { IfErr result (λ fault. IsRefused (program_of program) fault) }
+    ensures untyped { IfErr result (λ _. IsTyped (program_of program) → ⊥) }
 {
     match check_program(alloc, &program) {
         Ok(()) => Ok(Checked::new(program)),
@@ -37,20 +37,19 @@ pub fn check(alloc: Global, program: Program) -> Result<Checked, CheckFault>
 
 /// The first rule that fails in a program.
 fn check_program(alloc: Global, p: &Program) -> Answered<()>
-    requires { IsFormed (program_of no_place p.now) }
-    ensures typed { IfOk result (λ _. IsTyped (program_of no_place p.now)) }
-    ensures refused { IfErr result (λ fault. IsRefused p.now fault) }
-    ensures untyped { IfErr result (λ _. IsTyped (program_of no_place p.now) → ⊥) }
+    requires { IsFormed (program_of p.now) }
+    ensures typed { IfOk result (λ _. IsTyped (program_of p.now)) }
+    ensures refused { IfErr result (λ fault. IsRefused (program_of p.now) fault) }
+    ensures untyped { IfErr result (λ _. IsTyped (program_of p.now) → ⊥) }
 {
     first_fault(alloc, p)
 }
 
 /// The first rule that fails: in the classes, then in the bodies.
 fn first_fault(alloc: Global, p: &Program) -> Answered<()>
-    requires { IsFormed (program_of no_place p.now) }
-    ensures { result ≡ and_then (classes_answer (program_of no_place p.now) 0
-        (program_of at_place p.now).classes) (λ _. methods_answer (program_of no_place p.now) 0
-        (program_of at_place p.now).methods) }
+    requires { IsFormed (program_of p.now) }
+    ensures { result ≡ and_then (classes_answer (program_of p.now) 0 (program_of p.now).classes)
+        (λ _. methods_answer (program_of p.now) 0 (program_of p.now).methods) }
 {
     match check_classes(alloc, p) {
         Ok(()) => check_methods(p, &p.methods),
@@ -60,16 +59,16 @@ fn first_fault(alloc: Global, p: &Program) -> Answered<()>
 
 /// The first rule that one of the classes breaks.
 fn check_classes(alloc: Global, p: &Program) -> Answered<()>
-    requires { IsFormed (program_of no_place p.now) }
-    ensures { result ≡ classes_answer (program_of no_place p.now) 0 (program_of at_place p.now).classes }
+    requires { IsFormed (program_of p.now) }
+    ensures { result ≡ classes_answer (program_of p.now) 0 (program_of p.now).classes }
 {
     check_each(alloc, p, &p.classes, known_classes(alloc, p))
 }
 
 /// How many of the first classes are known to break no rule.
 fn known_classes(alloc: Global, p: &Program) -> usize
-    requires { IsFormed (program_of no_place p.now) }
-    ensures { (c : ℕ) → c < result → class_rule (program_of no_place p.now) c (program_of no_place p.now).methods ≡ None }
+    requires { IsFormed (program_of p.now) }
+    ensures { (c : ℕ) → c < result → class_rule (program_of p.now) c (program_of p.now).methods ≡ None }
 {
     match fine_classes(alloc, p) {
         Ok(fine) => fine,
@@ -79,8 +78,8 @@ fn known_classes(alloc: Global, p: &Program) -> usize
 
 /// All classes, where none breaks a rule for the slot of a method without a body; else none.
 fn quiet_classes(p: &Program) -> usize
-    requires { IsFormed (program_of no_place p.now) }
-    ensures { (c : ℕ) → c < result → class_rule (program_of no_place p.now) c (program_of no_place p.now).methods ≡ None }
+    requires { IsFormed (program_of p.now) }
+    ensures { (c : ℕ) → c < result → class_rule (program_of p.now) c (program_of p.now).methods ≡ None }
 {
     if all_quiet(p, &p.methods) {
         p.classes.len()
@@ -91,10 +90,10 @@ fn quiet_classes(p: &Program) -> usize
 
 /// The first rule that one of the classes breaks, each tested but so many first ones that break none.
 fn check_each(alloc: Global, p: &Program, classes: &[Class], fine: usize) -> Answered<()>
-    requires formed { IsFormed (program_of no_place p.now) }
+    requires formed { IsFormed (program_of p.now) }
     requires few { length classes.now < 4294967295 }
-    requires fine { (c : ℕ) → c < fine → class_rule (program_of no_place p.now) c (program_of no_place p.now).methods ≡ None }
-    ensures { result ≡ classes_answer (program_of no_place p.now) 0 (map (class_seen at_place) classes.now) }
+    requires fine { (c : ℕ) → c < fine → class_rule (program_of p.now) c (program_of p.now).methods ≡ None }
+    ensures { result ≡ classes_answer (program_of p.now) 0 (map class_seen classes.now) }
 {
     for (i, class) in classes.iter().enumerate() {
         if let Some(kind) = fault_of(alloc, p, ClassId(i as u32), fine) {
@@ -106,9 +105,9 @@ fn check_each(alloc: Global, p: &Program, classes: &[Class], fine: usize) -> Ans
 
 /// The rule that a class breaks as a whole, where so many first ones break none.
 fn fault_of(alloc: Global, p: &Program, class: ClassId, fine: usize) -> Option<Kind>
-    requires formed { IsFormed (program_of no_place p.now) }
-    requires fine { (c : ℕ) → c < fine → class_rule (program_of no_place p.now) c (program_of no_place p.now).methods ≡ None }
-    ensures { result ≡ class_rule (program_of no_place p.now) class.0 (program_of no_place p.now).methods }
+    requires formed { IsFormed (program_of p.now) }
+    requires fine { (c : ℕ) → c < fine → class_rule (program_of p.now) c (program_of p.now).methods ≡ None }
+    ensures { result ≡ class_rule (program_of p.now) class.0 (program_of p.now).methods }
 {
     if (class.0 as usize) < fine {
         return None;
@@ -118,9 +117,9 @@ fn fault_of(alloc: Global, p: &Program, class: ClassId, fine: usize) -> Option<K
 
 /// The first rule that fails in the bodies of the methods.
 fn check_methods(p: &Program, methods: &[Method]) -> Answered<()>
-    requires formed { IsFormed (program_of no_place p.now) }
+    requires formed { IsFormed (program_of p.now) }
     requires few { length methods.now < 4294967295 }
-    ensures { result ≡ methods_answer (program_of no_place p.now) 0 (map (method_seen at_place) methods.now) }
+    ensures { result ≡ methods_answer (program_of p.now) 0 (map method_seen methods.now) }
 {
     for (i, method) in methods.iter().enumerate() {
         if let Err(fault) = check_body(p, MemberId(i as u32), method) {
@@ -132,8 +131,8 @@ fn check_methods(p: &Program, methods: &[Method]) -> Answered<()>
 
 /// The first rule that fails in the body of a method.
 fn check_body(p: &Program, number: MemberId, method: &Method) -> Answered<()>
-    requires { IsFormed (program_of no_place p.now) }
-    ensures { result ≡ body_answer (program_of no_place p.now) (env_in (program_of no_place p.now) number.0) (body_seen at_place method.now.body) }
+    requires { IsFormed (program_of p.now) }
+    ensures { result ≡ body_answer (program_of p.now) (env_in (program_of p.now) number.0) (body_seen method.now.body) }
 {
     match &method.body {
         Some(body) => check_stmts(p, number, body),

@@ -1,7 +1,6 @@
 //! The rules of types for the slots of methods without a body, 64 slots at a time: how many of the first classes break none.
 
 ghost use Rattle.std.specs.Prelude.{◌≡◌, ℕ, ◌+◌, ◌/◌, ◌<◌, ◌≤◌, true, length, map, IfOk, None};
-ghost use Rattle.java_core.specs.Trees.{no_place};
 ghost use Rattle.java_core.specs.Programs.{program_of};
 ghost use Rattle.java_core.specs.Owned.{AreOwned};
 ghost use Rattle.java_core.specs.Formed.{IsFormed};
@@ -56,7 +55,7 @@ fn methods_of_batches(
 
 /// Whether a method is there and has no body.
 fn is_bare(p: &Program, at: usize) -> bool
-    ensures { result ≡ is_bare (program_of no_place p.now) at }
+    ensures { result ≡ is_bare (program_of p.now) at }
 {
     match method_by_number(p, at) {
         Some(method) => method.body.is_none(),
@@ -66,7 +65,7 @@ fn is_bare(p: &Program, at: usize) -> bool
 
 /// Whether one of these methods has no body.
 fn has_bare(p: &Program, list: &[usize]) -> bool
-    ensures { result ≡ has_bare (program_of no_place p.now) list.now }
+    ensures { result ≡ has_bare (program_of p.now) list.now }
 {
     for at in list {
         if is_bare(p, *at) {
@@ -79,7 +78,7 @@ fn has_bare(p: &Program, list: &[usize]) -> bool
 /// What the classes have of 64 slots; `AllocError` where memory is short.
 fn found_for(batch: &Batch) -> Result<Found, AllocError>
     requires { IsBatch batch.now }
-    ensures { IfOk result (λ found. AreFound (program_of no_place batch.now.p.now) batch.now.number found) }
+    ensures { IfOk result (λ found. AreFound (program_of batch.now.p.now) batch.now.number found) }
 {
     Ok(Found {
         bare: nearest_table(batch, Asked::Bodied, Asked::Bare, false)?,
@@ -98,7 +97,7 @@ fn are_apart(one: u64, other: u64) -> bool
 
 /// Whether a class breaks no rule for the 64 slots.
 fn is_clear(p: &Program, found: &Found, class: ClassId) -> bool
-    ensures { result ≡ is_clear (program_of no_place p.now) found.now class.0 }
+    ensures { result ≡ is_clear (program_of p.now) found.now class.0 }
 {
     is_interface(p, class)
         || ((!is_concrete(p, class)
@@ -108,10 +107,10 @@ fn is_clear(p: &Program, found: &Found, class: ClassId) -> bool
 
 /// How many of so many first classes break no rule for the 64 slots.
 fn clear_until(p: &Program, found: &Found, until: usize) -> usize
-    requires formed { IsFormed (program_of no_place p.now) }
+    requires formed { IsFormed (program_of p.now) }
     requires few { until ≤ length p.now.classes.items }
     ensures within { result ≤ until }
-    ensures clear { (c : ℕ) → c < result → is_clear (program_of no_place p.now) found.now c ≡ true }
+    ensures clear { (c : ℕ) → c < result → is_clear (program_of p.now) found.now c ≡ true }
 {
     for class in 0..until {
         if !is_clear(p, found, ClassId(class as u32)) {
@@ -130,11 +129,11 @@ fn fine_for(
     batch: usize,
     until: usize,
 ) -> Result<usize, AllocError>
-    requires formed { IsFormed (program_of no_place p.now) }
+    requires formed { IsFormed (program_of p.now) }
     requires few { until ≤ length p.now.classes.items }
-    requires listed { AreListed (program_of no_place p.now) batch list.now }
+    requires listed { AreListed (program_of p.now) batch list.now }
     ensures within { IfOk result (λ n. n ≤ until) }
-    ensures fine { IfOk result (λ n. (c : ℕ) → c < n → IsFineFor (program_of no_place p.now) batch c) }
+    ensures fine { IfOk result (λ n. (c : ℕ) → c < n → IsFineFor (program_of p.now) batch c) }
 {
     if !has_bare(p, list) {
         return Ok(until);
@@ -156,9 +155,9 @@ fn fine_for_all(
     order: &[u32],
     lists: &Vec<Vec<usize>>,
 ) -> Result<usize, AllocError>
-    requires formed { IsFormed (program_of no_place p.now) }
+    requires formed { IsFormed (program_of p.now) }
     requires owned { AreOwned (map (λ m. method_batch (length p.now.slots.items) m) p.now.methods.items) lists.now.items }
-    ensures { IfOk result (λ n. (b c : ℕ) → b < length p.now.slots.items / 64 + 1 → c < n → IsFineFor (program_of no_place p.now) b c) }
+    ensures { IfOk result (λ n. (b c : ℕ) → b < length p.now.slots.items / 64 + 1 → c < n → IsFineFor (program_of p.now) b c) }
 {
     let mut until = p.classes.len();
     for batch in 0..p.slots.len() / 64 + 1 {
@@ -170,8 +169,8 @@ fn fine_for_all(
 
 /// How many of the first classes and interfaces break no rule as a whole; `AllocError` where memory is short.
 pub(crate) fn fine_classes(alloc: Global, p: &Program) -> Result<usize, AllocError>
-    requires { IsFormed (program_of no_place p.now) }
-    ensures { IfOk result (λ n. (c : ℕ) → c < n → class_rule (program_of no_place p.now) c (program_of no_place p.now).methods ≡ None) }
+    requires { IsFormed (program_of p.now) }
+    ensures { IfOk result (λ n. (c : ℕ) → c < n → class_rule (program_of p.now) c (program_of p.now).methods ≡ None) }
 {
     let lists = methods_of_batches(alloc, p.slots.len(), &p.methods)?;
     let fine = fine_for_all(alloc, p, p.supertypes_first(), &lists)?;

@@ -2,7 +2,7 @@
 
 ghost use Rattle.std.specs.Prelude.{◌≡◌, ◌&&◌, Some, option_and_then};
 ghost use Rattle.std.specs.Option.{is_some};
-ghost use Rattle.java_core.specs.Trees.{at_place, no_place, expr_of, value_of, target_of, stmt_of, stmts, arms_seen, else_seen, step_seen};
+ghost use Rattle.java_core.specs.Trees.{at_place, expr_of, value_of, target_of, stmt_of, stmts, arms_seen, else_seen, step_seen};
 ghost use Rattle.java_core.specs.Programs.{program_of};
 ghost use Rattle.java_core.specs.Formed.{IsFormed};
 ghost use Rattle.java_core.specs.Types as types;
@@ -20,7 +20,7 @@ use kaba_base::{MemberId, Name, Place};
 
 /// The place of an expression.
 fn place_of(e: &RExpr) -> Place
-    ensures { result ≡ (tag_of (expr_of at_place e.now)).place }
+    ensures { result ≡ (tag_of (expr_of e.now)).place }
 {
     match e {
         RExpr::Int { place, .. } => *place,
@@ -48,8 +48,8 @@ fn place_of(e: &RExpr) -> Place
 
 /// The type of the variable that an assignment changes.
 fn target_type(p: &Program, body: MemberId, target: &RExpr, place: Place) -> Answered<Static>
-    requires { IsFormed (program_of no_place p.now) }
-    ensures { result ≡ target_answer (program_of no_place p.now) (env_in (program_of no_place p.now) body.0) (at_place place) (target_of at_place target.now) }
+    requires { IsFormed (program_of p.now) }
+    ensures { result ≡ target_answer (program_of p.now) (env_in (program_of p.now) body.0) (at_place place) (target_of target.now) }
 {
     match target {
         RExpr::Local { .. } | RExpr::Static { .. } | RExpr::Own { .. } | RExpr::Index { .. } => {
@@ -62,9 +62,9 @@ fn target_type(p: &Program, body: MemberId, target: &RExpr, place: Place) -> Ans
 
 /// The type of the field that an object has under a name.
 fn stored(p: &Program, given: Static, name: &Name, place: Place) -> Answered<Static>
-    requires { IsFormed (program_of no_place p.now) }
-    ensures { result ≡ field_answer (program_of no_place p.now) (env_in (program_of no_place p.now) 0)
-        (types.field_in (program_of no_place p.now) (seen given) name.now) (at_place place) }
+    requires { IsFormed (program_of p.now) }
+    ensures { result ≡ field_answer (program_of p.now) (env_in (program_of p.now) 0)
+        (types.field_in (program_of p.now) (seen given) name.now) (at_place place) }
 {
     match field_in(p, given, name) {
         Some(field) => Ok(given_of(field_type(p, field))),
@@ -80,10 +80,9 @@ fn check_value(
     target: Static,
     place: Place,
 ) -> Answered<()>
-    requires { IsFormed (program_of no_place p.now) }
-    ensures { result ≡ assign_answer (program_of no_place p.now) (env_in (program_of no_place p.now) body.0)
-        (answer (program_of no_place p.now) (env_in (program_of no_place p.now) body.0)
-        (expr_of at_place value.now)) (seen target) (at_place place) }
+    requires { IsFormed (program_of p.now) }
+    ensures { result ≡ assign_answer (program_of p.now) (env_in (program_of p.now) body.0)
+        (answer (program_of p.now) (env_in (program_of p.now) body.0) (expr_of value.now)) (seen target) (at_place place) }
 {
     ask(
         fits_in(p, type_of(p, body, value)?, target),
@@ -94,8 +93,8 @@ fn check_value(
 
 /// Whether a test is boolean.
 fn check_condition(p: &Program, body: MemberId, test: &RExpr) -> Answered<()>
-    requires { IsFormed (program_of no_place p.now) }
-    ensures { result ≡ condition_answer (program_of no_place p.now) (env_in (program_of no_place p.now) body.0) (expr_of at_place test.now) }
+    requires { IsFormed (program_of p.now) }
+    ensures { result ≡ condition_answer (program_of p.now) (env_in (program_of p.now) body.0) (expr_of test.now) }
 {
     ask(
         is_boolean(type_of(p, body, test)?),
@@ -106,8 +105,8 @@ fn check_condition(p: &Program, body: MemberId, test: &RExpr) -> Answered<()>
 
 /// Whether the test of a loop is boolean.
 fn check_test(p: &Program, body: MemberId, test: &Option<RExpr>) -> Answered<()>
-    requires { IsFormed (program_of no_place p.now) }
-    ensures { result ≡ test_answer (program_of no_place p.now) (env_in (program_of no_place p.now) body.0) (value_of at_place test.now) }
+    requires { IsFormed (program_of p.now) }
+    ensures { result ≡ test_answer (program_of p.now) (env_in (program_of p.now) body.0) (value_of test.now) }
 {
     match test {
         Some(test) => check_condition(p, body, test),
@@ -117,7 +116,7 @@ fn check_test(p: &Program, body: MemberId, test: &Option<RExpr>) -> Answered<()>
 
 /// What the method of the body gives back.
 fn result_type(p: &Program, body: MemberId) -> Option<Ty>
-    ensures { result ≡ (env_in (program_of no_place p.now) body.0).result }
+    ensures { result ≡ (env_in (program_of p.now) body.0).result }
 {
     match method_by_number(p, body.0 as usize) {
         Some(method) => method.result,
@@ -127,9 +126,8 @@ fn result_type(p: &Program, body: MemberId) -> Option<Ty>
 
 /// Whether a value is what the method gives back.
 fn check_result(p: &Program, body: MemberId, given: Static, place: Place) -> Answered<()>
-    requires { IsFormed (program_of no_place p.now) }
-    ensures { result ≡ return_answer (program_of no_place p.now) (env_in (program_of no_place p.now) 0)
-        (env_in (program_of no_place p.now) body.0).result given (at_place place) }
+    requires { IsFormed (program_of p.now) }
+    ensures { result ≡ return_answer (program_of p.now) (env_in (program_of p.now) 0) (env_in (program_of p.now) body.0).result given (at_place place) }
 {
     match result_type(p, body) {
         Some(ty) => ask(fits(p, given, ty), Kind::Return, place),
@@ -140,8 +138,8 @@ fn check_result(p: &Program, body: MemberId, given: Static, place: Place) -> Ans
 /// The first rule that fails in a statement.
 #[cycle(statements)]
 fn check_stmt(p: &Program, body: MemberId, s: &RStmt) -> Answered<()>
-    requires { IsFormed (program_of no_place p.now) }
-    ensures { result ≡ st_answer (program_of no_place p.now) (env_in (program_of no_place p.now) body.0) (stmt_of at_place s.now) }
+    requires { IsFormed (program_of p.now) }
+    ensures { result ≡ st_answer (program_of p.now) (env_in (program_of p.now) body.0) (stmt_of s.now) }
 {
     match s {
         RStmt::Local { value: None, .. } => Ok(()),
@@ -230,8 +228,8 @@ fn check_stmt(p: &Program, body: MemberId, s: &RStmt) -> Answered<()>
 /// The first rule that fails in a list of statements.
 #[cycle(statements)]
 pub(crate) fn check_stmts(p: &Program, body: MemberId, list: &[RStmt]) -> Answered<()>
-    requires { IsFormed (program_of no_place p.now) }
-    ensures { result ≡ sts_answer (program_of no_place p.now) (env_in (program_of no_place p.now) body.0) (stmts at_place list.now) }
+    requires { IsFormed (program_of p.now) }
+    ensures { result ≡ sts_answer (program_of p.now) (env_in (program_of p.now) body.0) (stmts list.now) }
 {
     for s in list {
         if let Err(fault) = check_stmt(p, body, s) {
@@ -244,8 +242,8 @@ pub(crate) fn check_stmts(p: &Program, body: MemberId, list: &[RStmt]) -> Answer
 /// The first rule that fails in the first or the last part of a `for`.
 #[cycle(statements)]
 fn check_step(p: &Program, body: MemberId, step: &Option<Box<RStmt>>) -> Answered<()>
-    requires { IsFormed (program_of no_place p.now) }
-    ensures { result ≡ sts_answer (program_of no_place p.now) (env_in (program_of no_place p.now) body.0) (step_seen at_place step.now) }
+    requires { IsFormed (program_of p.now) }
+    ensures { result ≡ sts_answer (program_of p.now) (env_in (program_of p.now) body.0) (step_seen step.now) }
 {
     match step {
         Some(step) => {
@@ -264,9 +262,8 @@ fn check_arms(
     arms: &[RArm],
     other: &Option<Vec<RStmt>>,
 ) -> Answered<()>
-    requires { IsFormed (program_of no_place p.now) }
-    ensures { result ≡ arms_answer (program_of no_place p.now) (env_in (program_of no_place p.now) body.0)
-        (arms_seen at_place arms.now (else_seen at_place other.now)) }
+    requires { IsFormed (program_of p.now) }
+    ensures { result ≡ arms_answer (program_of p.now) (env_in (program_of p.now) body.0) (arms_seen arms.now (else_seen other.now)) }
 {
     for arm in arms {
         if let Err(fault) = check_condition(p, body, &arm.test) {

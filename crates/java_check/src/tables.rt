@@ -3,7 +3,6 @@
 ghost use Rattle.std.specs.Prelude.{◌≡◌, ℕ, ◌+◌, ◌*◌, ◌<◌, ◌≤◌, ◌==◌, ◌&&◌, ◌||◌, true, not, length, cond, IfOk};
 ghost use Rattle.std.specs.Bool.{OnTrue};
 ghost use Rattle.std.specs.List.{list_any};
-ghost use Rattle.java_core.specs.Trees.{no_place};
 ghost use Rattle.java_core.specs.Programs.{program_of, method_seen, PlainMethod};
 ghost use Rattle.java_core.specs.Classes as classes;
 ghost use Rattle.java_core.specs.Classes.{is_slot};
@@ -44,7 +43,7 @@ pub enum Asked {
 
 /// Whether a method is what is asked.
 fn answers(p: &Program, asked: Asked, method: &Method) -> bool
-    ensures { result ≡ answers (program_of no_place p.now) asked (method_seen no_place method.now) }
+    ensures { result ≡ answers (program_of p.now) asked (method_seen method.now) }
 {
     match asked {
         Asked::Bodied => method.body.is_some(),
@@ -79,7 +78,7 @@ fn set_bits(table: &mut [u64], class: usize, word: u64)
 fn set_method(p: &Program, table: &mut [u64], batch: usize, asked: Asked, at: usize)
     ensures len { length table.new ≡ length table.old }
     ensures bits { (c i : ℕ) → c < length table.old → i < 64
-        → bit (own_at table.new c) i ≡ (bit (own_at table.old c) i || says (program_of no_place p.now) asked c (64 * batch + i) at) }
+        → bit (own_at table.new c) i ≡ (bit (own_at table.old c) i || says (program_of p.now) asked c (64 * batch + i) at) }
 {
     match method_by_number(p, at) {
         Some(method) => {
@@ -99,7 +98,7 @@ fn set_method(p: &Program, table: &mut [u64], batch: usize, asked: Asked, at: us
 fn set_methods(p: &Program, table: &mut [u64], batch: usize, asked: Asked, list: &[usize])
     ensures len { length table.new ≡ length table.old }
     ensures bits { (c i : ℕ) → c < length table.old → i < 64 → bit (own_at table.new c) i
-        ≡ (bit (own_at table.old c) i || list_any (λ m. says (program_of no_place p.now) asked c (64 * batch + i) m) list.now) }
+        ≡ (bit (own_at table.old c) i || list_any (λ m. says (program_of p.now) asked c (64 * batch + i) m) list.now) }
 {
     for at in list {
         set_method(p, table, batch, asked, *at);
@@ -110,7 +109,7 @@ fn set_methods(p: &Program, table: &mut [u64], batch: usize, asked: Asked, list:
 fn own_table(batch: &Batch, asked: Asked) -> Result<Vec<u64>, AllocError>
     ensures len { IfOk result (λ t. length t.items ≡ length batch.now.p.now.classes.items) }
     ensures bits { IfOk result (λ t. (c i : ℕ) → c < length batch.now.p.now.classes.items → i < 64 → bit (own_at t.items c) i
-        ≡ list_any (λ m. says (program_of no_place batch.now.p.now) asked c (64 * batch.now.number + i) m) batch.now.list.now) }
+        ≡ list_any (λ m. says (program_of batch.now.p.now) asked c (64 * batch.now.number + i) m) batch.now.list.now) }
 {
     let mut table = vec![in batch.alloc; 0u64; batch.p.classes.len()]?;
     set_methods(batch.p, &mut table, batch.number, asked, batch.list);
@@ -146,7 +145,7 @@ fn own_at(table: &[u64], class: ClassId) -> u64
 
 /// The word of the superclass, or another where there is none.
 fn parent_word(p: &Program, table: &[u64], none: u64, class: ClassId) -> u64
-    ensures { result ≡ parent_word (program_of no_place p.now) table.now none class.0 }
+    ensures { result ≡ parent_word (program_of p.now) table.now none class.0 }
 {
     match parent_of(p, class) {
         Some(parent) => word_at(table, parent),
@@ -210,7 +209,7 @@ fn is_nearest_at(
     none: u64,
     class: ClassId,
 ) -> bool
-    ensures { result ≡ is_nearest_at (program_of no_place p.now) table.now having.now lacking.now none class.0 }
+    ensures { result ≡ is_nearest_at (program_of p.now) table.now having.now lacking.now none class.0 }
 {
     let word = word_at(table, class);
     is_within(own_at(lacking, class), word)
@@ -222,9 +221,9 @@ fn is_nearest_at(
 
 /// Whether each word is.
 fn is_nearest(p: &Program, table: &[u64], having: &[u64], lacking: &[u64], none: u64) -> bool
-    requires formed { IsFormed (program_of no_place p.now) }
+    requires formed { IsFormed (program_of p.now) }
     requires few { length table.now ≤ length p.now.classes.items }
-    ensures { OnTrue result ((c : ℕ) → c < length table.now → is_nearest_at (program_of no_place p.now) table.now having.now lacking.now none c ≡ true) }
+    ensures { OnTrue result ((c : ℕ) → c < length table.now → is_nearest_at (program_of p.now) table.now having.now lacking.now none c ≡ true) }
 {
     for class in 0..table.len() {
         if !is_nearest_at(p, table, having, lacking, none, ClassId(class as u32)) {
@@ -248,9 +247,9 @@ pub(crate) fn nearest_table(
     other: Asked,
     none: bool,
 ) -> Result<Vec<u64>, AllocError>
-    requires other { (k : PlainMethod) → answers (program_of no_place batch.now.p.now) other k ≡ not (answers (program_of no_place batch.now.p.now) asked k) }
+    requires other { (k : PlainMethod) → answers (program_of batch.now.p.now) other k ≡ not (answers (program_of batch.now.p.now) asked k) }
     requires batch { IsBatch batch.now }
-    ensures { IfOk result (λ t. HasNearest (program_of no_place batch.now.p.now) asked none batch.now.number t.items) }
+    ensures { IfOk result (λ t. HasNearest (program_of batch.now.p.now) asked none batch.now.number t.items) }
 {
     let having = own_table(batch, asked)?;
     let lacking = own_table(batch, other)?;
@@ -311,7 +310,7 @@ fn has_faces(table: &[u64], faces: &[ClassId], word: u64) -> bool
 
 /// Whether the word of a class is right where those of its supertypes are.
 fn is_above_at(p: &Program, table: &[u64], own: &[u64], class: ClassId) -> bool
-    ensures { result ≡ is_above_at (program_of no_place p.now) table.now own.now class.0 }
+    ensures { result ≡ is_above_at (program_of p.now) table.now own.now class.0 }
 {
     let word = word_at(table, class);
     is_within(own_at(own, class), word)
@@ -321,9 +320,9 @@ fn is_above_at(p: &Program, table: &[u64], own: &[u64], class: ClassId) -> bool
 
 /// Whether each word is.
 fn is_above(p: &Program, table: &[u64], own: &[u64]) -> bool
-    requires formed { IsFormed (program_of no_place p.now) }
+    requires formed { IsFormed (program_of p.now) }
     requires few { length table.now ≤ length p.now.classes.items }
-    ensures { OnTrue result ((c : ℕ) → c < length table.now → is_above_at (program_of no_place p.now) table.now own.now c ≡ true) }
+    ensures { OnTrue result ((c : ℕ) → c < length table.now → is_above_at (program_of p.now) table.now own.now c ≡ true) }
 {
     for class in 0..table.len() {
         if !is_above_at(p, table, own, ClassId(class as u32)) {
@@ -336,7 +335,7 @@ fn is_above(p: &Program, table: &[u64], own: &[u64]) -> bool
 /// For each class the slots for which a method that is what is asked stands at or above it; `AllocError` where memory is short.
 pub(crate) fn above_table(batch: &Batch, asked: Asked) -> Result<Vec<u64>, AllocError>
     requires { IsBatch batch.now }
-    ensures { IfOk result (λ t. HasAbove (program_of no_place batch.now.p.now) asked batch.now.number t.items) }
+    ensures { IfOk result (λ t. HasAbove (program_of batch.now.p.now) asked batch.now.number t.items) }
 {
     let own = own_table(batch, asked)?;
     let table = filled_above(batch.alloc, batch.p, batch.order, &own)?;

@@ -2,7 +2,6 @@
 
 ghost use Rattle.std.specs.Prelude.{◌≡◌, ℕ, Option};
 ghost use Rattle.std.specs.Option.{option_map};
-ghost use Rattle.java_core.specs.Trees.{no_place};
 ghost use Rattle.java_core.specs.Programs.{program_of};
 ghost use Rattle.java_core.specs.Formed.{IsFormed};
 ghost use Rattle.java_core.specs.Types as types;
@@ -75,8 +74,8 @@ fn is_reference(ty: Ty) -> bool
 
 /// Whether a type without brackets is a subtype of another.
 fn is_sub_base(p: &Program, a: TyBase, b: TyBase) -> bool
-    requires { IsFormed (program_of no_place p.now) }
-    ensures { result ≡ types.is_sub_base (program_of no_place p.now) a b }
+    requires { IsFormed (program_of p.now) }
+    ensures { result ≡ types.is_sub_base (program_of p.now) a b }
 {
     match (a, b) {
         (TyBase::Class(c), TyBase::Class(d)) => is_subtype(p, c, d),
@@ -86,16 +85,16 @@ fn is_sub_base(p: &Program, a: TyBase, b: TyBase) -> bool
 
 /// Whether a type is a subtype of another; of arrays of one dimension as their bases (Java Language Specification, 4.10.3).
 fn is_below(p: &Program, a: Ty, b: Ty) -> bool
-    requires { IsFormed (program_of no_place p.now) }
-    ensures { result ≡ types.is_subtype (program_of no_place p.now) a b }
+    requires { IsFormed (program_of p.now) }
+    ensures { result ≡ types.is_subtype (program_of p.now) a b }
 {
     a.dim == b.dim && is_sub_base(p, a.base, b.base)
 }
 
 /// Whether it can be assigned to a variable of the type (Java Language Specification, 5.2).
 pub(crate) fn fits(p: &Program, given: Static, ty: Ty) -> bool
-    requires { IsFormed (program_of no_place p.now) }
-    ensures { result ≡ types.fits (program_of no_place p.now) (seen given) ty }
+    requires { IsFormed (program_of p.now) }
+    ensures { result ≡ types.fits (program_of p.now) (seen given) ty }
 {
     match given {
         Static::Value(own) => {
@@ -109,8 +108,8 @@ pub(crate) fn fits(p: &Program, given: Static, ty: Ty) -> bool
 
 /// Whether it can be assigned to a target.
 pub(crate) fn fits_in(p: &Program, given: Static, target: Static) -> bool
-    requires { IsFormed (program_of no_place p.now) }
-    ensures { result ≡ types.fits_in (program_of no_place p.now) (seen given) (seen target) }
+    requires { IsFormed (program_of p.now) }
+    ensures { result ≡ types.fits_in (program_of p.now) (seen given) (seen target) }
 {
     match target {
         Static::Value(ty) => fits(p, given, ty),
@@ -120,8 +119,8 @@ pub(crate) fn fits_in(p: &Program, given: Static, target: Static) -> bool
 
 /// Whether `==` and `!=` compare the two (Java Language Specification, 15.21).
 fn are_comparable(p: &Program, a: Static, b: Static) -> bool
-    requires { IsFormed (program_of no_place p.now) }
-    ensures { result ≡ types.are_comparable (program_of no_place p.now) (seen a) (seen b) }
+    requires { IsFormed (program_of p.now) }
+    ensures { result ≡ types.are_comparable (program_of p.now) (seen a) (seen b) }
 {
     match (a, b) {
         (Static::Value(s), Static::Value(t)) => {
@@ -154,8 +153,8 @@ fn joins(a: Static, b: Static) -> bool
 
 /// Whether a binary operator takes the two (Java Language Specification, 15.17 to 15.24).
 pub(crate) fn takes_two(p: &Program, op: BinOp, a: Static, b: Static) -> bool
-    requires { IsFormed (program_of no_place p.now) }
-    ensures { result ≡ typing.takes_two (program_of no_place p.now) op (seen a) (seen b) }
+    requires { IsFormed (program_of p.now) }
+    ensures { result ≡ typing.takes_two (program_of p.now) op (seen a) (seen b) }
 {
     match op {
         BinOp::Int(op) => (is_numeric(a) && is_numeric(b))
@@ -170,8 +169,8 @@ pub(crate) fn takes_two(p: &Program, op: BinOp, a: Static, b: Static) -> bool
 
 /// Whether one of two classes is at or above the other.
 pub(crate) fn are_related(p: &Program, a: Option<ClassId>, b: Option<ClassId>) -> bool
-    requires { IsFormed (program_of no_place p.now) }
-    ensures { result ≡ typing.are_related (program_of no_place p.now) (option_map (λ c. c.0) a) (option_map (λ c. c.0) b) }
+    requires { IsFormed (program_of p.now) }
+    ensures { result ≡ typing.are_related (program_of p.now) (option_map (λ c. c.0) a) (option_map (λ c. c.0) b) }
 {
     match (a, b) {
         (Some(c), Some(d)) => is_subtype(p, c, d) || is_subtype(p, d, c),
@@ -181,8 +180,8 @@ pub(crate) fn are_related(p: &Program, a: Option<ClassId>, b: Option<ClassId>) -
 
 /// Whether it can be cast to the type (Java Language Specification, 5.5).
 pub(crate) fn can_cast(p: &Program, given: Static, ty: Ty) -> bool
-    requires { IsFormed (program_of no_place p.now) }
-    ensures { result ≡ typing.can_cast (program_of no_place p.now) (seen given) ty }
+    requires { IsFormed (program_of p.now) }
+    ensures { result ≡ typing.can_cast (program_of p.now) (seen given) ty }
 {
     (is_numeric(Static::Value(ty)) && is_numeric(given))
         || are_related(p, class_of(given), class_in(ty))

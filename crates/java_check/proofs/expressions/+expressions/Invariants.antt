@@ -1,5 +1,5 @@
 use Rattle.std.proofs.Common.{◌≡◌, drop}
-use Rattle.java_core.specs.Trees.{at_place, no_place, exprs}
+use Rattle.java_core.specs.Trees.{at_place, exprs}
 use Rattle.java_core.specs.Programs.{program_of}
 use Rattle.java_check.specs.Callees.{signature_of}
 use Rattle.java_check.specs.Outcome.{env_in, args_answer}
@@ -7,7 +7,7 @@ use Rattle.java_check.proofs.expressions.+expressions.Given as goal
 
 abbrev pub invariant-check_args-loop-i : goal.invariant-check_args-loop-i
 invariant-check_args-loop-i l =
-    let P = program_of no_place l.p in
+    let P = program_of l.p in
     let us = (signature_of P l.callee).params in
-    args_answer P (env_in P l.body.0) (exprs at_place l.args) (at_place l.place) us ≡ args_answer P (env_in P l.body.0)
-    (exprs at_place (drop l.i l.args)) (at_place l.place) (drop l.i us)
+    let g = env_in P l.body.0 in
+    args_answer P g (exprs l.args) (at_place l.place) us ≡ args_answer P g (exprs (drop l.i l.args)) (at_place l.place) (drop l.i us)

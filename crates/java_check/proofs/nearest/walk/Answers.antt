@@ -1,5 +1,4 @@
 use Rattle.std.proofs.Common.{rules, ◌≡◌, ◌+◌, ◌-◌, suc, length, sym, ap, ◌∙◌, arith, vec_len}
-use Rattle.java_core.specs.Trees.{no_place}
 use Rattle.java_core.specs.Programs.{program_of}
 use Rattle.java_core.specs.Classes.{first_or}
 use Rattle.java_check.specs.NearOutcome.{kept_at, found_in}
@@ -9,7 +8,7 @@ use Rattle.java_check.proofs.nearest.walk.Goals as goal
 pub loop-done-preserved : goal.loop-done-preserved
 loop-done-preserved c =
     let p = c.args.p.now in
-    let P = program_of no_place p in
+    let P = program_of p in
     let many : vec_len p.classes ≡ length p.classes.items = search rules in
     let count : c.len-done-end.result ≡ length p.classes.items = c.len-done-end.ensures ∙ many in
     let n = length p.classes.items - c.loop-done._done in
@@ -27,7 +26,7 @@ loop-done-preserved c =
 pub returns-clause-kept : goal.returns-clause-kept
 returns-clause-kept c = λ s lt.
     let p = c.args.p.now in
-    let P = program_of no_place p in
+    let P = program_of p in
     let many : vec_len p.classes ≡ length p.classes.items = search rules in
     let count : c.len-done-end.result ≡ length p.classes.items = c.len-done-end.ensures ∙ many in
     let none : length p.classes.items + 1 - c.loop-done._done ≡ 0 = omega (arith, count, c.loop-done-test.false) in
