@@ -11,7 +11,6 @@ use Rattle.java_core.specs.declared.Local.{Local}
 use Rattle.java_core.specs.declared.Slot.{Slot}
 use Rattle.java_core.specs.declared.Ty.{Ty}
 use Rattle.java_core.specs.Owned.{AreOwned, owned_from, listed, first_among}
-use Rattle.java_core.specs.Trees.{at_place}
 use Rattle.java_core.specs.Programs.{slot_seen}
 use Rattle.java_core.proofs.Positions.{position-map}
 use Rattle.java_core.proofs.Buckets.{keyed}
@@ -31,10 +30,10 @@ fit-key n ls r s e =
 
 -- the first among those of the key is the first of all
 pub keyed-slot : (n : List ℕ) (ls : List Local) (r : Option Ty) (ss : List Slot) (lists : List (Vec ℕ Global)) → AreKeyed ss lists
-    → first_among (fits n ls r) ss (listed lists (slot_key n (map (λ l. l.ty) ls) r)) ≡ slot_in n ls r (map (slot_seen at_place) ss)
+    → first_among (fits n ls r) ss (listed lists (slot_key n (map (λ l. l.ty) ls) r)) ≡ slot_in n ls r (map slot_seen ss)
 keyed-slot n ls r ss lists are =
     keyed key_of (fits n ls r) (slot_key n (map (λ l. l.ty) ls) r) ss lists are (fit-key n ls r)
-    ∙ sym (position-map (slot_seen at_place) (is_signature n ls r) ss)
+    ∙ sym (position-map slot_seen (is_signature n ls r) ss)
 
 -- one owner more stands last
 owned-more : (k c : ℕ) (owners : List ℕ) (x : ℕ) → owned_from k c (owners ++ x ∷ [])

@@ -4,7 +4,6 @@ use Rattle.java_core.specs.declared.Ty.{Ty}
 use Rattle.java_core.specs.declared.Field.{Field}
 use Rattle.java_core.specs.declared.Local.{Local}
 use Rattle.java_core.specs.declared.Slot.{Slot}
-use Rattle.java_core.specs.Trees.{at_place}
 use Rattle.java_core.specs.Programs.{slot_seen}
 use Rattle.declared_types.specs.declared.members.Draft.{Draft}
 use Rattle.declared_types.specs.Keys.{AreKeyed}
@@ -14,11 +13,11 @@ use Rattle.name_tables.specs.Declarations.{AreListed}
 
 -- the members of a draft
 abbrev pub members_seen : Draft → Members
-members_seen d = record { fields = d.declared.fields.items; headings = d.declared.headings.items; slots = map (slot_seen at_place) d.slots.items }
+members_seen d = record { fields = d.declared.fields.items; headings = d.declared.headings.items; slots = map slot_seen d.slots.items }
 
 -- whether a slot has this name, these parameters and this result
 abbrev pub fits : List ℕ → List Local → Option Ty → Slot → Bool
-fits n ls r s = is_signature n ls r (slot_seen at_place s)
+fits n ls r s = is_signature n ls r (slot_seen s)
 
 -- the members with one method more, and with one field more
 abbrev pub with_method : Members → Heading → Members

@@ -6,7 +6,6 @@ ghost use Rattle.std.specs.declared.vec.Vec.{Vec};
 ghost use Rattle.std.specs.declared.alloc.Global.{Global};
 ghost use Rattle.kaba_base.specs.declared.ClassId.{ClassId};
 ghost use Rattle.java_tree.specs.Syntax.{decl_of, decls};
-ghost use Rattle.java_core.specs.Trees.{at_place};
 ghost use Rattle.java_core.specs.Programs.{PlainClass, class_seen};
 ghost use Rattle.java_core.specs.declared.Class.{Class};
 ghost use Rattle.java_core.specs.Subtypes.{subtype_rows};
@@ -90,7 +89,7 @@ fn faces_of(alloc: Global, known: &Types, ids: &Vec<Id>) -> Result<Vec<ClassId>,
 
 /// The class or interface of a declaration.
 fn class_tree(alloc: Global, known: &Types, decl: &Decl) -> Result<Class, Refusal>
-    ensures { Gives {A = Class} {B = PlainClass} (class_seen at_place) result (class_tree known.now (decl_of decl.now)) }
+    ensures { Gives {A = Class} {B = PlainClass} class_seen result (class_tree known.now (decl_of decl.now)) }
 {
     match decl {
         Decl::Class {
@@ -136,7 +135,7 @@ fn class_tree(alloc: Global, known: &Types, decl: &Decl) -> Result<Class, Refusa
 
 /// `Object`.
 fn object(alloc: Global) -> Result<Class, AllocError>
-    ensures { IfOk result (λ c. class_seen at_place c ≡ object_class) }
+    ensures { IfOk result (λ c. class_seen c ≡ object_class) }
 {
     Ok(Class {
         name: Name::new(alloc, "Object")?,
@@ -150,7 +149,7 @@ fn object(alloc: Global) -> Result<Class, AllocError>
 
 /// All classes and interfaces, `Object` first.
 pub fn classes_of(alloc: Global, known: &Types, list: &[Decl]) -> Result<Vec<Class>, Refusal>
-    ensures { Gives {A = Vec Class Global} {B = List PlainClass} (λ v. map (class_seen at_place) v.items) result (classes_of known.now (decls list.now)) }
+    ensures { Gives {A = Vec Class Global} {B = List PlainClass} (λ v. map class_seen v.items) result (classes_of known.now (decls list.now)) }
 {
     let mut classes = Vec::new(alloc);
     classes.push(object(alloc)?)?;
@@ -163,8 +162,8 @@ pub fn classes_of(alloc: Global, known: &Types, list: &[Decl]) -> Result<Vec<Cla
 /// Which types are above which.
 #[tactic(auto, unfolding(name_outcome::specs::Classes::above_of))]
 pub fn above_of(alloc: Global, all: &Vec<Class>) -> Result<Hierarchy, Refusal>
-    ensures gives { Gives {A = List (List Bool)} {B = List (List Bool)} (λ r. r) result (above_of (map (class_seen at_place) all.now.items)) }
-    ensures rows { IfOk result (λ r. r ≡ subtype_rows (map (class_seen at_place) all.now.items)) }
+    ensures gives { Gives {A = List (List Bool)} {B = List (List Bool)} (λ r. r) result (above_of (map class_seen all.now.items)) }
+    ensures rows { IfOk result (λ r. r ≡ subtype_rows (map class_seen all.now.items)) }
 {
     let count = number_at(all.len())?;
     Ok(subtypes_of(alloc, all, count)?)
@@ -184,7 +183,7 @@ fn any_above(rows: &Hierarchy, list: &[ClassId], b: u32) -> bool
 
 /// Whether something directly above the class is at or below `b`.
 fn above_by(rows: &Hierarchy, class: &Class, b: u32) -> bool
-    ensures { result ≡ above_by rows.now (class_seen at_place class.now) b }
+    ensures { result ≡ above_by rows.now (class_seen class.now) b }
 {
     let by_parent = match class.parent {
         Some(parent) => rows.is_above(parent.0, b),
@@ -195,7 +194,7 @@ fn above_by(rows: &Hierarchy, class: &Class, b: u32) -> bool
 
 /// `Loop` where a class is its own ancestor.
 pub fn loops_of(alloc: Global, rows: &Hierarchy, all: &Vec<Class>) -> Result<u32, Refusal>
-    ensures { Gives (λ k. k) result (loops_of rows.now (map (class_seen at_place) all.now.items)) }
+    ensures { Gives (λ k. k) result (loops_of rows.now (map class_seen all.now.items)) }
 {
     let mut a = 0;
     for class in all {

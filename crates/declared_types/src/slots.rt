@@ -3,7 +3,6 @@
 
 ghost use Rattle.std.specs.Prelude.{◌≡◌, ℕ, List, IfOk, OnOk, Ok, map, slice_get};
 ghost use Rattle.java_core.specs.Types.{is_base};
-ghost use Rattle.java_core.specs.Trees.{at_place};
 ghost use Rattle.java_core.specs.Programs.{PlainSlot, slot_seen};
 ghost use Rattle.name_outcome.specs.Answers.{Gives};
 ghost use Rattle.java_core.specs.Owned.{passes, first_among};
@@ -117,7 +116,7 @@ fn slot_in(
     outcome: Option<Ty>,
 ) -> Option<usize>
     requires { AreKeyed slots.now.items keyed.now.items }
-    ensures { result ≡ slot_in name.now locals.now outcome (map (slot_seen at_place) slots.now.items) }
+    ensures { result ≡ slot_in name.now locals.now outcome (map slot_seen slots.now.items) }
 {
     let list = listed_under(keyed, slot_key(name, locals, outcome));
     slot_among(slots, list, name, locals, outcome)
@@ -145,8 +144,8 @@ pub fn slotted(
     first: u32,
 ) -> Result<u32, Refusal>
     requires found { AreKeyed slots.old.items keyed.old.items }
-    ensures given { Gives {A = ℕ} {B = ℕ × List PlainSlot} (λ k. (k, map (slot_seen at_place) slots.new.items))
-        result (Ok (slotted name.now locals.now outcome first (map (slot_seen at_place) slots.old.items))) }
+    ensures given { Gives {A = ℕ} {B = ℕ × List PlainSlot} (λ k. (k, map slot_seen slots.new.items))
+        result (Ok (slotted name.now locals.now outcome first (map slot_seen slots.old.items))) }
     ensures found { OnOk result (AreKeyed slots.new.items keyed.new.items) }
 {
     if let Some(slot) = slot_in(slots, keyed, name, locals, outcome) {

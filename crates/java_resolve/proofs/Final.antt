@@ -1,11 +1,10 @@
 -- What `resolve` answers, from what the rules make of the tree.
-use Rattle.std.proofs.Common.{◌≡◌, List, Result, Ok, Err, Bool, true, arith, sym, subst, length, ◌<◌}
+use Rattle.std.proofs.Common.{◌≡◌, List, Result, Ok, Err, Bool, true, arith, subst, length, ◌<◌}
 use Rattle.std.proofs.lemmas.List.{length-map}
 use Rattle.std.specs.Bool.{OnTrue}
 use Rattle.java_tree.specs.Syntax.{DeclTree}
 use Rattle.java_tree.specs.Formed.{IsFormedTree}
 use Rattle.java_core.specs.declared.Program.{Program}
-use Rattle.java_core.specs.Trees.{at_place, no_place}
 use Rattle.java_core.specs.Programs.{Plain, program_of, class_seen, field_seen, method_seen, slot_seen}
 use Rattle.java_core.specs.Formed.{AreCounted, IsFormed}
 use Rattle.name_rules.specs.declared.Refusal.{Refusal}
@@ -16,21 +15,20 @@ use Rattle.name_rules.specs.Resolves.{Resolves}
 use Rattle.name_rules.specs.Conditions.{ConditionAt}
 use Rattle.name_rules.specs.Causes.{IsCause, HasNoCondition}
 use Rattle.name_outcome.proofs.Sees.{Tells}
-use Rattle.java_core.proofs.Untagged.{same_program}
 use Rattle.name_outcome.proofs.Whole.{ResolvesFormed, resolved-formed}
 
 told : (tree : List DeclTree) (o : Result Plain Refusal) → IsFormedTree tree → resolved tree ≡ o → Tells (ResolvesFormed tree) (ConditionAt tree) o
 told tree o g e = subst (Tells (ResolvesFormed tree) (ConditionAt tree)) e (resolved-formed tree g)
 
-pub resolves_ok : (tree : List DeclTree) (p : Program) → IsFormedTree tree → resolved tree ≡ Ok (program_of at_place p) → Resolves tree (program_of at_place p)
-resolves_ok tree p g e = (told tree (Ok (program_of at_place p)) g e).resolves
+pub resolves_ok : (tree : List DeclTree) (p : Program) → IsFormedTree tree → resolved tree ≡ Ok (program_of p) → Resolves tree (program_of p)
+resolves_ok tree p g e = (told tree (Ok (program_of p)) g e).resolves
 
-pub formed_ok : (tree : List DeclTree) (p : Program) → IsFormedTree tree → resolved tree ≡ Ok (program_of at_place p)
-    → AreCounted (program_of no_place p) → IsFormed (program_of no_place p)
-formed_ok tree p g e c = subst IsFormed (same_program p) ((told tree (Ok (program_of at_place p)) g e).formed (subst AreCounted (sym (same_program p)) c))
+pub formed_ok : (tree : List DeclTree) (p : Program) → IsFormedTree tree → resolved tree ≡ Ok (program_of p)
+    → AreCounted (program_of p) → IsFormed (program_of p)
+formed_ok tree p g e c = (told tree (Ok (program_of p)) g e).formed c
 
-pub none_ok : (tree : List DeclTree) (p : Program) → IsFormedTree tree → resolved tree ≡ Ok (program_of at_place p) → HasNoCondition tree
-none_ok tree p g e = (told tree (Ok (program_of at_place p)) g e).none
+pub none_ok : (tree : List DeclTree) (p : Program) → IsFormedTree tree → resolved tree ≡ Ok (program_of p) → HasNoCondition tree
+none_ok tree p g e = (told tree (Ok (program_of p)) g e).none
 
 pub cause : (tree : List DeclTree) (r : Refusal) → IsFormedTree tree → IsRefused r (resolved tree) → IsCause tree r
 cause tree (refusals.Unknown n p) g e = told tree (Err (refusals.Unknown n p)) g e
@@ -44,13 +42,13 @@ cause tree (refusals.NotInProfile f p) g e = told tree (Err (refusals.NotInProfi
 cause tree refusals.Memory g e = tt
 
 pub counted : (p : Program) → length p.classes.items < 4294967295 → length p.fields.items < 4294967295 → length p.methods.items < 4294967295
-    → length p.slots.items < 4294967295 → AreCounted (program_of no_place p)
+    → length p.slots.items < 4294967295 → AreCounted (program_of p)
 counted p a b c d =
     record {
-      classes = omega (arith, a, length-map p.classes.items (class_seen no_place));
-      fields = omega (arith, b, length-map p.fields.items (field_seen no_place));
-      methods = omega (arith, c, length-map p.methods.items (method_seen no_place));
-      slots = omega (arith, d, length-map p.slots.items (slot_seen no_place));
+      classes = omega (arith, a, length-map p.classes.items class_seen);
+      fields = omega (arith, b, length-map p.fields.items field_seen);
+      methods = omega (arith, c, length-map p.methods.items method_seen);
+      slots = omega (arith, d, length-map p.slots.items slot_seen);
     }
 
 pub on_true : (b : Bool) (A : Type 0) → b ≡ true → OnTrue b A → A

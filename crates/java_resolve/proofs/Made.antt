@@ -9,7 +9,6 @@ use Rattle.java_core.specs.declared.Field.{Field}
 use Rattle.java_core.specs.declared.Method.{Method}
 use Rattle.java_core.specs.declared.Slot.{Slot}
 use Rattle.java_core.specs.declared.Program.{Program}
-use Rattle.java_core.specs.Trees.{at_place}
 use Rattle.java_core.specs.Programs.{Plain, program_of, class_seen, field_seen, method_seen, slot_seen, IsMadeOf}
 use Rattle.name_outcome.specs.Answers.{with}
 
@@ -21,10 +20,10 @@ with-then (Err r) y f k e = absurd (cc e)
 
 pub made-seen : (cs : Vec Class Global) (fs : Vec Field Global) (ms : Vec Method Global) (ss : Vec Slot Global) (main : MemberId) (p : Program)
     → IsMadeOf cs fs ms ss main p → ◌≡◌ {A = Plain} (record {
-      classes = map (class_seen at_place) cs.items;
-      fields = map (field_seen at_place) fs.items;
-      methods = map (method_seen at_place) ms.items;
-      slots = map (slot_seen at_place) ss.items;
+      classes = map class_seen cs.items;
+      fields = map field_seen fs.items;
+      methods = map method_seen ms.items;
+      slots = map slot_seen ss.items;
       main = main.0;
-    }) (program_of at_place p)
+    }) (program_of p)
 made-seen cs fs ms ss main p m = rw (m.classes_are, m.fields_are, m.methods_are, m.slots_are, m.main_is) refl

@@ -2,7 +2,6 @@
 #![tactic(auto)]
 
 ghost use Rattle.java_tree.specs.Syntax.{decls, tree_of};
-ghost use Rattle.java_core.specs.Trees.{at_place, no_place};
 ghost use Rattle.std.specs.Prelude.{◌≡◌, IfOk, IfErr, map};
 ghost use Rattle.std.specs.Bool.{OnTrue};
 ghost use Rattle.java_tree.specs.Formed.{IsFormedTree};
@@ -32,7 +31,7 @@ use std::alloc::{AllocError, Global};
 
 /// The superclass of each class.
 fn parents_of(alloc: Global, classes: &Vec<Class>) -> Result<Vec<Option<ClassId>>, AllocError>
-    ensures seen { IfOk result (λ v. v.items ≡ parents_of (map (class_seen at_place) classes.now.items)) }
+    ensures seen { IfOk result (λ v. v.items ≡ parents_of (map class_seen classes.now.items)) }
     ensures same { IfOk result (λ v. v.items ≡ superclasses classes.now.items) }
 {
     let mut parents = Vec::new(alloc);
@@ -75,10 +74,10 @@ fn with_bodies(
     above: Hierarchy,
     draft: Draft,
 ) -> Result<Program, Refusal>
-    requires rows { above ≡ subtype_rows (map (class_seen at_place) classes.items) }
+    requires rows { above ≡ subtype_rows (map class_seen classes.items) }
     requires found { AreFound draft }
-    ensures { Gives {A = Program} {B = Plain} (program_of at_place) result
-        (with_bodies (decls list.now) known (map (class_seen at_place) classes.items) above
+    ensures { Gives {A = Program} {B = Plain} program_of result
+        (with_bodies (decls list.now) known (map class_seen classes.items) above
         (members_seen draft)) }
 {
     let count = narrowed(classes.len());
@@ -147,7 +146,7 @@ fn with_bodies(
 /// The program that the rules make of a tree, or the first refusal that they meet.
 #[tactic(auto, unfolding(name_outcome::specs::Resolved::resolved))]
 fn resolve_tree(alloc: Global, tree: &Tree) -> Result<Program, Refusal>
-    ensures program { Gives {A = Program} {B = Plain} (program_of at_place) result (resolved (tree_of tree.now)) }
+    ensures program { Gives {A = Program} {B = Plain} program_of result (resolved (tree_of tree.now)) }
 {
     let list = tree.decls.as_slice();
     let known = known_of(alloc, list)?;
@@ -161,7 +160,7 @@ fn resolve_tree(alloc: Global, tree: &Tree) -> Result<Program, Refusal>
 /// Whether each class, field, method and slot has a number of 32 bits.
 #[tactic(auto, using(crate::proofs::Final::counted))]
 fn is_counted(program: &Program) -> bool
-    ensures { OnTrue result (AreCounted (program_of no_place program.now)) }
+    ensures { OnTrue result (AreCounted (program_of program.now)) }
 {
     let most = 4_294_967_295;
     program.classes.len() < most
@@ -177,8 +176,8 @@ fn is_counted(program: &Program) -> bool
 /// program is none of 32 bits.
 pub fn resolve(alloc: Global, tree: &Tree) -> Result<Program, Refusal>
     requires given { IsFormedTree (tree_of tree.now) }
-    ensures resolves { IfOk result (λ p. Resolves (tree_of tree.now) (program_of at_place p)) }
-    ensures formed { IfOk result (λ p. IsFormed (program_of no_place p)) }
+    ensures resolves { IfOk result (λ p. Resolves (tree_of tree.now) (program_of p)) }
+    ensures formed { IfOk result (λ p. IsFormed (program_of p)) }
     ensures no_condition { IfOk result (λ _. HasNoCondition (tree_of tree.now)) }
     ensures refused { IfErr result (λ refusal. IsCause (tree_of tree.now) refusal) }
 {

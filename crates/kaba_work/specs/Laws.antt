@@ -1,7 +1,6 @@
 -- A sample is a typed program.
 use Rattle.std.specs.Prelude.{ℕ, ◌≤◌}
 use Rattle.java_core.specs.declared.Program.{Program}
-use Rattle.java_core.specs.Trees.{at_place, no_place}
 use Rattle.java_core.specs.Programs.{program_of}
 use Rattle.java_core.specs.Typing.{IsTyped}
 use Rattle.name_rules.specs.Resolves.{Resolves}
@@ -19,4 +18,4 @@ SampleHasProgram = (n : ℕ) → 1 ≤ n → n ≤ 100 → Resolves (sample_tree
 
 -- whatever program it resolves to is typed
 unfoldable pub SampleIsTyped : Type 0
-SampleIsTyped = (n : ℕ) → 1 ≤ n → n ≤ 100 → (p : Program) → Resolves (sample_tree n) (program_of at_place p) → IsTyped (program_of no_place p)
+SampleIsTyped = (n : ℕ) → 1 ≤ n → n ≤ 100 → (p : Program) → Resolves (sample_tree n) (program_of p) → IsTyped (program_of p)

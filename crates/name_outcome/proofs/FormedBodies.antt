@@ -19,7 +19,7 @@ use Rattle.java_tree.specs.Syntax.{Expression, NameRef, FieldOf, IndexOf, CallOf
 use Rattle.java_tree.specs.Syntax as tree
 use Rattle.java_core.specs.declared.Ty.{Ty}
 use Rattle.java_core.specs.declared.TyBase.{TyBase}
-use Rattle.java_core.specs.Trees.{Ex, Exs, St, choose, Sts, Arms}
+use Rattle.java_core.specs.Trees.{at_place, Ex, Exs, St, choose, Sts, Arms}
 use Rattle.java_core.specs.Programs.{Plain, PlainLocal, PlainField, PlainMethod}
 use Rattle.java_core.specs.Formed.{IsLiteral, small, least, IsClass, IsKnownBase, IsType, IsCastType, variables_of, IsNewLocal, IsStaticField, IsStaticMethod, IsOwnField, is_at_most_one, is_first, of_while, of_for, FormedEx, f_number, f_character, f_text, f_truth, f_null, f_this, f_local, f_static_field, f_own_field, f_field, f_index, f_call, f_static_call, f_super_call, f_create, f_create_array, f_cast, f_instance_of, f_unary, f_binary, FormedExs, f_no_ex, f_ex_then, FormedTarget, f_to_local, f_to_static, f_to_own, f_to_field, f_to_element, FormedOption, f_none, f_some, FormedSt, f_declare, f_block, f_assign, f_act, f_print, f_choose, f_loop, f_return, f_break, f_continue, FormedSts, f_no_st, f_st_then, FormedArms, f_no_other, f_otherwise, f_arm}
 use Rattle.java_core.specs.Formed as core
@@ -33,19 +33,14 @@ use Rattle.java_tree.specs.Formed.{IsNumber, a_small, the_least, IsCastBase, is_
 use Rattle.name_rules.specs.Resolves.{Counts, no_number, next_number, ResolvesTo, r_number, r_character, r_text, r_truth, r_null, r_this, r_local, r_static_field, r_own_field, r_class_field, r_field, r_index, r_own_static_call, r_own_call, r_static_call, r_call, r_super_call, r_create, r_create_array, r_cast, r_instance_of, r_unary, r_binary, AllResolve, r_no_more, r_and_more, ResolvesIf, r_none, r_some, scope_after, scope_after_part, IsLocal, StResolves, r_declare, r_block, r_assign, r_act, r_print, r_choose, r_while, r_for, r_return, r_break, r_continue, StsResolve, r_no_statements, r_and_then, ArmsResolve, r_no_else, r_else, r_arm, PartResolves, r_absent, r_present, declares, declares_all, declares_arms}
 use Rattle.name_outcome.proofs.Sees.{same_some}
 use Rattle.name_outcome.proofs.Statements.{IsFormedPart, of-first, of-step}
-use Rattle.java_core.specs.Untagged.{bare_tag, bare, bare_all, bare_if, bare_target, bare_st, bare_sts, bare_arms}
 
--- a program and a method of it, seen from the outline and the method with places
-pub record Suits (O : Plain) (here : Here) (K : PlainMethod) (Q : Plain) (k : PlainMethod) : Type 0 where
-  pub classes : (n : List ℕ) (c : ℕ) → class_named O n ≡ Some c → IsClass Q c
-  pub static_field : (f : ℕ) (x : PlainField) → slice_get O.fields f ≡ Some x → x.is_static ≡ true → IsStaticField Q f
-  pub own : (n : List ℕ) (f : ℕ) (x : PlainField) → IsNearestField O here.owner n f x → x.is_static ≡ false → IsOwnField Q k.owner f
-  pub static_method : (m : ℕ) (x : PlainMethod) → slice_get O.methods m ≡ Some x → x.is_static ≡ true → IsStaticMethod Q m
+-- a program and a method of it, seen from the outline
+pub record Suits (O : Plain) (here : Here) (P : Plain) (k : PlainMethod) : Type 0 where
+  pub classes : (n : List ℕ) (c : ℕ) → class_named O n ≡ Some c → IsClass P c
+  pub static_field : (f : ℕ) (x : PlainField) → slice_get O.fields f ≡ Some x → x.is_static ≡ true → IsStaticField P f
+  pub own : (n : List ℕ) (f : ℕ) (x : PlainField) → IsNearestField O here.owner n f x → x.is_static ≡ false → IsOwnField P k.owner f
+  pub static_method : (m : ℕ) (x : PlainMethod) → slice_get O.methods m ≡ Some x → x.is_static ≡ true → IsStaticMethod P m
   pub static : k.is_static ≡ here.is_static
-  pub params : length k.params ≡ length K.params
-  pub variable : (i : ℕ) (v : PlainLocal) → slice_get (variables_of K) i ≡ Some v → (w : PlainLocal) × (slice_get (variables_of k) i ≡ Some w)
-      × (w.name ≡ v.name)
-  pub back : (i : ℕ) (w : PlainLocal) → slice_get (variables_of k) i ≡ Some w → (v : PlainLocal) × (slice_get (variables_of K) i ≡ Some v) × (v.name ≡ w.name)
 
 -- the names in scope and their numbers
 pub record ScopeIs (k : PlainMethod) (scope : List Bound) (nums : List ℕ) : Type 0 where
@@ -86,25 +81,25 @@ scope-more {k} {scope} {nums} n i w s at same = record {
 
 -- ---- types
 
-module _ (O : Plain) (here : Here) (K : PlainMethod) (Q : Plain) (k : PlainMethod) (suits : Suits O here K Q k) where
-  known-base : (b : TypeBase) (x : TyBase) → MeansBase O b x → IsKnownBase Q x
+module _ (O : Plain) (here : Here) (P : Plain) (k : PlainMethod) (suits : Suits O here P k) where
+  known-base : (b : TypeBase) (x : TyBase) → MeansBase O b x → IsKnownBase P x
   known-base bases.Int x an_int = tt
   known-base bases.Boolean x a_boolean = tt
   known-base bases.Char x a_char = tt
   known-base (bases.Named n) x (a_text e) = tt
   known-base (bases.Named n) x (a_class {c = c} e f) = suits.classes n c f
 
-  pub known-type : (u : TypeName) (t : Ty) → Means O u t → IsType Q t
+  pub known-type : (u : TypeName) (t : Ty) → Means O u t → IsType P t
   known-type u t m = known-base u.base t.base m.base
 
-  cast-base : (b : TypeBase) (x : TyBase) → IsCastBase b → MeansCastBase O b x → IsCastType Q (record { base = x; dim = 0 })
+  cast-base : (b : TypeBase) (x : TyBase) → IsCastBase b → MeansCastBase O b x → IsCastType P (record { base = x; dim = 0 })
   cast-base bases.Int x g to_int = core.to_int
   cast-base bases.Boolean x g to_boolean = absurd g
   cast-base bases.Char x g to_char = core.to_char
   cast-base (bases.Named n) x g (to_class {c = c} e) = core.to_class (suits.classes n c e)
 
-  cast-type : (u : TypeName) (t : Ty) → IsCastBase u.base → u.dim ≡ 0 → MeansCast O u t → IsCastType Q t
-  cast-type u t g d m = subst (λ z. IsCastType Q (record { base = t.base; dim = z })) (sym (m.dim ∙ d)) (cast-base u.base t.base g m.base)
+  cast-type : (u : TypeName) (t : Ty) → IsCastBase u.base → u.dim ≡ 0 → MeansCast O u t → IsCastType P t
+  cast-type u t g d m = subst (λ z. IsCastType P (record { base = t.base; dim = z })) (sym (m.dim ∙ d)) (cast-base u.base t.base g m.base)
 
   literal : {z : _} → IsNumber z → IsLiteral z
   literal (a_small h) = small h
@@ -112,7 +107,7 @@ module _ (O : Plain) (here : Here) (K : PlainMethod) (Q : Plain) (k : PlainMetho
 
   module _ (scope : List Bound) (nums : List ℕ) (s : ScopeIs k scope nums) where
     mutual
-      pub formed : {e : Expression} {x : Ex} → ResolvesTo O here scope e x → IsFormed e → FormedEx Q k nums (bare x)
+      pub formed : {e : Expression} {x : Ex} → ResolvesTo O here scope e x → IsFormed e → FormedEx P k nums x
       formed r_number g = f_number (literal g)
       formed r_character g = f_character g
       formed r_text g = f_text g
@@ -137,15 +132,15 @@ module _ (O : Plain) (here : Here) (K : PlainMethod) (Q : Plain) (k : PlainMetho
       formed (r_unary h) g = f_unary (formed h g.1)
       formed (r_binary h i) g = f_binary (formed h g.1) (formed i g.2)
 
-      pub formed-all : {es : Expressions} {xs : Exs} → AllResolve O here scope es xs → AreFormed es → FormedExs Q k nums (bare_all xs)
+      pub formed-all : {es : Expressions} {xs : Exs} → AllResolve O here scope es xs → AreFormed es → FormedExs P k nums xs
       formed-all r_no_more g = f_no_ex
       formed-all (r_and_more h hs) g = f_ex_then (formed h g.0) (formed-all hs g.1)
 
-    pub formed-if : {v : Option Expression} {x : Option Ex} → ResolvesIf O here scope v x → IsFormedValue v → FormedOption Q k nums (bare_if x)
+    pub formed-if : {v : Option Expression} {x : Option Ex} → ResolvesIf O here scope v x → IsFormedValue v → FormedOption P k nums x
     formed-if r_none g = f_none
     formed-if (r_some h) g = f_some (formed h g)
 
-    formed-target : (e : Expression) (x : Ex) → is_target e ≡ true → ResolvesTo O here scope e x → IsFormed e → FormedTarget Q k nums (bare_target (target x))
+    formed-target : (e : Expression) (x : Ex) → is_target e ≡ true → ResolvesTo O here scope e x → IsFormed e → FormedTarget P k nums (target x)
     formed-target (NameRef n p) x t (r_local {i = i} h) g = let f = s.found n i h in f_to_local f.0 f.1
     formed-target (NameRef n p) x t (r_static_field {f = f} {k = y} h near st own) g = f_to_static (suits.static_field f y near.stands st)
     formed-target (NameRef n p) x t (r_own_field {f = f} {k = y} h near st own) g = f_to_own (suits.static ∙ own) (suits.own n f y near st)
@@ -154,7 +149,7 @@ module _ (O : Plain) (here : Here) (K : PlainMethod) (Q : Plain) (k : PlainMetho
     formed-target (IndexOf e i p) x t (r_index h j) g = f_to_element (formed h g.0) (formed j g.1)
     formed-target _ x t h g = absurd (false≢true t)
 
-    formed-call : (e : Expression) (x : Ex) → is_call e ≡ true → ResolvesTo O here scope e x → core.is_call (bare x) ≡ true
+    formed-call : (e : Expression) (x : Ex) → is_call e ≡ true → ResolvesTo O here scope e x → core.is_call x ≡ true
     formed-call (CallOf n es p) x t (r_own_static_call a b c d) = refl
     formed-call (CallOf n es p) x t (r_own_call a b c d) = refl
     formed-call (CallOn e n es p) x t (r_static_call a b c d) = refl
@@ -166,9 +161,9 @@ module _ (O : Plain) (here : Here) (K : PlainMethod) (Q : Plain) (k : PlainMetho
   -- ---- statements
 
   -- the numbers in scope after a statement
-  after-scope : {in_loop : Bool} {scope : List Bound} {nums : List ℕ} {x : Statement} {y : St} → StResolves O here K in_loop scope x y
-      → ScopeIs k scope nums → ScopeIs k (scope_after scope x y) (core.scope_after nums (bare_st y))
-  after-scope (r_declare {n = n} {i = i} l v) s = let w = suits.variable i _ l.stands in scope-more n i w.0 s w.1 w.2
+  after-scope : {in_loop : Bool} {scope : List Bound} {nums : List ℕ} {x : Statement} {y : St} → StResolves O here k in_loop scope x y
+      → ScopeIs k scope nums → ScopeIs k (scope_after scope x y) (core.scope_after nums y)
+  after-scope (r_declare {n = n} {i = i} l v) s = scope-more n i _ s l.stands refl
   after-scope (r_block h) s = s
   after-scope (r_assign h i) s = s
   after-scope (r_act h) s = s
@@ -180,20 +175,20 @@ module _ (O : Plain) (here : Here) (K : PlainMethod) (Q : Plain) (k : PlainMetho
   after-scope r_break s = s
   after-scope r_continue s = s
 
-  part-scope : {in_loop : Bool} {scope : List Bound} {nums : List ℕ} {x : OptionalStatement} {ys : Sts} → PartResolves O here K in_loop scope x ys
-      → ScopeIs k scope nums → ScopeIs k (scope_after_part scope x ys) (core.scope_after_all nums (bare_sts ys))
+  part-scope : {in_loop : Bool} {scope : List Bound} {nums : List ℕ} {x : OptionalStatement} {ys : Sts} → PartResolves O here k in_loop scope x ys
+      → ScopeIs k scope nums → ScopeIs k (scope_after_part scope x ys) (core.scope_after_all nums ys)
   part-scope r_absent s = s
   part-scope (r_present h) s = after-scope h s
 
-  act-formed : {in_loop : Bool} {scope : List Bound} {x : Statement} {y : St} → StResolves O here K in_loop scope x y → is_act x ≡ true
-      → core.is_act (bare_st y) ≡ true
+  act-formed : {in_loop : Bool} {scope : List Bound} {x : Statement} {y : St} → StResolves O here k in_loop scope x y → is_act x ≡ true
+      → core.is_act y ≡ true
   act-formed (r_assign h i) e = refl
   act-formed (r_act h) e = refl
   act-formed (r_print h) e = refl
   act-formed _ e = absurd (false≢true e)
 
-  first-formed : {in_loop : Bool} {scope : List Bound} {x : Statement} {y : St} → StResolves O here K in_loop scope x y → is_simple x ≡ true
-      → is_first (bare_st y) ≡ true
+  first-formed : {in_loop : Bool} {scope : List Bound} {x : Statement} {y : St} → StResolves O here k in_loop scope x y → is_simple x ≡ true
+      → is_first y ≡ true
   first-formed (r_declare l v) e = refl
   first-formed (r_assign h i) e = refl
   first-formed (r_act h) e = refl
@@ -202,7 +197,7 @@ module _ (O : Plain) (here : Here) (K : PlainMethod) (Q : Plain) (k : PlainMetho
 
   -- locals are numbered behind the parameters
   abbrev pub Behind : List ℕ → Type 0
-  Behind ds = AllByRecursion (λ i. length K.params ≤ i) ds
+  Behind ds = AllByRecursion (λ i. length k.params ≤ i) ds
 
   behind-left : (xs ys : List ℕ) → Behind (xs ++ ys) → Behind xs
   behind-left [] ys h = tt
@@ -212,27 +207,25 @@ module _ (O : Plain) (here : Here) (K : PlainMethod) (Q : Plain) (k : PlainMetho
   behind-right [] ys h = h
   behind-right (x ∷ xs) ys h = behind-right xs ys h.1
 
-  new-local : {scope : List Bound} {nums : List ℕ} {u : TypeName} {n : List ℕ} {p : Place} {i : ℕ} → IsLocal O K scope u n p i → ScopeIs k scope nums
-      → length K.params ≤ i → IsNewLocal k nums i
+  new-local : {scope : List Bound} {nums : List ℕ} {u : TypeName} {n : List ℕ} {p : Place} {i : ℕ} → IsLocal O k scope u n p i → ScopeIs k scope nums
+      → length k.params ≤ i → IsNewLocal k nums i
   new-local {scope} {nums} {n = n} {i = i} l s b =
-      let w = suits.variable i _ l.stands in
       record {
-        variable = w.0;
-        declared = w.1;
-        no_parameter = let e = suits.params in omega (arith, e, b);
-        other = λ j v c e same. false≢true (sym l.fresh ∙ ap (is_bound (bound_names scope)) (sym w.2 ∙ sym same) ∙ s.named j v c e);
+        variable = _;
+        declared = l.stands;
+        no_parameter = b;
+        other = λ j v c e same. false≢true (sym l.fresh ∙ ap (is_bound (bound_names scope)) (sym same) ∙ s.named j v c e);
       }
 
   printed : (line : Bool) {scope : List Bound} {v : Option Expression} {x : Option Ex} → ResolvesIf O here scope v x → (line || is_some v) ≡ true
-      → line || is_some (bare_if x) ≡ true
+      → line || is_some x ≡ true
   printed line r_none e = e
   printed line (r_some h) e = e
 
   mutual
-    pub formed-st : {in_loop : Bool} {scope : List Bound} {nums : List ℕ} {x : Statement} {y : St} → StResolves O here K in_loop scope x y
-        → ScopeIs k scope nums → IsFormedStmt x → Behind (declares y) → FormedSt Q k in_loop nums (bare_st y)
-    formed-st (r_declare {n = n} {i = i} l v) s g b = let w = suits.variable i _ l.stands in f_declare (new-local l s b.0)
-        (formed-if _ _ (scope-more n i w.0 s w.1 w.2) v g.2)
+    pub formed-st : {in_loop : Bool} {scope : List Bound} {nums : List ℕ} {x : Statement} {y : St} → StResolves O here k in_loop scope x y
+        → ScopeIs k scope nums → IsFormedStmt x → Behind (declares y) → FormedSt P k in_loop nums y
+    formed-st (r_declare {n = n} {i = i} l v) s g b = f_declare (new-local l s b.0) (formed-if _ _ (scope-more n i _ s l.stands refl) v g.2)
     formed-st (r_block h) s g b = f_block (formed-sts h s g b)
     formed-st (r_assign {e = e} {x = x} h i) s g b = f_assign (formed-target _ _ s e x g.0 h g.1) (formed _ _ s i g.2)
     formed-st (r_act {e = e} {x = x} h) s g b = f_act (formed-call _ _ s e x g.0 h) (formed _ _ s h g.1)
@@ -251,68 +244,68 @@ module _ (O : Plain) (here : Here) (K : PlainMethod) (Q : Plain) (k : PlainMetho
     formed-st r_break s g b = f_break refl
     formed-st r_continue s g b = f_continue refl
 
-    pub formed-sts : {in_loop : Bool} {scope : List Bound} {nums : List ℕ} {xs : Statements} {ys : Sts} → StsResolve O here K in_loop scope xs ys
-        → ScopeIs k scope nums → AreFormedStmts xs → Behind (declares_all ys) → FormedSts Q k in_loop nums (bare_sts ys)
+    pub formed-sts : {in_loop : Bool} {scope : List Bound} {nums : List ℕ} {xs : Statements} {ys : Sts} → StsResolve O here k in_loop scope xs ys
+        → ScopeIs k scope nums → AreFormedStmts xs → Behind (declares_all ys) → FormedSts P k in_loop nums ys
     formed-sts r_no_statements s g b = f_no_st
     formed-sts (r_and_then {x = x} {xs = xs} h hs) s g b = f_st_then (formed-st h s g.0 (behind-left (declares x) (declares_all xs) b))
         (formed-sts hs (after-scope h s) g.1 (behind-right (declares x) (declares_all xs) b))
 
     formed-arms : {in_loop : Bool} {scope : List Bound} {nums : List ℕ} {a : tree.Arms} {other : Else} {ys : Arms}
-        → ArmsResolve O here K in_loop scope a other ys → ScopeIs k scope nums → AreFormedArms a → IsFormedElse other → Behind (declares_arms ys)
-        → FormedArms Q k in_loop nums (bare_arms ys)
+        → ArmsResolve O here k in_loop scope a other ys → ScopeIs k scope nums → AreFormedArms a → IsFormedElse other → Behind (declares_arms ys)
+        → FormedArms P k in_loop nums ys
     formed-arms r_no_else s g e b = f_no_other
     formed-arms (r_else h) s g e b = f_otherwise (formed-sts h s e b)
     formed-arms (r_arm {xs = xs} {more = more} h i hs) s g e b =
         f_arm (formed _ _ s h g.0) (formed-sts i s g.1 (behind-left (declares_all xs) (declares_arms more) b))
         (formed-arms hs s g.2 e (behind-right (declares_all xs) (declares_arms more) b))
 
-    some-arm : {in_loop : Bool} {scope : List Bound} {nums : List ℕ} {a : tree.Arms} {other : Else} {ys : Arms}
-        → ArmsResolve O here K in_loop scope a other ys → ScopeIs k scope nums → (has_arm a ≡ true) × AreFormedArms a × IsFormedElse other
+    some-arm : {in_loop : Bool} {scope : List Bound} {nums : List ℕ} {a : tree.Arms} {other : Else} {ys : Arms} {p : Place}
+        → ArmsResolve O here k in_loop scope a other ys → ScopeIs k scope nums → (has_arm a ≡ true) × AreFormedArms a × IsFormedElse other
         → Behind (declares_arms ys)
-        → FormedSt Q k in_loop nums (choose bare_tag (bare_arms ys))
+        → FormedSt P k in_loop nums (choose (at_place p) ys)
     some-arm r_no_else s g b = absurd (false≢true g.0)
     some-arm (r_else h) s g b = absurd (false≢true g.0)
     some-arm (r_arm {xs = xs} {more = more} h i hs) s g b =
         f_choose (f_arm (formed _ _ s h g.1.0) (formed-sts i s g.1.1 (behind-left (declares_all xs) (declares_arms more) b))
         (formed-arms hs s g.1.2 g.2 (behind-right (declares_all xs) (declares_arms more) b)))
 
-    formed-part : {in_loop : Bool} {scope : List Bound} {nums : List ℕ} {x : OptionalStatement} {ys : Sts} → PartResolves O here K in_loop scope x ys
-        → ScopeIs k scope nums → IsFormedPart x → Behind (declares_all ys) → FormedSts Q k in_loop nums (bare_sts ys)
+    formed-part : {in_loop : Bool} {scope : List Bound} {nums : List ℕ} {x : OptionalStatement} {ys : Sts} → PartResolves O here k in_loop scope x ys
+        → ScopeIs k scope nums → IsFormedPart x → Behind (declares_all ys) → FormedSts P k in_loop nums ys
     formed-part r_absent s g b = f_no_st
     formed-part (r_present {x = x} h) s g b = f_st_then (formed-st h s g (behind-left (declares x) [] b)) f_no_st
 
-    first-part : {in_loop : Bool} {scope : List Bound} {x : OptionalStatement} {ys : Sts} → PartResolves O here K in_loop scope x ys → IsFormedFirst x
-        → is_at_most_one is_first (bare_sts ys) ≡ true
+    first-part : {in_loop : Bool} {scope : List Bound} {x : OptionalStatement} {ys : Sts} → PartResolves O here k in_loop scope x ys → IsFormedFirst x
+        → is_at_most_one is_first ys ≡ true
     first-part r_absent g = refl
     first-part (r_present h) g = first-formed h g.0
 
-    last-part : {in_loop : Bool} {scope : List Bound} {x : OptionalStatement} {ys : Sts} → PartResolves O here K in_loop scope x ys → IsFormedStep x
-        → is_at_most_one core.is_act (bare_sts ys) ≡ true
+    last-part : {in_loop : Bool} {scope : List Bound} {x : OptionalStatement} {ys : Sts} → PartResolves O here k in_loop scope x ys → IsFormedStep x
+        → is_at_most_one core.is_act ys ≡ true
     last-part r_absent g = refl
     last-part (r_present h) g = act-formed h g.0
 
 -- ---- locals
 
 -- a local whose name and type are good
-pub record GoodLocal (O : Plain) (Q : Plain) (K : PlainMethod) (i : ℕ) : Type 0 where
+pub record GoodLocal (O : Plain) (P : Plain) (k : PlainMethod) (i : ℕ) : Type 0 where
   pub local : PlainLocal
-  pub stands : slice_get (variables_of K) i ≡ Some local
+  pub stands : slice_get (variables_of k) i ≡ Some local
   pub name : IsName local.name
   pub no_type : is_type_name (type_names O) local.name ≡ false
-  pub type : IsType Q local.ty
+  pub type : IsType P local.ty
 
-module _ (O : Plain) (here : Here) (K : PlainMethod) (Q : Plain) (k : PlainMethod) (suits : Suits O here K Q k) where
+module _ (O : Plain) (here : Here) (P : Plain) (k : PlainMethod) (suits : Suits O here P k) where
   abbrev pub Good : List ℕ → Type 0
-  Good ds = AllByRecursion (GoodLocal O Q K) ds
+  Good ds = AllByRecursion (GoodLocal O P k) ds
 
   good-both : (xs ys : List ℕ) → Good xs → Good ys → Good (xs ++ ys)
   good-both [] ys a b = b
   good-both (x ∷ xs) ys a b = (a.0, good-both xs ys a.1 b)
 
   mutual
-    good-st : {in_loop : Bool} {scope : List Bound} {x : Statement} {y : St} → StResolves O here K in_loop scope x y → IsFormedStmt x → Good (declares y)
+    good-st : {in_loop : Bool} {scope : List Bound} {x : Statement} {y : St} → StResolves O here k in_loop scope x y → IsFormedStmt x → Good (declares y)
     good-st (r_declare {u = u} l v) g =
-        (record { local = _; stands = l.stands; name = g.1; no_type = l.no_type; type = known-type O here K Q k suits u l.ty l.means }, tt)
+        (record { local = _; stands = l.stands; name = g.1; no_type = l.no_type; type = known-type O here P k suits u l.ty l.means }, tt)
     good-st (r_block h) g = good-sts h g
     good-st (r_assign h i) g = tt
     good-st (r_act h) g = tt
@@ -326,29 +319,29 @@ module _ (O : Plain) (here : Here) (K : PlainMethod) (Q : Plain) (k : PlainMetho
     good-st r_break g = tt
     good-st r_continue g = tt
 
-    pub good-sts : {in_loop : Bool} {scope : List Bound} {xs : Statements} {ys : Sts} → StsResolve O here K in_loop scope xs ys → AreFormedStmts xs
+    pub good-sts : {in_loop : Bool} {scope : List Bound} {xs : Statements} {ys : Sts} → StsResolve O here k in_loop scope xs ys → AreFormedStmts xs
         → Good (declares_all ys)
     good-sts r_no_statements g = tt
     good-sts (r_and_then {x = x} {xs = xs} h hs) g = good-both (declares x) (declares_all xs) (good-st h g.0) (good-sts hs g.1)
 
-    good-arms : {in_loop : Bool} {scope : List Bound} {a : tree.Arms} {other : Else} {ys : Arms} → ArmsResolve O here K in_loop scope a other ys
+    good-arms : {in_loop : Bool} {scope : List Bound} {a : tree.Arms} {other : Else} {ys : Arms} → ArmsResolve O here k in_loop scope a other ys
         → AreFormedArms a → IsFormedElse other → Good (declares_arms ys)
     good-arms r_no_else g e = tt
     good-arms (r_else h) g e = good-sts h e
     good-arms (r_arm {xs = xs} {more = more} h i hs) g e = good-both (declares_all xs) (declares_arms more) (good-sts i g.1) (good-arms hs g.2 e)
 
-    good-part : {in_loop : Bool} {scope : List Bound} {x : OptionalStatement} {ys : Sts} → PartResolves O here K in_loop scope x ys → IsFormedPart x
+    good-part : {in_loop : Bool} {scope : List Bound} {x : OptionalStatement} {ys : Sts} → PartResolves O here k in_loop scope x ys → IsFormedPart x
         → Good (declares_all ys)
     good-part r_absent g = tt
     good-part (r_present {x = x} h) g = good-both (declares x) [] (good-st h g) tt
 
   -- numbers that count reach each number between
-  pub counts-each : {a b : ℕ} {ns : List ℕ} → Counts a ns b → Good ns → (i : ℕ) → a ≤ i → i < b → GoodLocal O Q K i
+  pub counts-each : {a b : ℕ} {ns : List ℕ} → Counts a ns b → Good ns → (i : ℕ) → a ≤ i → i < b → GoodLocal O P k i
   counts-each no_number h i l u = absurd (omega (arith, l, u))
   counts-each {a} (next_number c) h i l u = go (a == i) refl (λ m. counts-each c h.1 i m u)
     where
-      go : (x : Bool) → (a == i) ≡ x → (suc a ≤ i → GoodLocal O Q K i) → GoodLocal O Q K i
-      go true e more = subst (GoodLocal O Q K) (eqb-true a i e) h.0
+      go : (x : Bool) → (a == i) ≡ x → (suc a ≤ i → GoodLocal O P k i) → GoodLocal O P k i
+      go true e more = subst (GoodLocal O P k) (eqb-true a i e) h.0
       go false e more = more (let n = eqb-false a i e in omega (arith, l, n))
 
 pub counts-behind : (n : ℕ) {a b : ℕ} {ns : List ℕ} → Counts a ns b → n ≤ a → AllByRecursion (λ i. n ≤ i) ns

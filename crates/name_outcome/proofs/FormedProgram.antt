@@ -1,11 +1,11 @@
 -- The program that a tree resolves to is formed.
-use Rattle.std.proofs.Common.{◌≡◌, ℕ, zero, suc, Bool, true, false, List, [], ◌∷◌, ◌++◌, map, length, Option, Some, None, Contains, refl, sym, ap, ◌∙◌, subst, arith}
+use Rattle.std.proofs.Common.{◌≡◌, ℕ, zero, suc, true, false, List, [], ◌∷◌, ◌++◌, map, length, Option, Some, None, Contains, refl, sym, ap, ◌∙◌, subst, arith}
 use Rattle.std.specs.Prelude.{slice_get, position, codes}
-use Rattle.std.specs.Option.{is_some, option_map, option_and_then, option_map_or, option_to_list}
+use Rattle.std.specs.Option.{is_some, option_and_then, option_map_or, option_to_list}
 use Rattle.std.specs.Str.{bytes_eq}
 use Rattle.std.proofs.lemmas.Bool.{false≢true, or_parts}
 use Rattle.std.proofs.lemmas.List.{length-map}
-use Rattle.std.proofs.lemmas.Option.{slice_get-map, slice_get_within}
+use Rattle.std.proofs.lemmas.Option.{slice_get_within}
 use Rattle.std.proofs.lemmas.Slice.Eq.{bytes_eq-Decides}
 use Rattle.kaba_base.specs.declared.ClassId.{ClassId}
 use Rattle.kaba_base.proofs.ListLemmas.{map_at, at_map, at_contains}
@@ -19,9 +19,8 @@ use Rattle.java_core.specs.declared.TyBase.{TyBase}
 use Rattle.java_tree.specs.declared.TypeBase.{TypeBase}
 use Rattle.java_tree.specs.declared.TypeBase.TheVariants as bases
 use Rattle.java_core.specs.Programs.{Plain, PlainClass}
-use Rattle.java_core.specs.Classes.{parent_of, faces_of, supers_of, IsSubclass, same_class, through, IsProperSubclass, first_or, nearest, own_field_of, field_of, is_field_of}
+use Rattle.java_core.specs.Classes.{parent_of, IsSubclass, same_class, through, IsProperSubclass, first_or, nearest, own_field_of, field_of, is_field_of}
 use Rattle.java_core.specs.Formed.{IsClass, IsKnownBase, IsType, IsVariableName, HasObject, IsFormedClass, HasNoTwice}
-use Rattle.java_core.proofs.Positions.{position-map}
 use Rattle.java_core.proofs.Subclasses.{supers-within}
 use Rattle.name_rules.specs.Outline.{types_in, type_named, is_known, is_type_name, id_meant, parent_named, faces_named, parent_meant, type_meant, name_of, is_interface_of, object, class_outline, outline}
 use Rattle.name_rules.specs.Meanings.{type_names, class_named, Means, MeansBase, an_int, a_boolean, a_char, a_text, a_class}
@@ -29,10 +28,9 @@ use Rattle.name_outcome.proofs.TypeNames.{type-meant}
 use Rattle.java_tree.specs.Formed.{Each, IsFormedDecl}
 use Rattle.name_outcome.proofs.Sees.{same_some}
 use Rattle.name_outcome.proofs.KnownTypes.{named-stands, unnamed-stands}
-use Rattle.name_outcome.proofs.KnownClasses.{StandsNamed, type_names-outline, id-meant}
+use Rattle.name_outcome.proofs.KnownClasses.{type_names-outline, id-meant}
 use Rattle.name_outcome.proofs.Reached.{class_stands}
 use Rattle.name_outcome.proofs.Bridge.{Steps, P}
-use Rattle.java_core.specs.Untagged.{untag_class, untag_field, untagged}
 
 -- ---- programs that have the same superclasses and the same own fields find the same fields
 
@@ -55,38 +53,6 @@ alike-field P O classes fields c n =
     alike-nearest P O n (λ c. ap (position (λ f. is_field_of c n f)) fields)
     (λ c. ap (λ z. option_and_then (λ k. k.parent) (slice_get z c)) classes) (length P.classes) c
     ∙ ap (λ z. nearest O (λ k. own_field_of O k n) (length z) c) classes
-
--- ---- without places all is as with them
-
-module _ (P : Plain) where
-  same-parent : (a : ℕ) → parent_of (untagged P) a ≡ parent_of P a
-  same-parent a = ap (option_and_then (λ k. k.parent)) (slice_get-map untag_class P.classes a) ∙ go (slice_get P.classes a)
-    where
-      go : (o : Option PlainClass) → option_and_then (λ k. k.parent) (option_map untag_class o) ≡ option_and_then (λ k. k.parent) o
-      go None = refl
-      go (Some k) = refl
-
-  same-faces : (a : ℕ) → faces_of (untagged P) a ≡ faces_of P a
-  same-faces a = ap (λ o. option_map_or (λ k. k.faces) o []) (slice_get-map untag_class P.classes a) ∙ go (slice_get P.classes a)
-    where
-      go : (o : Option PlainClass) → option_map_or (λ k. k.faces) (option_map untag_class o) [] ≡ option_map_or (λ k. k.faces) o []
-      go None = refl
-      go (Some k) = refl
-
-  same-supers : (a : ℕ) → supers_of (untagged P) a ≡ supers_of P a
-  same-supers a = ap (λ z. option_to_list z ++ faces_of (untagged P) a) (same-parent a) ∙ ap (λ z. option_to_list (parent_of P a) ++ z) (same-faces a)
-
-  pub bare-subclass : {a b : ℕ} → IsSubclass (untagged P) a b → IsSubclass P a b
-  bare-subclass same_class = same_class
-  bare-subclass {a} (through {c = c} direct rest) = through (subst (λ z. Contains z c) (same-supers a) direct) (bare-subclass rest)
-
-  pub bare-proper : {a b : ℕ} → IsProperSubclass (untagged P) a b → IsProperSubclass P a b
-  bare-proper {a} h = record { by = h.by; direct = subst (λ z. Contains z h.by) (same-supers a) h.direct; rest = bare-subclass h.rest }
-
-  pub same-field : (c : ℕ) (n : List ℕ) → field_of (untagged P) c n ≡ field_of P c n
-  unfolding field_of
-  same-field c n = ap (λ z. nearest (untagged P) (λ k. own_field_of (untagged P) k n) z c) (length-map P.classes _)
-      ∙ alike-nearest (untagged P) P n (λ c. position-map untag_field (λ f. is_field_of c n f) P.fields) same-parent (length P.classes) c
 
 pub classes-subclass : (P O : Plain) → P.classes ≡ O.classes → {a b : ℕ} → IsSubclass P a b → IsSubclass O a b
 classes-subclass P O e same_class = same_class
@@ -113,52 +79,34 @@ decl-name (ClassTree mods n parent faces xs p) g = g.1
 decl-name (InterfaceTree mods n parents hs p) g = g.1
 
 module _ (tree : List DeclTree) (s : Steps tree) where
-  abbrev pub R : Plain
-  R = untagged (P tree s)
-
-  pub class-in : (c : ℕ) (k : PlainClass) → slice_get (outline tree).classes c ≡ Some k → slice_get R.classes c ≡ Some (untag_class k)
-  class-in c k e = at_map untag_class (outline tree).classes c k e
-
-  names-are : map (λ k. k.name) R.classes ≡ types_in tree
-  names-are = twice (outline tree).classes ∙ type_names-outline tree
-    where
-      twice : (xs : List PlainClass) → map (λ k. k.name) (map untag_class xs) ≡ map (λ k. k.name) xs
-      twice [] = refl
-      twice (x ∷ xs) = ap (λ z. x.name ∷ z) (twice xs)
-
-  pub within-classes : (n : List ℕ) (c : ℕ) → class_named (outline tree) n ≡ Some c → IsClass R c
+  pub within-classes : (n : List ℕ) (c : ℕ) → class_named (outline tree) n ≡ Some c → IsClass (P tree s) c
   within-classes n c e =
       let a = slice_get_within (type_names (outline tree)) c n (named-stands (type_names (outline tree)) n c e) in
-      let b = length-map (outline tree).classes (λ k. k.name) in let d = length-map (outline tree).classes untag_class in omega
-      (arith, a, b, d)
+      let b = length-map (outline tree).classes (λ k. k.name) in omega (arith, a, b)
 
   -- a name that no type has
-  pub free-name : (x : List ℕ) → IsName x → is_type_name (types_in tree) x ≡ false → IsVariableName R x
+  pub free-name : (x : List ℕ) → IsName x → is_type_name (types_in tree) x ≡ false → IsVariableName (P tree s) x
   free-name x name e =
       let a = or_parts (is_some (type_named (types_in tree) x)) (is_known x) e in
       let b = or_parts (bytes_eq (codes "String") x) (bytes_eq (codes "System") x) a.1 in
       record {
         name = name;
         no_class = λ c k at same. unnamed-stands (types_in tree) x (none_of (type_named (types_in tree) x) a.0) c
-            (ap (λ z. slice_get z c) (sym names-are) ∙ at_map (λ k. k.name) R.classes c k at ∙ ap Some same);
+            (ap (λ z. slice_get z c) (sym (type_names-outline tree)) ∙ at_map (λ k. k.name) (P tree s).classes c k at ∙ ap Some same);
         no_string = λ same. false≢true (sym b.0 ∙ (bytes_eq-Decides (codes "String") x).1 (sym same));
         no_system = λ same. false≢true (sym b.1 ∙ (bytes_eq-Decides (codes "System") x).1 (sym same));
       }
 
-  pub formed-object : HasObject R
+  pub formed-object : HasObject (P tree s)
   unfolding outline
-  formed-object = record { object = untag_class object; first = class-in 0 object refl; name = refl; class = refl; concrete = refl; parent = refl; faces = refl }
+  formed-object = record { object = object; first = refl; name = refl; class = refl; concrete = refl; parent = refl; faces = refl }
 
-  named-in : {n : List ℕ} {kind : Bool} (a : StandsNamed tree n kind) → slice_get R.classes a.number ≡ Some (untag_class a.class)
-  named-in a = class-in a.number a.class a.stands
-
-  pub formed-class : (c : ℕ) (k : PlainClass) → slice_get R.classes (suc c) ≡ Some k → IsFormedClass R k
+  pub formed-class : (c : ℕ) (k : PlainClass) → slice_get (P tree s).classes (suc c) ≡ Some k → IsFormedClass (P tree s) k
   formed-class c k e =
-      let a = map_at untag_class (outline tree).classes (suc c) k e in
-      let b = class_stands tree c a.0 a.1 in
-      subst (IsFormedClass R) (ap untag_class b.2 ∙ a.2) (of-decl b.0 c b.1)
+      let b = class_stands tree c k e in
+      subst (IsFormedClass (P tree s)) b.2 (of-decl b.0 c b.1)
     where
-      of-decl : (d : DeclTree) (j : ℕ) → slice_get tree j ≡ Some d → IsFormedClass R (untag_class (class_outline (types_in tree) d))
+      of-decl : (d : DeclTree) (j : ℕ) → slice_get tree j ≡ Some d → IsFormedClass (P tree s) (class_outline (types_in tree) d)
       of-decl d j at =
           let u = or_parts (bytes_eq (codes "String") (name_of d)) (bytes_eq (codes "System") (name_of d)) (s.are.apart j d at) in
           let p = up (parent_named d) refl in
@@ -176,7 +124,7 @@ module _ (tree : List DeclTree) (s : Steps tree) where
                 let x = at_contains (map (id_meant (types_in tree)) (faces_named d)) f has in
                 let y = map_at (id_meant (types_in tree)) (faces_named d) x.0 f x.1 in
                 let a = (s.supers j d at).faces x.0 y.0 y.1 in
-                (untag_class a.class, ap (λ z. slice_get R.classes z.0) (sym y.2 ∙ id-meant tree s.known s.are y.0 a.number a.named) ∙ named-in a, a.kind);
+                (a.class, ap (λ z. slice_get (P tree s).classes z.0) (sym y.2 ∙ id-meant tree s.known s.are y.0 a.number a.named) ∙ a.stands, a.kind);
             faces_once = (s.supers j d at).once;
           }
         where
@@ -184,22 +132,22 @@ module _ (tree : List DeclTree) (s : Steps tree) where
           of-interface (ClassTree mods n parent faces xs p) e = absurd (false≢true e)
           of-interface (InterfaceTree mods n parents hs p) e = refl
 
-          up : (o : Option Id) → parent_named d ≡ o → (k : PlainClass) × (slice_get R.classes (parent_meant (types_in tree) o).0 ≡ Some k)
+          up : (o : Option Id) → parent_named d ≡ o → (k : PlainClass) × (slice_get (P tree s).classes (parent_meant (types_in tree) o).0 ≡ Some k)
               × (k.is_interface ≡ false)
           up None e = (formed-object.object, formed-object.first, formed-object.class)
           up (Some i) e =
               let a = (s.supers j d at).parent i e in
-              (untag_class a.class, ap (λ z. slice_get R.classes z.0) (id-meant tree s.known s.are i a.number a.named) ∙ named-in a, a.kind)
+              (a.class, ap (λ z. slice_get (P tree s).classes z.0) (id-meant tree s.known s.are i a.number a.named) ∙ a.stands, a.kind)
 
-  pub formed-names : HasNoTwice (map (λ k. k.name) R.classes)
-  formed-names = subst HasNoTwice (sym names-are) s.are.once
+  pub formed-names : HasNoTwice (map (λ k. k.name) (P tree s).classes)
+  formed-names = subst HasNoTwice (sym (type_names-outline tree)) s.are.once
 
-  pub formed-acyclic : (c : ℕ) → IsProperSubclass R c c → ⊥
+  pub formed-acyclic : (c : ℕ) → IsProperSubclass (P tree s) c c → ⊥
   formed-acyclic c h =
-      let g = classes-proper (P tree s) (outline tree) refl (bare-proper (P tree s) h) in
+      let g = classes-proper (P tree s) (outline tree) refl h in
       s.loops.none c (supers-within (outline tree) c g.by g.direct) g
 
-  pub known-base : (b : TypeBase) (x : TyBase) → MeansBase (outline tree) b x → IsKnownBase R x
+  pub known-base : (b : TypeBase) (x : TyBase) → MeansBase (outline tree) b x → IsKnownBase (P tree s) x
   known-base bases.Int x an_int = tt
   known-base bases.Boolean x a_boolean = tt
   known-base bases.Char x a_char = tt
@@ -207,5 +155,6 @@ module _ (tree : List DeclTree) (s : Steps tree) where
   known-base (bases.Named n) x (a_class {c = c} e f) = within-classes n c f
 
   -- the type that the outline has for a name is one of the program
-  pub meant-type : (u : TypeName) (t : Ty) → Means (outline tree) u t → IsType R (type_meant (types_in tree) u)
-  meant-type u t m = subst (IsType R) (type-meant (outline tree) u t m ∙ ap (λ z. type_meant z u) (type_names-outline tree)) (known-base u.base t.base m.base)
+  pub meant-type : (u : TypeName) (t : Ty) → Means (outline tree) u t → IsType (P tree s) (type_meant (types_in tree) u)
+  meant-type u t m = subst (IsType (P tree s)) (type-meant (outline tree) u t m ∙ ap (λ z. type_meant z u) (type_names-outline tree))
+      (known-base u.base t.base m.base)

@@ -1,29 +1,27 @@
 -- The program that a tree resolves to is formed, whole.
-use Rattle.std.proofs.Common.{◌≡◌, ℕ, ◌<◌, ◌≤◌, ◌⊎◌, inl, inr, ⊎_elim, Bool, true, false, not, ◌&&◌, List, Option, Some, None, refl, sym, ap, ◌∙◌, subst, arith}
+use Rattle.std.proofs.Common.{◌≡◌, ℕ, zero, suc, ◌+◌, ◌<◌, ◌≤◌, ◌⊎◌, inl, inr, ⊎_elim, Bool, true, false, not, ◌&&◌, List, Option, Some, None, refl, sym, ap, ◌∙◌, subst, arith}
 use Rattle.std.specs.Prelude.{slice_get, if◌then◌else◌}
 use Rattle.std.specs.Str.{bytes_eq}
 use Rattle.std.proofs.lemmas.Bool.{false≢true, eqb-true, cases_lt}
 use Rattle.std.proofs.lemmas.Slice.Eq.{bytes_eq-Decides}
-use Rattle.kaba_base.proofs.ListLemmas.{map_at, at_map}
 use Rattle.java_tree.specs.Syntax.{DeclTree}
 use Rattle.java_core.specs.Programs.{PlainMethod, PlainSlot}
 use Rattle.java_core.specs.Classes.{IsSubclass}
-use Rattle.java_core.specs.Formed.{HasNoTwice, IsFormedSlot, IsFormedMethod, IsMain, AreCounted, IsFormed}
+use Rattle.java_core.specs.Formed.{HasNoTwice, IsFormedSlot, IsMain, AreCounted, IsFormed}
 use Rattle.name_rules.specs.declared.Refusal.{Refusal}
 use Rattle.name_rules.specs.declared.Refusal.TheVariants.{Overload, PrivateReused}
 use Rattle.name_outcome.specs.declared.parts.Heading.{Heading}
 use Rattle.name_outcome.specs.Tables.{is_above}
 use Rattle.name_outcome.specs.Members.{meet, same_slot}
 use Rattle.name_rules.specs.Outline.{MethodAt, methods_in, types_in, method_outline, outline}
-use Rattle.name_rules.specs.Resolves.{heading_of, Resolves}
+use Rattle.name_rules.specs.Resolves.{heading_of, Counts, no_number, next_number, Resolves}
 use Rattle.java_core.proofs.Meets.{meets}
 use Rattle.name_outcome.proofs.SlotsOf.{SlotOf, none_of, one_of}
 use Rattle.name_outcome.proofs.MethodClashes.{owner-within}
 use Rattle.name_outcome.proofs.Bridge.{Steps, P, whole, program-resolves}
-use Rattle.java_core.specs.Untagged.{untag_method}
-use Rattle.name_outcome.proofs.UntaggedNumbers.{methods-same, counts-once}
-use Rattle.name_outcome.proofs.FormedProgram.{R, bare-subclass, classes-subclass, formed-object, formed-class, formed-names, formed-acyclic}
-use Rattle.name_outcome.proofs.FormedMembers.{bare-types, formed-field, formed-field_names, method-seen, formed-method}
+use Rattle.name_outcome.proofs.Sees.{same_some}
+use Rattle.name_outcome.proofs.FormedProgram.{classes-subclass, formed-object, formed-class, formed-names, formed-acyclic}
+use Rattle.name_outcome.proofs.FormedMembers.{formed-field, formed-field_names, method-seen, formed-method}
 use Rattle.name_outcome.proofs.MembersOf.{owners-rise}
 
 same-slots : (a b : Option ℕ) → same_slot a b ≡ true → (s : ℕ) × (a ≡ Some s) × (b ≡ Some s)
@@ -40,16 +38,22 @@ one-test true false false true r q a b e = absurd (cc e)
 one-test true private same false r q a b e = absurd (false≢true b)
 one-test false private same meeting r q a b e = absurd (false≢true a)
 
+counts-at : {a b : ℕ} {ns : List ℕ} → Counts a ns b → (i x : ℕ) → slice_get ns i ≡ Some x → x ≡ a + i
+counts-at no_number i x e = absurd (cc e)
+counts-at {a} (next_number c) zero x e = let f : a ≡ x = same_some e in omega (arith, f)
+counts-at {a} (next_number c) (suc i) x e = let f = counts-at c i x e in omega (arith, f)
+
+-- numbers that count are each there once
+counts-once : {a b : ℕ} {ns : List ℕ} → Counts a ns b → HasNoTwice ns
+unfolding HasNoTwice
+counts-once c i j x e f = let g = counts-at c i x e in let h = counts-at c j x f in omega (arith, g, h)
+
 module _ (tree : List DeclTree) (s : Steps tree) where
   res : Resolves tree (P tree s)
   res = program-resolves tree s
 
-  -- the methods of the program and of the text
-  method-of : (i : ℕ) (k : PlainMethod) → slice_get (R tree s).methods i ≡ Some k → (K : PlainMethod) × (slice_get s.methods i ≡ Some K) × (untag_method K ≡ k)
-  method-of i k e = map_at untag_method s.methods i k e
-
-  down : {c a : ℕ} → IsSubclass (R tree s) c a → IsSubclass (outline tree) c a
-  down h = classes-subclass (P tree s) (outline tree) refl (bare-subclass (P tree s) h)
+  down : {c a : ℕ} → IsSubclass (P tree s) c a → IsSubclass (outline tree) c a
+  down h = classes-subclass (P tree s) (outline tree) refl h
 
   -- two methods of one name in a type and its ancestors, the one before the other
   pub one-slot : (c i j : ℕ) (H K : PlainMethod) → slice_get s.methods i ≡ Some H → slice_get s.methods j ≡ Some K → i < j → IsSubclass (outline tree) c H.owner
@@ -103,59 +107,45 @@ module _ (tree : List DeclTree) (s : Steps tree) where
       static-of h x k n e (none_of f g) t = absurd (cc (sym g ∙ t))
       static-of h x k n e (one_of f g d o) t = ap (λ z. z.is_static) e ∙ f
 
-  all-one-slot : (c i j : ℕ) (h k : PlainMethod) → slice_get (R tree s).methods i ≡ Some h → slice_get (R tree s).methods j ≡ Some k
-      → IsSubclass (R tree s) c h.owner
-      → IsSubclass (R tree s) c k.owner → h.name ≡ k.name → (i ≡ j) ⊎ ((h.is_static ≡ false) × (h.slot ≡ k.slot))
+  all-one-slot : (c i j : ℕ) (h k : PlainMethod) → slice_get (P tree s).methods i ≡ Some h → slice_get (P tree s).methods j ≡ Some k
+      → IsSubclass (P tree s) c h.owner
+      → IsSubclass (P tree s) c k.owner → h.name ≡ k.name → (i ≡ j) ⊎ ((h.is_static ≡ false) × (h.slot ≡ k.slot))
   all-one-slot c i j h k e f u v same =
-      let a = method-of i h e in let b = method-of j k f in
-      let ua : IsSubclass (outline tree) c a.0.owner = down (subst (λ z. IsSubclass (R tree s) c z) (ap (λ z. z.owner) (sym a.2)) u) in
-      let vb : IsSubclass (outline tree) c b.0.owner = down (subst (λ z. IsSubclass (R tree s) c z) (ap (λ z. z.owner) (sym b.2)) v) in
-      let nm : a.0.name ≡ b.0.name = ap (λ z. z.name) a.2 ∙ same ∙ sym (ap (λ z. z.name) b.2) in
-      let is = ap (λ z. z.is_static) a.2 in let at = ap (λ z. z.slot) a.2 in let there = ap (λ z. z.slot) b.2 in
       ⊎_elim
-      (λ lt. let g = one-slot c i j a.0 b.0 a.1 b.1 lt ua vb nm in inr (sym is ∙ g.0, sym at ∙ g.1 ∙ there))
+      (λ lt. let g = one-slot c i j h k e f lt (down u) (down v) same in inr (g.0, g.1))
       (λ le. ⊎_elim
-      (λ lt. let g = one-slot c j i b.0 a.0 b.1 a.1 lt vb ua (sym nm) in inr (sym is ∙ g.2, sym at ∙ sym g.1 ∙ there))
+      (λ lt. let g = one-slot c j i k h f e lt (down v) (down u) (sym same) in inr (g.2, sym g.1))
       (λ ge. inl (omega (arith, le, ge)))
       (cases_lt j i))
       (cases_lt i j)
 
-  method-names : (i j : ℕ) (h k : PlainMethod) → slice_get (R tree s).methods i ≡ Some h → slice_get (R tree s).methods j ≡ Some k → h.owner ≡ k.owner
+  method-names : (i j : ℕ) (h k : PlainMethod) → slice_get (P tree s).methods i ≡ Some h → slice_get (P tree s).methods j ≡ Some k → h.owner ≡ k.owner
       → h.name ≡ k.name → i ≡ j
   method-names i j h k e f o same =
-      let a = method-of i h e in let b = method-of j k f in
-      let x = method-seen tree s i a.0 a.1 in
-      let y = method-seen tree s j b.0 b.1 in
-      s.members.method_once i j x.0 y.0 x.1 y.1
-      (ap (λ z. z.owner) (sym x.2) ∙ ap (λ z. z.owner) a.2 ∙ o ∙ sym (ap (λ z. z.owner) b.2) ∙ ap (λ z. z.owner) y.2)
-      (ap (λ z. z.name) (sym x.2) ∙ ap (λ z. z.name) a.2 ∙ same ∙ sym (ap (λ z. z.name) b.2) ∙ ap (λ z. z.name) y.2)
+      let x = method-seen tree s i h e in
+      let y = method-seen tree s j k f in
+      s.members.method_once i j x.0 y.0 x.1 y.1 (ap (λ z. z.owner) (sym x.2) ∙ o ∙ ap (λ z. z.owner) y.2)
+      (ap (λ z. z.name) (sym x.2) ∙ same ∙ ap (λ z. z.name) y.2)
 
-  formed-slot : (n : ℕ) (slot : PlainSlot) → slice_get (R tree s).slots n ≡ Some slot → IsFormedSlot (R tree s) n slot
+  formed-slot : (n : ℕ) (slot : PlainSlot) → slice_get (P tree s).slots n ≡ Some slot → IsFormedSlot (P tree s) n slot
   formed-slot n slot e =
       let a = res.slots.first n slot e in
       record {
-        method = untag_method a.0;
-        stands = at_map untag_method s.methods slot.first a.0 a.1;
+        method = a.0;
+        stands = a.1;
         of = a.2;
-        least = λ i k f g. let b = method-of i k f in res.slots.least n i slot b.0 e b.1 (ap (λ z. z.slot) b.2 ∙ g);
+        least = λ i k. res.slots.least n i slot k e;
       }
 
-  bare-main : (K : PlainMethod) → IsMain K → IsMain (untag_method K)
-  bare-main K h = record { static = h.static; name = h.name; params = bare-types K.params ∙ h.params; result = h.result }
-
-  main-bare : (K : PlainMethod) → IsMain (untag_method K) → IsMain K
-  main-bare K h = record { static = h.static; name = h.name; params = sym (bare-types K.params) ∙ h.params; result = h.result }
-
-  main-first : (j : ℕ) (k : PlainMethod) → slice_get (R tree s).methods j ≡ Some k → IsMain k → res.main.owner ≤ k.owner
+  main-first : (j : ℕ) (k : PlainMethod) → slice_get (P tree s).methods j ≡ Some k → IsMain k → res.main.owner ≤ k.owner
   main-first j k e h =
-      let a = method-of j k e in
-      let le = res.main_first j a.0 a.1 (main-bare a.0 (subst IsMain (sym a.2) h)) in
+      let le = res.main_first j k e h in
       let x = method-seen tree s s.main res.main res.main_stands in
-      let y = method-seen tree s j a.0 a.1 in
+      let y = method-seen tree s j k e in
       let r = owners-rise 1 tree s.formed s.main j x.0 y.0 x.1 y.1 le in
-      let p = ap (λ z. z.owner) x.2 in let q = ap (λ z. z.owner) y.2 in let o = ap (λ z. z.owner) a.2 in omega (arith, r, p, q, o)
+      let p = ap (λ z. z.owner) x.2 in let q = ap (λ z. z.owner) y.2 in omega (arith, r, p, q)
 
-  pub is-formed : AreCounted (R tree s) → IsFormed (R tree s)
+  pub is-formed : AreCounted (P tree s) → IsFormed (P tree s)
   is-formed counted = record {
     object = formed-object tree s;
     classes = formed-class tree s;
@@ -163,15 +153,14 @@ module _ (tree : List DeclTree) (s : Steps tree) where
     acyclic = formed-acyclic tree s;
     fields = formed-field tree s;
     field_names = formed-field_names tree s;
-    methods = λ i k e. let a = method-of i k e in let x = method-seen tree s i a.0 a.1 in
-        subst (IsFormedMethod (R tree s)) a.2 (formed-method tree s i a.0 a.1 x.0 x.1 x.2);
+    methods = λ i k e. let x = method-seen tree s i k e in formed-method tree s i k e x.0 x.1 x.2;
     method_names = method-names;
     one_slot = all-one-slot;
     slots = formed-slot;
-    numbered = subst HasNoTwice (sym (methods-same s.methods)) (counts-once res.numbers);
-    main = untag_method res.main;
-    main_stands = at_map untag_method s.methods s.main res.main res.main_stands;
-    main_is = bare-main res.main res.main_is;
+    numbered = counts-once res.numbers;
+    main = res.main;
+    main_stands = res.main_stands;
+    main_is = res.main_is;
     main_first = main-first;
     counted = counted;
   }

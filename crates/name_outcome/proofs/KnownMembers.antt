@@ -13,7 +13,6 @@ use Rattle.java_tree.specs.Syntax.{DeclTree}
 use Rattle.java_core.specs.declared.Ty.{Ty}
 use Rattle.java_core.specs.declared.Field.{Field}
 use Rattle.java_core.specs.declared.Local.{Local}
-use Rattle.java_core.specs.Trees.{at_place}
 use Rattle.java_core.specs.Programs.{PlainSlot, field_seen, local_seen}
 use Rattle.java_core.specs.Types.{types_of}
 use Rattle.java_core.specs.Formed.{IsMain}
@@ -99,7 +98,7 @@ module _ (tree : List DeclTree) (known : List Known) (are : AreKnown tree known)
 
   -- the members so far
   pub record AreMembers (fs : List FieldAt) (ms : List MethodAt) (m : Members) : Type 0 where
-    pub fields : map (field_seen at_place) m.fields ≡ map (field_outline (types_in tree)) fs
+    pub fields : map field_seen m.fields ≡ map (field_outline (types_in tree)) fs
     pub field_once : (i j : ℕ) (f g : FieldAt) → slice_get fs i ≡ Some f → slice_get fs j ≡ Some g → f.owner ≡ g.owner → f.name ≡ g.name → i ≡ j
     pub good_field : (i : ℕ) (f : FieldAt) → slice_get fs i ≡ Some f → GoodField f
     pub count : length m.headings ≡ length ms
@@ -125,12 +124,12 @@ module _ (tree : List DeclTree) (known : List Known) (are : AreKnown tree known)
 
       -- a field that stands among those seen stands in the tree
       in_tree : (i : ℕ) (x : Field) → slice_get m.fields i ≡ Some x → (y : FieldAt) × (slice_get fs i ≡ Some y) × (y.owner ≡ x.owner.0) × (y.name ≡ x.name)
-      in_tree i x at = let a = map_at (field_outline (types_in tree)) fs i (field_seen at_place x) (ap (λ z. slice_get z i) (sym h.fields)
-          ∙ at_map (field_seen at_place) m.fields i x at) in
+      in_tree i x at = let a = map_at (field_outline (types_in tree)) fs i (field_seen x) (ap (λ z. slice_get z i) (sym h.fields)
+          ∙ at_map field_seen m.fields i x at) in
           (a.0, a.1, ap (λ z. z.owner) a.2, ap (λ z. z.name) a.2)
 
       in_seen : (i : ℕ) (y : FieldAt) → slice_get fs i ≡ Some y → (x : Field) × (slice_get m.fields i ≡ Some x) × (x.owner.0 ≡ y.owner) × (x.name ≡ y.name)
-      in_seen i y at = let a = map_at (field_seen at_place) m.fields i (field_outline (types_in tree) y) (ap (λ z. slice_get z i) h.fields
+      in_seen i y at = let a = map_at field_seen m.fields i (field_outline (types_in tree) y) (ap (λ z. slice_get z i) h.fields
           ∙ at_map (field_outline (types_in tree)) fs i y at) in
           (a.0, a.1, ap (λ z. z.owner) a.2, ap (λ z. z.name) a.2)
 
@@ -158,7 +157,7 @@ module _ (tree : List DeclTree) (known : List Known) (are : AreKnown tree known)
       go t k false q None z =
           let x : Field = record { owner = record { 0 = f.owner }; name = f.name; is_static = g.is_static; ty = t; place = f.place } in
           record {
-            fields = map-append (field_seen at_place) m.fields (x ∷ []) ∙ ap (λ z. z ++ field_seen at_place x ∷ []) h.fields
+            fields = map-append field_seen m.fields (x ∷ []) ∙ ap (λ z. z ++ field_seen x ∷ []) h.fields
                 ∙ ap (λ z. map (field_outline (types_in tree)) fs ++ record (field_outline (types_in tree) f) { ty = z; is_static = g.is_static } ∷ []) k.0
                 ∙ ap (λ z. map (field_outline (types_in tree)) fs ++ record (field_outline (types_in tree) f) { is_static = z } ∷ []) hg.static
                 ∙ sym (map-append (field_outline (types_in tree)) fs (f ∷ []));
@@ -231,7 +230,7 @@ module _ (tree : List DeclTree) (known : List Known) (are : AreKnown tree known)
         });
       }
         where
-          map-twice : (ls : List Local) → types_of (map (local_seen at_place) ls) ≡ map (λ l. l.ty) ls
+          map-twice : (ls : List Local) → types_of (map local_seen ls) ≡ map (λ l. l.ty) ls
           map-twice [] = refl
           map-twice (l ∷ ls) = ap (λ z. l.ty ∷ z) (map-twice ls)
 
@@ -256,7 +255,7 @@ module _ (tree : List DeclTree) (known : List Known) (are : AreKnown tree known)
             fit = fit;
           }
 
-          map-twice : (ls : List Local) → types_of (map (local_seen at_place) ls) ≡ map (λ l. l.ty) ls
+          map-twice : (ls : List Local) → types_of (map local_seen ls) ≡ map (λ l. l.ty) ls
           map-twice [] = refl
           map-twice (l ∷ ls) = ap (λ z. l.ty ∷ z) (map-twice ls)
 

@@ -22,7 +22,6 @@ pub mod FormedBodies
 pub mod MembersOf
 pub mod FormedProgram
 pub mod FormedMembers
-pub mod UntaggedNumbers
 pub mod FormedWhole
 pub mod Excludes
 pub mod ExcludesWhole

@@ -9,7 +9,7 @@ use Rattle.java_tree.specs.declared.TypeName.{TypeName}
 use Rattle.java_tree.specs.Syntax.{Statements, HeadTree, MemberTree, FieldTree, MethodTree, DeclTree, ClassTree, InterfaceTree}
 use Rattle.java_core.specs.declared.Ty.{Ty}
 use Rattle.java_core.specs.declared.Local.{Local}
-use Rattle.java_core.specs.Trees.{at_place, Sts, no_st}
+use Rattle.java_core.specs.Trees.{Sts, no_st}
 use Rattle.java_core.specs.Programs.{Plain, PlainMethod, PlainLocal, local_seen}
 use Rattle.java_core.specs.Formed.{variables_of, numbers_body, numbers_methods}
 use Rattle.name_rules.specs.declared.parts.Kind.TheVariants as kinds
@@ -39,7 +39,7 @@ use Rattle.name_outcome.proofs.KnownMembers.{methods_from-append}
 
 -- ---- parameters in scope
 
-bounds-params : (k : ℕ) (ls : List Local) → bounds_from k ls ≡ params_from k (map (local_seen at_place) ls)
+bounds-params : (k : ℕ) (ls : List Local) → bounds_from k ls ≡ params_from k (map local_seen ls)
 bounds-params k [] = refl
 bounds-params k (l ∷ ls) = ap (λ z. record { name = l.name; number = k } ∷ z) (ap (λ i. bounds_from i ls) (add-one k) ∙ bounds-params (suc k) ls)
 
@@ -66,7 +66,7 @@ each-at P (y ∷ done) x rest h = each-at P done x rest h.1
 module _ (tree : List DeclTree) (known : List Known) (are : AreKnown tree known) (t : Table) (same : t.known ≡ known) (sees : Sees t (outline tree)) where
   -- what a body resolves to, numbered from n on
   record BodyIs (x : MethodAt) (ls : List Local) (n : ℕ) (r : List PlainLocal × Option Sts × ℕ) : Type 0 where
-    pub to : (k : PlainMethod) → k.params ≡ map (local_seen at_place) ls → k.locals ≡ r.0 → k.body ≡ r.1 → BodyResolves (outline tree) x k
+    pub to : (k : PlainMethod) → k.params ≡ map local_seen ls → k.locals ≡ r.0 → k.body ≡ r.1 → BodyResolves (outline tree) x k
     pub numbered : Counts n (numbers_body r.1) r.2
 
   body-tells : (x : MethodAt) → Contains (methods_in tree) x → (ls : List Local) → AreParams tree known are x.head.params ls
@@ -86,22 +86,22 @@ module _ (tree : List DeclTree) (known : List Known) (are : AreKnown tree known)
       start : State
       start = record { locals = []; count = length ls; number = n }
 
-      params-size : (k : PlainMethod) → k.params ≡ map (local_seen at_place) ls → length k.params ≡ length ls
+      params-size : (k : PlainMethod) → k.params ≡ map local_seen ls → length k.params ≡ length ls
       params-size k a = ap length a ∙ length-map ls _
 
       count-is : (r : Sts × State) → StsWalks t (outline tree) sees (here_of x) false no_st (bounds_from 0 ls) start ss r → (k : PlainMethod)
-          → k.params ≡ map (local_seen at_place) ls → r.1.count ≡ length k.params + length r.1.locals
+          → k.params ≡ map local_seen ls → r.1.count ≡ length k.params + length r.1.locals
       count-is r h k a = let c = h.grown.count in let d = params-size k a in let l = ap length h.grown.locals in omega (arith, c, d, l)
 
       resolves : (r : Sts × State) → StsWalks t (outline tree) sees (here_of x) false no_st (bounds_from 0 ls) start ss r → (k : PlainMethod)
-          → k.params ≡ map (local_seen at_place) ls → k.locals ≡ r.1.locals
+          → k.params ≡ map local_seen ls → k.locals ≡ r.1.locals
           → StsResolve (outline tree) (here_of x) k false (params_from 0 k.params) ss r.0
       resolves r h k a b =
           subst (λ z. StsResolve (outline tree) (here_of x) k false z ss r.0) (bounds-params 0 ls ∙ ap (params_from 0) (sym a))
           (whole-to t (outline tree) sees (here_of x) h k (record { rest = []; locals = b ∙ sym (append-nil r.1.locals); count = count-is r h k a }))
 
       counted : (r : Sts × State) → StsWalks t (outline tree) sees (here_of x) false no_st (bounds_from 0 ls) start ss r → (k : PlainMethod)
-          → k.params ≡ map (local_seen at_place) ls → k.locals ≡ r.1.locals
+          → k.params ≡ map local_seen ls → k.locals ≡ r.1.locals
           → Counts (length k.params) (declares_all r.0) (length (variables_of k))
       counted r h k a b =
           subst (λ z. Counts z (declares_all r.0) (length (variables_of k))) (sym (params-size k a))

@@ -66,7 +66,7 @@ module _ (tree : List DeclTree) (known : List Known) (are : AreKnown tree known)
 
   -- the parameters so far
   pub record AreParams (done : List Param) (ls : List Local) : Type 0 where
-    pub same : map (local_seen at_place) ls ≡ map (param_outline (types_in tree)) done
+    pub same : map local_seen ls ≡ map (param_outline (types_in tree)) done
     pub names : map (λ l. l.name) ls ≡ map (λ q. q.name) done
     pub once : HasNoTwice (map (λ q. q.name) done)
     pub free : (i : ℕ) (q : Param) → slice_get done i ≡ Some q → is_type_name (types_in tree) q.name ≡ false
@@ -101,7 +101,7 @@ module _ (tree : List DeclTree) (known : List Known) (are : AreKnown tree known)
           go t k false f false g =
               let l : Local = record { name = q.name; ty = t; place = q.place } in
               record {
-                same = map-append (local_seen at_place) ls (l ∷ []) ∙ ap (λ z. z ++ local_seen at_place l ∷ []) h.same
+                same = map-append local_seen ls (l ∷ []) ∙ ap (λ z. z ++ local_seen l ∷ []) h.same
                     ∙ ap (λ z. map (param_outline (types_in tree)) done ++ record { name = q.name; ty = z; tag = at_place q.place } ∷ []) k.0
                     ∙ sym (map-append (param_outline (types_in tree)) done (q ∷ []));
                 names = map-append (λ l. l.name) ls (l ∷ []) ∙ ap (λ z. z ++ q.name ∷ []) h.names ∙ sym (map-append (λ q. q.name) done (q ∷ []));

@@ -10,7 +10,6 @@ use Rattle.std.proofs.lemmas.Slice.Eq.{bytes_eq-Decides}
 use Rattle.kaba_base.specs.declared.ClassId.{ClassId}
 use Rattle.kaba_base.proofs.ListLemmas.{map_at}
 use Rattle.java_tree.specs.Syntax.{DeclTree}
-use Rattle.java_core.specs.Trees.{at_place}
 use Rattle.java_core.specs.Programs.{Plain, PlainClass, PlainMethod, field_seen}
 use Rattle.java_core.specs.Classes.{IsSubclass, parent_of, first_or, nearest, own_field_of, field_of, is_field_of}
 use Rattle.java_core.proofs.Positions.{position-map, position-passes, passes-position}
@@ -40,18 +39,18 @@ module _ (tree : List DeclTree) (known : List Known) (are : AreKnown tree known)
   abbrev T : Table
   T = resolved.table known (outline tree).classes rows m
 
-  pub fields-are : (outline tree).fields ≡ map (field_seen at_place) m.fields
+  pub fields-are : (outline tree).fields ≡ map field_seen m.fields
   unfolding outline
   fields-are = sym members.fields
 
   own-same : (c : ℕ) (n : List ℕ) → own_field T c n ≡ own_field_of O c n
-  own-same c n = sym (position-map (field_seen at_place) (λ f. is_field_of c n f) m.fields)
+  own-same c n = sym (position-map field_seen (λ f. is_field_of c n f) m.fields)
       ∙ ap (position (λ f. is_field_of c n f)) (sym fields-are)
 
   own-stands : (c : ℕ) (n : List ℕ) (f : ℕ) → own_field_of O c n ≡ Some f → StandsField T O f
   own-stands c n f e =
       let a = position-passes (λ f. is_field_of c n f) O.fields f e in
-      let b = map_at (field_seen at_place) m.fields f a.0 (ap (λ z. slice_get z f) (sym fields-are) ∙ a.1) in
+      let b = map_at field_seen m.fields f a.0 (ap (λ z. slice_get z f) (sym fields-are) ∙ a.1) in
       record {
         seen = b.0;
         member = a.0;

@@ -24,14 +24,13 @@ use Rattle.name_outcome.proofs.MethodClashes.{clashes-tells, main-tells}
 use Rattle.name_outcome.proofs.SeesOutline.{sees-outline}
 use Rattle.name_outcome.proofs.MethodBodies.{bodies-tells}
 use Rattle.name_outcome.proofs.Bridge.{Steps, P, program-resolves}
-use Rattle.java_core.specs.Untagged.{untagged}
 use Rattle.name_outcome.proofs.FormedWhole.{is-formed}
 use Rattle.name_outcome.proofs.ExcludesWhole.{none-holds}
 
 -- what a tree resolves to is its program, formed where its numbers fit, and no condition holds of the tree; else one does
 pub record ResolvesFormed (tree : List DeclTree) (P : Plain) : Type 0 where
   pub resolves : Resolves tree P
-  pub formed : AreCounted (untagged P) → IsFormed (untagged P)
+  pub formed : AreCounted P → IsFormed P
   pub none : HasNoCondition tree
 
 goes-through : (tree : List DeclTree) (s : Steps tree) → ResolvesFormed tree (P tree s)

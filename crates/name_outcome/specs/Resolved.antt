@@ -48,7 +48,7 @@ method_of owner h f slot ls r locals body =
       is_static = f.is_static;
       is_public = f.is_public;
       slot = slot;
-      params = map (local_seen at_place) ls;
+      params = map local_seen ls;
       locals = locals;
       result = r;
       body = body;
@@ -86,7 +86,7 @@ abbrev pub table : List Known → List PlainClass → List (List Bool) → Membe
 table known cs rows m = record { known = known; parents = parents_of cs; above = rows; fields = m.fields; headings = m.headings }
 
 abbrev pub program : List PlainClass → Members → ℕ → List PlainMethod → Plain
-program cs m main methods = record { classes = cs; fields = map (field_seen at_place) m.fields; methods = methods; slots = m.slots; main = main }
+program cs m main methods = record { classes = cs; fields = map field_seen m.fields; methods = methods; slots = m.slots; main = main }
 
 -- the program of a tree whose types, members and main method are these
 abbrev pub with_bodies : List DeclTree → List Known → List PlainClass → List (List Bool) → Members → Result Plain Refusal

@@ -1,5 +1,5 @@
 -- What a body resolves to without its places is what it resolves to, its tags taken off.
-use Rattle.std.proofs.Common.{◌≡◌, ℕ, suc, Bool, true, false, List, [], ◌∷◌, ◌++◌, map, length, Option, refl, sym, ap, ◌∙◌, subst}
+use Rattle.std.proofs.Common.{◌≡◌, ℕ, suc, Bool, true, false, List, [], ◌∷◌, ◌++◌, map, length, Option, refl, sym, ap, ◌∙◌, subst, ap₂}
 use Rattle.std.specs.Prelude.{slice_get}
 use Rattle.std.proofs.lemmas.List.{length-map}
 use Rattle.kaba_base.specs.declared.Place.{Place}
@@ -17,10 +17,9 @@ use Rattle.name_rules.specs.Outline.{MethodAt, is_static_word, is_type_name}
 use Rattle.name_rules.specs.Meanings.{bound_names}
 use Rattle.name_rules.specs.Resolves.{target, bound, Counts, ResolvesTo, r_number, r_character, r_text, r_truth, r_null, r_this, r_local, r_static_field, r_own_field, r_class_field, r_field, r_index, r_own_static_call, r_own_call, r_static_call, r_call, r_super_call, r_create, r_create_array, r_cast, r_instance_of, r_unary, r_binary, AllResolve, r_no_more, r_and_more, ResolvesIf, r_none, r_some, scope_after, scope_after_part, IsLocal, StResolves, r_declare, r_block, r_assign, r_act, r_print, r_choose, r_while, r_for, r_return, r_break, r_continue, StsResolve, r_no_statements, r_and_then, ArmsResolve, r_no_else, r_else, r_arm, PartResolves, r_absent, r_present, declares, declares_all, declares_arms, params_from, here_of, BodyResolves, r_no_body, r_body, BodiesResolve, r_no_methods, r_method}
 use Rattle.java_core.specs.Untagged.{bare_tag, bare, bare_all, bare_if, bare_target, bare_st, bare_sts, bare_arms, untag_local, untag_method, untagged, untag_body}
-use Rattle.java_core.proofs.Untagged.{ap2}
 use Rattle.places_aside.proofs.Outlines.{word-same, method_at_unplaced}
 use Rattle.places_aside.proofs.Meanings.{names-same, named-same, means, means-cast, class-name-same, static-field, static-method, nearest-field, met}
-use Rattle.name_outcome.proofs.FormedMembers.{bare-variables as variables-same}
+use Rattle.places_aside.proofs.Untagged.{variables-same}
 
 target-same : (x : Ex) → target (bare x) ≡ bare_target (target x)
 target-same (local t i) = refl
@@ -33,17 +32,17 @@ mutual
   declares-same (block t xs) = all-declare-same xs
   declares-same (choose t xs) = arms-declare-same xs
   declares-same (loop t is_while first test step body) =
-      ap2 (λ x y. x ++ y) (ap2 (λ x y. x ++ y) (all-declare-same first) (all-declare-same step)) (all-declare-same body)
+      ap₂ (λ x y. x ++ y) (ap₂ (λ x y. x ++ y) (all-declare-same first) (all-declare-same step)) (all-declare-same body)
   declares-same _ = refl
 
   all-declare-same : (xs : Sts) → declares_all (bare_sts xs) ≡ declares_all xs
   all-declare-same no_st = refl
-  all-declare-same (st_then x xs) = ap2 (λ y ys. y ++ ys) (declares-same x) (all-declare-same xs)
+  all-declare-same (st_then x xs) = ap₂ (λ y ys. y ++ ys) (declares-same x) (all-declare-same xs)
 
   arms-declare-same : (xs : Arms) → declares_arms (bare_arms xs) ≡ declares_arms xs
   arms-declare-same no_other = refl
   arms-declare-same (otherwise xs) = all-declare-same xs
-  arms-declare-same (arm e xs more) = ap2 (λ y ys. y ++ ys) (all-declare-same xs) (arms-declare-same more)
+  arms-declare-same (arm e xs more) = ap₂ (λ y ys. y ++ ys) (all-declare-same xs) (arms-declare-same more)
 
 params-same : (i : ℕ) (vs : List PlainLocal) → params_from i (map untag_local vs) ≡ params_from i vs
 params-same i [] = refl

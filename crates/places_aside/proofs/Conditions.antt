@@ -1,5 +1,5 @@
 -- No condition that refuses names holds of a tree without its places where none holds of it.
-use Rattle.std.proofs.Common.{◌≡◌, ◌⊎◌, inl, inr, ⊎_elim, ℕ, ◌||◌, true, false, List, map, Option, Some, None, Contains, is_some, refl, sym, ap, ◌∙◌, subst}
+use Rattle.std.proofs.Common.{◌≡◌, ◌⊎◌, inl, inr, ⊎_elim, ℕ, ◌||◌, true, false, List, map, Option, Some, None, Contains, is_some, refl, sym, ap, ◌∙◌, subst, ap₂}
 use Rattle.std.specs.Prelude.{slice_get, codes}
 use Rattle.kaba_base.proofs.ListLemmas.{map_at, at_map}
 use Rattle.java_tree.specs.declared.Modifier.{Modifier}
@@ -15,11 +15,10 @@ use Rattle.name_rules.specs.Resolves.{here_of}
 use Rattle.name_rules.specs.Conditions.{StsFault, disagree, is_unfit, kind_of, HasModifiers, of_type, of_field, of_method, HasWrongBody, missing, superfluous, in_concrete, AreOneSlot, unknown, type_twice, known_twice, super_twice, field_twice, method_twice, param_twice, loop, overload, type_as_field, type_as_param, face_as_parent, class_as_face, private_reused, no_main, modifiers_disagree, modifier_unfit, wrong_body, in_body}
 use Rattle.name_rules.specs.Causes.{HasNoCondition}
 use Rattle.java_core.specs.Untagged.{untag_class, untag_method, untagged}
-use Rattle.java_core.proofs.Untagged.{ap2}
 use Rattle.places_aside.proofs.Outlines.{word-same, name-same, types-same, same-all, field_at_unplaced, method_at_unplaced, fields-same, methods-same, outline-same}
 use Rattle.places_aside.proofs.Meanings.{named-same, supers-same, below-back}
 use Rattle.places_aside.proofs.Resolved.{all-mapped, from-map, from-all, from-maybe, parent-unplaced, faces-unplaced, method-back, asked-back, main-bare}
-use Rattle.name_outcome.proofs.FormedMembers.{bare-types as param-types-same}
+use Rattle.places_aside.proofs.Untagged.{param-types-same}
 use Rattle.places_aside.proofs.Faults.{sts}
 
 -- an item of a list without places stands where it stood
@@ -154,11 +153,11 @@ module _ (tree : List DeclTree) where
           result = o.result;
         })))))
     no_condition r (type_as_field {f = f} c e) =
-        let a = field-back f c in none _ (type_as_field a.1 (ap2 is_type_name (sym (types-same tree)) (ap (λ z. z.name) a.2) ∙ e))
+        let a = field-back f c in none _ (type_as_field a.1 (ap₂ is_type_name (sym (types-same tree)) (ap (λ z. z.name) a.2) ∙ e))
     no_condition r (type_as_param {m = m} {q = q} c d e) =
         let a = method-back tree m c in
         let b = from-all param_unplaced a.0.head.params q (subst (λ z. Contains z.head.params q) (sym a.2) d) in
-        none _ (type_as_param a.1 b.1 (ap2 is_type_name (sym (types-same tree)) (ap (λ z. z.name) b.2) ∙ e))
+        none _ (type_as_param a.1 b.1 (ap₂ is_type_name (sym (types-same tree)) (ap (λ z. z.name) b.2) ∙ e))
     no_condition r (face_as_parent {d = d} {i = i} {c = c} {k = k} x e n y s) =
         let a = from-all decl_unplaced tree d x in
         let b = from-maybe id_unplaced (parent_named a.0) i (sym (parent-unplaced a.0) ∙ ap parent_named a.2 ∙ e) in
@@ -173,7 +172,7 @@ module _ (tree : List DeclTree) where
         let a = method-at i h x in let b = method-at j k y in
         let first = ap (λ (z : MethodAt). z.owner) a.2 in let second = ap (λ (z : MethodAt). z.owner) b.2 in
         none _ (private_reused a.1 b.1 lt (ap (λ z. z.head.name) a.2 ∙ n ∙ ap (λ z. z.head.name) (sym b.2)) (λ e. o (sym first ∙ e ∙ second))
-        (ap2 (λ v w. v || w) (sym (word-same is_private_word a.0.head.mods) ∙ ap is_private a.2)
+        (ap₂ (λ v w. v || w) (sym (word-same is_private_word a.0.head.mods) ∙ ap is_private a.2)
         (sym (word-same is_private_word b.0.head.mods) ∙ ap is_private b.2) ∙ p)
         (⊎_elim (λ u. inl (subst (λ z. IsSubclass O z b.0.owner) (sym first) (subst (λ z. IsSubclass O h.owner z) (sym second) (below-in u))))
         (λ u. inr (subst (λ z. IsSubclass O z a.0.owner) (sym second) (subst (λ z. IsSubclass O k.owner z) (sym first) (below-in u)))) s))
@@ -184,7 +183,7 @@ module _ (tree : List DeclTree) where
         let a = mods-back kind ms c in
         let u = stands-back modifier_unplaced a.0 i x (ap (λ z. slice_get z i) a.2 ∙ e) in
         let v = stands-back modifier_unplaced a.0 j y (ap (λ z. slice_get z j) a.2 ∙ f) in
-        none _ (modifiers_disagree a.1 u.1 v.1 lt (ap2 disagree (ap (λ z. z.word) u.2) (ap (λ z. z.word) v.2) ∙ d))
+        none _ (modifiers_disagree a.1 u.1 v.1 lt (ap₂ disagree (ap (λ z. z.word) u.2) (ap (λ z. z.word) v.2) ∙ d))
     no_condition r (modifier_unfit {kind = kind} {mods = ms} {a = x} c e d) =
         let a = mods-back kind ms c in
         let u = from-all modifier_unplaced a.0 x (subst (λ z. Contains z x) (sym a.2) e) in

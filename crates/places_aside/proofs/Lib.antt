@@ -4,4 +4,5 @@ pub mod Faults
 pub mod Meanings
 pub mod Outlines
 pub mod Resolved
+pub mod Untagged
 pub mod Whole

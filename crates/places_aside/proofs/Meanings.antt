@@ -1,5 +1,5 @@
 -- What a name means in an outline does not depend on the tags.
-use Rattle.std.proofs.Common.{◌≡◌, ℕ, zero, suc, ◌&&◌, ◌++◌, not, List, [], ◌∷◌, map, length, Option, Some, None, Contains, refl, sym, ap, ◌∙◌, subst}
+use Rattle.std.proofs.Common.{◌≡◌, ℕ, zero, suc, ◌&&◌, ◌++◌, not, List, [], ◌∷◌, map, length, Option, Some, None, Contains, refl, sym, ap, ◌∙◌, subst, ap₂}
 use Rattle.std.specs.Prelude.{slice_get, option_and_then}
 use Rattle.std.specs.Option.{option_map, option_map_or, option_to_list, is_none}
 use Rattle.std.proofs.lemmas.List.{length-map}
@@ -19,12 +19,11 @@ use Rattle.java_core.proofs.Positions.{position-map}
 use Rattle.name_rules.specs.Outline.{type_named}
 use Rattle.name_rules.specs.Meanings.{type_names, class_named, MeansBase, an_int, a_boolean, a_char, a_text, a_class, Means, MeansCastBase, to_int, to_boolean, to_char, to_class, MeansCast, is_bound, is_class_name, IsStaticFieldOf, IsStaticMethodOf, IsNearestField, IsMet}
 use Rattle.java_core.specs.Untagged.{untag_class, untag_field, untag_method, untagged}
-use Rattle.java_core.proofs.Untagged.{ap2}
 
 -- what is looked for in each item is found in its image
 pub maps : {A B C : Type 0} (u : A → B) (f : B → C) (g : A → C) → ((x : A) → f (u x) ≡ g x) → (xs : List A) → map f (map u xs) ≡ map g xs
 maps u f g e [] = refl
-maps u f g e (x ∷ xs) = ap2 (λ y ys. y ∷ ys) (e x) (maps u f g e xs)
+maps u f g e (x ∷ xs) = ap₂ (λ y ys. y ∷ ys) (e x) (maps u f g e xs)
 
 module _ (O : Plain) where
   abbrev bare-outline : Plain
@@ -72,7 +71,7 @@ module _ (O : Plain) where
       go (Some k) = refl
 
   pub supers-same : (a : ℕ) → supers_of bare-outline a ≡ supers_of O a
-  supers-same a = ap2 (λ p fs. option_to_list p ++ fs) (parent-same a) (faces-same a)
+  supers-same a = ap₂ (λ p fs. option_to_list p ++ fs) (parent-same a) (faces-same a)
 
   below : {a b : ℕ} → IsSubclass O a b → IsSubclass bare-outline a b
   below same_class = same_class
@@ -90,7 +89,7 @@ module _ (O : Plain) where
   nearest-same : (f g : ℕ → Option ℕ) → ((k : ℕ) → f k ≡ g k) → (n c : ℕ) → nearest bare-outline f n c ≡ nearest O g n c
   nearest-same f g e zero c = e c
   nearest-same f g e (suc n) c =
-      ap2 first_or (e c) (ap (option_and_then (λ p. nearest bare-outline f n p.0)) (parent-same c) ∙ go (λ k. nearest-same f g e n k) (parent_of O c))
+      ap₂ first_or (e c) (ap (option_and_then (λ p. nearest bare-outline f n p.0)) (parent-same c) ∙ go (λ k. nearest-same f g e n k) (parent_of O c))
     where
       go : ((k : ℕ) → nearest bare-outline f n k ≡ nearest O g n k) → (p : Option ClassId)
           → option_and_then (λ p. nearest bare-outline f n p.0) p ≡ option_and_then (λ p. nearest O g n p.0) p

@@ -1,5 +1,5 @@
 -- The outline of a tree without places is that of the tree, its tags taken off.
-use Rattle.std.proofs.Common.{◌≡◌, ℕ, suc, ◌||◌, Bool, false, true, List, [], ◌∷◌, ◌++◌, map, Option, Some, None, refl, sym, ap, ◌∙◌}
+use Rattle.std.proofs.Common.{◌≡◌, ℕ, suc, ◌||◌, Bool, false, true, List, [], ◌∷◌, ◌++◌, map, Option, Some, None, refl, sym, ap, ◌∙◌, ap₂}
 use Rattle.std.specs.Prelude.{codes}
 use Rattle.std.specs.Option.{option_map}
 use Rattle.std.proofs.lemmas.List.{map-append}
@@ -14,26 +14,25 @@ use Rattle.name_rules.specs.Outline.{FieldAt, MethodAt, name_of, has_word, is_ab
 use Rattle.kaba_base.specs.declared.ClassId.{ClassId}
 use Rattle.java_core.specs.Programs.{PlainClass}
 use Rattle.java_core.specs.Untagged.{bare_tag, untag_local, untag_class, untag_field, untag_method, untagged}
-use Rattle.java_core.proofs.Untagged.{ap2}
 
 -- ---- lists
 
 -- items that are seen the same without their places
 pub same-all : {A B : Type 0} (u : A → A) (f : A → B) → ((x : A) → f (u x) ≡ f x) → (xs : List A) → map f (all_unplaced u xs) ≡ map f xs
 same-all u f e [] = refl
-same-all u f e (x ∷ xs) = ap2 (λ y ys. y ∷ ys) (e x) (same-all u f e xs)
+same-all u f e (x ∷ xs) = ap₂ (λ y ys. y ∷ ys) (e x) (same-all u f e xs)
 
 -- items that are seen without their tags where they have no places
 seen-all : {A B C : Type 0} (u : A → A) (f : A → C) (g : A → B) (h : B → C) → ((x : A) → f (u x) ≡ h (g x)) → (xs : List A)
     → map f (all_unplaced u xs) ≡ map h (map g xs)
 seen-all u f g h e [] = refl
-seen-all u f g h e (x ∷ xs) = ap2 (λ y ys. y ∷ ys) (e x) (seen-all u f g h e xs)
+seen-all u f g h e (x ∷ xs) = ap₂ (λ y ys. y ∷ ys) (e x) (seen-all u f g h e xs)
 
 -- mapped in either order
 both-ways : {A B C D : Type 0} (f : A → B) (u : B → D) (g : A → C) (h : C → D) → ((x : A) → u (f x) ≡ h (g x)) → (xs : List A)
     → map u (map f xs) ≡ map h (map g xs)
 both-ways f u g h e [] = refl
-both-ways f u g h e (x ∷ xs) = ap2 (λ y ys. y ∷ ys) (e x) (both-ways f u g h e xs)
+both-ways f u g h e (x ∷ xs) = ap₂ (λ y ys. y ∷ ys) (e x) (both-ways f u g h e xs)
 
 -- ---- parts of declarations
 
@@ -99,12 +98,12 @@ method-decl c (InterfaceTree ms n fs hs p) = seen-all head_unplaced _ _ method_a
 fields-from : (c : ℕ) (ds : List DeclTree) → fields_from c (unplaced ds) ≡ map field_at_unplaced (fields_from c ds)
 fields-from c [] = refl
 fields-from c (d ∷ ds) =
-    ap2 (λ x y. x ++ y) (field-decl c d) (fields-from (suc c) ds) ∙ sym (map-append field_at_unplaced (fields_declared c d) (fields_from (suc c) ds))
+    ap₂ (λ x y. x ++ y) (field-decl c d) (fields-from (suc c) ds) ∙ sym (map-append field_at_unplaced (fields_declared c d) (fields_from (suc c) ds))
 
 methods-from : (c : ℕ) (ds : List DeclTree) → methods_from c (unplaced ds) ≡ map method_at_unplaced (methods_from c ds)
 methods-from c [] = refl
 methods-from c (d ∷ ds) =
-    ap2 (λ x y. x ++ y) (method-decl c d) (methods-from (suc c) ds) ∙ sym (map-append method_at_unplaced (methods_declared c d) (methods_from (suc c) ds))
+    ap₂ (λ x y. x ++ y) (method-decl c d) (methods-from (suc c) ds) ∙ sym (map-append method_at_unplaced (methods_declared c d) (methods_from (suc c) ds))
 
 pub fields-same : (tree : List DeclTree) → fields_in (unplaced tree) ≡ map field_at_unplaced (fields_in tree)
 fields-same tree = fields-from 1 tree
@@ -124,7 +123,7 @@ result-same types (Some t) = refl
 
 method-seen : (types : List (List ℕ)) (m : MethodAt) → method_outline types (method_at_unplaced m) ≡ untag_method (method_outline types m)
 method-seen types m =
-    ap2 (λ s u. record {
+    ap₂ (λ s u. record {
       owner = m.owner;
       name = m.head.name;
       is_static = s;
@@ -137,7 +136,7 @@ method-seen types m =
       tag = bare_tag;
     })
     (word-same is_static_word m.head.mods) (word-same is_public_word m.head.mods)
-    ∙ ap2 (λ ps r. record {
+    ∙ ap₂ (λ ps r. record {
       owner = m.owner;
       name = m.head.name;
       is_static = has_word is_static_word m.head.mods;
@@ -161,7 +160,7 @@ outline-same tree =
       slots = [];
       main = 0;
     }) (types-same tree)
-    ∙ ap2 (λ cs fs. record { classes = object ∷ cs; fields = fs; methods = map (method_outline t) (methods_in (unplaced tree)); slots = []; main = 0 })
+    ∙ ap₂ (λ cs fs. record { classes = object ∷ cs; fields = fs; methods = map (method_outline t) (methods_in (unplaced tree)); slots = []; main = 0 })
     (seen-all decl_unplaced (class_outline t) (class_outline t) untag_class (class-same t) tree)
     (ap (map (field_outline t)) (fields-same tree) ∙ both-ways field_at_unplaced (field_outline t) (field_outline t) untag_field (field-seen t)
     (fields_in tree))

@@ -14,12 +14,11 @@ use Rattle.name_rules.specs.Meanings.{class_named}
 use Rattle.name_rules.specs.Asked.{IsSuper, a_parent, a_face, IsDeclared, of_field, of_param, of_result, Asks, by_super, by_type}
 use Rattle.name_rules.specs.Resolves.{Counts, BodiesResolve, heading_of, HasSlot, no_slot, a_slot, AreSlots, Resolves}
 use Rattle.java_core.specs.Untagged.{untag_class, untag_field, untag_method, untagged}
-use Rattle.name_outcome.proofs.UntaggedNumbers as numbers
 use Rattle.name_outcome.proofs.Sees.{same_some}
 use Rattle.places_aside.proofs.Outlines.{field_at_unplaced, method_at_unplaced, fields-same, methods-same, outline-same}
 use Rattle.places_aside.proofs.Meanings.{named-same}
 use Rattle.places_aside.proofs.Bodies.{bodies}
-use Rattle.name_outcome.proofs.FormedMembers.{bare-types as param-types-same}
+use Rattle.places_aside.proofs.Untagged.{numbers-same, param-types-same}
 
 -- ---- the types that are asked for
 
@@ -119,7 +118,7 @@ resolves-bare tree P r =
           (subst (λ z. BodiesResolve (untagged (outline tree)) z (map untag_method P.methods)) (sym (methods-same tree)) (bodies (outline tree) r.bodies));
       slots = slots P r.slots;
       last = r.last;
-      numbers = subst (λ z. Counts 0 z r.last) (sym (numbers.methods-same P.methods)) r.numbers;
+      numbers = subst (λ z. Counts 0 z r.last) (sym (numbers-same P.methods)) r.numbers;
       main = untag_method r.main;
       main_stands = at_map untag_method P.methods P.main r.main r.main_stands;
       main_is = main-bare P r.main_is;

@@ -6,14 +6,12 @@ use Rattle.java_tree.specs.Declarations.{Derives}
 use Rattle.java_parse.proofs.CompleteDeclarations.{one_derived}
 use Rattle.java_tree.specs.Formed.{IsFormedTree}
 use Rattle.java_tree.proofs.Gives.{given_formed}
-use Rattle.java_core.specs.Trees.{at_place}
 use Rattle.java_core.specs.Programs.{Plain, program_of}
 use Rattle.name_rules.specs.Resolves.{Resolves}
 use Rattle.name_rules.specs.Causes.{HasNoCondition}
 use Rattle.java_core.specs.Untagged.{untagged}
-use Rattle.java_core.proofs.Untagged.{same_program}
 use Rattle.name_outcome.proofs.OnlyWhole.{only}
-use Rattle.places_aside.specs.Laws.{NoConditionAside, PlacesAside, HasOneProgram}
+use Rattle.places_aside.specs.Laws.{NoConditionAside, PlacesAside, HasNoPlaces, HasOneProgram}
 use Rattle.places_aside.proofs.Conditions.{no_condition}
 use Rattle.places_aside.proofs.Resolved.{resolves-bare}
 
@@ -31,7 +29,13 @@ bare_only tree other P Q same formed none p q =
 pub places_aside : PlacesAside
 unfolding PlacesAside
 places_aside tree other p q same given none a b =
-    sym (same_program p) ∙ bare_only tree other (program_of at_place p) (program_of at_place q) same (given_formed other given) none a b ∙ same_program q
+    bare_only tree other (program_of p) (program_of q) same (given_formed other given) none a b
+
+pub has_no_places : HasNoPlaces
+unfolding HasNoPlaces
+has_no_places tree p bare given none a =
+    only (unplaced tree) (given_formed tree given) (no_condition tree none) (untagged (program_of p)) (program_of p)
+    (resolves-bare tree (program_of p) a) (subst (λ z. Resolves z (program_of p)) (sym bare) a)
 
 pub has_one_program : HasOneProgram
 unfolding HasOneProgram PlacesAside

@@ -1,10 +1,8 @@
--- What a row of resolved trees is, read as the items of its vector; and what the tree of a form with a list is.
+-- What a list of resolved trees with one more is; and what the tree of a form with a list is.
 use Rattle.std.proofs.Common.{◌≡◌, ℕ, subst, Result, Ok, Err, false, List, [], ◌∷◌, ◌++◌, Option, Some, None, refl, sym, ap, ◌∙◌}
 use Rattle.std.specs.Prelude.{if◌then◌else◌}
 use Rattle.java_core.specs.declared.RExpr.{RExpr}
-use Rattle.java_core.specs.declared.RExpr.TheBlock.{hidden-the_row-RExpr-0}
-use Rattle.java_core.specs.Trees.{at_place, Ex, ex_then, no_ex, expr_of, exprs_of, exprs}
-use Rattle.java_core.proofs.Rows as core_rows
+use Rattle.java_core.specs.Trees.{Ex, ex_then, no_ex, expr_of, exprs}
 use Rattle.java_tree.specs.declared.Expr.{Expr, Call, SuperCall, New}
 use Rattle.java_tree.specs.Syntax as tree
 use Rattle.java_tree.proofs.Rows as tree_rows
@@ -23,12 +21,9 @@ use Rattle.name_outcome.specs.Answers.{Gives}
 use Rattle.name_outcome.specs.Expressions.{ex_last, Receiver, on_super, receiver, class_before, call_meaning, called_on, after, walk, walk_all}
 use Rattle.resolved_bodies.proofs.Steps.{follows}
 
-pub exprs_vec : (v : _) → exprs_of at_place (hidden-the_row-RExpr-0 v) ≡ exprs at_place v.items
-exprs_vec = core_rows.exprs_vec at_place
-
-pub exprs_push : (xs : List RExpr) (e : RExpr) → exprs at_place (xs ++ e ∷ []) ≡ ex_last (exprs at_place xs) (expr_of at_place e)
+pub exprs_push : (xs : List RExpr) (e : RExpr) → exprs (xs ++ e ∷ []) ≡ ex_last (exprs xs) (expr_of e)
 exprs_push [] e = refl
-exprs_push (x ∷ xs) e = ap (ex_then (expr_of at_place x)) (exprs_push xs e)
+exprs_push (x ∷ xs) e = ap (ex_then (expr_of x)) (exprs_push xs e)
 
 -- the trees of forms with arguments
 pub super_shown : {s : Expr} {n : List ℕ} {p : Place} (args : Vec Expr Global) → s ≡ SuperCall n args p

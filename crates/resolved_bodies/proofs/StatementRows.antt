@@ -1,12 +1,10 @@
--- What a row of resolved statements is, read as the items of its vector; and what the tree of a form with a list is.
+-- What a list of resolved statements with one more is; and what the tree of a form with a list is.
 use Rattle.std.proofs.Common.{◌≡◌, List, [], ◌∷◌, ◌++◌, Some, None, refl, ap, ◌∙◌}
 use Rattle.java_core.specs.declared.RExpr.{RExpr}
 use Rattle.java_core.specs.declared.RExpr.TheBlock as rex
 use Rattle.java_core.specs.declared.RStmt.{RStmt}
 use Rattle.java_core.specs.declared.RArm.{RArm}
-use Rattle.java_core.specs.declared.RStmt.TheBlock.{hidden-the_row-RStmt-0, hidden-the_row-RArm-1}
-use Rattle.java_core.specs.Trees.{at_place, st_then, Arms, no_other, arm, expr_of, target_of, stmt_of, stmts_of, stmts, arms_of, arms_seen}
-use Rattle.java_core.proofs.Rows as core_rows
+use Rattle.java_core.specs.Trees.{st_then, Arms, no_other, arm, expr_of, target_of, stmt_of, stmts, arms_seen}
 use Rattle.java_tree.specs.declared.Expr.{Expr}
 use Rattle.java_tree.specs.declared.Stmt.{Stmt, Block, If, While, For}
 use Rattle.java_tree.specs.declared.Stmt.TheBlock.{hidden-the_row-Stmt-0}
@@ -15,26 +13,20 @@ use Rattle.java_tree.proofs.Rows as tree_rows
 use Rattle.name_outcome.specs.Statements.{st_last, arm_last, ending}
 use Rattle.name_rules.specs.Resolves.{target}
 
-pub stmts_vec : (v : _) → stmts_of at_place (hidden-the_row-RStmt-0 v) ≡ stmts at_place v.items
-stmts_vec = core_rows.stmts_vec at_place
-
-pub arms_vec : (v : _) (other : Arms) → arms_of at_place (hidden-the_row-RArm-1 v) other ≡ arms_seen at_place v.items other
-arms_vec = core_rows.arms_vec at_place
-
-pub stmts_push : (xs : List RStmt) (s : RStmt) → stmts at_place (xs ++ s ∷ []) ≡ st_last (stmts at_place xs) (stmt_of at_place s)
+pub stmts_push : (xs : List RStmt) (s : RStmt) → stmts (xs ++ s ∷ []) ≡ st_last (stmts xs) (stmt_of s)
 stmts_push [] s = refl
-stmts_push (x ∷ xs) s = ap (st_then (stmt_of at_place x)) (stmts_push xs s)
+stmts_push (x ∷ xs) s = ap (st_then (stmt_of x)) (stmts_push xs s)
 
-pub arms_push : (xs : List RArm) (a : RArm) → arms_seen at_place (xs ++ a ∷ []) no_other ≡ arm_last (arms_seen at_place xs no_other)
-    (expr_of at_place a.test) (stmts at_place a.body.items)
+pub arms_push : (xs : List RArm) (a : RArm) → arms_seen (xs ++ a ∷ []) no_other ≡ arm_last (arms_seen xs no_other)
+    (expr_of a.test) (stmts a.body.items)
 arms_push [] a = refl
-arms_push (x ∷ xs) a = ap (arm (expr_of at_place x.test) (stmts at_place x.body.items)) (arms_push xs a)
+arms_push (x ∷ xs) a = ap (arm (expr_of x.test) (stmts x.body.items)) (arms_push xs a)
 
-pub arms_ending : (xs : List RArm) (other : Arms) → ending (arms_seen at_place xs no_other) other ≡ arms_seen at_place xs other
+pub arms_ending : (xs : List RArm) (other : Arms) → ending (arms_seen xs no_other) other ≡ arms_seen xs other
 arms_ending [] other = refl
-arms_ending (x ∷ xs) other = ap (arm (expr_of at_place x.test) (stmts at_place x.body.items)) (arms_ending xs other)
+arms_ending (x ∷ xs) other = ap (arm (expr_of x.test) (stmts x.body.items)) (arms_ending xs other)
 
-pub target_shown : (e : RExpr) → target (expr_of at_place e) ≡ target_of at_place e
+pub target_shown : (e : RExpr) → target (expr_of e) ≡ target_of e
 target_shown (rex.Call' rex.None' n s args p) = refl
 target_shown (rex.Call' (rex.Some' b e) n s args p) = refl
 target_shown _ = refl

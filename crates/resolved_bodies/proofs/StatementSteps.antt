@@ -24,14 +24,14 @@ module _ (t : Table) (h : Here) (inside : Bool) where
   -- one statement more
   pub sts_next : (scope after : List Bound) (k j : State) (done pushed : List RStmt) (list : List Stmt) (n : ℕ) (s : Stmt) (e : RStmt)
       (o : Result (Sts × State) Refusal) → n < length list → s ≡ get_or list n s →
-      walk_st t h inside scope k (tree.stmt_of s) ≡ Ok (stmt_of at_place e, after, j) → pushed ≡ done ++ e ∷ [] →
-      walk_sts t h inside (stmts at_place done) scope k (tree.stmts (drop n list)) ≡ o → walk_sts t h inside (stmts at_place pushed) after j
+      walk_st t h inside scope k (tree.stmt_of s) ≡ Ok (stmt_of e, after, j) → pushed ≡ done ++ e ∷ [] →
+      walk_sts t h inside (stmts done) scope k (tree.stmts (drop n list)) ≡ o → walk_sts t h inside (stmts pushed) after j
       (tree.stmts (drop (n + 1) list)) ≡ o
   sts_next scope after k j done pushed list n s e o below at given push before =
       let rest = drop (n + 1) list in
-      ap (λ x. walk_sts t h inside x after j (tree.stmts rest)) (ap (stmts at_place) push ∙ stmts_push done e)
-      ∙ ap (λ x. with x (λ x. walk_sts t h inside (st_last (stmts at_place done) x.0) x.1 x.2 (tree.stmts rest))) (sym given)
-      ∙ ap (λ x. walk_sts t h inside (stmts at_place done) scope k (tree.stmts x)) (sym (drop_at list n s below at))
+      ap (λ x. walk_sts t h inside x after j (tree.stmts rest)) (ap stmts push ∙ stmts_push done e)
+      ∙ ap (λ x. with x (λ x. walk_sts t h inside (st_last (stmts done) x.0) x.1 x.2 (tree.stmts rest))) (sym given)
+      ∙ ap (λ x. walk_sts t h inside (stmts done) scope k (tree.stmts x)) (sym (drop_at list n s below at))
       ∙ before
 
   in_arm : {D : Type 0} (x : Ex) (b : Result (Sts × State) Refusal) (go : Ex × Sts × State → Result D Refusal)
@@ -56,26 +56,26 @@ module _ (t : Table) (h : Here) (inside : Bool) where
   -- one arm more
   pub arms_next : (scope : List Bound) (k j : State) (done pushed : List RArm) (list : List Arm) (n : ℕ) (s : Arm) (e : RArm)
       (o : Result (Arms × State) Refusal) → n < length list → s ≡ get_or list n s →
-      walk_arm t h inside scope k (tree.expr_of s.test) (tree.stmts s.body.items) ≡ Ok (expr_of at_place e.test, stmts at_place e.body.items, j)
+      walk_arm t h inside scope k (tree.expr_of s.test) (tree.stmts s.body.items) ≡ Ok (expr_of e.test, stmts e.body.items, j)
       → pushed ≡ done ++ e ∷ [] →
-      walk_arms t h inside (arms_seen at_place done no_other) scope k (tree.arms_seen (drop n list)) ≡ o
-      → walk_arms t h inside (arms_seen at_place pushed no_other) scope j (tree.arms_seen (drop (n + 1) list)) ≡ o
+      walk_arms t h inside (arms_seen done no_other) scope k (tree.arms_seen (drop n list)) ≡ o
+      → walk_arms t h inside (arms_seen pushed no_other) scope j (tree.arms_seen (drop (n + 1) list)) ≡ o
   arms_next scope k j done pushed list n s e o below at given push before =
       let rest = drop (n + 1) list in
-      ap (λ x. walk_arms t h inside x scope j (tree.arms_seen rest)) (ap (λ x. arms_seen at_place x no_other) push ∙ arms_push done e)
-      ∙ ap (λ x. with x (λ a. walk_arms t h inside (arm_last (arms_seen at_place done no_other) a.0 a.1) scope a.2 (tree.arms_seen rest))) (sym given)
-      ∙ arm_split scope k (arms_seen at_place done no_other) list n s below at
+      ap (λ x. walk_arms t h inside x scope j (tree.arms_seen rest)) (ap (λ x. arms_seen x no_other) push ∙ arms_push done e)
+      ∙ ap (λ x. with x (λ a. walk_arms t h inside (arm_last (arms_seen done no_other) a.0 a.1) scope a.2 (tree.arms_seen rest))) (sym given)
+      ∙ arm_split scope k (arms_seen done no_other) list n s below at
       ∙ before
 
   -- an arm with a fault
   pub arms_fault : (r : Refusal) (scope : List Bound) (k : State) (done : List RArm) (list : List Arm) (n : ℕ) (s : Arm)
       (o : Result (Arms × State) Refusal) → n < length list → s ≡ get_or list n s →
       IsRefused r (walk_arm t h inside scope k (tree.expr_of s.test) (tree.stmts s.body.items))
-      → walk_arms t h inside (arms_seen at_place done no_other) scope k (tree.arms_seen (drop n list)) ≡ o → IsRefused r o
+      → walk_arms t h inside (arms_seen done no_other) scope k (tree.arms_seen (drop n list)) ≡ o → IsRefused r o
   arms_fault r scope k done list n s o below at given before =
-      subst (IsRefused r) (arm_split scope k (arms_seen at_place done no_other) list n s below at ∙ before)
+      subst (IsRefused r) (arm_split scope k (arms_seen done no_other) list n s below at ∙ before)
       (passes r (walk_arm t h inside scope k (tree.expr_of s.test) (tree.stmts s.body.items))
-      (λ a. walk_arms t h inside (arm_last (arms_seen at_place done no_other) a.0 a.1) scope a.2 (tree.arms_seen (drop (n + 1) list))) given)
+      (λ a. walk_arms t h inside (arm_last (arms_seen done no_other) a.0 a.1) scope a.2 (tree.arms_seen (drop (n + 1) list))) given)
 
 -- what is given of a tree is given of what it is
 pub carry_st : {A : Type 0} (f : A → St × List Bound × State) (r : Result A Refusal) (t : Table) (h : Here) (inside : Bool) (scope : List Bound)

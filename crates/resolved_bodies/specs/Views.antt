@@ -1,6 +1,6 @@
 -- What the definitions see of the declarations and of what is made so far of a body.
 use Rattle.std.specs.Prelude.{map}
-use Rattle.java_core.specs.Trees.{at_place, expr_of}
+use Rattle.java_core.specs.Trees.{expr_of}
 use Rattle.java_core.specs.Programs.{local_seen, method_seen}
 use Rattle.name_outcome.specs.Tables.{Table}
 use Rattle.name_outcome.specs.Expressions.{Receiver, an_object, on_this, on_super, no_object}
@@ -21,13 +21,13 @@ abbrev pub table_at : Enclosing → Table
 table_at s = table_of s.tables.now
 
 abbrev pub receiver_of : Callee → Receiver
-receiver_of (callee.Object e) = an_object (expr_of at_place e.value)
+receiver_of (callee.Object e) = an_object (expr_of e.value)
 receiver_of callee.This = on_this
 receiver_of callee.Super = on_super
 receiver_of (callee.Static m) = no_object m
 
 abbrev pub state_of : Body → State
-state_of b = record { locals = map (local_seen at_place) b.locals.items; count = b.count; number = b.number }
+state_of b = record { locals = map local_seen b.locals.items; count = b.count; number = b.number }
 
 abbrev pub methods_seen : Written → Methods
-methods_seen w = (map (method_seen at_place) w.methods.items, w.number)
+methods_seen w = (map method_seen w.methods.items, w.number)

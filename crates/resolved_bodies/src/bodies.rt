@@ -6,7 +6,7 @@ ghost use Rattle.std.specs.declared.vec.Vec.{Vec};
 ghost use Rattle.std.specs.declared.alloc.Global.{Global};
 ghost use Rattle.java_tree.specs.Syntax.{body_seen, head_of, member_of, members, heads, decl_of, decls};
 ghost use Rattle.java_core.specs.Trees as core;
-ghost use Rattle.java_core.specs.Trees.{at_place, Sts};
+ghost use Rattle.java_core.specs.Trees.{Sts};
 ghost use Rattle.java_core.specs.declared.Method.{Method};
 ghost use Rattle.java_core.specs.declared.Local.{Local};
 ghost use Rattle.java_core.specs.declared.RStmt.{RStmt};
@@ -54,7 +54,7 @@ fn body_of(
     requires bound { scope.now ≡ bounds_from 0 params.now.items }
     requires outside { within.now.inside ≡ false }
     ensures { Gives {A = Vec Local Global × Option (Vec RStmt Global)} {B = List PlainLocal × Option Sts × ℕ}
-        (λ b. (map (local_seen at_place) b.0.items, core.body_seen at_place b.1, number.new)) result
+        (λ b. (map local_seen b.0.items, core.body_seen b.1, number.new)) result
         (body_of (table_at within.now) within.now.here params.now.items number.old (body_seen tree.now)) }
 {
     match tree {
@@ -178,7 +178,7 @@ fn decl_bodies(owner: &Owner, written: &mut Written, decl: &Decl) -> Named<u32>
 
 /// All methods of a tree.
 pub fn methods_of(alloc: Global, tables: &Tables, list: &[Decl]) -> Named<Vec<Method>>
-    ensures { Gives {A = Vec Method Global} {B = List PlainMethod} (λ v. map (method_seen at_place) v.items)
+    ensures { Gives {A = Vec Method Global} {B = List PlainMethod} (λ v. map method_seen v.items)
         result (methods_of (table_of tables.now) (decls list.now)) }
 {
     let mut written = Written {

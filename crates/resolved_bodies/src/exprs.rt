@@ -5,7 +5,7 @@ ghost use Rattle.std.specs.Prelude.{◌≡◌, ℕ};
 ghost use Rattle.std.specs.declared.boxed.Box.{Box};
 ghost use Rattle.java_tree.specs.Syntax.{expr_of, exprs, NewOf};
 ghost use Rattle.java_core.specs.Trees as core;
-ghost use Rattle.java_core.specs.Trees.{at_place, Ex, Exs, no_ex};
+ghost use Rattle.java_core.specs.Trees.{Ex, Exs, no_ex};
 ghost use Rattle.java_core.specs.declared.RExpr.{RExpr};
 ghost use Rattle.resolved_bodies.specs.declared.meanings.Callee.{Callee};
 ghost use Rattle.std.specs.declared.vec.Vec.{Vec};
@@ -71,7 +71,7 @@ fn bin_op(mark: Mark) -> BinOp
 /// an `instanceof`.
 #[cycle(exprs)]
 pub fn expr(within: &Enclosing, scope: &Scope, number: &mut u32, tree: &Expr) -> Named<RExpr>
-    ensures given { Gives {A = RExpr} {B = Ex × ℕ} (λ e. (core.expr_of at_place e, number.new)) result
+    ensures given { Gives {A = RExpr} {B = Ex × ℕ} (λ e. (core.expr_of e, number.new)) result
         (walk (table_at within.now) within.now.here scope.now number.old (expr_of tree.now)) }
 {
     match tree {
@@ -215,7 +215,7 @@ pub fn expr(within: &Enclosing, scope: &Scope, number: &mut u32, tree: &Expr) ->
 /// The same, as a part of another.
 #[cycle(exprs)]
 fn boxed(within: &Enclosing, scope: &Scope, number: &mut u32, tree: &Expr) -> Named<Box<RExpr>>
-    ensures given { Gives {A = Box RExpr Global} {B = Ex × ℕ} (λ e. (core.expr_of at_place e.value, number.new)) result
+    ensures given { Gives {A = Box RExpr Global} {B = Ex × ℕ} (λ e. (core.expr_of e.value, number.new)) result
         (walk (table_at within.now) within.now.here scope.now number.old (expr_of tree.now)) }
 {
     let expr = expr(within, scope, number, tree)?;
@@ -257,7 +257,7 @@ fn applied(
     args: &Vec<Expr>,
     place: Place,
 ) -> Named<RExpr>
-    ensures given { Gives {A = RExpr} {B = Ex × ℕ} (λ e. (core.expr_of at_place e, number.new)) result
+    ensures given { Gives {A = RExpr} {B = Ex × ℕ} (λ e. (core.expr_of e, number.new)) result
         (after (walk_all (table_at within.now) within.now.here scope.now no_ex number.old (exprs args.now.items))
         (λ xs. called_on (receiver_of on) name.now xs place)) }
 {
@@ -276,7 +276,7 @@ fn new_object(
     args: &Vec<Expr>,
     place: Place,
 ) -> Named<RExpr>
-    ensures given { Gives {A = RExpr} {B = Ex × ℕ} (λ e. (core.expr_of at_place e, number.new)) result
+    ensures given { Gives {A = RExpr} {B = Ex × ℕ} (λ e. (core.expr_of e, number.new)) result
         (walk (table_at within.now) within.now.here scope.now number.old
         (NewOf class.now (exprs args.now.items) place)) }
 {
@@ -290,7 +290,7 @@ fn new_object(
 #[cycle(exprs)]
 #[tactic(auto, using(crate::proofs::Rows::exprs_push))]
 fn all(within: &Enclosing, scope: &Scope, number: &mut u32, list: &Vec<Expr>) -> Named<Vec<RExpr>>
-    ensures given { Gives {A = Vec RExpr Global} {B = Exs × ℕ} (λ v. (core.exprs at_place v.items, number.new)) result
+    ensures given { Gives {A = Vec RExpr Global} {B = Exs × ℕ} (λ v. (core.exprs v.items, number.new)) result
         (walk_all (table_at within.now) within.now.here scope.now no_ex number.old (exprs list.now.items)) }
 {
     let mut done = Vec::new(within.alloc);

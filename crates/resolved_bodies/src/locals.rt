@@ -4,7 +4,7 @@
 ghost use Rattle.std.specs.Prelude.{◌≡◌, IfOk, Option, List};
 ghost use Rattle.java_tree.specs.Syntax.{expr_of, value_of};
 ghost use Rattle.java_core.specs.Trees as core;
-ghost use Rattle.java_core.specs.Trees.{at_place, Ex, St};
+ghost use Rattle.java_core.specs.Trees.{Ex, St};
 ghost use Rattle.java_core.specs.declared.RExpr.{RExpr};
 ghost use Rattle.java_core.specs.declared.RStmt.{RStmt};
 ghost use Rattle.name_rules.specs.declared.parts.Bound.{Bound};
@@ -52,7 +52,7 @@ fn clash(
 
 /// An expression of a statement.
 pub fn part(within: &Enclosing, scope: &Scope, body: &mut Body, tree: &Expr) -> Named<RExpr>
-    ensures given { Gives {A = RExpr} {B = Ex × State} (λ e. (core.expr_of at_place e, state_of body.new))
+    ensures given { Gives {A = RExpr} {B = Ex × State} (λ e. (core.expr_of e, state_of body.new))
         result (walk_expr (table_at within.now) within.now.here scope.now (state_of body.old) (expr_of tree.now)) }
 {
     expr(within, scope, &mut body.number, tree)
@@ -66,7 +66,7 @@ pub fn value(
     tree: &Option<Expr>,
 ) -> Named<Option<RExpr>>
     ensures given { Gives {A = Option RExpr} {B = Option Ex × State}
-        (λ e. (core.value_of at_place e, state_of body.new)) result
+        (λ e. (core.value_of e, state_of body.new)) result
         (walk_value (table_at within.now) within.now.here scope.now (state_of body.old) (value_of tree.now)) }
 {
     match tree {
@@ -86,7 +86,7 @@ pub fn declaration(
     place: Place,
 ) -> Named<RStmt>
     ensures given { Gives {A = RStmt} {B = St × List Bound × State}
-        (λ s. (core.stmt_of at_place s, scope.new, state_of body.new)) result
+        (λ s. (core.stmt_of s, scope.new, state_of body.new)) result
         (walk_local (table_at within.now) within.now.here scope.old (state_of body.old) ty.now name.now
         (value_of first.now) place) }
 {

@@ -1,5 +1,5 @@
 //! Resolved trees from their parts.
-#![tactic(auto, using(crate::proofs::Rows::exprs_vec, crate::proofs::StatementRows::stmts_vec, crate::proofs::StatementRows::arms_vec))]
+#![tactic(auto, using(java_core::proofs::Rows::exprs_vec, java_core::proofs::Rows::stmts_vec, java_core::proofs::Rows::arms_vec))]
 
 ghost use Rattle.std.specs.Prelude.{◌≡◌, Some, true, false};
 ghost use Rattle.java_core.specs.Trees.{at_place, expr_of, exprs, stmt_of, stmts, arms_seen, else_seen, step_seen, value_of, no_st, block, choose, loop, create};
@@ -12,7 +12,7 @@ use kaba_base::{ClassId, MemberId, Name, Place};
 
 /// A call on this.
 pub fn call(on: Callee, name: Name, args: Vec<RExpr>, place: Place) -> RExpr
-    ensures { expr_of at_place result ≡ called_on (receiver_of on) name (exprs at_place args.items) place }
+    ensures { expr_of result ≡ called_on (receiver_of on) name (exprs args.items) place }
 {
     match on {
         Callee::Object(base) => RExpr::Call {
@@ -38,7 +38,7 @@ pub fn call(on: Callee, name: Name, args: Vec<RExpr>, place: Place) -> RExpr
 
 /// `new class(args)`
 pub fn create(number: u32, class: u32, args: Vec<RExpr>, place: Place) -> RExpr
-    ensures { expr_of at_place result ≡ create (at_place place) number class (exprs at_place args.items) }
+    ensures { expr_of result ≡ create (at_place place) number class (exprs args.items) }
 {
     RExpr::New {
         number,
@@ -50,21 +50,21 @@ pub fn create(number: u32, class: u32, args: Vec<RExpr>, place: Place) -> RExpr
 
 /// `{ items }`
 pub fn block(items: Vec<RStmt>, place: Place) -> RStmt
-    ensures { stmt_of at_place result ≡ block (at_place place) (stmts at_place items.items) }
+    ensures { stmt_of result ≡ block (at_place place) (stmts items.items) }
 {
     RStmt::Block { items, place }
 }
 
 /// An `if`.
 pub fn choose(arms: Vec<RArm>, other: Option<Vec<RStmt>>, place: Place) -> RStmt
-    ensures { stmt_of at_place result ≡ choose (at_place place) (arms_seen at_place arms.items (else_seen at_place other)) }
+    ensures { stmt_of result ≡ choose (at_place place) (arms_seen arms.items (else_seen other)) }
 {
     RStmt::If { arms, other, place }
 }
 
 /// A `while`.
 pub fn while_loop(test: RExpr, body: Vec<RStmt>, place: Place) -> RStmt
-    ensures { stmt_of at_place result ≡ loop (at_place place) true no_st (Some (expr_of at_place test)) no_st (stmts at_place body.items) }
+    ensures { stmt_of result ≡ loop (at_place place) true no_st (Some (expr_of test)) no_st (stmts body.items) }
 {
     RStmt::While { test, body, place }
 }
@@ -77,8 +77,8 @@ pub fn for_loop(
     body: Vec<RStmt>,
     place: Place,
 ) -> RStmt
-    ensures { stmt_of at_place result ≡ loop (at_place place) false (step_seen at_place first)
-        (value_of at_place test) (step_seen at_place step) (stmts at_place body.items) }
+    ensures { stmt_of result ≡ loop (at_place place) false (step_seen first)
+        (value_of test) (step_seen step) (stmts body.items) }
 {
     RStmt::For {
         first,

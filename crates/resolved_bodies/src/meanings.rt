@@ -4,7 +4,6 @@
 ghost use Rattle.std.specs.Prelude.{◌≡◌, ℕ, Ok, suc, option_and_then};
 ghost use Rattle.java_tree.specs.Syntax.{expr_of};
 ghost use Rattle.java_core.specs.Trees as core;
-ghost use Rattle.java_core.specs.Trees.{at_place};
 ghost use Rattle.name_outcome.specs.Answers.{Gives};
 ghost use Rattle.resolved_bodies.specs.Members.{member_found};
 ghost use Rattle.resolved_bodies.specs.Views.{table_at, receiver_of};
@@ -63,7 +62,7 @@ fn id_of(number: usize) -> Named<u32>
 
 /// A field by its simple name.
 fn field_use(within: &Enclosing, name: &Name, place: Place, found: Option<usize>) -> Named<RExpr>
-    ensures { Gives (λ e. core.expr_of at_place e) result (spec.field_named (table_at within.now) within.now.here name.now place found) }
+    ensures { Gives (λ e. core.expr_of e) result (spec.field_named (table_at within.now) within.now.here name.now place found) }
 {
     let Some(number) = found else {
         return Err(Refusal::Unknown(name.copy(within.alloc)?, place));
@@ -95,7 +94,7 @@ fn field_use(within: &Enclosing, name: &Name, place: Place, found: Option<usize>
 /// What a simple name means.
 #[tactic(auto, unfolding(name_outcome::specs::Expressions::name_meaning))]
 pub fn name_meaning(within: &Enclosing, scope: &Scope, name: &Name, place: Place) -> Named<RExpr>
-    ensures { Gives (λ e. core.expr_of at_place e) result (name_meaning (table_at within.now) within.now.here scope.now name.now place) }
+    ensures { Gives (λ e. core.expr_of e) result (name_meaning (table_at within.now) within.now.here scope.now name.now place) }
 {
     match scope.number_of(name) {
         Some(local) => Ok(RExpr::Local { local, place }),

@@ -29,7 +29,7 @@ use name_tables::Scope;
 #[cycle(stmts)]
 fn stmt(within: &Enclosing, scope: &mut Scope, body: &mut Body, tree: &Stmt) -> Named<RStmt>
     ensures given { Gives {A = RStmt} {B = St × List Bound × State}
-        (λ s. (core.stmt_of at_place s, scope.new, state_of body.new)) result
+        (λ s. (core.stmt_of s, scope.new, state_of body.new)) result
         (walk_st (table_at within.now) within.now.here within.now.inside scope.old (state_of body.old) (stmt_of tree.now)) }
 {
     match tree {
@@ -136,7 +136,7 @@ fn assign(
     place: Place,
 ) -> Named<RStmt>
     ensures given { Gives {A = RStmt} {B = St × List Bound × State}
-        (λ s. (core.stmt_of at_place s, scope.now, state_of body.new)) result
+        (λ s. (core.stmt_of s, scope.now, state_of body.new)) result
         (walk_st (table_at within.now) within.now.here true scope.now (state_of body.old)
         (AssignOf (expr_of target.now) (expr_of value.now) place)) }
 {
@@ -159,7 +159,7 @@ fn block(
     place: Place,
 ) -> Named<RStmt>
     ensures given { Gives {A = RStmt} {B = St × List Bound × State}
-        (λ s. (core.stmt_of at_place s, scope.now, state_of body.new)) result
+        (λ s. (core.stmt_of s, scope.now, state_of body.new)) result
         (walk_st (table_at within.now) within.now.here within.now.inside scope.now (state_of body.old)
         (BlockOf (stmts items.now.items) place)) }
 {
@@ -179,10 +179,10 @@ fn choice(
     place: Place,
 ) -> Named<RStmt>
     ensures given { Gives {A = RStmt} {B = St × List Bound × State}
-        (λ s. (core.stmt_of at_place s, scope.now, state_of body.new)) result
+        (λ s. (core.stmt_of s, scope.now, state_of body.new)) result
         (kept (walk_else (table_at within.now) within.now.here within.now.inside scope.now (state_of body.old)
         (else_seen other.now)) scope.now
-        (λ o. choose (at_place place) (ending (core.arms_seen at_place arms.items no_other) o))) }
+        (λ o. choose (at_place place) (ending (core.arms_seen arms.items no_other) o))) }
 {
     let other = made!(otherwise(within, scope, body, other); arms);
     Ok(make::choose(arms, other, place))
@@ -199,7 +199,7 @@ fn while_loop(
     place: Place,
 ) -> Named<RStmt>
     ensures given { Gives {A = RStmt} {B = St × List Bound × State}
-        (λ s. (core.stmt_of at_place s, scope.now, state_of body.new)) result
+        (λ s. (core.stmt_of s, scope.now, state_of body.new)) result
         (walk_st (table_at within.now) within.now.here true scope.now (state_of body.old)
         (WhileOf (expr_of test.now) (stmts run.now.items) place)) }
 {
@@ -221,10 +221,10 @@ fn for_body(
     place: Place,
 ) -> Named<RStmt>
     ensures given { (outer : List Bound) → Gives {A = RStmt} {B = St × List Bound × State}
-        (λ s. (core.stmt_of at_place s, outer, state_of body.new)) result
+        (λ s. (core.stmt_of s, outer, state_of body.new)) result
         (kept (walk_sts (table_at within.now) within.now.here true no_st inner.now (state_of body.old)
-        (stmts run.now.items)) outer (loop (at_place place) false (core.step_seen at_place first)
-        (core.value_of at_place test) (core.step_seen at_place step))) }
+        (stmts run.now.items)) outer (loop (at_place place) false (core.step_seen first)
+        (core.value_of test) (core.step_seen step))) }
 {
     let run = made!(statements(&in_loop(within), inner, body, run); first, test, step);
     Ok(make::for_loop(first, test, step, run, place))
@@ -239,7 +239,7 @@ fn optional(
     tree: &Option<Box<Stmt>>,
 ) -> Named<Option<Box<RStmt>>>
     ensures given { Gives {A = Option (Box RStmt Global)} {B = Sts × List Bound × State}
-        (λ s. (core.step_seen at_place s, scope.new, state_of body.new)) result
+        (λ s. (core.step_seen s, scope.new, state_of body.new)) result
         (walk_optional (table_at within.now) within.now.here within.now.inside scope.old (state_of body.old)
         (boxed_step tree.now)) }
 {
@@ -261,7 +261,7 @@ fn otherwise(
     tree: &Option<Vec<Stmt>>,
 ) -> Named<Option<Vec<RStmt>>>
     ensures given { Gives {A = Option (Vec RStmt Global)} {B = Arms × State}
-        (λ o. (core.else_seen at_place o, state_of body.new)) result
+        (λ o. (core.else_seen o, state_of body.new)) result
         (walk_else (table_at within.now) within.now.here within.now.inside scope.now (state_of body.old)
         (else_seen tree.now)) }
 {
@@ -275,7 +275,7 @@ fn otherwise(
 #[cycle(stmts)]
 fn arm(within: &Enclosing, scope: &Scope, body: &mut Body, tree: &Arm) -> Named<RArm>
     ensures given { Gives {A = RArm} {B = Ex × Sts × State}
-        (λ a. (core.expr_of at_place a.test, core.stmts at_place a.body.items, state_of body.new)) result
+        (λ a. (core.expr_of a.test, core.stmts a.body.items, state_of body.new)) result
         (walk_arm (table_at within.now) within.now.here within.now.inside scope.now (state_of body.old)
         (expr_of tree.now.test) (stmts tree.now.body.items)) }
 {
@@ -288,7 +288,7 @@ fn arm(within: &Enclosing, scope: &Scope, body: &mut Body, tree: &Arm) -> Named<
 #[cycle(stmts)]
 fn arms(within: &Enclosing, scope: &Scope, body: &mut Body, list: &Vec<Arm>) -> Named<Vec<RArm>>
     ensures given { Gives {A = Vec RArm Global} {B = Arms × State}
-        (λ v. (core.arms_seen at_place v.items no_other, state_of body.new)) result
+        (λ v. (core.arms_seen v.items no_other, state_of body.new)) result
         (walk_arms (table_at within.now) within.now.here within.now.inside no_other scope.now (state_of body.old)
         (arms_seen list.now.items)) }
 {
@@ -311,7 +311,7 @@ pub fn statements(
     list: &Vec<Stmt>,
 ) -> Named<Vec<RStmt>>
     ensures given { Gives {A = Vec RStmt Global} {B = Sts × State}
-        (λ v. (core.stmts at_place v.items, state_of body.new)) result
+        (λ v. (core.stmts v.items, state_of body.new)) result
         (walk_sts (table_at within.now) within.now.here within.now.inside no_st scope.now (state_of body.old)
         (stmts list.now.items)) }
 {

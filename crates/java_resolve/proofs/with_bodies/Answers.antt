@@ -1,6 +1,5 @@
 use Rattle.std.proofs.Common.{map, Ok, sym, ap, ◌∙◌}
 use Rattle.java_tree.specs.Syntax.{decls}
-use Rattle.java_core.specs.Trees.{at_place}
 use Rattle.java_core.specs.Programs.{class_seen}
 use Rattle.name_outcome.specs.Answers.{with}
 use Rattle.name_outcome.specs.Members.{clashes_of, main_of}
@@ -12,7 +11,7 @@ use Rattle.java_resolve.proofs.with_bodies.Goals as goal
 pub returns-in-Ok-new : goal.returns-in-Ok-new
 returns-in-Ok-new c =
     let tree = decls c.args.list.now in
-    let cs = map (class_seen at_place) c.args.classes.items in
+    let cs = map class_seen c.args.classes.items in
     let rows = c.args.above in
     let m = members_seen c.args.draft in
     let k = c.in-Ok.main in

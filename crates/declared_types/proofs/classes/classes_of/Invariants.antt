@@ -1,7 +1,6 @@
 use Rattle.std.proofs.Common.{◌≡◌, drop}
 use Rattle.std.specs.Prelude.{map}
 use Rattle.java_tree.specs.Syntax.{decls}
-use Rattle.java_core.specs.Trees.{at_place}
 use Rattle.java_core.specs.Programs.{class_seen}
 use Rattle.name_outcome.specs.Answers.{run}
 use Rattle.name_outcome.specs.Classes.{class_step, classes_of}
@@ -9,5 +8,5 @@ use Rattle.declared_types.proofs.classes.classes_of.Given as goal
 
 -- the classes so far, and then the rest
 abbrev pub invariant-loop-decl : goal.invariant-loop-decl
-invariant-loop-decl l = run (class_step l.known) (map (class_seen at_place) l.classes.items) (decls (drop l.decl-index l.list))
+invariant-loop-decl l = run (class_step l.known) (map class_seen l.classes.items) (decls (drop l.decl-index l.list))
     ≡ classes_of l.known (decls l.list)

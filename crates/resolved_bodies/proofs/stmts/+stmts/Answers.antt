@@ -2,7 +2,7 @@ use Rattle.std.proofs.Common.{arith, ap}
 use Rattle.java_tree.specs.Syntax.{stmts, arms_seen}
 use Rattle.java_tree.specs.Size.{stmt_size, stmts_size, arms_size}
 use Rattle.java_core.specs.Trees as core
-use Rattle.java_core.specs.Trees.{at_place, no_other}
+use Rattle.java_core.specs.Trees.{no_other}
 use Rattle.java_tree.proofs.Sizes.{test_positive}
 use Rattle.resolved_bodies.specs.Views.{table_at}
 use Rattle.resolved_bodies.specs.Views.{state_of}
@@ -19,7 +19,7 @@ statements-loop-one-preserved t c =
 pub stmt-returns-in-Block : goal.stmt-returns-in-Block
 stmt-returns-in-Block t c =
     record {
-      given = carry_st (λ s. (core.stmt_of at_place s, c.args.scope.now, state_of c.block.new.body)) c.block.result
+      given = carry_st (λ s. (core.stmt_of s, c.args.scope.now, state_of c.block.new.body)) c.block.result
           (table_at c.args.within.now) c.args.within.now.here c.args.within.now.inside c.args.scope.now (state_of c.args.body.now)
           (block_shown _ _ _ c.in-Block.is)
           c.block.ensures.given;
@@ -28,7 +28,7 @@ stmt-returns-in-Block t c =
 pub stmt-returns-in-While : goal.stmt-returns-in-While
 stmt-returns-in-While t c =
     record {
-      given = carry_st (λ s. (core.stmt_of at_place s, c.args.scope.now, state_of c.while_loop.new.body)) c.while_loop.result
+      given = carry_st (λ s. (core.stmt_of s, c.args.scope.now, state_of c.while_loop.new.body)) c.while_loop.result
           (table_at c.args.within.now) c.args.within.now.here c.args.within.now.inside c.args.scope.now (state_of c.args.body.now)
           (while_shown _ _ _ _ c.in-While.is)
           c.while_loop.ensures.given;
@@ -37,9 +37,9 @@ stmt-returns-in-While t c =
 pub stmt-returns-in-Ok : goal.stmt-returns-in-Ok
 stmt-returns-in-Ok t c =
     record {
-      given = if_given (λ s. (core.stmt_of at_place s, c.args.scope.now, state_of c.choice.new.body)) c.choice.result
+      given = if_given (λ s. (core.stmt_of s, c.args.scope.now, state_of c.choice.new.body)) c.choice.result
           (table_at c.args.within.now) c.args.within.now.here c.args.within.now.inside c.args.scope.now (state_of c.args.body.now) (state_of c.arms.new.body)
-          (core.arms_seen at_place c.in-Ok.done.items no_other)
+          (core.arms_seen c.in-Ok.done.items no_other)
           (if_shown _ _ _ _ c.in-If.is) c.in-Ok.ensures.given c.choice.ensures.given;
     }
 
@@ -53,11 +53,11 @@ stmt-returns-in-Err t c =
 pub stmt-returns-in-Ok-optional : goal.stmt-returns-in-Ok-optional
 stmt-returns-in-Ok-optional t c =
     record {
-      given = for_given (λ s. (core.stmt_of at_place s, c.args.scope.now, state_of c.for_body.new.body)) c.for_body.result
+      given = for_given (λ s. (core.stmt_of s, c.args.scope.now, state_of c.for_body.new.body)) c.for_body.result
           (table_at c.args.within.now) c.args.within.now.here c.args.within.now.inside c.args.scope.now c.within-inner.result (state_of c.args.body.now)
-          (core.step_seen at_place c.in_ok-first-in-For.first, c.optional.new.scope, state_of c.optional.new.body)
-          (core.value_of at_place c.in_ok-test-in-For.test, state_of c.value-in-For.new.body)
-          (core.step_seen at_place c.in-Ok-optional.last, c.optional-in-For.new.scope, state_of c.optional-in-For.new.body)
+          (core.step_seen c.in_ok-first-in-For.first, c.optional.new.scope, state_of c.optional.new.body)
+          (core.value_of c.in_ok-test-in-For.test, state_of c.value-in-For.new.body)
+          (core.step_seen c.in-Ok-optional.last, c.optional-in-For.new.scope, state_of c.optional-in-For.new.body)
           (for_shown _ _ _ _ _ _ c.in-For.is) c.within-inner.ensures.value c.in_ok-first-in-For.ensures.given c.in_ok-test-in-For.ensures.given
           c.in-Ok-optional.ensures.given (c.for_body.ensures.given c.args.scope.now);
     }
@@ -67,8 +67,8 @@ stmt-returns-in-Err-optional t c =
     record {
       given = for_fault c.in-Err-optional.refusal (table_at c.args.within.now) c.args.within.now.here c.args.within.now.inside c.args.scope.now
           c.within-inner.result
-          (state_of c.args.body.now) (core.step_seen at_place c.in_ok-first-in-For.first, c.optional.new.scope, state_of c.optional.new.body)
-          (core.value_of at_place c.in_ok-test-in-For.test, state_of c.value-in-For.new.body) (for_shown _ _ _ _ _ _ c.in-For.is)
+          (state_of c.args.body.now) (core.step_seen c.in_ok-first-in-For.first, c.optional.new.scope, state_of c.optional.new.body)
+          (core.value_of c.in_ok-test-in-For.test, state_of c.value-in-For.new.body) (for_shown _ _ _ _ _ _ c.in-For.is)
           c.within-inner.ensures.value c.in_ok-first-in-For.ensures.given c.in_ok-test-in-For.ensures.given c.in-Err-optional.ensures.given;
     }
 

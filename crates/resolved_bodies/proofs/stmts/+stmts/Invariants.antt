@@ -3,7 +3,7 @@ use Rattle.java_tree.specs.Syntax.{stmt_of, stmts, arms_seen, else_seen, boxed_s
 use Rattle.java_tree.specs.Size.{stmt_size, stmts_size, arms_size, else_size, step_size}
 use Rattle.java_tree.specs.Arms.{arm_size}
 use Rattle.java_core.specs.Trees as core
-use Rattle.java_core.specs.Trees.{at_place, no_st, no_other}
+use Rattle.java_core.specs.Trees.{no_st, no_other}
 use Rattle.resolved_bodies.specs.Views.{table_at}
 use Rattle.name_outcome.specs.Statements.{walk_sts, walk_arms}
 use Rattle.resolved_bodies.specs.Views.{state_of}
@@ -12,14 +12,14 @@ use Rattle.resolved_bodies.proofs.stmts.+stmts.Given as goal
 -- what the arms so far and the rest resolve to is what all resolve to
 abbrev pub invariant-arms-loop-one : goal.invariant-arms-loop-one
 invariant-arms-loop-one l =
-    walk_arms (table_at l.within) l.within.here l.within.inside (core.arms_seen at_place l.done.items no_other) l.scope (state_of l.body)
+    walk_arms (table_at l.within) l.within.here l.within.inside (core.arms_seen l.done.items no_other) l.scope (state_of l.body)
     (arms_seen (drop l.one-index l.one-items))
     ≡ walk_arms (table_at l.within) l.within.here l.within.inside no_other l.scope (state_of l.fn.body) (arms_seen l.list.items)
 
 -- what the statements so far and the rest resolve to is what all resolve to
 abbrev pub invariant-statements-loop-one : goal.invariant-statements-loop-one
 invariant-statements-loop-one l =
-    walk_sts (table_at l.within) l.within.here l.within.inside (core.stmts at_place l.done.items) l.inner (state_of l.body)
+    walk_sts (table_at l.within) l.within.here l.within.inside (core.stmts l.done.items) l.inner (state_of l.body)
     (stmts (drop l.one-index l.one-items))
     ≡ walk_sts (table_at l.within) l.within.here l.within.inside no_st l.scope (state_of l.fn.body) (stmts l.list.items)
 
