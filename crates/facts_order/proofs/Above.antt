@@ -16,7 +16,6 @@ use Rattle.flow_rules.specs.declared.items.ObjectType.{ObjectType}
 use Rattle.flow_rules.specs.declared.items.ColumnItem.TheVariants as column
 use Rattle.flow_rules.specs.Operands.{class_at, object_field, call_declaration}
 use Rattle.flow_rules.specs.Facts.{owner_of}
-use Rattle.facts_order.proofs.Pairs.{IsPlaced}
 
 and_left : (a b : Bool) → (a && b) ≡ true → a ≡ true
 and_left true b e = refl
@@ -30,17 +29,15 @@ class_is t c e = go (t.dim == 0) e
     go true e = same_Some _ c e
     go false e = absurd (cc)
 
-module _ (P Q : Plain) (placed : IsPlaced P Q) (formed : IsFormed P) where
+module _ (P : Plain) (formed : IsFormed P) where
   -- a field that is found stands above
-  pub field_above : (c f : ℕ) (x : List ℕ) → field_of P c x ≡ Some f → IsSubclass P c (owner_of Q (column.Fld f))
+  pub field_above : (c f : ℕ) (x : List ℕ) → field_of P c x ≡ Some f → IsSubclass P c (owner_of P (column.Fld f))
   unfolding field_of
   field_above c f x e =
       let n = chain-above P (λ k. own_field_of P k x) (nearest_of-nearest P (λ k. own_field_of P k x) e) in
       let z = position-passes (λ f. is_field_of n.holder x f) P.fields f n.found in
-      let q = placed.placed_field f z.0 z.1 in
       let o = eqb-true z.0.owner n.holder (and_left (z.0.owner == n.holder) (bytes_eq z.0.name x) z.2) in
-      subst (λ y. IsSubclass P c y) (sym o ∙ ap (λ k. k.owner) (same_Some _ _ (sym z.1 ∙ placed.fields f q.0 q.1))
-      ∙ sym (ap (λ y. option_map_or (λ k. k.owner) y 0) q.1)) n.above
+      subst (λ y. IsSubclass P c y) (sym o ∙ sym (ap (λ y. option_map_or (λ k. k.owner) y 0) z.1)) n.above
 
   instance_found : (o : Option ℕ) (f : ℕ) → when_instance P o ≡ Some f → o ≡ Some f
   instance_found None f e = absurd (cc)
@@ -51,27 +48,24 @@ module _ (P Q : Plain) (placed : IsPlaced P Q) (formed : IsFormed P) where
       go false e = e
 
   -- the field of an object's type
-  pub object_field_above : (t : ObjectType) (x : List ℕ) (f : ℕ) → object_field P (Some t) x ≡ Some f → IsSubclass P t.class.0 (owner_of Q (column.Fld f))
+  pub object_field_above : (t : ObjectType) (x : List ℕ) (f : ℕ) → object_field P (Some t) x ≡ Some f → IsSubclass P t.class.0 (owner_of P (column.Fld f))
   unfolding member_field
   object_field_above t x f e = go (class_at t) refl e
     where
-      go : (o : Option ℕ) → class_at t ≡ o → option_and_then (λ c. member_field P c x) o ≡ Some f → IsSubclass P t.class.0 (owner_of Q (column.Fld f))
+      go : (o : Option ℕ) → class_at t ≡ o → option_and_then (λ c. member_field P c x) o ≡ Some f → IsSubclass P t.class.0 (owner_of P (column.Fld f))
       go None h e = absurd (cc)
-      go (Some c) h e = subst (λ y. IsSubclass P y (owner_of Q (column.Fld f))) (sym (class_is t c h)) (field_above c f x (instance_found (field_of P c x) f e))
+      go (Some c) h e = subst (λ y. IsSubclass P y (owner_of P (column.Fld f))) (sym (class_is t c h)) (field_above c f x (instance_found (field_of P c x) f e))
 
   -- the declaration that a call finds
-  pub declaration_above : (c d : ℕ) (x : List ℕ) → declaration_of P c x ≡ Some d → IsSubclass P c (owner_of Q (column.Dcl d))
+  pub declaration_above : (c d : ℕ) (x : List ℕ) → declaration_of P c x ≡ Some d → IsSubclass P c (owner_of P (column.Dcl d))
   declaration_above c d x e =
       let n = declaration-above P c x d e in
       let z = own_method-own P n.holder x d n.found in
-      let q = placed.placed_method d z.method z.stands in
-      let w = placed.methods d q.0 q.1 in
-      subst (λ y. IsSubclass P c y) (sym z.owner ∙ ap (λ k. k.owner) (same_Some _ _ (sym z.stands ∙ w.stands)) ∙ w.owner
-      ∙ sym (ap (λ y. option_map_or (λ k. k.owner) y 0) q.1)) n.above
+      subst (λ y. IsSubclass P c y) (sym z.owner ∙ sym (ap (λ y. option_map_or (λ k. k.owner) y 0) z.stands)) n.above
 
-  pub call_above : (t : ObjectType) (x : List ℕ) (d : ℕ) → call_declaration P (Some t) x ≡ Some d → IsSubclass P t.class.0 (owner_of Q (column.Dcl d))
+  pub call_above : (t : ObjectType) (x : List ℕ) (d : ℕ) → call_declaration P (Some t) x ≡ Some d → IsSubclass P t.class.0 (owner_of P (column.Dcl d))
   call_above t x d e = go (class_at t) refl e
     where
-      go : (o : Option ℕ) → class_at t ≡ o → option_and_then (λ c. declaration_of P c x) o ≡ Some d → IsSubclass P t.class.0 (owner_of Q (column.Dcl d))
+      go : (o : Option ℕ) → class_at t ≡ o → option_and_then (λ c. declaration_of P c x) o ≡ Some d → IsSubclass P t.class.0 (owner_of P (column.Dcl d))
       go None h e = absurd (cc)
-      go (Some c) h e = subst (λ y. IsSubclass P y (owner_of Q (column.Dcl d))) (sym (class_is t c h)) (declaration_above c d x e)
+      go (Some c) h e = subst (λ y. IsSubclass P y (owner_of P (column.Dcl d))) (sym (class_is t c h)) (declaration_above c d x e)

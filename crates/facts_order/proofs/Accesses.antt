@@ -19,7 +19,6 @@ use Rattle.flow_rules.specs.Lists.{row_at, accessed, accesses_of}
 use Rattle.flow_rules.specs.Facts.{numbers, column_info, IsFactsOf}
 use Rattle.flow_rules.proofs.Listed.{one_from, all_of}
 use Rattle.facts_order.proofs.Columns.{numbered_column}
-use Rattle.facts_order.proofs.Pairs.{IsPlaced}
 use Rattle.facts_order.proofs.Classes.{subclass_below}
 use Rattle.facts_order.proofs.Fitted.{IsBase, IsFitted, part_fitted}
 use Rattle.facts_order.proofs.Owners.{row_of_operand}
@@ -36,39 +35,39 @@ pub data IsAccess : Operand → ColumnItem → Part → Type 0 where
   a_write : {p : Place} {b o : Operand} {f : ℕ} → IsAccess b (column.Fld f) (a_store p b (Some f) o)
   a_use : {p : Place} {b o : Operand} {s : Option ℕ} {d : ℕ} {es : List Operand} → IsAccess b (column.Dcl d) (a_call p b s (Some d) es o)
 
-module _ (P Q : Plain) where
+module _ (P : Plain) where
   pub record HasAccess (x : AccessInfo) (p : Part) : Type 0 where
     pub base : Operand
     pub member : ColumnItem
     pub access : IsAccess base member p
-    pub row_is : row_at (numbers P Q) base ≡ Some x.row.0
-    pub column_is : column_number P Q member ≡ Some x.column.0
+    pub row_is : row_at (numbers P) base ≡ Some x.row.0
+    pub column_is : column_number P member ≡ Some x.column.0
 
-  access_of : (p : Part) (x : AccessInfo) → Contains (accesses_of (numbers P Q) p) x → HasAccess x p
+  access_of : (p : Part) (x : AccessInfo) → Contains (accesses_of (numbers P) p) x → HasAccess x p
   unfolding numbers
-  access_of (a_load p b (Some f) o) x c = let z = accessed_from (row_at (numbers P Q) b) (column_number P Q (column.Fld f)) x c in record
+  access_of (a_load p b (Some f) o) x c = let z = accessed_from (row_at (numbers P) b) (column_number P (column.Fld f)) x c in record
       { base = b; member = column.Fld f; access = a_read; row_is = z.0; column_is = z.1 }
-  access_of (a_store p b (Some f) o) x c = let z = accessed_from (row_at (numbers P Q) b) (column_number P Q (column.Fld f)) x c in record
+  access_of (a_store p b (Some f) o) x c = let z = accessed_from (row_at (numbers P) b) (column_number P (column.Fld f)) x c in record
       { base = b; member = column.Fld f; access = a_write; row_is = z.0; column_is = z.1 }
-  access_of (a_call p b s (Some d) es o) x c = let z = accessed_from (row_at (numbers P Q) b) (column_number P Q (column.Dcl d)) x c in record
+  access_of (a_call p b s (Some d) es o) x c = let z = accessed_from (row_at (numbers P) b) (column_number P (column.Dcl d)) x c in record
       { base = b; member = column.Dcl d; access = a_use; row_is = z.0; column_is = z.1 }
   access_of _ x c = absurd (omega (arith, c.1))
 
-  module _ (F : Facts) (facts : IsFactsOf P Q F) where
+  module _ (F : Facts) (facts : IsFactsOf P F) where
     pub record AccessPart (x : AccessInfo) : Type 0 where
       pub number : ℕ
       pub method : PlainMethod
-      pub stands : slice_get Q.methods number ≡ Some method
+      pub stands : slice_get P.methods number ≡ Some method
       pub part : Part
       pub in_body : Contains (parts_of P number method) part
       pub has : HasAccess x part
 
     pub access_part : (x : AccessInfo) → Contains F.accesses.items x → AccessPart x
     access_part x c =
-        let z = gathered_from P Q (λ b. accesses_of (numbers P Q)) x ((facts.accesses x).0 c) in
+        let z = gathered_from P (λ b. accesses_of (numbers P)) x ((facts.accesses x).0 c) in
         record { number = z.0; method = z.1; stands = z.3; part = z.2; in_body = z.4; has = access_of z.2 x z.5 }
 
-    member_kind : (b : Operand) (i : ColumnItem) (p : Part) → IsAccess b i p → ((column_info Q i).kind ≡ Fld) ⊎ ((column_info Q i).kind ≡ Dcl)
+    member_kind : (b : Operand) (i : ColumnItem) (p : Part) → IsAccess b i p → ((column_info P i).kind ≡ Fld) ⊎ ((column_info P i).kind ≡ Dcl)
     member_kind b _ _ a_read = inl refl
     member_kind b _ _ a_write = inl refl
     member_kind b _ _ a_use = inr refl
@@ -76,13 +75,13 @@ module _ (P Q : Plain) where
     pub access_kinds : All (λ x. (column_kind F x.column.0 ≡ Fld) ⊎ (column_kind F x.column.0 ≡ Dcl)) F.accesses.items
     access_kinds = all_of (λ x. (column_kind F x.column.0 ≡ Fld) ⊎ (column_kind F x.column.0 ≡ Dcl)) F.accesses.items
         (λ x c. let z = access_part x c in
-        let n = numbered_column P Q F facts z.has.member x.column.0 z.has.column_is in
+        let n = numbered_column P F facts z.has.member x.column.0 z.has.column_is in
         subst (λ i. (i.kind ≡ Fld) ⊎ (i.kind ≡ Dcl)) (sym n.1) (member_kind z.has.base z.has.member z.part z.has.access))
 
     -- the row of an access is at or below the member's class
-    module _ (placed : IsPlaced P Q) (formed : IsFormed P) (typed : IsTyped P) where
-      base_above : (m : ℕ) (k : PlainMethod) (e : slice_get Q.methods m ≡ Some k) (b : Operand) (i : ColumnItem) (p : Part) → IsAccess b i p
-          → IsFitted P Q placed formed typed F facts m k e p → IsBase P Q placed formed typed F facts m k e b i
+    module _ (formed : IsFormed P) (typed : IsTyped P) where
+      base_above : (m : ℕ) (k : PlainMethod) (e : slice_get P.methods m ≡ Some k) (b : Operand) (i : ColumnItem) (p : Part) → IsAccess b i p
+          → IsFitted P formed typed F facts m k e p → IsBase P formed typed F facts m k e b i
       base_above m k e b _ _ (a_read {f = f}) h = (h.1 f refl).0
       base_above m k e b _ _ (a_write {f = f}) h = (h f refl).0
       base_above m k e b _ _ (a_use {d = d}) h = h.2 d refl
@@ -91,8 +90,8 @@ module _ (P Q : Plain) where
       accesses_below = all_of (λ x. IsBelow F (row_class F x.row.0) (column_class F x.column.0)) F.accesses.items
           (λ x c. let z = access_part x c in
           let b = base_above z.number z.method z.stands z.has.base z.has.member z.part z.has.access
-          (part_fitted P Q placed formed typed F facts z.number z.method z.stands z.part z.in_body) in
-          let r = row_of_operand P Q placed formed typed F facts z.number z.method z.stands z.has.base x.row.0 b.good z.has.row_is in
+          (part_fitted P formed typed F facts z.number z.method z.stands z.part z.in_body) in
+          let r = row_of_operand P formed typed F facts z.number z.method z.stands z.has.base x.row.0 b.good z.has.row_is in
           subst (λ y. IsBelow F y (column_class F x.column.0)) (sym r.class) (subst (λ y. IsBelow F r.type.class.0 y)
-          (sym (ap (λ i. i.class.0) (numbered_column P Q F facts z.has.member x.column.0 z.has.column_is).1))
-          (subclass_below P Q placed F facts (b.above r.type r.stated))))
+          (sym (ap (λ i. i.class.0) (numbered_column P F facts z.has.member x.column.0 z.has.column_is).1))
+          (subclass_below P F facts (b.above r.type r.stated))))

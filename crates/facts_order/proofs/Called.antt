@@ -26,7 +26,6 @@ use Rattle.flow_rules.specs.Numbered.{column_number, columns_of, point_number}
 use Rattle.flow_rules.specs.Facts.{numbers, gathered, body_seen, call_seen, body_if, column_body, param_points, IsFactsOf}
 use Rattle.flow_rules.proofs.Listed.{map_has, map_from, map_at, one_from, each_from_zero, place_from}
 use Rattle.flow_rules.proofs.NumberedItems.{numbered_columns}
-use Rattle.facts_order.proofs.Pairs.{IsPlaced}
 use Rattle.facts_order.proofs.Columns.{numbered_column}
 use Rattle.facts_order.proofs.Classes.{at_each, below_subclass}
 use Rattle.facts_order.proofs.Tests.{gathered_from}
@@ -40,37 +39,37 @@ index_some [] i n e = absurd (cc)
 index_some (x ∷ xs) zero n e = ap Some e
 index_some (x ∷ xs) (suc i) n e = index_some xs i n e
 
-module _ (P Q : Plain) (placed : IsPlaced P Q) (formed : IsFormed P) (typed : IsTyped P) (F : Facts) (facts : IsFactsOf P Q F) where
+module _ (P : Plain) (formed : IsFormed P) (typed : IsTyped P) (F : Facts) (facts : IsFactsOf P F) where
   -- a call, and what typing gives of it
   pub record IsCall (call : CallInfo) : Type 0 where
     pub number : ℕ
     pub method : PlainMethod
-    pub stands : slice_get Q.methods number ≡ Some method
+    pub stands : slice_get P.methods number ≡ Some method
     pub base : Operand
     pub args : List Operand
     pub own : Operand
-    pub receiver : point_at (numbers P Q) base ≡ Some call.receiver
-    pub args_are : call.args.items ≡ map (point_at (numbers P Q)) args
-    pub result : call.result ≡ point_at (numbers P Q) own
-    pub base_good : IsSound P Q placed formed typed F facts number method stands base
-    pub own_good : IsSound P Q placed formed typed F facts number method stands own
+    pub receiver : point_at (numbers P) base ≡ Some call.receiver
+    pub args_are : call.args.items ≡ map (point_at (numbers P)) args
+    pub result : call.result ≡ point_at (numbers P) own
+    pub base_good : IsSound P formed typed F facts number method stands base
+    pub own_good : IsSound P formed typed F facts number method stands own
     pub object : (t : ObjectType) → base.ty ≡ Some t → t.dim ≡ 0
-    pub values : AreValues P Q placed formed typed F facts number method stands args (param_object P call.slot)
+    pub values : AreValues P formed typed F facts number method stands args (param_object P call.slot)
     pub gives : own.ty ≡ slot_object P call.slot
 
-  call_part : (m : ℕ) (k : PlainMethod) (e : slice_get Q.methods m ≡ Some k) (p : Part) (y : Placed PlainCall) (call : CallInfo)
-      → IsFitted P Q placed formed typed F facts m k e p → Contains (calls_of (numbers P Q) p) y → y.item ≡ call_seen call → IsCall call
-  call_part m k e (a_call w b (Some s) d es o) y call f c i = go (point_at (numbers P Q) b) refl c
+  call_part : (m : ℕ) (k : PlainMethod) (e : slice_get P.methods m ≡ Some k) (p : Part) (y : Placed PlainCall) (call : CallInfo)
+      → IsFitted P formed typed F facts m k e p → Contains (calls_of (numbers P) p) y → y.item ≡ call_seen call → IsCall call
+  call_part m k e (a_call w b (Some s) d es o) y call f c i = go (point_at (numbers P) b) refl c
     where
-      go : (r : Option ℕ) → point_at (numbers P Q) b ≡ r
+      go : (r : Option ℕ) → point_at (numbers P) b ≡ r
           → Contains (option_map_or (λ r. record {
             place = w;
             item = record {
               receiver = r;
               slot = s;
-              args = map (point_at (numbers P Q)) es;
+              args = map (point_at (numbers P)) es;
               result =
-                  point_at (numbers P Q) o;
+                  point_at (numbers P) o;
             };
           } ∷ []) r []) y → IsCall call
       go None a c = absurd (omega (arith, c.1))
@@ -91,35 +90,35 @@ module _ (P Q : Plain) (placed : IsPlaced P Q) (formed : IsFormed P) (typed : Is
             base_good = h.0.good;
             own_good = f.0;
             object = h.0.object;
-            values = subst (λ s. AreValues P Q placed formed typed F facts m k e es (param_object P s)) same h.1.args;
+            values = subst (λ s. AreValues P formed typed F facts m k e es (param_object P s)) same h.1.args;
             gives = h.1.result ∙ ap (slot_object P) same;
           }
   call_part m k e _ y call f c i = absurd (omega (arith, c.1))
 
   pub call_of : (call : CallInfo) → Contains F.calls.items call → IsCall call
   call_of call c =
-      let y = map_from (λ c. c.item) (by_place (λ c. c.place.at) (gathered P Q (λ b. calls_of (numbers P Q)))) (call_seen call)
+      let y = map_from (λ c. c.item) (by_place (λ c. c.place.at) (gathered P (λ b. calls_of (numbers P)))) (call_seen call)
       (subst (λ w. Contains w (call_seen call)) facts.calls (map_has call_seen F.calls.items call c)) in
-      let z = gathered_from P Q (λ b. calls_of (numbers P Q)) y.0 (place_from (λ c. c.place.at) (gathered P Q (λ b. calls_of (numbers P Q))) y.0 y.1) in
-      call_part z.0 z.1 z.3 z.2 y.0 call (part_fitted P Q placed formed typed F facts z.0 z.1 z.3 z.2 z.4) z.5 y.2
+      let z = gathered_from P (λ b. calls_of (numbers P)) y.0 (place_from (λ c. c.place.at) (gathered P (λ b. calls_of (numbers P))) y.0 y.1) in
+      call_part z.0 z.1 z.3 z.2 y.0 call (part_fitted P formed typed F facts z.0 z.1 z.3 z.2 z.4) z.5 y.2
 
   -- a body of the facts, and its method
   pub record IsEntry (body : BodyInfo) : Type 0 where
     pub number : ℕ
     pub method : PlainMethod
-    pub stands : slice_get Q.methods number ≡ Some method
-    pub column_is : column_number P Q (column.Def number) ≡ Some body.column.0
-    pub this : point_number P Q (point.This number) ≡ Some body.this
-    pub params : body.params.items ≡ param_points (numbers P Q) Q number method
-    pub result : body.result ≡ point_number P Q (point.Result number)
+    pub stands : slice_get P.methods number ≡ Some method
+    pub column_is : column_number P (column.Def number) ≡ Some body.column.0
+    pub this : point_number P (point.This number) ≡ Some body.this
+    pub params : body.params.items ≡ param_points (numbers P) P number method
+    pub result : body.result ≡ point_number P (point.Result number)
 
-  item_entry : (c : ℕ) (i : ColumnItem) (body : BodyInfo) → column_number P Q i ≡ Some c → Contains (column_body (numbers P Q) Q c i) (body_seen body)
+  item_entry : (c : ℕ) (i : ColumnItem) (body : BodyInfo) → column_number P i ≡ Some c → Contains (column_body (numbers P) P c i) (body_seen body)
       → IsEntry body
   unfolding numbers
-  item_entry c (column.Def m) body n h = go (slice_get Q.methods m) refl h
+  item_entry c (column.Def m) body n h = go (slice_get P.methods m) refl h
     where
-      inner : (k : PlainMethod) (t : Option ℕ) → slice_get Q.methods m ≡ Some k → point_number P Q (point.This m) ≡ t
-          → Contains (body_if (numbers P Q) Q c m k t) (body_seen body) → IsEntry body
+      inner : (k : PlainMethod) (t : Option ℕ) → slice_get P.methods m ≡ Some k → point_number P (point.This m) ≡ t
+          → Contains (body_if (numbers P) P c m k t) (body_seen body) → IsEntry body
       inner k None e d h = absurd (omega (arith, h.1))
       inner k (Some t) e d h =
           let z = one_from _ (body_seen body) h in
@@ -134,17 +133,17 @@ module _ (P Q : Plain) (placed : IsPlaced P Q) (formed : IsFormed P) (typed : Is
             result = sym (ap (λ y. y.result) z);
           }
 
-      go : (o : Option PlainMethod) → slice_get Q.methods m ≡ o
-          → Contains (option_map_or (λ k. body_if (numbers P Q) Q c m k (point_number P Q (point.This m))) o []) (body_seen body) → IsEntry body
+      go : (o : Option PlainMethod) → slice_get P.methods m ≡ o
+          → Contains (option_map_or (λ k. body_if (numbers P) P c m k (point_number P (point.This m))) o []) (body_seen body) → IsEntry body
       go None e h = absurd (omega (arith, h.1))
-      go (Some k) e h = inner k (point_number P Q (point.This m)) e refl h
+      go (Some k) e h = inner k (point_number P (point.This m)) e refl h
   item_entry c _ body n h = absurd (omega (arith, h.1))
 
   pub entry_of : (body : BodyInfo) → Contains F.bodies.items body → IsEntry body
   entry_of body c =
-      let z = each_from_zero (λ c k. column_body (numbers P Q) Q c k.item) (columns_of P Q) (body_seen body)
+      let z = each_from_zero (λ c k. column_body (numbers P) P c k.item) (columns_of P) (body_seen body)
       (subst (λ w. Contains w (body_seen body)) facts.bodies (map_has body_seen F.bodies.items body c)) in
-      item_entry z.0 z.1.item body ((numbered_columns P Q).back z.0 z.1 z.2) z.3
+      item_entry z.0 z.1.item body ((numbered_columns P).back z.0 z.1 z.2) z.3
 
   -- the body that a call runs for an object
   pub record RunsBody (call : CallInfo) (o : ℕ) (body : BodyInfo) : Type 0 where
@@ -158,22 +157,22 @@ module _ (P Q : Plain) (placed : IsPlaced P Q) (formed : IsFormed P) (typed : Is
       let c = call_of call r.called in
       let e = entry_of body r.listed in
       let f = finds-found F (site_class F o) call.slot body.column.0 r.found in
-      let n = numbered_column P Q F facts (column.Def e.number) body.column.0 e.column_is in
+      let n = numbered_column P F facts (column.Def e.number) body.column.0 e.column_is in
       record {
         call_is = c;
         entry = e;
         above = subst (λ z. IsSubclass P (site_class F o) z) (sym f.body.class ∙ ap (λ i. i.class.0) n.1
-            ∙ ap (λ o. option_map_or (λ k. k.owner) o 0) e.stands) (below_subclass P Q placed F facts f.above);
+            ∙ ap (λ o. option_map_or (λ k. k.owner) o 0) e.stands) (below_subclass P F facts f.above);
         slot = sym (ap (λ o. option_and_then (λ k. k.slot) o) e.stands) ∙ sym (ap (λ i. i.slot) n.1) ∙ f.body.slot;
       }
 
-  pub arg_at : (es : List Operand) (xs : List (Option ℕ)) (i n : ℕ) → xs ≡ map (point_at (numbers P Q)) es → listed_at xs i ≡ Some n → (a : Operand)
-      × (slice_get es i ≡ Some a) × (point_at (numbers P Q) a ≡ Some n)
-  arg_at es xs i n e d = map_at (point_at (numbers P Q)) es i (Some n) (subst (λ y. slice_get y i ≡ Some (Some n)) e (index_some xs i n d))
+  pub arg_at : (es : List Operand) (xs : List (Option ℕ)) (i n : ℕ) → xs ≡ map (point_at (numbers P)) es → listed_at xs i ≡ Some n → (a : Operand)
+      × (slice_get es i ≡ Some a) × (point_at (numbers P) a ≡ Some n)
+  arg_at es xs i n e d = map_at (point_at (numbers P)) es i (Some n) (subst (λ y. slice_get y i ≡ Some (Some n)) e (index_some xs i n d))
 
-  pub param_at : (m : ℕ) (k : PlainMethod) (xs : List (Option ℕ)) (i n : ℕ) → xs ≡ param_points (numbers P Q) Q m k → listed_at xs i ≡ Some n
-      → (i < length k.params) × (point_number P Q (point.Local m i) ≡ Some n)
+  pub param_at : (m : ℕ) (k : PlainMethod) (xs : List (Option ℕ)) (i n : ℕ) → xs ≡ param_points (numbers P) P m k → listed_at xs i ≡ Some n
+      → (i < length k.params) × (point_number P (point.Local m i) ≡ Some n)
   unfolding numbers
   param_at m k xs i n e d =
-      let z = at_each (λ i v. point_number P Q (point.Local m i)) 0 k.params i (Some n) (subst (λ y. slice_get y i ≡ Some (Some n)) e (index_some xs i n d)) in
-      (slice_get_within k.params i z.0 z.1, ap (λ j. point_number P Q (point.Local m j)) (omega arith) ∙ z.2)
+      let z = at_each (λ i v. point_number P (point.Local m i)) 0 k.params i (Some n) (subst (λ y. slice_get y i ≡ Some (Some n)) e (index_some xs i n d)) in
+      (slice_get_within k.params i z.0 z.1, ap (λ j. point_number P (point.Local m j)) (omega arith) ∙ z.2)

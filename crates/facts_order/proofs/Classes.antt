@@ -8,7 +8,6 @@ use Rattle.kaba_base.specs.declared.ClassId.{ClassId}
 use Rattle.java_core.specs.Programs.{Plain, PlainClass}
 use Rattle.java_core.specs.Classes.{IsSubclass, same_class, through, supers_of, parent_of, faces_of}
 use Rattle.java_core.specs.Formed.{IsFormed, IsFormedClass}
-use Rattle.java_core.specs.Untagged.{untag_class, untag_field}
 use Rattle.java_core.proofs.Subclasses.{parent-super, ArePassed, passed_more, none_passed, one_left}
 use Rattle.fact_model.specs.Items.{column_class, column_kind}
 use Rattle.fact_model.specs.Classes.{IsBelow, same, through as by_super, IsAcyclic, is_interface, parent_of as parent_in, faces_of as faces_in, supers_of as supers_in}
@@ -20,7 +19,6 @@ use Rattle.flow_rules.specs.declared.items.ColumnItem.{ColumnItem}
 use Rattle.flow_rules.specs.Ordered.{each}
 use Rattle.flow_rules.specs.Facts.{ClassFacts, class_seen, is_holder, owner_of, kind_of, IsFactsOf}
 use Rattle.flow_rules.proofs.Listed.{below_at, at_map, map_at}
-use Rattle.facts_order.proofs.Pairs.{IsPlaced}
 use Rattle.facts_order.proofs.Columns.{Stands, for_field, for_declaration, for_body, for_mark, item_of}
 
 pub each_at : {A B : Type 0} (g : ℕ → A → B) (n : ℕ) (xs : List A) (i : ℕ) (x : A) → slice_get xs i ≡ Some x
@@ -35,9 +33,9 @@ at_each g n [] i z e = absurd (cc)
 at_each g n (y ∷ ys) zero z e = (y, refl, ap (λ w. g w y) (omega arith) ∙ same_Some (g n y) z e)
 at_each g n (y ∷ ys) (suc i) z e = let w = at_each g (n + 1) ys i z e in (w.0, w.1, ap (λ v. g v w.0) (omega arith) ∙ w.2)
 
-module _ (P Q : Plain) (placed : IsPlaced P Q) (F : Facts) (facts : IsFactsOf P Q F) where
+module _ (P : Plain) (F : Facts) (facts : IsFactsOf P F) where
   abbrev facts_at : ℕ → PlainClass → ClassFacts
-  facts_at c k = record { name = k.name; parent = k.parent; faces = k.faces; is_interface = k.is_interface; holder = is_holder Q c }
+  facts_at c k = record { name = k.name; parent = k.parent; faces = k.faces; is_interface = k.is_interface; holder = is_holder P c }
 
   -- a class of the facts, and which of the program it is
   pub record IsClassAt (c : ℕ) (i : ClassInfo) : Type 0 where
@@ -47,27 +45,26 @@ module _ (P Q : Plain) (placed : IsPlaced P Q) (F : Facts) (facts : IsFactsOf P 
     pub parent : i.parent ≡ plain.parent
     pub faces : i.faces.items ≡ plain.faces
     pub interface : i.is_interface ≡ plain.is_interface
-    pub holder : i.holder ≡ is_holder Q c
+    pub holder : i.holder ≡ is_holder P c
 
   pub class_at : (c : ℕ) (i : ClassInfo) → slice_get F.classes.items c ≡ Some i → IsClassAt c i
   class_at c i e =
-      let z = at_each facts_at 0 Q.classes c (class_seen i) (subst (λ w. slice_get w c ≡ Some (class_seen i)) facts.classes
+      let z = at_each facts_at 0 P.classes c (class_seen i) (subst (λ w. slice_get w c ≡ Some (class_seen i)) facts.classes
       (at_map class_seen F.classes.items c i e)) in
       record {
-        plain = untag_class z.0;
-        stands = placed.classes c z.0 z.1;
+        plain = z.0;
+        stands = z.1;
         name = sym (ap (λ w. w.name) z.2);
         parent = sym (ap (λ w. w.parent) z.2);
         faces = sym (ap (λ w. w.faces) z.2);
         interface = sym (ap (λ w. w.is_interface) z.2);
-        holder = sym (ap (λ w. w.holder) z.2) ∙ ap (is_holder Q) (omega arith);
+        holder = sym (ap (λ w. w.holder) z.2) ∙ ap (is_holder P) (omega arith);
       }
 
   pub class_there : (c : ℕ) (h : PlainClass) → slice_get P.classes c ≡ Some h → (i : ClassInfo) × (slice_get F.classes.items c ≡ Some i)
   class_there c h e =
-      let z = placed.placed_class c h e in
-      let w = map_at class_seen F.classes.items c _ (subst (λ w. slice_get w c ≡ Some (facts_at (0 + c) z.0)) (sym facts.classes)
-      (each_at facts_at 0 Q.classes c z.0 z.1)) in
+      let w = map_at class_seen F.classes.items c _ (subst (λ w. slice_get w c ≡ Some (facts_at (0 + c) h)) (sym facts.classes)
+      (each_at facts_at 0 P.classes c h e)) in
       (w.0, w.1)
 
   cases : (c : ℕ) → ((i : ClassInfo) × (slice_get F.classes.items c ≡ Some i)) ⊎ ((slice_get F.classes.items c ≡ None) × (slice_get P.classes c ≡ None))
@@ -185,16 +182,14 @@ module _ (P Q : Plain) (placed : IsPlaced P Q) (F : Facts) (facts : IsFactsOf P 
         let i = u.as_formed.faces f (subst (λ k. Contains k.faces f) (same_Some _ _ (sym z.1 ∙ u.stands)) z.2) in
         interface_same f.0 i.0 i.1 ∙ i.2
 
-    holder_class : (i : ColumnItem) → Stands Q i → (kind_of i ≡ kind.Fld) ⊎ (kind_of i ≡ kind.Def) → is_interface F (owner_of Q i) ≡ false
+    holder_class : (i : ColumnItem) → Stands P i → (kind_of i ≡ kind.Fld) ⊎ (kind_of i ≡ kind.Def) → is_interface F (owner_of P i) ≡ false
     holder_class _ (for_field f k e s) h =
-        let y = formed.fields f (untag_field k) (placed.fields f k e) in
+        let y = formed.fields f k e in
         ap (λ o. is_interface F (option_map_or (λ k. k.owner) o 0)) e ∙ interface_same k.owner y.holder y.stands ∙ y.class
     holder_class _ (for_body m k e s b) h =
-        let z = placed.methods m k e in
-        let y = formed.methods m z.plain z.stands in
-        ap (λ o. is_interface F (option_map_or (λ k. k.owner) o 0)) e ∙ ap (is_interface F) (sym z.owner)
-        ∙ interface_same z.plain.owner y.holder y.stands
-        ∙ false_from_ne_true y.holder.is_interface (λ i. bodied z.plain.body (z.bodied ∙ b) (y.in_interface i).1)
+        let y = formed.methods m k e in
+        ap (λ o. is_interface F (option_map_or (λ k. k.owner) o 0)) e ∙ interface_same k.owner y.holder y.stands
+        ∙ false_from_ne_true y.holder.is_interface (λ i. bodied k.body b (y.in_interface i).1)
       where
         bodied : {A : Type 0} (o : Option A) → is_some o ≡ true → o ≡ None → ⊥
         bodied None p q = false≢true p
@@ -204,7 +199,7 @@ module _ (P Q : Plain) (placed : IsPlaced P Q) (F : Facts) (facts : IsFactsOf P 
 
     fields : (c : ℕ) → c < length F.columns.items → (column_kind F c ≡ kind.Fld) ⊎ (column_kind F c ≡ kind.Def) → is_interface F (column_class F c) ≡ false
     fields c h k =
-        let z = item_of P Q F facts c h in
+        let z = item_of P F facts c h in
         ap (λ i. is_interface F i.class.0) z.info ∙ holder_class z.item z.stands (subst (λ i. (i.kind ≡ kind.Fld) ⊎ (i.kind ≡ kind.Def)) z.info k)
 
     pub classes_in_order : AreClassesInOrder F

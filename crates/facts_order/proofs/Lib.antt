@@ -1,10 +1,8 @@
-pub mod Pairs
 pub mod Columns
 pub mod Classes
 pub mod Members
 pub mod Names
 pub mod Labels
-pub mod Forms
 pub mod Rows
 pub mod Points
 pub mod OwnParts

@@ -17,7 +17,6 @@ use Rattle.flow_rules.specs.Operands.{object_if, variable_in, variable_row, resu
 use Rattle.flow_rules.specs.Types.{field_object, slot_object, method_object, variable_object}
 use Rattle.flow_rules.specs.Parts.{Part, parts_of}
 use Rattle.flow_rules.specs.Numbered.{rows_of}
-use Rattle.facts_order.proofs.Pairs.{IsPlaced}
 use Rattle.run_cover.proofs.Numbers.{number_in}
 use Rattle.facts_order.proofs.Rows.{IsOwn, Types, for_field, for_this, for_result, for_variable, for_part, row_types, all_results, all_variables}
 use Rattle.facts_order.proofs.Sites.{numbered_own, part_numbered}
@@ -58,21 +57,21 @@ front_type [] ys i h = absurd (omega (arith, h))
 front_type (x ∷ xs) ys zero h = refl
 front_type (x ∷ xs) ys (suc i) h = front_type xs ys i (omega (arith, h))
 
-module _ (P Q : Plain) (placed : IsPlaced P Q) (formed : IsFormed P) (typed : IsTyped P) where
-  numberless : {R : Type 0} (x : Row) (i : RowItem) (m : ℕ) (k : PlainMethod) (p : Part) (e : slice_get Q.methods m ≡ Some k)
+module _ (P : Plain) (formed : IsFormed P) (typed : IsTyped P) where
+  numberless : {R : Type 0} (x : Row) (i : RowItem) (m : ℕ) (k : PlainMethod) (p : Part) (e : slice_get P.methods m ≡ Some k)
       (c : Contains (parts_of P m k) p) → IsOwn x p → x.item ≡ i → number_in (Some i) ≡ [] → R
   numberless x i m k p e c o h n =
-      let z = numbered_own p o.operand (part_numbered P Q placed formed typed p (record { number = m; method = k; stands = e; part = c })) o.own in
+      let z = numbered_own p o.operand (part_numbered P formed typed p (record { number = m; method = k; stands = e; part = c })) o.own in
       absurd (let g : [] ≡ z.0 ∷ [] = sym (ap number_in (o.row_is ∙ ap Some h) ∙ n) ∙ z.1 in cc)
 
   -- the row of a field has its type
-  pub field_type : (f r : ℕ) (x : Row) → slice_get (rows_of P Q) r ≡ Some x → x.item ≡ row.Field f → field_object P f ≡ Some x.ty
-  field_type f r x e h = go (row_types P Q r x e)
+  pub field_type : (f r : ℕ) (x : Row) → slice_get (rows_of P) r ≡ Some x → x.item ≡ row.Field f → field_object P f ≡ Some x.ty
+  field_type f r x e h = go (row_types P r x e)
     where
-      go : Types P Q x → field_object P f ≡ Some x.ty
+      go : Types P x → field_object P f ≡ Some x.ty
       go (for_field g k d i u) =
           let s : g ≡ f = cc in
-          ap (field_object P) (sym s) ∙ ap (λ o. object_if (option_map (λ k. k.ty) o)) (placed.fields g k d) ∙ u
+          ap (field_object P) (sym s) ∙ ap (λ o. object_if (option_map (λ k. k.ty) o)) (d) ∙ u
       go (for_this m k d b s i u) = absurd (cc)
       go (for_result m k d i u) = absurd (let g = sym (all_results field_number None (λ s. refl) (λ m. refl) k.slot m) ∙ sym (ap field_number i)
           ∙ ap field_number h in cc)
@@ -86,8 +85,8 @@ module _ (P Q : Plain) (placed : IsPlaced P Q) (formed : IsFormed P) (typed : Is
   from_result : {R : Type 0} (f : RowItem → Option ℕ) → ((g : ℕ) → f (row.Field g) ≡ None) → ((m : ℕ) → f (row.This m) ≡ None)
       → ((s i : ℕ) → f (row.Param s i) ≡ None) → ((m i : ℕ) → f (row.Local m i) ≡ None)
       → (x : Row) (i : RowItem) (n : ℕ) → x.item ≡ i → f i ≡ Some n → number_in (Some i) ≡ []
-      → ((m : ℕ) (k : PlainMethod) → slice_get Q.methods m ≡ Some k → f (result_in k.slot m) ≡ Some n → object_if k.result ≡ Some x.ty → R)
-      → Types P Q x → R
+      → ((m : ℕ) (k : PlainMethod) → slice_get P.methods m ≡ Some k → f (result_in k.slot m) ≡ Some n → object_if k.result ≡ Some x.ty → R)
+      → Types P x → R
   from_result f field self param local x i n h e none from (for_result m k d j u) = from m k d (sym (ap f j) ∙ ap f h ∙ e) u
   from_result f field self param local x i n h e none from (for_field g k d j u) = absurd (let z = sym (field g) ∙ sym (ap f j) ∙ ap f h ∙ e in cc)
   from_result f field self param local x i n h e none from (for_this m k d b s j u) = absurd (let z = sym (self m) ∙ sym (ap f j) ∙ ap f h ∙ e in cc)
@@ -96,20 +95,17 @@ module _ (P Q : Plain) (placed : IsPlaced P Q) (formed : IsFormed P) (typed : Is
   from_result f field self param local x i n h e none from (for_part m k p d c o) = numberless x i m k p d c o h none
 
   -- the row of a slot's return has the slot's result
-  pub return_type : (s r : ℕ) (x : Row) → slice_get (rows_of P Q) r ≡ Some x → x.item ≡ row.Return s → slot_object P s ≡ Some x.ty
+  pub return_type : (s r : ℕ) (x : Row) → slice_get (rows_of P) r ≡ Some x → x.item ≡ row.Return s → slot_object P s ≡ Some x.ty
   return_type s r x e h =
       from_result return_number (λ g. refl) (λ m. refl) (λ s i. refl) (λ m i. refl) x (row.Return s) s h refl refl (λ m k d n u.
-      let z = placed.methods m k d in
-      let y = ((formed.methods m z.plain z.stands).slots s).0 (z.slot ∙ result_return k.slot m s n) in
-      ap (λ o. object_if (option_and_then (λ k. k.result) o)) y.stands ∙ ap object_if (sym y.result ∙ z.result) ∙ u) (row_types P Q r x e)
+      let y = ((formed.methods m k d).slots s).0 (result_return k.slot m s n) in
+      ap (λ o. object_if (option_and_then (λ k. k.result) o)) y.stands ∙ ap object_if (sym y.result) ∙ u) (row_types P r x e)
 
   -- the row of a static method's result has its type
-  pub result_type : (m r : ℕ) (x : Row) → slice_get (rows_of P Q) r ≡ Some x → x.item ≡ row.Result m → method_object P m ≡ Some x.ty
+  pub result_type : (m r : ℕ) (x : Row) → slice_get (rows_of P) r ≡ Some x → x.item ≡ row.Result m → method_object P m ≡ Some x.ty
   result_type m r x e h =
       from_result result_number (λ g. refl) (λ m. refl) (λ s i. refl) (λ m i. refl) x (row.Result m) m h refl refl (λ n k d i u.
-      let z = placed.methods n k d in
-      ap (method_object P) (sym (result_result k.slot n m i)) ∙ ap (λ o. object_if (option_and_then (λ k. k.result) o)) z.stands
-      ∙ ap object_if z.result ∙ u) (row_types P Q r x e)
+      ap (method_object P) (sym (result_result k.slot n m i)) ∙ ap (λ o. object_if (option_and_then (λ k. k.result) o)) d ∙ u) (row_types P r x e)
 
   -- a super call's result is that of its slot
   pub super_type : (d s : ℕ) → slot_of_method P d ≡ Some s → method_object P d ≡ slot_object P s
@@ -127,21 +123,20 @@ module _ (P Q : Plain) (placed : IsPlaced P Q) (formed : IsFormed P) (typed : Is
   same_variable k l i j e d = ap (λ z. variable_object z i) e ∙ ap (variable_object l) d
 
   -- of a parameter of the slot
-  pub slot_param : (m i s : ℕ) (k : PlainMethod) → slice_get Q.methods m ≡ Some k → k.slot ≡ Some s → i < length k.params
+  pub slot_param : (m i s : ℕ) (k : PlainMethod) → slice_get P.methods m ≡ Some k → k.slot ≡ Some s → i < length k.params
       → variable_object k i ≡ param_object P s i
   slot_param m i s k e a h =
-      let x = placed.methods m k e in
-      let u = ((formed.methods m x.plain x.stands).slots s).0 (x.slot ∙ a) in
-      front_type k.params k.locals i h ∙ ap (λ z. object_if (slice_get z i)) (sym x.params ∙ u.params)
+      let u = ((formed.methods m k e).slots s).0 a in
+      front_type k.params k.locals i h ∙ ap (λ z. object_if (slice_get z i)) u.params
       ∙ sym (ap (λ o. object_if (option_and_then (λ z. slice_get z.params i) o)) u.stands)
 
-  local_case : (m n i j : ℕ) (k l : PlainMethod) → slice_get Q.methods m ≡ Some k → slice_get Q.methods n ≡ Some l → row.Local m i ≡ row.Local n j
+  local_case : (m n i j : ℕ) (k l : PlainMethod) → slice_get P.methods m ≡ Some k → slice_get P.methods n ≡ Some l → row.Local m i ≡ row.Local n j
       → variable_object k i ≡ variable_object l j
   local_case m n i j k l e d h =
       let s : m ≡ n = cc in
-      same_variable k l i j (same_Some k l (sym e ∙ ap (slice_get Q.methods) s ∙ d)) (cc)
+      same_variable k l i j (same_Some k l (sym e ∙ ap (slice_get P.methods) s ∙ d)) (cc)
 
-  variable_cases : (m n i j : ℕ) (k l : PlainMethod) (a b : Option ℕ) (u v : Bool) → slice_get Q.methods m ≡ Some k → slice_get Q.methods n ≡ Some l
+  variable_cases : (m n i j : ℕ) (k l : PlainMethod) (a b : Option ℕ) (u v : Bool) → slice_get P.methods m ≡ Some k → slice_get P.methods n ≡ Some l
       → k.slot ≡ a → l.slot ≡ b → nat_lt i (length k.params) ≡ u → nat_lt j (length l.params) ≡ v
       → variable_in a u m i ≡ variable_in b v n j → variable_object k i ≡ variable_object l j
   variable_cases m n i j k l (Some c) (Some f) true true e d a b p q h =
@@ -155,11 +150,11 @@ module _ (P Q : Plain) (placed : IsPlaced P Q) (formed : IsFormed P) (typed : Is
   variable_cases m n i j k l (Some c) (Some f) false false e d a b p q h = local_case m n i j k l e d h
   variable_cases m n i j k l _ _ _ _ e d a b p q h = absurd (cc)
 
-  pub variable_type : (m i : ℕ) (k : PlainMethod) (r : ℕ) (x : Row) → slice_get Q.methods m ≡ Some k → slice_get (rows_of P Q) r ≡ Some x
+  pub variable_type : (m i : ℕ) (k : PlainMethod) (r : ℕ) (x : Row) → slice_get P.methods m ≡ Some k → slice_get (rows_of P) r ≡ Some x
       → x.item ≡ variable_row m k i → variable_object k i ≡ Some x.ty
-  variable_type m i k r x b e h = go (row_types P Q r x e)
+  variable_type m i k r x b e h = go (row_types P r x e)
     where
-      go : Types P Q x → variable_object k i ≡ Some x.ty
+      go : Types P x → variable_object k i ≡ Some x.ty
       go (for_variable n l j v d w y u) =
           sym (variable_cases n m j i l k l.slot k.slot _ _ d b refl refl refl refl (sym y ∙ h)) ∙ ap (λ o. object_if (option_map (λ v. v.ty) o)) w ∙ u
       go (for_result n l d y u) = absurd (let g = sym (all_results is_variable false (λ s. refl) (λ m. refl) l.slot n) ∙ ap is_variable (sym y ∙ h)
@@ -177,10 +172,10 @@ module _ (P Q : Plain) (placed : IsPlaced P Q) (formed : IsFormed P) (typed : Is
   variable_param (Some r) true m i s j e = (cc, refl, cc)
   variable_param o b m i s j e = absurd (cc)
 
-  pub param_type : (s i r : ℕ) (x : Row) → slice_get (rows_of P Q) r ≡ Some x → x.item ≡ row.Param s i → param_object P s i ≡ Some x.ty
-  param_type s i r x e h = go (row_types P Q r x e)
+  pub param_type : (s i r : ℕ) (x : Row) → slice_get (rows_of P) r ≡ Some x → x.item ≡ row.Param s i → param_object P s i ≡ Some x.ty
+  param_type s i r x e h = go (row_types P r x e)
     where
-      go : Types P Q x → param_object P s i ≡ Some x.ty
+      go : Types P x → param_object P s i ≡ Some x.ty
       go (for_variable n l j v d w y u) =
           let z = variable_param l.slot (nat_lt j (length l.params)) n j s i (sym y ∙ h) in
           ap (param_object P s) (sym z.2) ∙ sym (slot_param n j s l d z.0 (grind (arith, z.1))) ∙ ap (λ o. object_if (option_map (λ v. v.ty) o)) w ∙ u

@@ -5,9 +5,7 @@ use Rattle.std.proofs.lemmas.Bool.{ltb-false, cases_lt}
 use Rattle.std.proofs.lemmas.List.{length-map}
 use Rattle.std.proofs.lemmas.Option.{slice_get_within}
 use Rattle.kaba_base.specs.declared.RowId.{RowId}
-use Rattle.java_core.specs.declared.Program.{Program}
-use Rattle.java_core.specs.Trees.{at_place, no_place}
-use Rattle.java_core.specs.Programs.{Plain, program_of}
+use Rattle.java_core.specs.Programs.{Plain}
 use Rattle.java_core.specs.Typing.{IsTyped}
 use Rattle.java_core.specs.Formed.{IsFormed}
 use Rattle.fact_model.specs.InOrder.{InOrder}
@@ -18,9 +16,7 @@ use Rattle.flow_rules.specs.declared.faults.Counted.TheVariants as counted
 use Rattle.flow_rules.specs.declared.items.Point.{Point}
 use Rattle.flow_rules.specs.Numbered.{rows_of, columns_of, sites_of, points_of}
 use Rattle.flow_rules.specs.Facts.{TooMany, row_info, column_info, site_info, numbers, cells_of, over, too_many, IsFactsOf, AreNamesOf}
-use Rattle.java_core.proofs.Untagged.{same_program}
 use Rattle.flow_rules.proofs.Listed.{below_at}
-use Rattle.facts_order.proofs.Pairs.{IsPlaced, placed}
 use Rattle.facts_order.proofs.Classes.{class_at, classes_in_order}
 use Rattle.facts_order.proofs.Members.{members_in_order}
 use Rattle.facts_order.proofs.Names.{names_in_order}
@@ -33,35 +29,31 @@ use Rattle.facts_order.proofs.Contained.{members_below, arrays_free}
 use Rattle.facts_order.proofs.Tests.{tests_in_order}
 use Rattle.facts_order.proofs.Range.{in_range as all_in_range}
 
-pub in_order : (p : Program) → IsFormed (program_of no_place p) → IsTyped (program_of no_place p) → (F : Facts)
-    → IsFactsOf (program_of no_place p) (program_of at_place p) F → AreNamesOf (program_of at_place p) F → InOrder F
-in_order p formed typed F facts named =
-    let P : Plain = program_of no_place p in
-    let Q : Plain = program_of at_place p in
-    let pairs : IsPlaced P Q = placed p in
+pub in_order : (P : Plain) → IsFormed P → IsTyped P → (F : Facts) → IsFactsOf P F → AreNamesOf P F → InOrder F
+in_order P formed typed F facts named =
     record {
-      classes = classes_in_order P Q pairs F facts formed;
+      classes = classes_in_order P F facts formed;
       types = record {
-        ties = ties_below P Q pairs formed typed F facts;
-        accesses = accesses_below P Q F facts pairs formed typed;
-        supers = supers_below P Q pairs formed typed F facts;
-        sites = site_types P Q pairs formed typed F facts;
-        members = members_below P Q pairs formed typed F facts;
+        ties = ties_below P formed typed F facts;
+        accesses = accesses_below P F facts formed typed;
+        supers = supers_below P formed typed F facts;
+        sites = site_types P formed typed F facts;
+        members = members_below P formed typed F facts;
       };
-      owners = record { ties = ties_free P Q pairs formed typed F facts; arrays = arrays_free P Q pairs formed typed F facts };
+      owners = record { ties = ties_free P formed typed F facts; arrays = arrays_free P formed typed F facts };
       bodies = record {
-        accesses = access_kinds P Q F facts;
-        supers = super_bodies P Q pairs formed typed F facts (same_program p);
-        one_this = one_this P Q pairs formed typed F facts;
-        listed = listed P Q pairs formed typed F facts;
-        apart = apart P Q pairs formed typed F facts;
-        this_body = this_body P Q pairs formed typed F facts;
-        this_site = this_site P Q pairs formed typed F facts;
+        accesses = access_kinds P F facts;
+        supers = super_bodies P formed typed F facts;
+        one_this = one_this P formed typed F facts;
+        listed = listed P formed typed F facts;
+        apart = apart P formed typed F facts;
+        this_body = this_body P formed typed F facts;
+        this_site = this_site P formed typed F facts;
       };
-      sites = sites_in_order P Q pairs formed typed F facts;
-      tests = tests_in_order P Q pairs formed typed F facts;
-      members = members_in_order P Q pairs formed F facts;
-      names = names_in_order P Q pairs formed F facts named;
+      sites = sites_in_order P formed typed F facts;
+      tests = tests_in_order P formed typed F facts;
+      members = members_in_order P formed F facts;
+      names = names_in_order P formed F facts named;
     }
 
 over_none : (limit n : ℕ) (what : Counted) (rest : Option TooMany) → over limit n what rest ≡ None → (n ≤ limit) × (rest ≡ None)
@@ -71,36 +63,31 @@ over_none limit n what rest e = go (nat_lt limit n) refl e
     go true d e = absurd (cc)
     go false d e = (ltb-false limit n d, e)
 
-module _ (P Q : Plain) (pairs : IsPlaced P Q) (formed : IsFormed P) (F : Facts) (facts : IsFactsOf P Q F) where
+module _ (P : Plain) (formed : IsFormed P) (F : Facts) (facts : IsFactsOf P F) where
   classes_counted : length F.classes.items < 4294967295
   classes_counted = ⊎_elim
       (λ h. let z = below_at F.classes.items 4294967294 h in
-      let k = class_at P Q pairs F facts 4294967294 z.0 z.1 in
+      let k = class_at P F facts 4294967294 z.0 z.1 in
       absurd (omega (arith, slice_get_within P.classes 4294967294 k.plain k.stands, formed.counted.classes))) (λ h. omega (arith, h))
       (cases_lt 4294967294 (length F.classes.items))
 
-  are_counted : too_many P Q ≡ None → length F.calls.items < 4294967295 → length F.tests.items < 4294967295 → AreCounted F
+  are_counted : too_many P ≡ None → length F.calls.items < 4294967295 → length F.tests.items < 4294967295 → AreCounted F
   are_counted few calls tests =
-      let a = over_none 16384 (length (rows_of P Q)) counted.Rows _ few in
-      let b = over_none 8192 (length (columns_of P Q)) counted.Columns _ a.1 in
-      let c = over_none 8192 (length (sites_of P Q)) counted.Sites _ b.1 in
-      let d = over_none 65536 (length (points_of P Q) + length (cells_of P Q)) counted.Points None c.1 in
+      let a = over_none 16384 (length (rows_of P)) counted.Rows _ few in
+      let b = over_none 8192 (length (columns_of P)) counted.Columns _ a.1 in
+      let c = over_none 8192 (length (sites_of P)) counted.Sites _ b.1 in
+      let d = over_none 65536 (length (points_of P) + length (cells_of P)) counted.Points None c.1 in
       record {
-        rows = omega (arith, a.0, ap length facts.rows, length-map (rows_of P Q) (row_info (numbers P Q) Q));
-        columns = omega (arith, b.0, ap length facts.columns, length-map (columns_of P Q) (λ c. column_info Q c.item));
-        sites = omega (arith, c.0, ap length facts.sites, length-map (sites_of P Q) site_info);
+        rows = omega (arith, a.0, ap length facts.rows, length-map (rows_of P) (row_info (numbers P) P));
+        columns = omega (arith, b.0, ap length facts.columns, length-map (columns_of P) (λ c. column_info P c.item));
+        sites = omega (arith, c.0, ap length facts.sites, length-map (sites_of P) site_info);
         classes = classes_counted;
-        points = omega (arith, d.0, ap length facts.points, length-map {A = Point} {B = RowId} (points_of P Q) (λ p. record { 0 = p.row }));
+        points = omega (arith, d.0, ap length facts.points, length-map {A = Point} {B = RowId} (points_of P) (λ p. record { 0 = p.row }));
         cells = omega (arith, d.0, ap length facts.cells);
         calls = calls;
         tests = tests;
       }
 
-pub in_range : (p : Program) → IsFormed (program_of no_place p) → IsTyped (program_of no_place p) → (F : Facts)
-    → IsFactsOf (program_of no_place p) (program_of at_place p) F → too_many (program_of no_place p) (program_of at_place p) ≡ None
-    → length F.calls.items < 4294967295 → length F.tests.items < 4294967295 → InRange F
-in_range p formed typed F facts few calls tests =
-    let P : Plain = program_of no_place p in
-    let Q : Plain = program_of at_place p in
-    let pairs : IsPlaced P Q = placed p in
-    all_in_range P Q pairs formed typed F facts (are_counted P Q pairs formed F facts few calls tests)
+pub in_range : (P : Plain) → IsFormed P → IsTyped P → (F : Facts) → IsFactsOf P F → too_many P ≡ None → length F.calls.items < 4294967295
+    → length F.tests.items < 4294967295 → InRange F
+in_range P formed typed F facts few calls tests = all_in_range P formed typed F facts (are_counted P formed F facts few calls tests)

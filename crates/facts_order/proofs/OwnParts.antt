@@ -1,20 +1,18 @@
 -- What the part of a form itself has: a label, where it gives something, and a number, where its row is its own.
-use Rattle.std.proofs.Common.{◌≡◌, ℕ, List, [], ◌∷◌, Option, Some, None, refl, subst, arith}
+use Rattle.std.proofs.Common.{◌≡◌, ℕ, [], ◌∷◌, Option, Some, None, refl, subst, arith}
 use Rattle.std.specs.Prelude.{Bool, Contains}
 use Rattle.std.specs.Option.{option_map}
 use Rattle.kaba_base.specs.declared.Place.{Place}
 use Rattle.java_core.specs.Trees.{Ex, own_field, field, index, call, static_call, super_call, create, create_array, cast, instance_of, binary, Target, no_target}
 use Rattle.java_core.specs.Programs.{Plain, PlainMethod}
-use Rattle.flow_rules.specs.declared.items.ObjectType.{ObjectType}
 use Rattle.flow_rules.specs.declared.items.Operand.{Operand}
 use Rattle.flow_rules.specs.declared.items.RowItem.{RowItem}
 use Rattle.flow_rules.specs.declared.items.RowItem.TheVariants as row
 use Rattle.flow_rules.specs.declared.items.PointItem.TheVariants as point
-use Rattle.flow_rules.specs.Labels.{label}
 use Rattle.flow_rules.specs.Parts.{Part, a_creation, a_test}
 use Rattle.flow_rules.proofs.Listed.{one_from}
 use Rattle.run_cover.proofs.Numbers.{number_in}
-use Rattle.facts_order.proofs.Forms.{own, own_assign, From, from_ex, from_assign, from_declare, from_return}
+use Rattle.run_cover.proofs.Forms.{own, own_assign, From, from_ex, from_assign, from_declare, from_return}
 use Rattle.facts_order.proofs.Points.{given_by}
 
 -- a part that gives something gives it at a label of the method
@@ -35,14 +33,11 @@ IsNumbered _ = Unit {0}
 abbrev pub IsMade : ℕ → Part → Type 0
 IsMade m p = HasLabel m (given_by p) × IsNumbered p
 
-module _ (P : Plain) (type : Ex → Option ObjectType) (m : ℕ) (k h : PlainMethod) (ps : List Part) where
-  abbrev in_own : Bool → Ex → List Part
-  in_own u e = own P type m k h ps u e
-
+module _ (P : Plain) (m : ℕ) (k : PlainMethod) where
   is : (q p : Part) → Contains (q ∷ []) p → IsMade m q → IsMade m p
   is q p c n = subst (λ z. IsMade m z) (one_from q p c) n
 
-  own_made : (u : Bool) (e : Ex) (p : Part) → Contains (in_own u e) p → IsMade m p
+  own_made : (u : Bool) (e : Ex) (p : Part) → Contains (own P m k u e) p → IsMade m p
   own_made u (own_field t f) p c = is _ p c ((t.label, refl), tt)
   own_made u (field t e x) p c = is _ p c ((t.label, refl), tt)
   own_made u (index t e i) p c = is _ p c ((t.label, refl), tt)
@@ -56,12 +51,12 @@ module _ (P : Plain) (type : Ex → Option ObjectType) (m : ℕ) (k h : PlainMet
   own_made u (binary t o e d) p c = is _ p c (tt, tt)
   own_made u e p c = absurd (omega (arith, c.1))
 
-  assign_made : (w : Place) (t : Target) (e : Ex) (p : Part) → Contains (own_assign P type m k h ps w t e) p → IsMade m p
+  assign_made : (w : Place) (t : Target) (e : Ex) (p : Part) → Contains (own_assign P m k w t e) p → IsMade m p
   assign_made w no_target e p c = is _ p c (tt, tt)
   assign_made w t e p c = is _ p c (tt, tt)
 
-  pub from_made : (p : Part) → From P type m k h ps p → IsMade m p
-  from_made p (from_ex z) = own_made z.used (label z.number z.form) p z.own_part
-  from_made p (from_assign z) = assign_made z.place _ _ p z.own_part
-  from_made p (from_declare z) = is _ p z.own_part (tt, tt)
-  from_made p (from_return z) = is _ p z.own_part (tt, tt)
+  pub from_made : (p : Part) → From P m k p → IsMade m p
+  from_made p (from_ex u e a f w c) = own_made u e p c
+  from_made p (from_assign t b e x a f d w c) = assign_made t.place b e p c
+  from_made p (from_declare t i e a f w c) = is _ p c (tt, tt)
+  from_made p (from_return e a r f w c) = is _ p c (tt, tt)

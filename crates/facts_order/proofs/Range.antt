@@ -4,16 +4,13 @@ use Rattle.std.specs.Prelude.{◌<◌, ◌==◌, not, All, IfSome, Contains, sli
 use Rattle.std.specs.Option.{option_map, option_map_or, is_some}
 use Rattle.std.specs.List.{flat_map}
 use Rattle.std.proofs.lemmas.Option.{same_Some, slice_get_within}
-use Rattle.std.proofs.lemmas.List.{map-append}
 use Rattle.std.proofs.lemmas.List.Elements.{Contains-append_cases}
 use Rattle.kaba_base.specs.declared.Place.{Place}
 use Rattle.kaba_base.specs.declared.ClassId.{ClassId}
 use Rattle.java_core.specs.declared.Ty.{Ty}
 use Rattle.java_core.specs.Programs.{Plain, PlainField, PlainMethod, PlainLocal}
-use Rattle.java_core.specs.Types.{types_of}
 use Rattle.java_core.specs.Typing.{IsTyped}
-use Rattle.java_core.specs.Formed.{IsFormed, IsKnownResult, variables_of}
-use Rattle.java_core.specs.Untagged.{untag_field}
+use Rattle.java_core.specs.Formed.{IsFormed, IsKnownResult}
 use Rattle.fact_model.specs.InRange.{AreCounted, InRange, IsRow, IsCol, IsSite, IsClass, IsPoint}
 use Rattle.fact_model.specs.declared.facts.Facts.{Facts}
 use Rattle.fact_model.specs.declared.facts.NewInfo.{NewInfo}
@@ -42,7 +39,6 @@ use Rattle.flow_rules.specs.Numbered.{rows_of, columns_of, sites_of, points_of, 
 use Rattle.flow_rules.specs.Facts.{numbers, row_info, column_info, site_info, site_of_row, this_of_row, owner_of, IsFactsOf}
 use Rattle.flow_rules.proofs.Listed.{at_contains, contains_at, below_at, at_map, map_at, map_from, index_at, one_from, flat_from, when_from, each_from_zero, all_of}
 use Rattle.flow_rules.proofs.NumberedItems.{numbered_sites, numbered_columns}
-use Rattle.facts_order.proofs.Pairs.{IsPlaced}
 use Rattle.facts_order.proofs.Columns.{Stands, for_field, for_declaration, for_body, for_mark, members, column_stands, numbered_column}
 use Rattle.facts_order.proofs.Classes.{class_at, class_there, classes_in_order}
 use Rattle.facts_order.proofs.Rows.{own_of, Types, for_field as types_field, for_this as types_this, for_result as types_result, for_variable as types_variable, for_part as types_part, row_types, item_row}
@@ -59,31 +55,31 @@ use Rattle.facts_order.proofs.Called.{call_of, entry_of}
 use Rattle.facts_order.proofs.Held.{created_from, moved_from}
 use Rattle.facts_order.proofs.Contained.{IsCellOf, of_field, of_array, cell_is}
 
-module _ (P Q : Plain) (placed : IsPlaced P Q) (formed : IsFormed P) (typed : IsTyped P) (F : Facts) (facts : IsFactsOf P Q F) where
-  row_bound : (i : RowItem) (r : ℕ) → row_number P Q i ≡ Some r → r < length F.rows.items
-  row_bound i r e = (item_row P Q F facts i r e).4
+module _ (P : Plain) (formed : IsFormed P) (typed : IsTyped P) (F : Facts) (facts : IsFactsOf P F) where
+  row_bound : (i : RowItem) (r : ℕ) → row_number P i ≡ Some r → r < length F.rows.items
+  row_bound i r e = (item_row P F facts i r e).4
 
-  column_bound : (i : ColumnItem) (c : ℕ) → column_number P Q i ≡ Some c → c < length F.columns.items
-  column_bound i c e = (numbered_column P Q F facts i c e).0
+  column_bound : (i : ColumnItem) (c : ℕ) → column_number P i ≡ Some c → c < length F.columns.items
+  column_bound i c e = (numbered_column P F facts i c e).0
 
-  point_bound : (i : PointItem) (q : ℕ) → point_number P Q i ≡ Some q → q < length F.points.items
-  point_bound i q e = (item_point P Q F facts i q e).4
+  point_bound : (i : PointItem) (q : ℕ) → point_number P i ≡ Some q → q < length F.points.items
+  point_bound i q e = (item_point P F facts i q e).4
 
-  site_index : (s : ℕ) (x : Site) → slice_get (sites_of P Q) s ≡ Some x → s < length F.sites.items
+  site_index : (s : ℕ) (x : Site) → slice_get (sites_of P) s ≡ Some x → s < length F.sites.items
   site_index s x e = slice_get_within F.sites.items s _
-      (subst (λ y. slice_get y s ≡ Some (site_info x)) (sym facts.sites) (at_map site_info (sites_of P Q) s x e))
+      (subst (λ y. slice_get y s ≡ Some (site_info x)) (sym facts.sites) (at_map site_info (sites_of P) s x e))
 
-  site_bound : (n s : ℕ) → site_number P Q n ≡ Some s → s < length F.sites.items
-  site_bound n s e = let z = (numbered_sites P Q).at n s e in site_index s z.0 z.1
+  site_bound : (n s : ℕ) → site_number P n ≡ Some s → s < length F.sites.items
+  site_bound n s e = let z = (numbered_sites P).at n s e in site_index s z.0 z.1
 
   class_bound : (c : ℕ) → c < length P.classes → c < length F.classes.items
-  class_bound c h = let z = below_at P.classes c h in let w = class_there P Q placed F facts c z.0 z.1 in slice_get_within F.classes.items c w.0 w.1
+  class_bound c h = let z = below_at P.classes c h in let w = class_there P F facts c z.0 z.1 in slice_get_within F.classes.items c w.0 w.1
 
-  operand_bound : (o : Operand) (q : ℕ) → point_at (numbers P Q) o ≡ Some q → q < length F.points.items
-  operand_bound o q e = let j = point_item_of P Q placed formed typed F facts o.point q e in point_bound j.0 q j.2
+  operand_bound : (o : Operand) (q : ℕ) → point_at (numbers P) o ≡ Some q → q < length F.points.items
+  operand_bound o q e = let j = point_item_of P formed typed F facts o.point q e in point_bound j.0 q j.2
 
-  row_at_bound : (o : Operand) (r : ℕ) → row_at (numbers P Q) o ≡ Some r → r < length F.rows.items
-  row_at_bound o r e = let j = row_item P Q o.row r e in row_bound j.0 r j.2
+  row_at_bound : (o : Operand) (r : ℕ) → row_at (numbers P) o ≡ Some r → r < length F.rows.items
+  row_at_bound o r e = let j = row_item P o.row r e in row_bound j.0 r j.2
 
   -- a point that may be there is in range
   some_point : (q : Option ℕ) → ((p : ℕ) → q ≡ Some p → p < length F.points.items) → IfSome q (IsPoint F)
@@ -94,23 +90,22 @@ module _ (P Q : Plain) (placed : IsPlaced P Q) (formed : IsFormed P) (typed : Is
   owner_bound : (c : ℕ) (k : _) → slice_get P.classes c ≡ Some k → c < length F.classes.items
   owner_bound c k e = class_bound c (slice_get_within P.classes c k e)
 
-  field_owner : (f : ℕ) (k : PlainField) → slice_get Q.fields f ≡ Some k → k.owner < length F.classes.items
-  field_owner f k e = let y = formed.fields f (untag_field k) (placed.fields f k e) in owner_bound k.owner y.holder y.stands
+  field_owner : (f : ℕ) (k : PlainField) → slice_get P.fields f ≡ Some k → k.owner < length F.classes.items
+  field_owner f k e = let y = formed.fields f k e in owner_bound k.owner y.holder y.stands
 
-  method_owner : (m : ℕ) (k : PlainMethod) → slice_get Q.methods m ≡ Some k → k.owner < length F.classes.items
-  method_owner m k e = let z = placed.methods m k e in let y = formed.methods m z.plain z.stands in subst (λ c. c < length F.classes.items) z.owner
-      (owner_bound z.plain.owner y.holder y.stands)
+  method_owner : (m : ℕ) (k : PlainMethod) → slice_get P.methods m ≡ Some k → k.owner < length F.classes.items
+  method_owner m k e = let y = formed.methods m k e in owner_bound k.owner y.holder y.stands
 
   known_bound : (t : ObjectType) → t.class.0 < length P.classes → t.class.0 < length F.classes.items
   known_bound t h = class_bound t.class.0 h
 
-  fitted_at : (m : ℕ) (k : PlainMethod) (e : slice_get Q.methods m ≡ Some k) (p : Part) → Contains (parts_of P m k) p
-      → IsFitted P Q placed formed typed F facts m k e p
-  fitted_at m k e p c = part_fitted P Q placed formed typed F facts m k e p c
+  fitted_at : (m : ℕ) (k : PlainMethod) (e : slice_get P.methods m ≡ Some k) (p : Part) → Contains (parts_of P m k) p
+      → IsFitted P formed typed F facts m k e p
+  fitted_at m k e p c = part_fitted P formed typed F facts m k e p c
 
   -- what a creation, a cast or an `instanceof` gives has a class of the program
-  own_known : (m : ℕ) (k : PlainMethod) (e : slice_get Q.methods m ≡ Some k) (p : Part) (o : Operand) (t : ObjectType)
-      → IsFitted P Q placed formed typed F facts m k e p → own_of p ≡ Some o → o.ty ≡ Some t → t.class.0 < length F.classes.items
+  own_known : (m : ℕ) (k : PlainMethod) (e : slice_get P.methods m ≡ Some k) (p : Part) (o : Operand) (t : ObjectType)
+      → IsFitted P formed typed F facts m k e p → own_of p ≡ Some o → o.ty ≡ Some t → t.class.0 < length F.classes.items
   own_known m k e (a_creation w u q) o t f h y = known_bound t (f.1 t (ap (λ z. z.ty) (same_Some q o h) ∙ y))
   own_known m k e (a_test w d q) o t f h y = known_bound t (f.4 t (ap (λ z. z.ty) (same_Some q o h) ∙ y))
   own_known m k e _ o t f h y = absurd (cc)
@@ -120,41 +115,32 @@ module _ (P Q : Plain) (placed : IsPlaced P Q) (formed : IsFormed P) (typed : Is
   result_known (Some v) t k e = known_bound t (known_type P v t k e)
 
   -- the class of a row
-  variable_known : (m : ℕ) (k : PlainMethod) (i : ℕ) (v : PlainLocal) (t : ObjectType) → slice_get Q.methods m ≡ Some k
+  variable_known : (m : ℕ) (k : PlainMethod) (i : ℕ) (v : PlainLocal) (t : ObjectType) → slice_get P.methods m ≡ Some k
       → slice_get (k.params ++ k.locals) i ≡ Some v → object_of v.ty ≡ Some t → t.class.0 < length F.classes.items
-  variable_known m k i v t e d h =
-      let z = placed.methods m k e in
-      let types : types_of (z.plain.params ++ z.plain.locals) ≡ types_of (k.params ++ k.locals) = map-append (λ l. l.ty) z.plain.params z.plain.locals
-      ∙ ap (λ w. w ++ types_of z.plain.locals) z.params ∙ ap (λ w. types_of k.params ++ w) z.locals
-      ∙ sym (map-append (λ l. l.ty) k.params k.locals) in
-      let w = map_at (λ l. l.ty) (variables_of z.plain) i v.ty (subst (λ y. slice_get y i ≡ Some v.ty) (sym types)
-      (at_map (λ l. l.ty) (k.params ++ k.locals) i v d)) in
-      known_bound t (known_type P w.0.ty t ((formed.methods m z.plain z.stands).variables w.0 (contains_at (variables_of z.plain) i w.0 w.1)).type
-      (ap object_of w.2 ∙ h))
+  variable_known m k i v t e d h = known_bound t (known_type P v.ty t ((formed.methods m k e).variables v (contains_at (k.params ++ k.locals) i v d)).type h)
 
-  row_known : (x : Row) → Types P Q x → x.ty.class.0 < length F.classes.items
+  row_known : (x : Row) → Types P x → x.ty.class.0 < length F.classes.items
   row_known x (types_field f k e i t) =
-      known_bound x.ty (known_type P k.ty x.ty (formed.fields f (untag_field k) (placed.fields f k e)).type t)
+      known_bound x.ty (known_type P k.ty x.ty (formed.fields f k e).type t)
   row_known x (types_this m k e b s i t) = subst (λ y. y.class.0 < length F.classes.items) (same_Some _ x.ty t) (method_owner m k e)
-  row_known x (types_result m k e i t) = let z = placed.methods m k e in result_known z.plain.result x.ty (formed.methods m z.plain z.stands).result
-      (ap object_if z.result ∙ t)
+  row_known x (types_result m k e i t) = result_known k.result x.ty (formed.methods m k e).result t
   row_known x (types_variable m k j v e d i t) = variable_known m k j v x.ty e d t
   row_known x (types_part m k p e c o) = own_known m k e p o.operand x.ty (fitted_at m k e p c) o.own o.type
 
-  row_site_bound : (i : RowItem) → IfSome (site_of_row (numbers P Q) i) (IsSite F)
+  row_site_bound : (i : RowItem) → IfSome (site_of_row (numbers P) i) (IsSite F)
   unfolding numbers
-  row_site_bound (row.New n) = go (site_number P Q n) refl
+  row_site_bound (row.New n) = go (site_number P n) refl
     where
-      go : (o : Option ℕ) → site_number P Q n ≡ o → IfSome (option_map (λ s. record { 0 = s }) o) (IsSite F)
+      go : (o : Option ℕ) → site_number P n ≡ o → IfSome (option_map (λ s. record { 0 = s }) o) (IsSite F)
       go None e = tt
       go (Some s) e = site_bound n s e
   row_site_bound _ = tt
 
-  row_this_bound : (i : RowItem) → IfSome (this_of_row (numbers P Q) i) (IsCol F)
+  row_this_bound : (i : RowItem) → IfSome (this_of_row (numbers P) i) (IsCol F)
   unfolding numbers
-  row_this_bound (row.This m) = go (column_number P Q (column.Def m)) refl
+  row_this_bound (row.This m) = go (column_number P (column.Def m)) refl
     where
-      go : (o : Option ℕ) → column_number P Q (column.Def m) ≡ o → IfSome (option_map (λ c. record { 0 = c }) o) (IsCol F)
+      go : (o : Option ℕ) → column_number P (column.Def m) ≡ o → IfSome (option_map (λ c. record { 0 = c }) o) (IsCol F)
       go None e = tt
       go (Some c) e = column_bound (column.Def m) c e
   row_this_bound _ = tt
@@ -162,9 +148,9 @@ module _ (P Q : Plain) (placed : IsPlaced P Q) (formed : IsFormed P) (typed : Is
   rows : All (λ r. IsClass F r.class × IfSome r.site (IsSite F) × IfSome r.this_of (IsCol F)) F.rows.items
   rows = all_of (λ r. IsClass F r.class × IfSome r.site (IsSite F) × IfSome r.this_of (IsCol F)) F.rows.items
       (λ x c. let z = at_contains F.rows.items x c in
-      let w = map_at (row_info (numbers P Q) Q) (rows_of P Q) z.0 x (subst (λ y. slice_get y z.0 ≡ Some x) facts.rows z.1) in
+      let w = map_at (row_info (numbers P) P) (rows_of P) z.0 x (subst (λ y. slice_get y z.0 ≡ Some x) facts.rows z.1) in
       subst (λ r. IsClass F r.class × IfSome r.site (IsSite F) × IfSome r.this_of (IsCol F)) w.2
-      (row_known w.0 (row_types P Q z.0 w.0 w.1), row_site_bound w.0.item, row_this_bound w.0.item))
+      (row_known w.0 (row_types P z.0 w.0 w.1), row_site_bound w.0.item, row_this_bound w.0.item))
 
   -- the class of a mark
   Marks : Column → Type 0
@@ -186,13 +172,13 @@ module _ (P Q : Plain) (placed : IsPlaced P Q) (formed : IsFormed P) (typed : Is
   as_array_mark p None x h c = absurd (omega (arith, c.1))
   as_array_mark p (Some t) x h c = as_mark p (Some t) x h (when_from (not (t.dim == 0)) (mark p (Some t)) x c).1
 
-  part_marks : (m : ℕ) (k : PlainMethod) (e : slice_get Q.methods m ≡ Some k) (p : Part) (x : Column)
-      → IsFitted P Q placed formed typed F facts m k e p → Contains (form_columns p) x → Marks x
+  part_marks : (m : ℕ) (k : PlainMethod) (e : slice_get P.methods m ≡ Some k) (p : Part) (x : Column)
+      → IsFitted P formed typed F facts m k e p → Contains (form_columns p) x → Marks x
   part_marks m k e (a_creation w u o) x f c = as_array_mark w o.ty x (λ t h. known_bound t (f.1 t h)) c
   part_marks m k e (a_test w d o) x f c = as_mark w o.ty x (λ t h. known_bound t (f.4 t h)) c
   part_marks m k e _ x f c = absurd (omega (arith, c.1))
 
-  member_marks : (m : ℕ) (k : PlainMethod) (x : Column) → Contains (members P Q m k) x → Marks x
+  member_marks : (m : ℕ) (k : PlainMethod) (x : Column) → Contains (members P m k) x → Marks x
   unfolding Marks mark_of members
   member_marks m k x c d e =
       let z = (when_from (not k.is_static) (record { item = column.Dcl m; place = k.tag.place } ∷ when (is_some k.body)
@@ -203,11 +189,11 @@ module _ (P Q : Plain) (placed : IsPlaced P Q) (formed : IsFormed P) (typed : Is
       (Contains-append_cases (record { item = column.Dcl m; place = k.tag.place } ∷ [])
       (when (is_some k.body) (record { item = column.Def m; place = k.tag.place } ∷ [])) x z)
 
-  method_marks : (m : ℕ) (k : PlainMethod) (x : Column) → slice_get Q.methods m ≡ Some k → Contains (method_columns P Q m k) x → Marks x
+  method_marks : (m : ℕ) (k : PlainMethod) (x : Column) → slice_get P.methods m ≡ Some k → Contains (method_columns P m k) x → Marks x
   unfolding members
   method_marks m k x e c =
       ⊎_elim (λ d. member_marks m k x d) (λ d. let z = flat_from form_columns (parts_of P m k) x d in part_marks m k e z.0 x (fitted_at m k e z.0 z.1) z.2)
-      (Contains-append_cases (members P Q m k) (flat_map form_columns (parts_of P m k)) x c)
+      (Contains-append_cases (members P m k) (flat_map form_columns (parts_of P m k)) x c)
 
   field_marks : (f : ℕ) (k : PlainField) (x : Column) → Contains (field_columns f k) x → Marks x
   unfolding Marks mark_of
@@ -215,13 +201,13 @@ module _ (P Q : Plain) (placed : IsPlaced P Q) (formed : IsFormed P) (typed : Is
       (let g = ap (λ z. mark_of z.item) (one_from (record { item = column.Fld f; place = k.tag.place }) x
       (when_from (not k.is_static) (record { item = column.Fld f; place = k.tag.place } ∷ []) x c).1) ∙ ap mark_of e in cc)
 
-  column_marks : (n : ℕ) (x : Column) → slice_get (columns_of P Q) n ≡ Some x → Marks x
+  column_marks : (n : ℕ) (x : Column) → slice_get (columns_of P) n ≡ Some x → Marks x
   column_marks n x e =
-      ⊎_elim (λ d. let z = each_from_zero field_columns Q.fields x d in field_marks z.0 z.1 x z.3)
-      (λ d. let z = each_from_zero (method_columns P Q) Q.methods x d in method_marks z.0 z.1 x z.2 z.3)
-      (Contains-append_cases (each field_columns 0 Q.fields) (each (method_columns P Q) 0 Q.methods) x ((numbered_columns P Q).from n x e))
+      ⊎_elim (λ d. let z = each_from_zero field_columns P.fields x d in field_marks z.0 z.1 x z.3)
+      (λ d. let z = each_from_zero (method_columns P) P.methods x d in method_marks z.0 z.1 x z.2 z.3)
+      (Contains-append_cases (each field_columns 0 P.fields) (each (method_columns P) 0 P.methods) x ((numbered_columns P).from n x e))
 
-  item_owner : (i : ColumnItem) → Stands Q i → ((c : ClassId) → i ≡ column.Is c → c.0 < length F.classes.items) → owner_of Q i < length F.classes.items
+  item_owner : (i : ColumnItem) → Stands P i → ((c : ClassId) → i ≡ column.Is c → c.0 < length F.classes.items) → owner_of P i < length F.classes.items
   item_owner _ (for_field f k e s) h = subst (λ c. c < length F.classes.items) (sym (ap (λ o. option_map_or (λ k. k.owner) o 0) e)) (field_owner f k e)
   item_owner _ (for_declaration m k e s) h = subst (λ c. c < length F.classes.items) (sym (ap (λ o. option_map_or (λ k. k.owner) o 0) e)) (method_owner m k e)
   item_owner _ (for_body m k e s b) h = subst (λ c. c < length F.classes.items) (sym (ap (λ o. option_map_or (λ k. k.owner) o 0) e)) (method_owner m k e)
@@ -231,14 +217,14 @@ module _ (P Q : Plain) (placed : IsPlaced P Q) (formed : IsFormed P) (typed : Is
   unfolding Marks
   columns = all_of (λ c. IsClass F c.class) F.columns.items
       (λ x c. let z = at_contains F.columns.items x c in
-      let w = map_at (λ c. column_info Q c.item) (columns_of P Q) z.0 x (subst (λ y. slice_get y z.0 ≡ Some x) facts.columns z.1) in
-      subst (λ y. IsClass F y.class) w.2 (item_owner w.0.item (column_stands P Q z.0 w.0 w.1) (column_marks z.0 w.0 w.1)))
+      let w = map_at (λ c. column_info P c.item) (columns_of P) z.0 x (subst (λ y. slice_get y z.0 ≡ Some x) facts.columns z.1) in
+      subst (λ y. IsClass F y.class) w.2 (item_owner w.0.item (column_stands P z.0 w.0 w.1) (column_marks z.0 w.0 w.1)))
 
   sites : All (λ s. IsRow F s.row × IsClass F s.class) F.sites.items
   sites = all_of (λ s. IsRow F s.row × IsClass F s.class) F.sites.items
       (λ x c. let z = at_contains F.sites.items x c in
-      let w = map_at site_info (sites_of P Q) z.0 x (subst (λ y. slice_get y z.0 ≡ Some x) facts.sites z.1) in
-      let p = site_part P Q placed formed typed z.0 w.0 w.1 in
+      let w = map_at site_info (sites_of P) z.0 x (subst (λ y. slice_get y z.0 ≡ Some x) facts.sites z.1) in
+      let p = site_part P formed typed z.0 w.0 w.1 in
       let a = p.of.is_part in
       subst (λ s. IsRow F s.row × IsClass F s.class) w.2 (
         row_bound (row.New w.0.number) w.0.row p.row_number_is,
@@ -250,14 +236,14 @@ module _ (P Q : Plain) (placed : IsPlaced P Q) (formed : IsFormed P) (typed : Is
 
   class_known : (c : ℕ) (x : ClassInfo) → slice_get F.classes.items c ≡ Some x → IfSome x.parent (IsClass F) × All (IsClass F) x.faces.items
   class_known zero x e =
-      let k = class_at P Q placed F facts 0 x e in
+      let k = class_at P F facts 0 x e in
       let o = same_Some _ _ (sym k.stands ∙ formed.object.first) in (
         subst (λ p. IfSome p (IsClass F)) (sym (k.parent ∙ ap (λ y. y.parent) o ∙ formed.object.parent)) tt,
         all_of (IsClass F) x.faces.items
             (λ f h. absurd (omega (arith, (subst (λ y. Contains y f) (k.faces ∙ ap (λ y. y.faces) o ∙ formed.object.faces) h).1))),
       )
   class_known (suc c) x e =
-      let k = class_at P Q placed F facts (suc c) x e in
+      let k = class_at P F facts (suc c) x e in
       let f = formed.classes c k.plain k.stands in (
         subst (λ p. IfSome p (IsClass F)) (sym (k.parent ∙ f.has_parent)) (owner_bound f.parent.0 f.above f.parent_stands),
         all_of
@@ -271,11 +257,11 @@ module _ (P Q : Plain) (placed : IsPlaced P Q) (formed : IsFormed P) (typed : Is
   points : All (IsRow F) F.points.items
   points = all_of (IsRow F) F.points.items
       (λ x c. let z = at_contains F.points.items x c in
-      let w = map_at (λ p. record { 0 = p.row }) (points_of P Q) z.0 x (subst (λ y. slice_get y z.0 ≡ Some x) facts.points z.1) in
-      let p = point_of P Q z.0 w.0 w.1 in
+      let w = map_at (λ p. record { 0 = p.row }) (points_of P) z.0 x (subst (λ y. slice_get y z.0 ≡ Some x) facts.points z.1) in
+      let p = point_of P z.0 w.0 w.1 in
       subst (IsRow F) w.2 (row_bound p.at.row w.0.row p.number))
 
-  cell_bound : (z : CellInfo) → IsCellOf P Q placed formed typed F facts z → IsSite F z.site × IfSome z.column (IsCol F) × IsRow F z.row
+  cell_bound : (z : CellInfo) → IsCellOf P formed typed F facts z → IsSite F z.site × IfSome z.column (IsCol F) × IsRow F z.row
   cell_bound z (of_field x f c r s n e d q) = (
     site_index z.site.0 x s,
     subst (λ o. IfSome o (IsCol F)) (sym n) (column_bound (column.Fld f) c e),
@@ -286,60 +272,60 @@ module _ (P Q : Plain) (placed : IsPlaced P Q) (formed : IsFormed P) (typed : Is
     site_index z.site.0 x s,
     subst (λ o. IfSome o (IsCol F)) (sym n) tt,
     subst (λ r. r < length F.rows.items) q
-        (row_bound (row.New x.number) x.row (site_part P Q placed formed typed z.site.0 x s).row_number_is),
+        (row_bound (row.New x.number) x.row (site_part P formed typed z.site.0 x s).row_number_is),
   )
 
   cells : All (λ c. IsSite F c.site × IfSome c.column (IsCol F) × IsRow F c.row) F.cells.items
   cells = all_of (λ c. IsSite F c.site × IfSome c.column (IsCol F) × IsRow F c.row) F.cells.items
       (λ x c. let z = at_contains F.cells.items x c in
-      cell_bound x (subst (IsCellOf P Q placed formed typed F facts) (index_at F.cells.items z.0 _ x z.1) (cell_is P Q placed formed typed F facts z.0
+      cell_bound x (subst (IsCellOf P formed typed F facts) (index_at F.cells.items z.0 _ x z.1) (cell_is P formed typed F facts z.0
       (slice_get_within F.cells.items z.0 x z.1))))
 
-  new_bound : (o : Operand) (q : Option ℕ) (x : NewInfo) → ((p : ℕ) → q ≡ Some p → p < length F.points.items) → Contains (created (numbers P Q) o q) x
+  new_bound : (o : Operand) (q : Option ℕ) (x : NewInfo) → ((p : ℕ) → q ≡ Some p → p < length F.points.items) → Contains (created (numbers P) o q) x
       → IsPoint F x.point × IsSite F x.site
-  new_bound o q x h c = let z = created_from P Q placed formed typed F facts o q x c in (h x.point z.1, site_bound z.0 x.site.0 z.3)
+  new_bound o q x h c = let z = created_from P formed typed F facts o q x c in (h x.point z.1, site_bound z.0 x.site.0 z.3)
 
-  part_news : (m : ℕ) (p : Part) (x : NewInfo) → Contains (news_of (numbers P Q) m p) x → IsPoint F x.point × IsSite F x.site
+  part_news : (m : ℕ) (p : Part) (x : NewInfo) → Contains (news_of (numbers P) m p) x → IsPoint F x.point × IsSite F x.site
   unfolding numbers
-  part_news m (a_creation w u o) x c = new_bound o (point_at (numbers P Q) o) x (operand_bound o) c
-  part_news m (a_set v o) x c = new_bound o (point_at (numbers P Q) v) x (operand_bound v) c
-  part_news m (a_return o) x c = new_bound o (point_number P Q (point.Result m)) x (point_bound (point.Result m)) c
-  part_news m (a_static_call w d es o) x c = let z = each_from_zero (λ i o. created (numbers P Q) o (point_number P Q (point.Local d i))) es x c in
-      new_bound z.1 (point_number P Q (point.Local d z.0)) x (point_bound (point.Local d z.0)) z.3
+  part_news m (a_creation w u o) x c = new_bound o (point_at (numbers P) o) x (operand_bound o) c
+  part_news m (a_set v o) x c = new_bound o (point_at (numbers P) v) x (operand_bound v) c
+  part_news m (a_return o) x c = new_bound o (point_number P (point.Result m)) x (point_bound (point.Result m)) c
+  part_news m (a_static_call w d es o) x c = let z = each_from_zero (λ i o. created (numbers P) o (point_number P (point.Local d i))) es x c in
+      new_bound z.1 (point_number P (point.Local d z.0)) x (point_bound (point.Local d z.0)) z.3
   part_news m (a_super_call w (Some d) es o) x c =
-      let z = each_from_zero (λ i o. created (numbers P Q) o (point_number P Q (point.Local d i))) es x c in new_bound z.1
-      (point_number P Q (point.Local d z.0)) x (point_bound (point.Local d z.0)) z.3
+      let z = each_from_zero (λ i o. created (numbers P) o (point_number P (point.Local d i))) es x c in new_bound z.1
+      (point_number P (point.Local d z.0)) x (point_bound (point.Local d z.0)) z.3
   part_news m _ x c = absurd (omega (arith, c.1))
 
   flow_bound : (p q : Option ℕ) (x : FlowInfo) → ((a : ℕ) → p ≡ Some a → a < length F.points.items)
       → ((a : ℕ) → q ≡ Some a → a < length F.points.items) → Contains (moved p q) x → IsPoint F x.from × IsPoint F x.to
-  flow_bound p q x f g c = let z = moved_from P Q placed formed typed F facts p q x c in (f x.from z.0, g x.to z.1)
+  flow_bound p q x f g c = let z = moved_from P formed typed F facts p q x c in (f x.from z.0, g x.to z.1)
 
   args_flows : (d : ℕ) (es : List Operand) (x : FlowInfo)
-      → Contains (each (λ i o. moved (point_at (numbers P Q) o) (point_number P Q (point.Local d i))) 0 es) x → IsPoint F x.from × IsPoint F x.to
-  args_flows d es x c = let z = each_from_zero (λ i o. moved (point_at (numbers P Q) o) (point_number P Q (point.Local d i))) es x c in flow_bound _ _
+      → Contains (each (λ i o. moved (point_at (numbers P) o) (point_number P (point.Local d i))) 0 es) x → IsPoint F x.from × IsPoint F x.to
+  args_flows d es x c = let z = each_from_zero (λ i o. moved (point_at (numbers P) o) (point_number P (point.Local d i))) es x c in flow_bound _ _
       x (operand_bound z.1) (point_bound (point.Local d z.0)) z.3
 
-  part_flows : (m : ℕ) (p : Part) (x : FlowInfo) → Contains (flows_of (numbers P Q) m p) x → IsPoint F x.from × IsPoint F x.to
+  part_flows : (m : ℕ) (p : Part) (x : FlowInfo) → Contains (flows_of (numbers P) m p) x → IsPoint F x.from × IsPoint F x.to
   unfolding numbers
   part_flows m (a_set v o) x c = flow_bound _ _ x (operand_bound o) (operand_bound v) c
   part_flows m (a_return o) x c = flow_bound _ _ x (operand_bound o) (point_bound (point.Result m)) c
   part_flows m (a_static_call w d es o) x c =
       ⊎_elim (args_flows d es x) (flow_bound _ _ x (point_bound (point.Result d)) (operand_bound o))
-      (Contains-append_cases (each (λ i o. moved (point_at (numbers P Q) o) (point_number P Q (point.Local d i))) 0 es)
-      (moved (point_number P Q (point.Result d)) (point_at (numbers P Q) o)) x c)
+      (Contains-append_cases (each (λ i o. moved (point_at (numbers P) o) (point_number P (point.Local d i))) 0 es)
+      (moved (point_number P (point.Result d)) (point_at (numbers P) o)) x c)
   part_flows m (a_super_call w (Some d) es o) x c =
-      let one = each (λ i o. moved (point_at (numbers P Q) o) (point_number P Q (point.Local d i))) 0 es in
-      let two = moved (point_number P Q (point.Result d)) (point_at (numbers P Q) o) in
+      let one = each (λ i o. moved (point_at (numbers P) o) (point_number P (point.Local d i))) 0 es in
+      let two = moved (point_number P (point.Result d)) (point_at (numbers P) o) in
       ⊎_elim (λ y. ⊎_elim (args_flows d es x) (flow_bound _ _ x (point_bound (point.Result d)) (operand_bound o)) (Contains-append_cases one two x y))
       (flow_bound _ _ x (point_bound (point.This m)) (point_bound (point.This d)))
-      (Contains-append_cases (one ++ two) (moved (point_number P Q (point.This m)) (point_number P Q (point.This d))) x c)
+      (Contains-append_cases (one ++ two) (moved (point_number P (point.This m)) (point_number P (point.This d))) x c)
   part_flows m _ x c = absurd (omega (arith, c.1))
 
-  part_loads : (p : Part) (x : LoadInfo) → Contains (loads_of (numbers P Q) p) x → IsPoint F x.base × IfSome x.column (IsCol F) × IsPoint F x.into
+  part_loads : (p : Part) (x : LoadInfo) → Contains (loads_of (numbers P) p) x → IsPoint F x.base × IfSome x.column (IsCol F) × IsPoint F x.into
   unfolding numbers
   part_loads (a_load w b (Some f) o) x c =
-      let z = these_from (point_at (numbers P Q) b) (column_number P Q (column.Fld f)) (point_at (numbers P Q) o)
+      let z = these_from (point_at (numbers P) b) (column_number P (column.Fld f)) (point_at (numbers P) o)
       (λ a c q. record { base = a; column = Some (record { 0 = c }); into = q }) x c in
       subst (λ y. IsPoint F y.base × IfSome y.column (IsCol F) × IsPoint F y.into) z.6 (
         operand_bound b z.0 z.3,
@@ -347,14 +333,14 @@ module _ (P Q : Plain) (placed : IsPlaced P Q) (formed : IsFormed P) (typed : Is
         operand_bound o z.2 z.5,
       )
   part_loads (an_element w b o) x c =
-      let z = both_from (point_at (numbers P Q) b) (point_at (numbers P Q) o) (λ a q. record { base = a; column = None; into = q }) x c in
+      let z = both_from (point_at (numbers P) b) (point_at (numbers P) o) (λ a q. record { base = a; column = None; into = q }) x c in
       subst (λ y. IsPoint F y.base × IfSome y.column (IsCol F) × IsPoint F y.into) z.4 (operand_bound b z.0 z.2, tt, operand_bound o z.1 z.3)
   part_loads _ x c = absurd (omega (arith, c.1))
 
-  part_stores : (p : Part) (x : StoreInfo) → Contains (stores_of (numbers P Q) p) x → IsPoint F x.base × IfSome x.column (IsCol F) × IsPoint F x.value
+  part_stores : (p : Part) (x : StoreInfo) → Contains (stores_of (numbers P) p) x → IsPoint F x.base × IfSome x.column (IsCol F) × IsPoint F x.value
   unfolding numbers
   part_stores (a_store w b (Some f) o) x c =
-      let z = these_from (point_at (numbers P Q) b) (column_number P Q (column.Fld f)) (point_at (numbers P Q) o)
+      let z = these_from (point_at (numbers P) b) (column_number P (column.Fld f)) (point_at (numbers P) o)
       (λ a c q. record { base = a; column = Some (record { 0 = c }); value = q; place = w }) x c in
       subst (λ y. IsPoint F y.base × IfSome y.column (IsCol F) × IsPoint F y.value) z.6 (
         operand_bound b z.0 z.3,
@@ -362,44 +348,44 @@ module _ (P Q : Plain) (placed : IsPlaced P Q) (formed : IsFormed P) (typed : Is
         operand_bound o z.2 z.5,
       )
   part_stores (an_element_store w b o) x c =
-      let z = both_from (point_at (numbers P Q) b) (point_at (numbers P Q) o) (λ a q. record { base = a; column = None; value = q; place = w }) x c in
+      let z = both_from (point_at (numbers P) b) (point_at (numbers P) o) (λ a q. record { base = a; column = None; value = q; place = w }) x c in
       subst (λ y. IsPoint F y.base × IfSome y.column (IsCol F) × IsPoint F y.value) z.4 (operand_bound b z.0 z.2, tt, operand_bound o z.1 z.3)
   part_stores _ x c = absurd (omega (arith, c.1))
 
   bodies : All (λ x. IsCol F x.column × IsPoint F x.this × All (λ p. IfSome p (IsPoint F)) x.params.items × IfSome x.result (IsPoint F)) F.bodies.items
   unfolding numbers
   bodies = all_of (λ x. IsCol F x.column × IsPoint F x.this × All (λ p. IfSome p (IsPoint F)) x.params.items × IfSome x.result (IsPoint F)) F.bodies.items
-      (λ x c. let e = entry_of P Q placed formed typed F facts x c in (
+      (λ x c. let e = entry_of P formed typed F facts x c in (
         column_bound (column.Def e.number) x.column.0 e.column_is,
         point_bound (point.This e.number) x.this e.this,
         all_of (λ p. IfSome p (IsPoint F)) x.params.items
-            (λ p d. let z = each_from_zero (λ i v. point_number P Q (point.Local e.number i) ∷ []) e.method.params p (subst (λ y. Contains y p) e.params d) in
-            subst (λ q. IfSome q (IsPoint F)) (one_from _ p z.3) (some_point (point_number P Q (point.Local e.number z.0))
+            (λ p d. let z = each_from_zero (λ i v. point_number P (point.Local e.number i) ∷ []) e.method.params p (subst (λ y. Contains y p) e.params d) in
+            subst (λ q. IfSome q (IsPoint F)) (one_from _ p z.3) (some_point (point_number P (point.Local e.number z.0))
             (point_bound (point.Local e.number z.0)))),
-        subst (λ q. IfSome q (IsPoint F)) (sym e.result) (some_point (point_number P Q (point.Result e.number)) (point_bound (point.Result e.number))),
+        subst (λ q. IfSome q (IsPoint F)) (sym e.result) (some_point (point_number P (point.Result e.number)) (point_bound (point.Result e.number))),
       ))
 
   calls : All (λ x. IsPoint F x.receiver × All (λ p. IfSome p (IsPoint F)) x.args.items × IfSome x.result (IsPoint F)) F.calls.items
   calls = all_of (λ x. IsPoint F x.receiver × All (λ p. IfSome p (IsPoint F)) x.args.items × IfSome x.result (IsPoint F)) F.calls.items
-      (λ x c. let e = call_of P Q placed formed typed F facts x c in (
+      (λ x c. let e = call_of P formed typed F facts x c in (
         operand_bound e.base x.receiver e.receiver,
         all_of (λ p. IfSome p (IsPoint F)) x.args.items
-            (λ p d. let z = map_from (point_at (numbers P Q)) e.args p (subst (λ y. Contains y p) e.args_are d) in subst (λ q. IfSome q (IsPoint F))
-            z.2 (some_point (point_at (numbers P Q) z.0) (operand_bound z.0))),
-        subst (λ q. IfSome q (IsPoint F)) (sym e.result) (some_point (point_at (numbers P Q) e.own) (operand_bound e.own)),
+            (λ p d. let z = map_from (point_at (numbers P)) e.args p (subst (λ y. Contains y p) e.args_are d) in subst (λ q. IfSome q (IsPoint F))
+            z.2 (some_point (point_at (numbers P) z.0) (operand_bound z.0))),
+        subst (λ q. IfSome q (IsPoint F)) (sym e.result) (some_point (point_at (numbers P) e.own) (operand_bound e.own)),
       ))
 
-  part_casts : (m : ℕ) (k : PlainMethod) (s : slice_get Q.methods m ≡ Some k) (p : Part) (x : CastInfo)
-      → IsFitted P Q placed formed typed F facts m k s p → Contains (casts_of (numbers P Q) p) x → IsPoint F x.from × IsPoint F x.into
+  part_casts : (m : ℕ) (k : PlainMethod) (s : slice_get P.methods m ≡ Some k) (p : Part) (x : CastInfo)
+      → IsFitted P formed typed F facts m k s p → Contains (casts_of (numbers P) p) x → IsPoint F x.from × IsPoint F x.into
       × IsClass F x.class
   part_casts m k s (a_test w e o) x f c =
-      let z = these_from (point_at (numbers P Q) e) (point_at (numbers P Q) o) o.ty (λ a q t. record { from = a; into = q; class = t.class }) x c in
+      let z = these_from (point_at (numbers P) e) (point_at (numbers P) o) o.ty (λ a q t. record { from = a; into = q; class = t.class }) x c in
       subst (λ y. IsPoint F y.from × IsPoint F y.into × IsClass F y.class) z.6 (operand_bound e z.0 z.3, operand_bound o z.1 z.4, known_bound z.2 (f.4 z.2 z.5))
   part_casts m k s _ x f c = absurd (omega (arith, c.1))
 
   tests : All (λ x. IsPoint F x.from × IsRow F x.target × IsClass F x.class) F.tests.items
   tests = all_of (λ x. IsPoint F x.from × IsRow F x.target × IsClass F x.class) F.tests.items
-      (λ x c. let t = test_of P Q placed formed typed F facts x c in (
+      (λ x c. let t = test_of P formed typed F facts x c in (
         operand_bound t.operand x.from t.from,
         row_bound t.item x.target.0 t.target,
         subst (λ y. y.0 < length F.classes.items) t.class
@@ -410,7 +396,7 @@ module _ (P Q : Plain) (placed : IsPlaced P Q) (formed : IsFormed P) (typed : Is
   pub in_range : AreCounted F → InRange F
   in_range counts = record {
     counts = counts;
-    acyclic = (classes_in_order P Q placed F facts formed).acyclic;
+    acyclic = (classes_in_order P F facts formed).acyclic;
     rows = rows;
     columns = columns;
     sites = sites;
@@ -418,23 +404,23 @@ module _ (P Q : Plain) (placed : IsPlaced P Q) (formed : IsFormed P) (typed : Is
     points = points;
     cells = cells;
     news = all_of (λ x. IsPoint F x.point × IsSite F x.site) F.news.items
-        (λ x c. let z = gathered_from P Q (λ b. news_of (numbers P Q) b.number) x ((facts.news x).0 c) in part_news z.0 z.2 x z.5);
+        (λ x c. let z = gathered_from P (λ b. news_of (numbers P) b.number) x ((facts.news x).0 c) in part_news z.0 z.2 x z.5);
     flows = all_of (λ x. IsPoint F x.from × IsPoint F x.to) F.flows.items
-        (λ x c. let z = gathered_from P Q (λ b. flows_of (numbers P Q) b.number) x ((facts.flows x).0 c) in part_flows z.0 z.2 x z.5);
+        (λ x c. let z = gathered_from P (λ b. flows_of (numbers P) b.number) x ((facts.flows x).0 c) in part_flows z.0 z.2 x z.5);
     loads = all_of (λ x. IsPoint F x.base × IfSome x.column (IsCol F) × IsPoint F x.into) F.loads.items
-        (λ x c. let z = gathered_from P Q (λ b. loads_of (numbers P Q)) x ((facts.loads x).0 c) in part_loads z.2 x z.5);
+        (λ x c. let z = gathered_from P (λ b. loads_of (numbers P)) x ((facts.loads x).0 c) in part_loads z.2 x z.5);
     stores = all_of (λ x. IsPoint F x.base × IfSome x.column (IsCol F) × IsPoint F x.value) F.stores.items
-        (λ x c. let z = gathered_from P Q (λ b. stores_of (numbers P Q)) x ((facts.stores x).0 c) in part_stores z.2 x z.5);
+        (λ x c. let z = gathered_from P (λ b. stores_of (numbers P)) x ((facts.stores x).0 c) in part_stores z.2 x z.5);
     bodies = bodies;
     calls = calls;
     casts = all_of (λ x. IsPoint F x.from × IsPoint F x.into × IsClass F x.class) F.casts.items
-        (λ x c. let z = gathered_from P Q (λ b. casts_of (numbers P Q)) x ((facts.casts x).0 c) in part_casts z.0 z.1 z.3 z.2 x
+        (λ x c. let z = gathered_from P (λ b. casts_of (numbers P)) x ((facts.casts x).0 c) in part_casts z.0 z.1 z.3 z.2 x
         (fitted_at z.0 z.1 z.3 z.2 z.4) z.5);
-    accesses = all_of (λ x. IsRow F x.row × IsCol F x.column) F.accesses.items (λ x c. let z = access_part P Q F facts x c in
+    accesses = all_of (λ x. IsRow F x.row × IsCol F x.column) F.accesses.items (λ x c. let z = access_part P F facts x c in
         (row_at_bound z.has.base x.row.0 z.has.row_is, column_bound z.has.member x.column.0 z.has.column_is));
-    supers = all_of (λ x. IsRow F x.row × IsCol F x.column) F.supers.items (λ x c. let z = super_entry P Q placed formed typed F facts x c in
+    supers = all_of (λ x. IsRow F x.row × IsCol F x.column) F.supers.items (λ x c. let z = super_entry P formed typed F facts x c in
         (row_bound (row.This z.number) x.row.0 z.row_is, column_bound (column.Def z.runs) x.column.0 z.column_is));
-    ties = all_of (λ x. IsRow F x.lower × IsRow F x.upper) F.ties.items (λ x c. let t = tie_fits P Q placed formed typed F facts x c in (t.lower, t.upper));
+    ties = all_of (λ x. IsRow F x.lower × IsRow F x.upper) F.ties.items (λ x c. let t = tie_fits P formed typed F facts x c in (t.lower, t.upper));
     tests = tests;
     makes = all_of (λ x. IsSite F x.site) F.makes.items (λ x c. absurd (omega (arith, (subst (λ y. Contains y x) facts.makes c).1)));
   }

@@ -4,15 +4,12 @@ use Rattle.std.specs.Prelude.{◌<◌, ◌==◌, if◌then◌else◌, nat_lt, Bo
 use Rattle.std.specs.Option.{option_map, is_some}
 use Rattle.std.proofs.lemmas.Option.{same_Some}
 use Rattle.std.proofs.lemmas.Bool.{false≢true, eqb-true, eq-eqb}
-use Rattle.std.proofs.lemmas.List.Elements.{Contains-append_left, Contains-append_right}
 use Rattle.kaba_base.specs.declared.Place.{Place}
 use Rattle.kaba_base.proofs.ListLemmas.{contains_cases}
 use Rattle.java_core.specs.Trees.{Ex, this, local, static_field, own_field, field, index, call, static_call, super_call, create, create_array, cast}
 use Rattle.java_core.specs.Programs.{Plain, PlainMethod}
-use Rattle.java_core.specs.Types.{Env, env_of}
-use Rattle.java_core.specs.Typing.{IsTyped, Typed, t_index}
+use Rattle.java_core.specs.Typing.{IsTyped, t_index}
 use Rattle.java_core.specs.Formed.{IsFormed}
-use Rattle.java_core.specs.Untagged.{bare}
 use Rattle.fact_model.specs.declared.facts.Facts.{Facts}
 use Rattle.flow_rules.specs.declared.items.ObjectType.{ObjectType}
 use Rattle.flow_rules.specs.declared.items.Operand.{Operand}
@@ -21,15 +18,15 @@ use Rattle.flow_rules.specs.declared.items.RowItem.TheVariants as row
 use Rattle.flow_rules.specs.declared.items.PointItem.{PointItem}
 use Rattle.flow_rules.specs.declared.items.PointItem.TheVariants as point
 use Rattle.flow_rules.specs.declared.items.Row.{Row}
-use Rattle.flow_rules.specs.Labels.{label}
-use Rattle.flow_rules.specs.Operands.{object_if, class_object, object_field, call_slot, super_slot, variable_in, operand_of, type_in}
+use Rattle.flow_rules.specs.Operands.{object_if, class_object, object_field, call_slot, super_slot, variable_in}
 use Rattle.flow_rules.specs.Types.{field_object, variable_object}
-use Rattle.flow_rules.specs.Parts.{Part, a_load, an_element, a_creation, parts, parts_of}
+use Rattle.flow_rules.specs.Parts.{Part, a_load, a_creation, is_accessed, parts_of}
 use Rattle.flow_rules.specs.Lists.{is_this}
 use Rattle.flow_rules.specs.Numbered.{rows_of}
 use Rattle.flow_rules.specs.Facts.{IsFactsOf}
 use Rattle.flow_rules.proofs.Listed.{first, more}
-use Rattle.facts_order.proofs.Pairs.{IsPlaced}
+use Rattle.run_cover.proofs.Each.{left, right, here}
+use Rattle.run_cover.proofs.Walked.{walked}
 use Rattle.facts_order.proofs.Labels.{label_in, part_label, label_apart}
 use Rattle.facts_order.proofs.Points.{given_by}
 use Rattle.facts_order.proofs.Rows.{own_of}
@@ -82,28 +79,24 @@ pub data Standing (o : Operand) (x : Row) : Type 0 where
   itself : is_this o.point ≡ true → Standing o x
   made : is_some o.created ≡ true → Standing o x
 
-module _ (P Q : Plain) where
+module _ (P : Plain) where
   -- the type of what a flow point holds
   abbrev pub item_type : PointItem → Option ObjectType
   item_type (point.Static f) = field_object P f
-  item_type (point.This m) = option_and_then (λ k. class_object k.owner) (slice_get Q.methods m)
-  item_type (point.Local m i) = option_and_then (λ k. variable_object k i) (slice_get Q.methods m)
-  item_type (point.Result m) = option_and_then (λ k. object_if k.result) (slice_get Q.methods m)
-  item_type (point.Expr m l) = option_and_then (λ k. type_among (parts_of P m k) l) (slice_get Q.methods m)
+  item_type (point.This m) = option_and_then (λ k. class_object k.owner) (slice_get P.methods m)
+  item_type (point.Local m i) = option_and_then (λ k. variable_object k i) (slice_get P.methods m)
+  item_type (point.Result m) = option_and_then (λ k. object_if k.result) (slice_get P.methods m)
+  item_type (point.Expr m l) = option_and_then (λ k. type_among (parts_of P m k) l) (slice_get P.methods m)
 
-module _ (P Q : Plain) (placed : IsPlaced P Q) (formed : IsFormed P) (typed : IsTyped P) (F : Facts) (facts : IsFactsOf P Q F) (m : ℕ)
-    (k : PlainMethod) (stands : slice_get Q.methods m ≡ Some k) where
-  abbrev type : Ex → Option ObjectType
-  type = type_in P m k
-
-  abbrev g : Env
-  g = env_of m (placed.methods m k stands).plain
+module _ (P : Plain) (formed : IsFormed P) (typed : IsTyped P) (F : Facts) (facts : IsFactsOf P F) (m : ℕ)
+    (k : PlainMethod) (stands : slice_get P.methods m ≡ Some k) where
+  open walked P m k use {type, operand as at, tree, Stands, IsTyped as Typed}
 
   abbrev IsTypingOf : Option RowItem → Option ObjectType → Type 0
-  IsTypingOf i t = Typing P Q placed formed typed F facts m k stands i t
+  IsTypingOf i t = Typing P formed typed F facts m k stands i t
 
   unfoldable pub IsOwn : Operand → Type 0
-  IsOwn o = (j : RowItem) (r : ℕ) (x : Row) → o.row ≡ Some j → slice_get (rows_of P Q) r ≡ Some x → x.item ≡ j → Standing o x
+  IsOwn o = (j : RowItem) (r : ℕ) (x : Row) → o.row ≡ Some j → slice_get (rows_of P) r ≡ Some x → x.item ≡ j → Standing o x
 
   -- a creation of a number
   pub record IsMade (o : Operand) (n : ℕ) : Type 0 where
@@ -114,14 +107,14 @@ module _ (P Q : Plain) (placed : IsPlaced P Q) (formed : IsFormed P) (typed : Is
 
   pub record IsSound (o : Operand) : Type 0 where
     pub classed : IsTypingOf o.row o.ty
-    pub pointed : (i : PointItem) → o.point ≡ Some i → item_type P Q i ≡ o.ty
+    pub pointed : (i : PointItem) → o.point ≡ Some i → item_type P i ≡ o.ty
     pub own : IsOwn o
     pub created : (n : ℕ) → o.created ≡ Some n → IsMade o n
     pub self : is_this o.point ≡ true → o.row ≡ Some (row.This m)
 
   -- the type at the point of a part
   form_type : (p : Part) (o : Operand) (l : ℕ) → Contains (parts_of P m k) p → given_by p ≡ Some o → o.point ≡ Some (point.Expr m l)
-      → item_type P Q (point.Expr m l) ≡ o.ty
+      → item_type P (point.Expr m l) ≡ o.ty
   form_type p o l c g e =
       let h : part_label p ≡ Some l = label_given p o g ∙ ap label_in e in
       ap (option_and_then (λ k. type_among (parts_of P m k) l)) stands ∙ type_found (parts_of P m k) p l (λ q d y. label_apart P m k q p l d c y h) c
@@ -163,85 +156,79 @@ module _ (P Q : Plain) (placed : IsPlaced P Q) (formed : IsFormed P) (typed : Is
       → IsTypingOf o.row o.ty → IsOwn o → ((n : ℕ) → o.created ≡ Some n → IsMade o n) → IsSound o
   form_sound p o l c g e t w h = record {
     classed = t;
-    pointed = λ i d. ap (item_type P Q) (same_Some i (point.Expr m l) (sym d ∙ e)) ∙ form_type p o l c g e;
+    pointed = λ i d. ap (item_type P) (same_Some i (point.Expr m l) (sym d ∙ e)) ∙ form_type p o l c g e;
     own = w;
     created = h;
     self = λ d. absurd (false≢true (ap is_this (sym e) ∙ d));
   }
 
-  abbrev at : ℕ → Ex → Operand
-  at n e = operand_of P type m k (label n e)
+  abbrev typing_at : (u : Bool) (e : Ex) → Typed e → Stands (tree u e) → IsTypingOf (at e).row (at e).ty
+  typing_at u e a w = operand_typing P formed typed F facts m k stands u e a w
 
-  abbrev Into : ℕ → Bool → Ex → Type 0
-  Into n u e = (q : Part) → Contains (parts P type m k u (label n e)) q → Contains (parts_of P m k) q
-
-  abbrev typing_at : (n : ℕ) (u : Bool) (e : Ex) → Typed P g (bare e) → Into n u e → IsTypingOf (at n e).row (at n e).ty
-  typing_at n u e a w = operand_typing P Q placed formed typed F facts m k stands n u e a w
-
-  deep_own : (n l : ℕ) (u : Bool) (e d : Ex) → Typed P g (bare e) → Into n u e → ((t : ObjectType) → type (label n e) ≡ Some t → 0 < t.dim)
-      → (at l d).row ≡ (at n e).row → IsOwn (at l d)
+  deep_own : (u : Bool) (e d : Ex) → Typed e → Stands (tree u e) → ((t : ObjectType) → type e ≡ Some t → 0 < t.dim)
+      → (at d).row ≡ (at e).row → IsOwn (at d)
   unfolding IsOwn Typing
-  deep_own n l u e d a w h s j r x b c y = let z = typing_at n u e a w j r x (sym s ∙ b) c y in deep (omega (arith, z.dim, h z.type z.stated))
+  deep_own u e d a w h s j r x b c y = let z = typing_at u e a w j r x (sym s ∙ b) c y in deep (omega (arith, z.dim, h z.type z.stated))
 
   -- an operand of a typed form
-  pub sound : (n : ℕ) (u : Bool) (e : Ex) → Typed P g (bare e) → Into n u e → IsSound (at n e)
-  sound n u (this t) a w = record {
-    classed = typing_at n u (this t) a w;
-    pointed = λ i d. ap (item_type P Q) (same_Some i (point.This m) (sym d)) ∙ ap (option_and_then (λ k. class_object k.owner)) stands
-        ∙ as_object P Q placed formed typed F facts m k stands (this t);
-    own = self_own (at n (this t)) refl;
-    created = no_creation (at n (this t)) refl;
+  pub sound : (u : Bool) (e : Ex) → Typed e → Stands (tree u e) → IsSound (at e)
+  sound u (this t) a w = record {
+    classed = typing_at u (this t) a w;
+    pointed = λ i d. ap (item_type P) (same_Some i (point.This m) (sym d)) ∙ ap (option_and_then (λ k. class_object k.owner)) stands
+        ∙ as_object P formed typed F facts m k stands (this t);
+    own = self_own (at (this t)) refl;
+    created = no_creation (at (this t)) refl;
     self = λ d. refl;
   }
-  sound n u (local t v) a w = record {
-    classed = typing_at n u (local t v) a w;
-    pointed = λ i d. ap (item_type P Q) (same_Some i (point.Local m v) (sym d)) ∙ ap (option_and_then (λ k. variable_object k v)) stands
-        ∙ as_object P Q placed formed typed F facts m k stands (local t v);
-    own = apart_own (λ i. variable_in k.slot (nat_lt i (length k.params)) m i) (Some v) (at n (local t v)) refl
+  sound u (local t v) a w = record {
+    classed = typing_at u (local t v) a w;
+    pointed = λ i d. ap (item_type P) (same_Some i (point.Local m v) (sym d)) ∙ ap (option_and_then (λ k. variable_object k v)) stands
+        ∙ as_object P formed typed F facts m k stands (local t v);
+    own = apart_own (λ i. variable_in k.slot (nat_lt i (length k.params)) m i) (Some v) (at (local t v)) refl
         (λ i. variable_apart k.slot (nat_lt i (length k.params)) m i);
-    created = no_creation (at n (local t v)) refl;
+    created = no_creation (at (local t v)) refl;
     self = λ d. absurd (false≢true d);
   }
-  sound n u (static_field t f) a w = record {
-    classed = typing_at n u (static_field t f) a w;
-    pointed = λ i d. ap (item_type P Q) (same_Some i (point.Static f) (sym d)) ∙ as_object P Q placed formed typed F facts m k stands (static_field t f);
-    own = apart_own row.Field (Some f) (at n (static_field t f)) refl (λ i. refl);
-    created = no_creation (at n (static_field t f)) refl;
+  sound u (static_field t f) a w = record {
+    classed = typing_at u (static_field t f) a w;
+    pointed = λ i d. ap (item_type P) (same_Some i (point.Static f) (sym d)) ∙ as_object P formed typed F facts m k stands (static_field t f);
+    own = apart_own row.Field (Some f) (at (static_field t f)) refl (λ i. refl);
+    created = no_creation (at (static_field t f)) refl;
     self = λ d. absurd (false≢true d);
   }
-  sound n u (own_field t f) a w = form_sound _ (at n (own_field t f)) n (w _ (first _ [])) refl refl (typing_at n u (own_field t f) a w)
-      (apart_own row.Field (Some f) (at n (own_field t f)) refl (λ i. refl)) (no_creation (at n (own_field t f)) refl)
-  sound n u (field t e x) a w =
-      form_sound (a_load t.place (at n e) (object_field P (type (label n e)) x) (at n (field t e x))) (at n (field t e x)) _
-      (w _ (Contains-append_right _ (a_load t.place (at n e) (object_field P (type (label n e)) x) (at n (field t e x)) ∷ []) _ (first _ [])))
+  sound u (own_field t f) a w = form_sound _ (at (own_field t f)) _ (here _ [] w) refl refl (typing_at u (own_field t f) a w)
+      (apart_own row.Field (Some f) (at (own_field t f)) refl (λ i. refl)) (no_creation (at (own_field t f)) refl)
+  sound u (field t e x) a w =
+      form_sound (a_load t.place (at e) (object_field P (type e) x) (at (field t e x))) (at (field t e x)) _
+      (here _ [] (right (tree (is_accessed e) e) _ w))
       refl refl
-      (typing_at n u (field t e x) a w) (apart_own row.Field (object_field P (type (label n e)) x) (at n (field t e x)) refl (λ i. refl))
-      (no_creation (at n (field t e x)) refl)
-  sound n u (index t e i) (t_index a b c d) w =
-      form_sound _ (at n (index t e i)) _
-      (w _ (Contains-append_right (parts P type m k true (label n e)) _ _ (first (an_element t.place (at n e) (at n (index t e i))) _))) refl refl
-      (typing_at n u (index t e i) (t_index a b c d) w)
-      (deep_own n n true e (index t e i) a (λ q z. w q (Contains-append_left (parts P type m k true (label n e)) _ q z))
-      (many_dims P Q placed formed typed F facts m k stands n e b) refl) (no_creation (at n (index t e i)) refl)
-  sound n u (call t e x es) a w =
-      form_sound _ (at n (call t e x es)) _ (w _ (Contains-append_right (parts P type m k true (label n e)) _ _ (first _ _))) refl refl
-      (typing_at n u (call t e x es) a w) (apart_own row.Return (call_slot P (type (label n e)) x) (at n (call t e x es)) refl (λ i. refl))
-      (no_creation (at n (call t e x es)) refl)
-  sound n u (static_call t d es) a w = form_sound _ (at n (static_call t d es)) n (w _ (first _ _)) refl refl (typing_at n u (static_call t d es) a w)
-      (apart_own row.Result (Some d) (at n (static_call t d es)) refl (λ i. refl)) (no_creation (at n (static_call t d es)) refl)
-  sound n u (super_call t x es) a w = form_sound _ (at n (super_call t x es)) n (w _ (first _ _)) refl refl (typing_at n u (super_call t x es) a w)
-      (apart_own row.Return (super_slot P k.owner x) (at n (super_call t x es)) refl (λ i. refl)) (no_creation (at n (super_call t x es)) refl)
-  sound n u (create t i c es) a w = form_sound _ (at n (create t i c es)) n (w _ (first _ _)) refl refl (typing_at n u (create t i c es) a w)
-      (made_own _ refl) (λ j d. record { row_is = ap (λ z. Some (row.New z)) (same_Some i j d); place = t.place; used = u; part = w _ (first _ _) })
-  sound n u (create_array t i v e) a w = form_sound _ (at n (create_array t i v e)) n (w _ (first _ _)) refl refl
-      (typing_at n u (create_array t i v e) a w) (made_own _ refl)
-      (λ j d. record { row_is = ap (λ z. Some (row.New z)) (same_Some i j d); place = t.place; used = u; part = w _ (first _ _) })
-  sound n u (cast t i v e) a w = form_sound _ (at n (cast t i v e)) n (w _ (first _ _)) refl refl (typing_at n u (cast t i v e) a w)
-      (apart_own row.Cast (Some i) (at n (cast t i v e)) refl (λ i. refl)) (no_creation (at n (cast t i v e)) refl)
-  sound n u e a w = none_sound _ refl refl refl
+      (typing_at u (field t e x) a w) (apart_own row.Field (object_field P (type e) x) (at (field t e x)) refl (λ i. refl))
+      (no_creation (at (field t e x)) refl)
+  sound u (index t e i) (t_index a b c d) w =
+      form_sound _ (at (index t e i)) _
+      (here _ _ (right (tree true e) _ w)) refl refl
+      (typing_at u (index t e i) (t_index a b c d) w)
+      (deep_own true e (index t e i) a (left (tree true e) _ w)
+      (many_dims P formed typed F facts m k stands e b) refl) (no_creation (at (index t e i)) refl)
+  sound u (call t e x es) a w =
+      form_sound _ (at (call t e x es)) _ (here _ _ (right (tree true e) _ w)) refl refl
+      (typing_at u (call t e x es) a w) (apart_own row.Return (call_slot P (type e) x) (at (call t e x es)) refl (λ i. refl))
+      (no_creation (at (call t e x es)) refl)
+  sound u (static_call t d es) a w = form_sound _ (at (static_call t d es)) _ (here _ _ w) refl refl (typing_at u (static_call t d es) a w)
+      (apart_own row.Result (Some d) (at (static_call t d es)) refl (λ i. refl)) (no_creation (at (static_call t d es)) refl)
+  sound u (super_call t x es) a w = form_sound _ (at (super_call t x es)) _ (here _ _ w) refl refl (typing_at u (super_call t x es) a w)
+      (apart_own row.Return (super_slot P k.owner x) (at (super_call t x es)) refl (λ i. refl)) (no_creation (at (super_call t x es)) refl)
+  sound u (create t i c es) a w = form_sound _ (at (create t i c es)) _ (here _ _ w) refl refl (typing_at u (create t i c es) a w)
+      (made_own _ refl) (λ j d. record { row_is = ap (λ z. Some (row.New z)) (same_Some i j d); place = t.place; used = u; part = here _ _ w })
+  sound u (create_array t i v e) a w = form_sound _ (at (create_array t i v e)) _ (here _ _ w) refl refl
+      (typing_at u (create_array t i v e) a w) (made_own _ refl)
+      (λ j d. record { row_is = ap (λ z. Some (row.New z)) (same_Some i j d); place = t.place; used = u; part = here _ _ w })
+  sound u (cast t i v e) a w = form_sound _ (at (cast t i v e)) _ (here _ _ w) refl refl (typing_at u (cast t i v e) a w)
+      (apart_own row.Cast (Some i) (at (cast t i v e)) refl (λ i. refl)) (no_creation (at (cast t i v e)) refl)
+  sound u e a w = none_sound _ refl refl refl
 
   -- what an `instanceof` gives
   pub test_sound : (p : Part) (o : Operand) (n l : ℕ) → Contains (parts_of P m k) p → own_of p ≡ Some o → given_by p ≡ Some o
       → o.row ≡ Some (row.Test n) → o.point ≡ Some (point.Expr m l) → o.created ≡ None → IsSound o
-  test_sound p o n l c e g a b d = form_sound p o l c g b (own_typing P Q placed formed typed F facts m k stands p o c e)
+  test_sound p o n l c e g a b d = form_sound p o l c g b (own_typing P formed typed F facts m k stands p o c e)
       (apart_own row.Test (Some n) o a (λ i. refl)) (no_creation o d)

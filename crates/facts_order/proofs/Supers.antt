@@ -25,12 +25,10 @@ use Rattle.flow_rules.specs.Parts.{Part, a_super_call, parts_of}
 use Rattle.flow_rules.specs.Numbered.{row_number, column_number}
 use Rattle.flow_rules.specs.Lists.{supers_of}
 use Rattle.flow_rules.specs.Facts.{numbers, this_of_row, owner_of, IsFactsOf}
-use Rattle.java_core.specs.Untagged.{untagged}
 use Rattle.java_core.proofs.SearchOrder.{slot_is}
 use Rattle.run_cover.proofs.Found.{same_length}
 use Rattle.run_cover.proofs.Bodies.{finds_some}
 use Rattle.flow_rules.proofs.Listed.{all_of}
-use Rattle.facts_order.proofs.Pairs.{IsPlaced}
 use Rattle.facts_order.proofs.Columns.{numbered_column, body_column}
 use Rattle.facts_order.proofs.Classes.{subclass_below, parent_same}
 use Rattle.facts_order.proofs.Rows.{item_row, row_types}
@@ -38,7 +36,7 @@ use Rattle.facts_order.proofs.Bodies.{this_method, this_column}
 use Rattle.facts_order.proofs.Tests.{gathered_from, both_from}
 use Rattle.facts_order.proofs.Fitted.{part_fitted}
 
-module _ (P Q : Plain) (placed : IsPlaced P Q) (formed : IsFormed P) (typed : IsTyped P) where
+module _ (P : Plain) (formed : IsFormed P) (typed : IsTyped P) where
   -- the method that a super call finds, in the class where it stands
   record IsFoundAbove (c d : ℕ) (x : List ℕ) : Type 0 where
     parent : ClassId
@@ -67,13 +65,11 @@ module _ (P Q : Plain) (placed : IsPlaced P Q) (formed : IsFormed P) (typed : Is
       let z = own_method-own P n.holder x d n.found in
       record { method = z.method; stands = z.stands; above = subst (λ y. IsSubclass P c y) (sym z.owner) n.above; instance = z.instance; name = z.name }
 
-  owner_as : (d : ℕ) (h : PlainMethod) → slice_get P.methods d ≡ Some h → owner_of Q (column.Def d) ≡ h.owner
+  owner_as : (d : ℕ) (h : PlainMethod) → slice_get P.methods d ≡ Some h → owner_of P (column.Def d) ≡ h.owner
   owner_as d h e =
-      let q = placed.placed_method d h e in
-      let w = placed.methods d q.0 q.1 in
-      ap (λ y. option_map_or (λ k. k.owner) y 0) q.1 ∙ sym w.owner ∙ ap (λ k. k.owner) (same_Some _ _ (sym w.stands ∙ e))
+      ap (λ y. option_map_or (λ k. k.owner) y 0) e
 
-  pub super_above : (c d : ℕ) (x : List ℕ) → super_method P c x ≡ Some d → IsSubclass P c (owner_of Q (column.Def d))
+  pub super_above : (c d : ℕ) (x : List ℕ) → super_method P c x ≡ Some d → IsSubclass P c (owner_of P (column.Def d))
   super_above c d x e =
       let f = found_above c d x e in
       let h = method_held f.parent.0 d x f.found in
@@ -134,26 +130,26 @@ module _ (P Q : Plain) (placed : IsPlaced P Q) (formed : IsFormed P) (typed : Is
       ∙ b) (nearest_of-nearest P (λ k. own_method P k h.method.name) (subst (λ y. nearest_of P (λ k. own_method P k y) c ≡ Some d)
       (sym h.name) f)))
 
-  module _ (F : Facts) (facts : IsFactsOf P Q F) where
+  module _ (F : Facts) (facts : IsFactsOf P F) where
     -- a super call of a method's body
     pub record IsSuperCall (x : SuperInfo) : Type 0 where
       pub number : ℕ
       pub method : PlainMethod
-      pub stands : slice_get Q.methods number ≡ Some method
+      pub stands : slice_get P.methods number ≡ Some method
       pub runs : ℕ
-      pub row_is : row_number P Q (row.This number) ≡ Some x.row.0
-      pub column_is : column_number P Q (column.Def runs) ≡ Some x.column.0
+      pub row_is : row_number P (row.This number) ≡ Some x.row.0
+      pub column_is : column_number P (column.Def runs) ≡ Some x.column.0
       pub name : List ℕ
       pub found : super_method P method.owner name ≡ Some runs
       pub bodied : has_body P runs ≡ true
 
-    super_call_of : (m : ℕ) (k : PlainMethod) (p : Part) (x : SuperInfo) → slice_get Q.methods m ≡ Some k → Contains (parts_of P m k) p
-        → Contains (supers_of (numbers P Q) m p) x → IsSuperCall x
+    super_call_of : (m : ℕ) (k : PlainMethod) (p : Part) (x : SuperInfo) → slice_get P.methods m ≡ Some k → Contains (parts_of P m k) p
+        → Contains (supers_of (numbers P) m p) x → IsSuperCall x
     unfolding numbers
     super_call_of m k (a_super_call w (Some d) es o) x e c h =
-        let z = both_from (row_number P Q (row.This m)) (column_number P Q (column.Def d))
+        let z = both_from (row_number P (row.This m)) (column_number P (column.Def d))
         (λ a b. record { row = record { 0 = a }; column = record { 0 = b } }) x h in
-        let f = ((part_fitted P Q placed formed typed F facts m k e (a_super_call w (Some d) es o) c).1 d refl).0 in
+        let f = ((part_fitted P formed typed F facts m k e (a_super_call w (Some d) es o) c).1 d refl).0 in
         record {
           number = m;
           method = k;
@@ -169,65 +165,56 @@ module _ (P Q : Plain) (placed : IsPlaced P Q) (formed : IsFormed P) (typed : Is
     super_call_of m k _ x e c h = absurd (omega (arith, h.1))
 
     pub super_entry : (x : SuperInfo) → Contains F.supers.items x → IsSuperCall x
-    super_entry x c = let z = gathered_from P Q (λ b. supers_of (numbers P Q) b.number) x ((facts.supers x).0 c) in super_call_of z.0 z.1 z.2 x z.3 z.4 z.5
+    super_entry x c = let z = gathered_from P (λ b. supers_of (numbers P) b.number) x ((facts.supers x).0 c) in super_call_of z.0 z.1 z.2 x z.3 z.4 z.5
 
     this_class : (x : SuperInfo) (w : IsSuperCall x) → row_class F x.row.0 ≡ w.method.owner
     this_class x w =
-        let y = item_row P Q F facts (row.This w.number) x.row.0 w.row_is in
-        let t = this_method P Q placed formed typed F facts w.number y.0 (row_types P Q x.row.0 y.0 y.1) y.2 in
+        let y = item_row P F facts (row.This w.number) x.row.0 w.row_is in
+        let t = this_method P formed typed F facts w.number y.0 (row_types P x.row.0 y.0 y.1) y.2 in
         ap (λ i. i.class.0) y.3 ∙ ap (λ y. y.class.0) t.type ∙ ap (λ k. k.owner) (same_Some _ _ (sym t.stands ∙ w.stands))
 
     pub supers_below : All (λ x. IsBelow F (row_class F x.row.0) (column_class F x.column.0)) F.supers.items
     supers_below = all_of (λ x. IsBelow F (row_class F x.row.0) (column_class F x.column.0)) F.supers.items
         (λ x c. let w = super_entry x c in
-        let n = numbered_column P Q F facts (column.Def w.runs) x.column.0 w.column_is in
+        let n = numbered_column P F facts (column.Def w.runs) x.column.0 w.column_is in
         subst (λ z. IsBelow F z (column_class F x.column.0)) (sym (this_class x w)) (subst (λ z. IsBelow F w.method.owner z)
-        (sym (ap (λ i. i.class.0) n.1)) (subclass_below P Q placed F facts (super_above w.method.owner w.runs w.name w.found))))
+        (sym (ap (λ i. i.class.0) n.1)) (subclass_below P F facts (super_above w.method.owner w.runs w.name w.found))))
 
     -- a super call stands in a method with a `this`
     this_there : (x : SuperInfo) → IsSuperCall x → is_some (row_this F x.row.0) ≡ true
     this_there x w =
-        let y = item_row P Q F facts (row.This w.number) x.row.0 w.row_is in
-        let t = this_method P Q placed formed typed F facts w.number y.0 (row_types P Q x.row.0 y.0 y.1) y.2 in
-        let d = body_column P Q w.number t.method t.stands t.instance t.bodied in
-        ap is_some (ap (λ i. i.this_of) y.3 ∙ ap (this_of_row (numbers P Q)) y.2 ∙ this_column P Q placed formed typed F facts w.number d.0 d.1)
+        let y = item_row P F facts (row.This w.number) x.row.0 w.row_is in
+        let t = this_method P formed typed F facts w.number y.0 (row_types P x.row.0 y.0 y.1) y.2 in
+        let d = body_column P w.number t.method t.stands t.instance t.bodied in
+        ap is_some (ap (λ i. i.this_of) y.3 ∙ ap (this_of_row (numbers P)) y.2 ∙ this_column P formed typed F facts w.number d.0 d.1)
 
-    module _ (same : untagged Q ≡ P) where
-      finds_column : (c j m : ℕ) → lookup P c j ≡ Some m → (d : ℕ) × (finds F c j ≡ Some d) × (column_number P Q (column.Def m) ≡ Some d)
-      unfolding lookup
-      finds_column = subst (λ Z. IsFormed Z → IsFactsOf Z Q F → (c j m : ℕ) → lookup Z c j ≡ Some m → (d : ℕ) × (finds F c j ≡ Some d)
-          × (column_number Z Q (column.Def m) ≡ Some d)) same
-          (λ f g c j m e. let z = finds_some Q F f g (length (untagged Q).classes) c j m e in (
-            z.0,
-            ap (λ n. finds_within F n c j) (same_length Q F g)
-                ∙ z.1,
-            z.2,
-          )) formed facts
+    finds_column : (c j m : ℕ) → lookup P c j ≡ Some m → (d : ℕ) × (finds F c j ≡ Some d) × (column_number P (column.Def m) ≡ Some d)
+    unfolding lookup
+    finds_column c j m e =
+        let z = finds_some P F formed facts (length P.classes) c j m e in
+        (z.0, ap (λ n. finds_within F n c j) (same_length P F facts) ∙ z.1, z.2)
 
-      nearest_entry : (x : SuperInfo) → IsSuperCall x → IsNearestAbove F (row_class F x.row.0) x.column.0
-      nearest_entry x w =
-          let f = found_above w.method.owner w.runs w.name w.found in
-          let h = method_held f.parent.0 w.runs w.name f.found in
-          let s = (formed.methods w.runs h.method h.stands).slotted h.instance in
-          let d = finds_column f.parent.0 s.0 w.runs (found_body f.parent.0 w.runs s.0 w.name h s.1 w.bodied f.found) in
-          let n = numbered_column P Q F facts (column.Def w.runs) x.column.0 w.column_is in
-          let q = placed.placed_method w.runs h.method h.stands in
-          let y = placed.methods w.runs q.0 q.1 in
-          record {
-            parent = f.parent;
-            above = parent_same P Q placed F facts (row_class F x.row.0) ∙ ap (parent_of P) (this_class x w) ∙ f.above;
-            slot = s.0;
-            slot_is = ap (λ i. i.slot) n.1 ∙ ap (λ o. option_and_then (λ k. k.slot) o) q.1 ∙ sym y.slot
-                ∙ ap (λ k. k.slot) (same_Some _ _ (sym y.stands ∙ h.stands)) ∙ s.1;
-            found = d.1 ∙ sym d.2 ∙ w.column_is;
-          }
+    nearest_entry : (x : SuperInfo) → IsSuperCall x → IsNearestAbove F (row_class F x.row.0) x.column.0
+    nearest_entry x w =
+        let f = found_above w.method.owner w.runs w.name w.found in
+        let h = method_held f.parent.0 w.runs w.name f.found in
+        let s = (formed.methods w.runs h.method h.stands).slotted h.instance in
+        let d = finds_column f.parent.0 s.0 w.runs (found_body f.parent.0 w.runs s.0 w.name h s.1 w.bodied f.found) in
+        let n = numbered_column P F facts (column.Def w.runs) x.column.0 w.column_is in
+        record {
+          parent = f.parent;
+          above = parent_same P F facts (row_class F x.row.0) ∙ ap (parent_of P) (this_class x w) ∙ f.above;
+          slot = s.0;
+          slot_is = ap (λ i. i.slot) n.1 ∙ ap (λ o. option_and_then (λ k. k.slot) o) h.stands ∙ s.1;
+          found = d.1 ∙ sym d.2 ∙ w.column_is;
+        }
 
-      pub super_bodies : All (λ x. (is_some (row_this F x.row.0) ≡ true) × IsDef F x.column.0 × IsNearestAbove F (row_class F x.row.0) x.column.0)
-          F.supers.items
-      super_bodies = all_of (λ x. (is_some (row_this F x.row.0) ≡ true) × IsDef F x.column.0 × IsNearestAbove F (row_class F x.row.0) x.column.0) F.supers.items
-          (λ x c. let w = super_entry x c in (
-            this_there x w,
-            ap (λ i. i.kind) (numbered_column P Q F facts (column.Def w.runs) x.column.0
-                w.column_is).1,
-            nearest_entry x w,
-          ))
+    pub super_bodies : All (λ x. (is_some (row_this F x.row.0) ≡ true) × IsDef F x.column.0 × IsNearestAbove F (row_class F x.row.0) x.column.0)
+        F.supers.items
+    super_bodies = all_of (λ x. (is_some (row_this F x.row.0) ≡ true) × IsDef F x.column.0 × IsNearestAbove F (row_class F x.row.0) x.column.0) F.supers.items
+        (λ x c. let w = super_entry x c in (
+          this_there x w,
+          ap (λ i. i.kind) (numbered_column P F facts (column.Def w.runs) x.column.0
+              w.column_is).1,
+          nearest_entry x w,
+        ))

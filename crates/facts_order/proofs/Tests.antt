@@ -36,7 +36,6 @@ use Rattle.flow_rules.specs.Lists.{both, these, point_in, row_in, point_at, row_
 use Rattle.java_core.specs.Classes.{below}
 use Rattle.flow_rules.specs.Facts.{numbers, gathered, cells_of, FieldCell, fields_of, field_cell, array_cell, site_cells, IsFactsOf}
 use Rattle.flow_rules.proofs.Listed.{first, index_at, below_at, contains_at, at_contains, each_has, each_from, each_from_zero, flat_has, flat_from, place_from, one_from, when_has, when_from, all_of}
-use Rattle.facts_order.proofs.Pairs.{IsPlaced}
 use Rattle.facts_order.proofs.Columns.{numbered_column, part_column}
 use Rattle.facts_order.proofs.Labels.{label_in, part_label, label_apart}
 use Rattle.run_cover.proofs.Numbers.{IsPart}
@@ -66,33 +65,33 @@ unfolding parts_of
 has_body P m k p c = body_there P (type_in P m k) m k k.body p c
 
 -- what the parts of all bodies give
-module _ (P Q : Plain) where
-  pub gathered_from : {A : Type 0} (f : Body → Part → List A) (x : A) → Contains (gathered P Q f) x → (m : ℕ) × (k : PlainMethod) × (p : Part)
-      × (slice_get Q.methods m ≡ Some k) × Contains (parts_of P m k) p
+module _ (P : Plain) where
+  pub gathered_from : {A : Type 0} (f : Body → Part → List A) (x : A) → Contains (gathered P f) x → (m : ℕ) × (k : PlainMethod) × (p : Part)
+      × (slice_get P.methods m ≡ Some k) × Contains (parts_of P m k) p
       × Contains (f (record { number = m; slot = k.slot; parts = parts_of P m k }) p) x
   unfolding bodies_of
   gathered_from f x c =
-      let z = flat_from (λ b. flat_map (f b) b.parts) (bodies_of P Q) x c in
-      let y = each_from_zero (body_at P Q) Q.methods z.0 z.1 in
+      let z = flat_from (λ b. flat_map (f b) b.parts) (bodies_of P) x c in
+      let y = each_from_zero (body_at P) P.methods z.0 z.1 in
       let e = one_from _ z.0 y.3 in
       let w = flat_from (f z.0) z.0.parts x z.2 in
       (y.0, y.1, w.0, y.2, subst (λ b. Contains b.parts w.0) (sym e) w.1, subst (λ b. Contains (f b w.0) x) (sym e) w.2)
 
-  pub gathered_has : {A : Type 0} (f : Body → Part → List A) (x : A) (m : ℕ) (k : PlainMethod) (p : Part) → slice_get Q.methods m ≡ Some k
-      → Contains (parts_of P m k) p → Contains (f (record { number = m; slot = k.slot; parts = parts_of P m k }) p) x → Contains (gathered P Q f) x
+  pub gathered_has : {A : Type 0} (f : Body → Part → List A) (x : A) (m : ℕ) (k : PlainMethod) (p : Part) → slice_get P.methods m ≡ Some k
+      → Contains (parts_of P m k) p → Contains (f (record { number = m; slot = k.slot; parts = parts_of P m k }) p) x → Contains (gathered P f) x
   unfolding bodies_of
   gathered_has f x m k p e c d =
       let b : Body = record { number = m; slot = k.slot; parts = parts_of P m k } in
-      flat_has (λ b. flat_map (f b) b.parts) (bodies_of P Q) b x (each_has (body_at P Q) 0 Q.methods m k b e m (omega arith) (first b []))
+      flat_has (λ b. flat_map (f b) b.parts) (bodies_of P) b x (each_has (body_at P) 0 P.methods m k b e m (omega arith) (first b []))
       (flat_has (f b) b.parts p x c d)
 
   -- the item of a numbered row, and of a numbered point
-  pub row_item : (i : Option RowItem) (r : ℕ) → row_in (numbers P Q) i ≡ Some r → (j : RowItem) × (i ≡ Some j) × (row_number P Q j ≡ Some r)
+  pub row_item : (i : Option RowItem) (r : ℕ) → row_in (numbers P) i ≡ Some r → (j : RowItem) × (i ≡ Some j) × (row_number P j ≡ Some r)
   unfolding numbers
   row_item None r e = absurd (cc)
   row_item (Some j) r e = (j, refl, e)
 
-  pub point_item : (i : PointItem) (q : ℕ) → point_number P Q i ≡ Some q → point_in (numbers P Q) (Some i) ≡ Some q
+  pub point_item : (i : PointItem) (q : ℕ) → point_number P i ≡ Some q → point_in (numbers P) (Some i) ≡ Some q
   unfolding numbers
   point_item i q e = e
 
@@ -143,30 +142,30 @@ module _ {A B : Type 0} (f : ℕ → A → List B) (key : B → ℕ) (keyed : (n
       (append_cases front rest j b e))
       (append_cases front rest i a d)
 
-module _ (P Q : Plain) (placed : IsPlaced P Q) (formed : IsFormed P) (typed : IsTyped P) (F : Facts) (facts : IsFactsOf P Q F) where
+module _ (P : Plain) (formed : IsFormed P) (typed : IsTyped P) (F : Facts) (facts : IsFactsOf P F) where
   -- the part of a test
   pub record IsTestPart (x : TestInfo) : Type 0 where
     pub number : ℕ
     pub method : PlainMethod
-    pub stands : slice_get Q.methods number ≡ Some method
+    pub stands : slice_get P.methods number ≡ Some method
     pub place : Place
     pub operand : Operand
     pub own : Operand
     pub part : Contains (parts_of P number method) (a_test place operand own)
-    pub from : point_at (numbers P Q) operand ≡ Some x.from
+    pub from : point_at (numbers P) operand ≡ Some x.from
     pub item : RowItem
     pub row_is : own.row ≡ Some item
-    pub target : row_number P Q item ≡ Some x.target.0
+    pub target : row_number P item ≡ Some x.target.0
     pub type : ObjectType
     pub typed_as : own.ty ≡ Some type
     pub class : type.class ≡ x.class
 
-  test_part : (m : ℕ) (k : PlainMethod) (p : Part) (x : TestInfo) → slice_get Q.methods m ≡ Some k → Contains (parts_of P m k) p
-      → Contains (tests_of (numbers P Q) p) x → IsTestPart x
+  test_part : (m : ℕ) (k : PlainMethod) (p : Part) (x : TestInfo) → slice_get P.methods m ≡ Some k → Contains (parts_of P m k) p
+      → Contains (tests_of (numbers P) p) x → IsTestPart x
   test_part m k (a_test w d o) x e c t =
-      let z = these_from (point_at (numbers P Q) d) (row_at (numbers P Q) o) o.ty
+      let z = these_from (point_at (numbers P) d) (row_at (numbers P) o) o.ty
       (λ a r t. record { from = a; target = record { 0 = r }; class = t.class; place = w }) x t in
-      let i = row_item P Q o.row z.1 z.4 in
+      let i = row_item P o.row z.1 z.4 in
       record {
         number = m;
         method = k;
@@ -187,25 +186,25 @@ module _ (P Q : Plain) (placed : IsPlaced P Q) (formed : IsFormed P) (typed : Is
 
   pub test_of : (x : TestInfo) → Contains F.tests.items x → IsTestPart x
   test_of x c =
-      let z = gathered_from P Q (λ b. tests_of (numbers P Q)) x (place_from (λ t. t.place.at) (gathered P Q (λ b. tests_of (numbers P Q))) x
+      let z = gathered_from P (λ b. tests_of (numbers P)) x (place_from (λ t. t.place.at) (gathered P (λ b. tests_of (numbers P))) x
       (subst (λ w. Contains w x) facts.tests c)) in
       test_part z.0 z.1 z.2 x z.3 z.4 z.5
 
-  abbrev part_is : (x : TestInfo) (t : IsTestPart x) → IsPart P Q (a_test t.place t.operand t.own)
+  abbrev part_is : (x : TestInfo) (t : IsTestPart x) → IsPart P (a_test t.place t.operand t.own)
   part_is x t = record { number = t.number; method = t.method; stands = t.stands; part = t.part }
 
   targets : All (λ x. row_class F x.target.0 ≡ x.class.0) F.tests.items
   targets = all_of (λ x. row_class F x.target.0 ≡ x.class.0) F.tests.items
       (λ x c. let t = test_of x c in
-      let w = item_row P Q F facts t.item x.target.0 t.target in
-      ap (λ i. i.class.0) w.3 ∙ ap (λ y. y.class.0) (own_type P Q placed formed typed (a_test t.place t.operand t.own) t.own t.item t.type x.target.0
+      let w = item_row P F facts t.item x.target.0 t.target in
+      ap (λ i. i.class.0) w.3 ∙ ap (λ y. y.class.0) (own_type P formed typed (a_test t.place t.operand t.own) t.own t.item t.type x.target.0
       w.0 (part_is x t) refl t.row_is t.typed_as w.1 w.2) ∙ ap (λ y. y.0) t.class)
 
-  marked : (m : ℕ) (k : PlainMethod) (p : Part) (x : Column) (c : ClassId) → slice_get Q.methods m ≡ Some k → Contains (parts_of P m k) p
+  marked : (m : ℕ) (k : PlainMethod) (p : Part) (x : Column) (c : ClassId) → slice_get P.methods m ≡ Some k → Contains (parts_of P m k) p
       → Contains (form_columns p) x → x.item ≡ column.Is c → HasMark F c.0
   marked m k p x c e d f h =
-      let z = part_column P Q m k p x e d f in
-      let w = numbered_column P Q F facts (column.Is c) z.0 (ap (column_number P Q) (sym h) ∙ z.1) in
+      let z = part_column P m k p x e d f in
+      let w = numbered_column P F facts (column.Is c) z.0 (ap (column_number P) (sym h) ∙ z.1) in
       (z.0, record { below = w.0; kind_is = ap (λ i. i.kind) w.1; class_is = ap (λ i. i.class.0) w.1 })
 
   marks : All (λ x. HasMark F x.class.0) F.tests.items
@@ -216,13 +215,13 @@ module _ (P Q : Plain) (placed : IsPlaced P Q) (formed : IsFormed P) (typed : Is
       (rw t.typed_as (first col [])) refl))
 
   -- the row of the point of a part
-  pub part_follows : (m : ℕ) (k : PlainMethod) (p : Part) (o : Operand) (l : ℕ) (a : PointAt) → slice_get Q.methods m ≡ Some k
-      → Contains (parts_of P m k) p → given_by p ≡ Some o → o.point ≡ Some (point.Expr m l) → Follows P Q a → a.item ≡ point.Expr m l
+  pub part_follows : (m : ℕ) (k : PlainMethod) (p : Part) (o : Operand) (l : ℕ) (a : PointAt) → slice_get P.methods m ≡ Some k
+      → Contains (parts_of P m k) p → given_by p ≡ Some o → o.point ≡ Some (point.Expr m l) → Follows P a → a.item ≡ point.Expr m l
       → o.row ≡ Some a.row
   part_follows m k p o l a e c g h (a_form n j q d b v) i =
-      let y = subst (λ z. HasLabel n z) v.given (part_labelled P Q placed formed typed q (record { number = n; method = j; stands = d; part = b })) in
+      let y = subst (λ z. HasLabel n z) v.given (part_labelled P formed typed q (record { number = n; method = j; stands = d; part = b })) in
       let s : n ≡ m = let x = sym y.1 ∙ v.point_is ∙ ap Some i in cc in
-      let kk : j ≡ k = same_Some j k (sym d ∙ ap (slice_get Q.methods) s ∙ e) in
+      let kk : j ≡ k = same_Some j k (sym d ∙ ap (slice_get P.methods) s ∙ e) in
       let cc1 = subst (λ z. Contains (parts_of P m z) q) kk (subst (λ z. Contains (parts_of P z j) q) s b) in
       let same = label_apart P m k q p l cc1 c (label_given q v.operand v.given ∙ ap label_in (v.point_is ∙ ap Some i)) (label_given p o g ∙ ap label_in h) in
       ap (λ z. z.row) (same_Some _ _ (sym g ∙ ap given_by (sym same) ∙ v.given)) ∙ v.row_is
@@ -234,25 +233,25 @@ module _ (P Q : Plain) (placed : IsPlaced P Q) (formed : IsFormed P) (typed : Is
   cast_of : (x : TestInfo) → IsTestPart x → HasCast F x
   cast_of x t =
       let p = a_test t.place t.operand t.own in
-      let y = part_labelled P Q placed formed typed p (part_is x t) in
+      let y = part_labelled P formed typed p (part_is x t) in
       let a : PointAt = record { item = point.Expr t.number y.0; place = t.place; row = t.item } in
-      let q = part_point P Q t.number t.method t.stands (has_body P t.number t.method p t.part) p a t.part
+      let q = part_point P t.number t.method t.stands (has_body P t.number t.method p t.part) p a t.part
       (own_point_has t.place t.own.point t.own.row t.own.ty (point.Expr t.number y.0) t.item t.type y.1 t.row_is t.typed_as)
       x.target.0 t.target in
-      let z = item_point P Q F facts (point.Expr t.number y.0) q.0 q.1 in
-      let f = point_of P Q q.0 z.0 z.1 in
-      let at = ap (λ i. point_in (numbers P Q) i) y.1 ∙ point_item P Q (point.Expr t.number y.0) q.0 q.1 in
+      let z = item_point P F facts (point.Expr t.number y.0) q.0 q.1 in
+      let f = point_of P q.0 z.0 z.1 in
+      let at = ap (λ i. point_in (numbers P) i) y.1 ∙ point_item P (point.Expr t.number y.0) q.0 q.1 in
       let one : CastInfo = record { from = x.from; into = q.0; class = t.type.class } in
       record {
         cast = one;
-        listed = (facts.casts one).1 (gathered_has P Q (λ b. casts_of (numbers P Q)) one t.number t.method p t.stands t.part
-            (these_has (point_at (numbers P Q) t.operand) (point_at (numbers P Q) t.own) t.own.ty
+        listed = (facts.casts one).1 (gathered_has P (λ b. casts_of (numbers P)) one t.number t.method p t.stands t.part
+            (these_has (point_at (numbers P) t.operand) (point_at (numbers P) t.own) t.own.ty
             (λ a q t. record { from = a; into = q; class = t.class }) x.from q.0 t.type t.from at t.typed_as));
         from = refl;
         class = t.class;
         point = z.4;
         row = z.3 ∙ same_Some _ _ (sym f.number
-            ∙ ap (row_number P Q) (same_Some _ _ (sym (part_follows t.number t.method p t.own y.0 f.at t.stands t.part refl y.1 f.follows (f.item
+            ∙ ap (row_number P) (same_Some _ _ (sym (part_follows t.number t.method p t.own y.0 f.at t.stands t.part refl y.1 f.follows (f.item
             ∙ z.2)) ∙ t.row_is)) ∙ t.target);
       }
 
@@ -267,8 +266,8 @@ module _ (P Q : Plain) (placed : IsPlaced P Q) (formed : IsFormed P) (typed : Is
 
   array_marks : (s : ℕ) → s < length F.sites.items → 0 < (site_info_at F s).dim → HasMark F (site_class F s)
   array_marks s h d =
-      let z = site_of P Q placed formed typed F facts s h in
-      let p = site_part P Q placed formed typed s z.site z.stands in
+      let z = site_of P formed typed F facts s h in
+      let p = site_part P formed typed s z.site z.stands in
       let col : Column = record { item = column.Is z.site.ty.class; place = p.of.place } in
       subst (λ c. HasMark F c) (sym (ap (λ i. i.class.0) z.info))
       (marked p.of.is_part.number p.of.is_part.method (a_creation p.of.place p.of.used p.of.operand) col z.site.ty.class p.of.is_part.stands p.of.is_part.part
@@ -276,7 +275,7 @@ module _ (P Q : Plain) (placed : IsPlaced P Q) (formed : IsFormed P) (typed : Is
 
   -- the cells of a site name it
   abbrev all_fields : List FieldCell
-  all_fields = fields_of (numbers P Q) Q (columns_of P Q)
+  all_fields = fields_of (numbers P) P (columns_of P)
 
   keyed_by : (t : Bool) (n : ℕ) (x : Site) (b : CellInfo)
       → Contains (if t then flat_map (field_cell P n x.ty.class.0) all_fields else array_cell n x.row) b → b.site.0 ≡ n
@@ -295,11 +294,11 @@ module _ (P Q : Plain) (placed : IsPlaced P Q) (formed : IsFormed P) (typed : Is
   cells : (s : ℕ) → s < length F.sites.items → 0 < (site_info_at F s).dim → HasOneCell F s
   unfolding cells_of IsAlone
   cells s h d =
-      let z = site_of P Q placed formed typed F facts s h in
+      let z = site_of P formed typed F facts s h in
       let x = z.site in
       let w = array_cells s x (subst (λ n. 0 < n) (ap (λ i. i.dim) z.info) d) in
       let c : CellInfo = record { site = record { 0 = s }; column = None; row = record { 0 = x.row } } in
-      let at = at_contains (each (site_cells P all_fields) 0 (sites_of P Q)) c (each_has (site_cells P all_fields) 0 (sites_of P Q) s x c z.stands s
+      let at = at_contains (each (site_cells P all_fields) 0 (sites_of P)) c (each_has (site_cells P all_fields) 0 (sites_of P) s x c z.stands s
       (omega arith) (subst (λ y. Contains y c) (sym w) (first c []))) in
       let e : slice_get F.cells.items at.0 ≡ Some c = subst (λ y. slice_get y at.0 ≡ Some c) (sym facts.cells) at.1 in
       let i = index_at F.cells.items at.0 _ c e in
@@ -310,10 +309,10 @@ module _ (P Q : Plain) (placed : IsPlaced P Q) (formed : IsFormed P) (typed : Is
         column = ap (λ k. k.column) i;
         row = ap (λ k. k.row.0) i ∙ sym (ap (λ k. k.row.0) z.info);
         one = λ j below q. let k = below_at F.cells.items j below in
-            one_place (site_cells P all_fields) (λ k. k.site.0) keyed_site 0 (sites_of P Q) s
+            one_place (site_cells P all_fields) (λ k. k.site.0) keyed_site 0 (sites_of P) s
             (λ y n u v. (
               c,
-              ap (site_cells P all_fields s) (same_Some y x (sym u ∙ ap (slice_get (sites_of P Q)) (omega (arith, v)) ∙ z.stands))
+              ap (site_cells P all_fields s) (same_Some y x (sym u ∙ ap (slice_get (sites_of P)) (omega (arith, v)) ∙ z.stands))
                   ∙ w,
             )) j at.0 k.0 c
             (subst (λ y. slice_get y j ≡ Some k.0) facts.cells k.1) at.1 (ap (λ k. k.site.0) (sym (index_at F.cells.items j _ k.0 k.1)) ∙ q) refl;

@@ -4,7 +4,6 @@ use Rattle.std.specs.Prelude.{◌≢◌, ◌<◌, ◌==◌, ◌⊎◌, nat_lt, i
 use Rattle.std.specs.Option.{option_map, is_some}
 use Rattle.std.proofs.lemmas.Option.{same_Some}
 use Rattle.std.proofs.lemmas.Bool.{false≢true, eqb-true, eq-eqb, and_from, and_parts}
-use Rattle.std.proofs.lemmas.List.{length-map}
 use Rattle.java_core.specs.Programs.{Plain, PlainMethod}
 use Rattle.java_core.specs.Classes.{IsSubclass, below, same_class}
 use Rattle.java_core.specs.Typing.{IsTyped}
@@ -18,14 +17,13 @@ use Rattle.flow_rules.specs.declared.items.ObjectType.{ObjectType}
 use Rattle.flow_rules.specs.declared.items.Operand.{Operand}
 use Rattle.flow_rules.specs.declared.items.RowItem.{RowItem}
 use Rattle.flow_rules.specs.declared.items.RowItem.TheVariants as row
-use Rattle.flow_rules.specs.Operands.{object_if, variable_in, variable_row, result_in}
+use Rattle.flow_rules.specs.Operands.{object_if, variable_row, result_in}
 use Rattle.flow_rules.specs.Types.{field_object, variable_object, element_object}
 use Rattle.flow_rules.specs.Parts.{Part, a_call, a_static_call, a_super_call, a_test, a_pair, a_set, a_store, an_element_store, a_return}
 use Rattle.flow_rules.specs.Lists.{tied, row_at, row_in, is_this, is_comparison, same_type, left_is_lower, narrower, is_left_lower, param_row, pair_ties, test_ties, slot_ties, method_ties, ties_of}
 use Rattle.flow_rules.specs.Numbered.{row_number}
 use Rattle.flow_rules.specs.Facts.{numbers, IsFactsOf}
 use Rattle.flow_rules.proofs.Listed.{all_of, when_from, each_from_zero}
-use Rattle.facts_order.proofs.Pairs.{IsPlaced}
 use Rattle.facts_order.proofs.Tests.{gathered_from, row_item, both_from}
 use Rattle.facts_order.proofs.Classes.{subclass_below}
 use Rattle.facts_order.proofs.Operands.{field_type, return_type, result_type, variable_type, param_type, param_object}
@@ -73,9 +71,9 @@ upper_made a b true d e h = refl
 upper_made true b false d e h = absurd (false≢true (sym e))
 upper_made false b false d e h = absurd (false≢true h)
 
-module _ (P Q : Plain) (placed : IsPlaced P Q) (formed : IsFormed P) (typed : IsTyped P) (F : Facts) (facts : IsFactsOf P Q F) where
+module _ (P : Plain) (formed : IsFormed P) (typed : IsTyped P) (F : Facts) (facts : IsFactsOf P F) where
   abbrev IsFreeRow : ℕ → Type 0
-  IsFreeRow q = IsFree P Q placed formed typed F facts q
+  IsFreeRow q = IsFree P formed typed F facts q
 
   -- what the facts' order asks of a lower and an upper row
   pub record IsTied (r q : ℕ) : Type 0 where
@@ -88,123 +86,112 @@ module _ (P Q : Plain) (placed : IsPlaced P Q) (formed : IsFormed P) (typed : Is
       × (is_object_row F q ≡ false) → IsTied r q
   free_tie r q l u b f = record { lower = l; upper = u; below = b; free = λ n c o. f }
 
-  module _ (m : ℕ) (k : PlainMethod) (stands : slice_get Q.methods m ≡ Some k) where
+  module _ (m : ℕ) (k : PlainMethod) (stands : slice_get P.methods m ≡ Some k) where
     abbrev IsGood : Operand → Type 0
-    IsGood o = IsSound P Q placed formed typed F facts m k stands o
+    IsGood o = IsSound P formed typed F facts m k stands o
 
     abbrev Value : Operand → Option ObjectType → Type 0
-    Value o t = IsValue P Q placed formed typed F facts m k stands o t
+    Value o t = IsValue P formed typed F facts m k stands o t
 
     abbrev Row : Operand → ℕ → Type 0
-    Row o r = HasRow P Q placed formed typed F facts m k stands o r
+    Row o r = HasRow P formed typed F facts m k stands o r
 
     abbrev pub At : ℕ → RowItem → Type 0
-    At r i = IsRowAt P Q placed formed typed F facts r i
+    At r i = IsRowAt P formed typed F facts r i
 
     -- a value goes to a row of a known type
     to_item : (o : Operand) (t : Option ObjectType) (i : RowItem) (x : TieInfo) → Value o t → is_apart i ≡ true
-        → ((y : At x.upper.0 i) → t ≡ Some y.here.ty) → row_at (numbers P Q) o ≡ Some x.lower.0 → row_number P Q i ≡ Some x.upper.0
+        → ((y : At x.upper.0 i) → t ≡ Some y.here.ty) → row_at (numbers P) o ≡ Some x.lower.0 → row_number P i ≡ Some x.upper.0
         → IsTied x.lower.0 x.upper.0
     to_item o t i x v a h e d =
-        let y = row_there P Q placed formed typed F facts i x.upper.0 d in
-        free_tie x.lower.0 x.upper.0 (row_of_operand P Q placed formed typed F facts m k stands o x.lower.0 v.good e).at.below y.below
-        (value_below P Q placed formed typed F facts m k stands o t y.here.ty x.lower.0 x.upper.0 v e (h y)
-        (class_of_row P Q placed formed typed F facts x.upper.0 i y)) (apart_free P Q placed formed typed F facts x.upper.0 i y a)
+        let y = row_there P formed typed F facts i x.upper.0 d in
+        free_tie x.lower.0 x.upper.0 (row_of_operand P formed typed F facts m k stands o x.lower.0 v.good e).at.below y.below
+        (value_below P formed typed F facts m k stands o t y.here.ty x.lower.0 x.upper.0 v e (h y)
+        (class_of_row P formed typed F facts x.upper.0 i y)) (apart_free P formed typed F facts x.upper.0 i y a)
 
     -- a value goes to the row of an operand
     to_operand : (o v : Operand) (t : Option ObjectType) (x : TieInfo) → Value o t → IsGood v
         → ((h : Row v x.upper.0) → IsFreeRow x.upper.0 × ((u : ObjectType) × (t ≡ Some u) × (h.type.class.0 ≡ u.class.0)))
-        → Contains (tied (row_at (numbers P Q) o) (row_at (numbers P Q) v)) x → IsTied x.lower.0 x.upper.0
+        → Contains (tied (row_at (numbers P) o) (row_at (numbers P) v)) x → IsTied x.lower.0 x.upper.0
     to_operand o v t x a g f c =
-        let e = tied_from (row_at (numbers P Q) o) (row_at (numbers P Q) v) x c in
-        let h = row_of_operand P Q placed formed typed F facts m k stands v x.upper.0 g e.1 in
+        let e = tied_from (row_at (numbers P) o) (row_at (numbers P) v) x c in
+        let h = row_of_operand P formed typed F facts m k stands v x.upper.0 g e.1 in
         let z = f h in
-        free_tie x.lower.0 x.upper.0 (row_of_operand P Q placed formed typed F facts m k stands o x.lower.0 a.good e.0).at.below h.at.below
-        (value_below P Q placed formed typed F facts m k stands o t z.1.0 x.lower.0 x.upper.0 a e.0 z.1.1 (h.class ∙ z.1.2)) z.0
+        free_tie x.lower.0 x.upper.0 (row_of_operand P formed typed F facts m k stands o x.lower.0 a.good e.0).at.below h.at.below
+        (value_below P formed typed F facts m k stands o t z.1.0 x.lower.0 x.upper.0 a e.0 z.1.1 (h.class ∙ z.1.2)) z.0
 
     set_tie : (v o : Operand) (x : TieInfo) → IsGood v → ((j : RowItem) → v.row ≡ Some j → is_apart j ≡ true) → Value o v.ty
-        → Contains (tied (row_at (numbers P Q) o) (row_at (numbers P Q) v)) x → IsTied x.lower.0 x.upper.0
+        → Contains (tied (row_at (numbers P) o) (row_at (numbers P) v)) x → IsTied x.lower.0 x.upper.0
     set_tie v o x g a w c = to_operand o v v.ty x w g (λ h. (
-      apart_free P Q placed formed typed F facts x.upper.0 h.item h.at (a h.item h.row_is),
+      apart_free P formed typed F facts x.upper.0 h.item h.at (a h.item h.row_is),
       (h.type, h.stated, refl),
     )) c
 
     element_tie : (b o : Operand) (x : TieInfo) → IsGood b → ((t : ObjectType) → b.ty ≡ Some t → 0 < t.dim) → Value o (element_object b.ty)
-        → Contains (tied (row_at (numbers P Q) o) (row_at (numbers P Q) b)) x → IsTied x.lower.0 x.upper.0
+        → Contains (tied (row_at (numbers P) o) (row_at (numbers P) b)) x → IsTied x.lower.0 x.upper.0
     element_tie b o x g n w c = to_operand o b (element_object b.ty) x w g
         (λ h. (
-          deep_free P Q placed formed typed F facts x.upper.0 h.item h.at h.number (omega (arith, h.dim, n h.type h.stated)),
+          deep_free P formed typed F facts x.upper.0 h.item h.at h.number (omega (arith, h.dim, n h.type h.stated)),
           (record { class = h.type.class; dim = h.type.dim - 1 }, ap element_object h.stated ∙ element_some h.type (n h.type h.stated), refl),
         )) c
 
     -- the row of what a method gives back
     pub result_row_type : (r : ℕ) (o : Option ℕ) → k.slot ≡ o → (y : At r (result_in k.slot m)) → object_if k.result ≡ Some y.here.ty
     result_row_type r None e y =
-        let z = placed.methods m k stands in
-        ap object_if (sym z.result) ∙ sym (ap (λ o. object_if (option_and_then (λ k. k.result) o)) z.stands)
-        ∙ result_type P Q placed formed typed m r y.here y.stands (y.item ∙ ap (λ s. result_in s m) e)
+        sym (ap (λ o. object_if (option_and_then (λ k. k.result) o)) stands)
+        ∙ result_type P formed typed m r y.here y.stands (y.item ∙ ap (λ s. result_in s m) e)
     result_row_type r (Some s) e y =
-        let z = placed.methods m k stands in
-        let w = ((formed.methods m z.plain z.stands).slots s).0 (z.slot ∙ e) in
-        ap object_if (sym z.result ∙ w.result) ∙ sym (ap (λ o. object_if (option_and_then (λ k. k.result) o)) w.stands)
-        ∙ return_type P Q placed formed typed s r y.here y.stands (y.item ∙ ap (λ s. result_in s m) e)
+        let w = ((formed.methods m k stands).slots s).0 e in
+        ap object_if w.result ∙ sym (ap (λ o. object_if (option_and_then (λ k. k.result) o)) w.stands)
+        ∙ return_type P formed typed s r y.here y.stands (y.item ∙ ap (λ s. result_in s m) e)
 
     return_tie : (o : Operand) (x : TieInfo) → Value o (object_if k.result)
-        → Contains (tied (row_at (numbers P Q) o) (row_number P Q (result_in k.slot m))) x → IsTied x.lower.0 x.upper.0
+        → Contains (tied (row_at (numbers P) o) (row_number P (result_in k.slot m))) x → IsTied x.lower.0 x.upper.0
     return_tie o x v c =
-        let e = tied_from (row_at (numbers P Q) o) (row_number P Q (result_in k.slot m)) x c in
+        let e = tied_from (row_at (numbers P) o) (row_number P (result_in k.slot m)) x c in
         to_item o (object_if k.result) (result_in k.slot m) x v (result_apart k.slot m) (λ y. result_row_type x.upper.0 k.slot refl y) e.0 e.1
 
     store_tie : (j : ℕ) (o : Operand) (x : TieInfo) → Value o (field_object P j)
-        → Contains (tied (row_at (numbers P Q) o) (row_number P Q (row.Field j))) x → IsTied x.lower.0 x.upper.0
+        → Contains (tied (row_at (numbers P) o) (row_number P (row.Field j))) x → IsTied x.lower.0 x.upper.0
     store_tie j o x v c =
-        let e = tied_from (row_at (numbers P Q) o) (row_number P Q (row.Field j)) x c in
-        to_item o (field_object P j) (row.Field j) x v refl (λ y. field_type P Q placed formed typed j x.upper.0 y.here y.stands y.item) e.0 e.1
+        let e = tied_from (row_at (numbers P) o) (row_number P (row.Field j)) x c in
+        to_item o (field_object P j) (row.Field j) x v refl (λ y. field_type P formed typed j x.upper.0 y.here y.stands y.item) e.0 e.1
 
     slot_tie : (s i : ℕ) (o : Operand) (x : TieInfo) → Value o (param_object P s i)
-        → Contains (tied (row_at (numbers P Q) o) (row_number P Q (row.Param s i))) x → IsTied x.lower.0 x.upper.0
+        → Contains (tied (row_at (numbers P) o) (row_number P (row.Param s i))) x → IsTied x.lower.0 x.upper.0
     slot_tie s i o x v c =
-        let e = tied_from (row_at (numbers P Q) o) (row_number P Q (row.Param s i)) x c in
-        to_item o (param_object P s i) (row.Param s i) x v refl (λ y. param_type P Q placed formed typed s i x.upper.0 y.here y.stands y.item) e.0 e.1
+        let e = tied_from (row_at (numbers P) o) (row_number P (row.Param s i)) x c in
+        to_item o (param_object P s i) (row.Param s i) x v refl (λ y. param_type P formed typed s i x.upper.0 y.here y.stands y.item) e.0 e.1
 
     args_tie : (s : ℕ) (es : List Operand) (x : TieInfo) → ((i : ℕ) (a : Operand) → slice_get es i ≡ Some a → Value a (param_object P s i))
-        → Contains (slot_ties (numbers P Q) P s es) x → IsTied x.lower.0 x.upper.0
+        → Contains (slot_ties (numbers P) P s es) x → IsTied x.lower.0 x.upper.0
     unfolding numbers
-    args_tie s es x v c = let z = each_from_zero (λ i o. tied (row_at (numbers P Q) o) (row_number P Q (row.Param s i))) es x c in slot_tie s z.0 z.1
+    args_tie s es x v c = let z = each_from_zero (λ i o. tied (row_at (numbers P) o) (row_number P (row.Param s i))) es x c in slot_tie s z.0 z.1
         x (v z.0 z.1 z.2) z.3
 
     -- the row of a parameter of a method
-    method_tie : (d i : ℕ) (o : Operand) (x : TieInfo) → Value o (is_variable_of P Q placed formed typed F facts m k stands d i)
-        → Contains (tied (row_at (numbers P Q) o) (row_in (numbers P Q) (param_row P d i))) x → IsTied x.lower.0 x.upper.0
+    method_tie : (d i : ℕ) (o : Operand) (x : TieInfo) → Value o (is_variable_of P formed typed F facts m k stands d i)
+        → Contains (tied (row_at (numbers P) o) (row_in (numbers P) (param_row P d i))) x → IsTied x.lower.0 x.upper.0
     method_tie d i o x v c =
-        let e = tied_from (row_at (numbers P Q) o) (row_in (numbers P Q) (param_row P d i)) x c in
-        let j = row_item P Q (param_row P d i) x.upper.0 e.1 in
+        let e = tied_from (row_at (numbers P) o) (row_in (numbers P) (param_row P d i)) x c in
+        let j = row_item P (param_row P d i) x.upper.0 e.1 in
         let h = variable_there (slice_get P.methods d) refl j.0 j.1 in
-        to_item o (is_variable_of P Q placed formed typed F facts m k stands d i) (variable_row d h.0 i) x v
+        to_item o (is_variable_of P formed typed F facts m k stands d i) (variable_row d h.0 i) x v
         (variable_apart h.0.slot (nat_lt i (length h.0.params)) d i)
-        (λ y. ap (option_and_then (λ k. variable_object k i)) h.1 ∙ variable_type P Q placed formed typed d i h.0 x.upper.0 y.here h.1 y.stands
-        y.item) e.0 (ap (row_number P Q) (sym h.2) ∙ j.2)
+        (λ y. ap (option_and_then (λ k. variable_object k i)) h.1 ∙ variable_type P formed typed d i h.0 x.upper.0 y.here h.1 y.stands
+        y.item) e.0 (ap (row_number P) (sym h.2) ∙ j.2)
       where
         variable_there : (p : Option PlainMethod) → slice_get P.methods d ≡ p → (j : RowItem)
-            → option_map (λ k. variable_row d k i) (slice_get P.methods d) ≡ Some j → (q : PlainMethod) × (slice_get Q.methods d ≡ Some q)
+            → option_map (λ k. variable_row d k i) (slice_get P.methods d) ≡ Some j → (q : PlainMethod) × (slice_get P.methods d ≡ Some q)
             × (j ≡ variable_row d q i)
         variable_there None e j h = absurd (let z = ap (option_map (λ k. variable_row d k i)) (sym e) ∙ h in cc)
         variable_there (Some p) e j h =
-            let q = placed.placed_method d p e in
-            let z = placed.methods d q.0 q.1 in
-            let same : p ≡ z.plain = same_Some _ _ (sym e ∙ z.stands) in
-            let count : length z.plain.params ≡ length q.0.params = sym (length-map z.plain.params (λ v. v.ty)) ∙ ap length z.params
-            ∙ length-map q.0.params (λ v. v.ty) in (
-              q.0,
-              q.1,
-              same_Some j _ (sym h ∙ ap (option_map (λ k. variable_row d k i)) e) ∙ ap (λ p. variable_row d p i) same
-                  ∙ ap (λ s. variable_in s (nat_lt i (length z.plain.params)) d i) z.slot ∙ ap (λ n. variable_in q.0.slot (nat_lt i n) d i) count,
-            )
+            (p, e, same_Some j _ (sym h ∙ ap (option_map (λ k. variable_row d k i)) e))
 
     params_tie : (d : ℕ) (es : List Operand) (x : TieInfo) → ((i : ℕ) (a : Operand) → slice_get es i ≡ Some a
-        → Value a (is_variable_of P Q placed formed typed F facts m k stands d i)) → Contains (method_ties (numbers P Q) P d es) x
+        → Value a (is_variable_of P formed typed F facts m k stands d i)) → Contains (method_ties (numbers P) P d es) x
         → IsTied x.lower.0 x.upper.0
-    params_tie d es x v c = let z = each_from_zero (λ i o. tied (row_at (numbers P Q) o) (row_in (numbers P Q) (param_row P d i))) es x c in
+    params_tie d es x v c = let z = each_from_zero (λ i o. tied (row_at (numbers P) o) (row_in (numbers P) (param_row P d i))) es x c in
         method_tie d z.0 z.1 x (v z.0 z.1 z.2) z.3
 
     -- the rows of two operands
@@ -212,27 +199,27 @@ module _ (P Q : Plain) (placed : IsPlaced P Q) (formed : IsFormed P) (typed : Is
       left : Row l a
       right : Row r b
 
-    both_rows : (l r : Operand) (x : TieInfo) → IsGood l → IsGood r → Contains (tied (row_at (numbers P Q) l) (row_at (numbers P Q) r)) x
+    both_rows : (l r : Operand) (x : TieInfo) → IsGood l → IsGood r → Contains (tied (row_at (numbers P) l) (row_at (numbers P) r)) x
         → Both l r x.lower.0 x.upper.0
     both_rows l r x g h c =
-        let e = tied_from (row_at (numbers P Q) l) (row_at (numbers P Q) r) x c in
+        let e = tied_from (row_at (numbers P) l) (row_at (numbers P) r) x c in
         record {
-          left = row_of_operand P Q placed formed typed F facts m k stands l x.lower.0 g e.0;
-          right = row_of_operand P Q placed formed typed F
+          left = row_of_operand P formed typed F facts m k stands l x.lower.0 g e.0;
+          right = row_of_operand P formed typed F
               facts m k stands r x.upper.0 h e.1;
         }
 
     rows_below : (s t : ObjectType) (a b : ℕ) → IsUnder P s t → row_class F a ≡ s.class.0 → row_class F b ≡ t.class.0
         → IsBelow F (row_class F a) (row_class F b)
     rows_below s t a b u e d = subst (λ z. IsBelow F z (row_class F b)) (sym e) (subst (λ z. IsBelow F s.class.0 z) (sym d)
-        (subclass_below P Q placed F facts u.class))
+        (subclass_below P F facts u.class))
 
     under_below : (s t : ObjectType) → IsUnder P s t → below P s.class.0 t.class.0 ≡ true
     under_below s t u = subclass-below P formed.acyclic u.class
 
     test_tie : (e o : Operand) (s t : ObjectType) (x : TieInfo) → IsGood e → IsGood o → ((j : RowItem) → o.row ≡ Some j → is_apart j ≡ true)
         → e.ty ≡ Some s → o.ty ≡ Some t → ArePaired P s t → (b : Bool) → below P s.class.0 t.class.0 ≡ b
-        → Contains (if b then tied (row_at (numbers P Q) e) (row_at (numbers P Q) o) else tied (row_at (numbers P Q) o) (row_at (numbers P Q) e)) x
+        → Contains (if b then tied (row_at (numbers P) e) (row_at (numbers P) o) else tied (row_at (numbers P) o) (row_at (numbers P) e)) x
         → IsTied x.lower.0 x.upper.0
     test_tie e o s t x g h a es ot p true b c =
         let w = both_rows e o x g h c in
@@ -240,8 +227,8 @@ module _ (P Q : Plain) (placed : IsPlaced P Q) (formed : IsFormed P) (typed : Is
         let v = ap (λ z. z.class.0) (same_Some _ _ (sym w.right.stated ∙ ot)) in
         free_tie x.lower.0 x.upper.0 w.left.at.below w.right.at.below (subst (λ z. IsBelow F z (row_class F x.upper.0)) (sym (w.left.class ∙ u))
         (subst (λ z. IsBelow F s.class.0 z) (sym (w.right.class ∙ v))
-        (subclass_below P Q placed F facts (below-subclass P s.class.0 t.class.0 b))))
-        (apart_free P Q placed formed typed F facts x.upper.0 w.right.item w.right.at (a w.right.item w.right.row_is))
+        (subclass_below P F facts (below-subclass P s.class.0 t.class.0 b))))
+        (apart_free P formed typed F facts x.upper.0 w.right.item w.right.at (a w.right.item w.right.row_is))
     test_tie e o s t x g h a es ot p false b c =
         let w = both_rows o e x h g c in
         let u = ap (λ z. z.class.0) (same_Some _ _ (sym w.left.stated ∙ ot)) in
@@ -269,24 +256,24 @@ module _ (P Q : Plain) (placed : IsPlaced P Q) (formed : IsFormed P) (typed : Is
 
     creation_free : (l r : Operand) (a b : ℕ) → Alike l r a b → is_object_row F a ≡ false → is_some l.created ≡ true → IsFreeRow b
     creation_free l r a b w o c =
-        ⊎_elim (λ d. deep_free P Q placed formed typed F facts b w.right.item w.right.at w.right.number d)
-        (λ z. let n = some_of l.created c in absurd (false≢true (sym o ∙ creation_object P Q placed formed typed F facts m k stands l a n.0 w.lower
+        ⊎_elim (λ d. deep_free P formed typed F facts b w.right.item w.right.at w.right.number d)
+        (λ z. let n = some_of l.created c in absurd (false≢true (sym o ∙ creation_object P formed typed F facts m k stands l a n.0 w.lower
         w.left n.1 (omega (arith, w.dim, w.right.dim, z)))))
         (dim_cases w.right.at.here.ty.dim)
 
     same_this : (l r : Operand) (a b : ℕ) → Alike l r a b → is_this l.point ≡ true → is_this r.point ≡ true → a ≡ b
     same_this l r a b w d e =
         let i : w.left.item ≡ w.right.item = same_Some _ _ (sym w.left.row_is ∙ w.lower.self d ∙ sym (w.upper.self e) ∙ w.right.row_is) in same_Some a
-        b (sym w.left.number ∙ ap (row_number P Q) i ∙ w.right.number)
+        b (sym w.left.number ∙ ap (row_number P) i ∙ w.right.number)
 
     pair_free : (l r : Operand) (a b : ℕ) → Alike l r a b → (a ≡ b → ⊥) → is_object_row F a ≡ false
         → (is_this r.point ≡ true → (is_some l.created ≡ true) ⊎ (is_this l.point ≡ true)) → (is_some r.created ≡ true → is_some l.created ≡ true)
         → IsFreeRow b
-    pair_free l r a b w n o self create = go (row_standing P Q placed formed typed F facts m k stands r b w.upper w.right)
+    pair_free l r a b w n o self create = go (row_standing P formed typed F facts m k stands r b w.upper w.right)
       where
         go : Standing r w.right.at.here → IsFreeRow b
-        go (apart e) = apart_free P Q placed formed typed F facts b w.right.item w.right.at (ap is_apart (sym w.right.at.item) ∙ e)
-        go (deep d) = deep_free P Q placed formed typed F facts b w.right.item w.right.at w.right.number d
+        go (apart e) = apart_free P formed typed F facts b w.right.item w.right.at (ap is_apart (sym w.right.at.item) ∙ e)
+        go (deep d) = deep_free P formed typed F facts b w.right.item w.right.at w.right.number d
         go (itself e) = ⊎_elim (creation_free l r a b w o) (λ d. absurd (n (same_this l r a b w d e))) (self e)
         go (made e) = creation_free l r a b w o (create e)
 
@@ -327,7 +314,7 @@ module _ (P Q : Plain) (placed : IsPlaced P Q) (formed : IsFormed P) (typed : Is
     tie_from : (l r : Operand) (s t : ObjectType) (x : TieInfo) → IsGood l → IsGood r → l.ty ≡ Some s → r.ty ≡ Some t → s.dim ≡ t.dim → IsUnder P s t
         → (s.class.0 ≡ t.class.0 → (is_this r.point ≡ true → (is_some l.created ≡ true) ⊎ (is_this l.point ≡ true))
         × (is_some r.created ≡ true → is_some l.created ≡ true))
-        → Contains (tied (row_at (numbers P Q) l) (row_at (numbers P Q) r)) x → IsTied x.lower.0 x.upper.0
+        → Contains (tied (row_at (numbers P) l) (row_at (numbers P) r)) x → IsTied x.lower.0 x.upper.0
     tie_from l r s t x g h ls rt dim under alike c =
         let w = both_rows l r x g h c in
         let u = same_Some _ _ (sym w.left.stated ∙ ls) in
@@ -345,7 +332,7 @@ module _ (P Q : Plain) (placed : IsPlaced P Q) (formed : IsFormed P) (typed : Is
 
     pair_tie : (l r : Operand) (s t : ObjectType) (x : TieInfo) → IsGood l → IsGood r → l.ty ≡ Some s → r.ty ≡ Some t → ArePaired P s t → (b : Bool)
         → is_left_lower P l r s t ≡ b
-        → Contains (if b then tied (row_at (numbers P Q) l) (row_at (numbers P Q) r) else tied (row_at (numbers P Q) r) (row_at (numbers P Q) l)) x
+        → Contains (if b then tied (row_at (numbers P) l) (row_at (numbers P) r) else tied (row_at (numbers P) r) (row_at (numbers P) l)) x
         → IsTied x.lower.0 x.upper.0
     pair_tie l r s t x g h ls rt p true b c =
         tie_from l r s t x g h ls rt (paired_dim P s t p) (lower_under l r s t b p) (λ k. let e = lower_is l r s t true b p k in (
@@ -359,19 +346,19 @@ module _ (P Q : Plain) (placed : IsPlaced P Q) (formed : IsFormed P) (typed : Is
         )) c
 
     pair_ties_tied : (l r : Operand) (x : TieInfo) → IsGood l → IsGood r → ((s t : ObjectType) → l.ty ≡ Some s → r.ty ≡ Some t → ArePaired P s t)
-        → (a b : Option ObjectType) → l.ty ≡ a → r.ty ≡ b → Contains (pair_ties (numbers P Q) P l r a b) x → IsTied x.lower.0 x.upper.0
+        → (a b : Option ObjectType) → l.ty ≡ a → r.ty ≡ b → Contains (pair_ties (numbers P) P l r a b) x → IsTied x.lower.0 x.upper.0
     pair_ties_tied l r x g h f (Some s) (Some t) d e c = pair_tie l r s t x g h d e (f s t d e) (is_left_lower P l r s t) refl c
     pair_ties_tied l r x g h f (Some s) None d e c = absurd (omega (arith, c.1))
     pair_ties_tied l r x g h f None b d e c = absurd (omega (arith, c.1))
 
     test_ties_tied : (e o : Operand) (x : TieInfo) → IsGood e → IsGood o → ((j : RowItem) → o.row ≡ Some j → is_apart j ≡ true)
         → ((s t : ObjectType) → e.ty ≡ Some s → o.ty ≡ Some t → ArePaired P s t) → (a b : Option ObjectType) → e.ty ≡ a → o.ty ≡ b
-        → Contains (test_ties (numbers P Q) P e o a b) x → IsTied x.lower.0 x.upper.0
+        → Contains (test_ties (numbers P) P e o a b) x → IsTied x.lower.0 x.upper.0
     test_ties_tied q o x g h y f (Some s) (Some t) d e c = test_tie q o s t x g h y d e (f s t d e) (below P s.class.0 t.class.0) refl c
     test_ties_tied q o x g h y f (Some s) None d e c = absurd (omega (arith, c.1))
     test_ties_tied q o x g h y f None b d e c = absurd (omega (arith, c.1))
 
-    part_tied : (p : Part) (x : TieInfo) → IsFitted P Q placed formed typed F facts m k stands p → Contains (ties_of (numbers P Q) P m k.slot p) x
+    part_tied : (p : Part) (x : TieInfo) → IsFitted P formed typed F facts m k stands p → Contains (ties_of (numbers P) P m k.slot p) x
         → IsTied x.lower.0 x.upper.0
     unfolding numbers
     part_tied (a_set v o) x f c = set_tie v o x f.0 f.1 f.2 c
@@ -381,7 +368,7 @@ module _ (P Q : Plain) (placed : IsPlaced P Q) (formed : IsFormed P) (typed : Is
     part_tied (a_call w b (Some s) d es o) x f c = args_tie s es x (f.1 s refl).1.args c
     part_tied (a_static_call w d es o) x f c = params_tie d es x f.1.args c
     part_tied (a_super_call w (Some d) es o) x f c = params_tie d es x (f.1 d refl).1.args c
-    part_tied (a_pair o l r) x f c = let z = when_from (is_comparison o) (pair_ties (numbers P Q) P l r l.ty r.ty) x c in pair_ties_tied l r x f.0 f.1
+    part_tied (a_pair o l r) x f c = let z = when_from (is_comparison o) (pair_ties (numbers P) P l r l.ty r.ty) x c in pair_ties_tied l r x f.0 f.1
         (f.2 z.0) l.ty r.ty refl refl z.1
     part_tied (a_test w e o) x f c = test_ties_tied e o x f.0 f.1 f.2 f.3 e.ty o.ty refl refl c
     part_tied _ x f c = absurd (omega (arith, c.1))
@@ -389,8 +376,8 @@ module _ (P Q : Plain) (placed : IsPlaced P Q) (formed : IsFormed P) (typed : Is
   -- each tie of the facts
   pub tie_fits : (x : TieInfo) → Contains F.ties.items x → IsTied x.lower.0 x.upper.0
   tie_fits x c =
-      let z = gathered_from P Q (λ b. ties_of (numbers P Q) P b.number b.slot) x ((facts.ties x).0 c) in
-      part_tied z.0 z.1 z.3 z.2 x (part_fitted P Q placed formed typed F facts z.0 z.1 z.3 z.2 z.4) z.5
+      let z = gathered_from P (λ b. ties_of (numbers P) P b.number b.slot) x ((facts.ties x).0 c) in
+      part_tied z.0 z.1 z.3 z.2 x (part_fitted P formed typed F facts z.0 z.1 z.3 z.2 z.4) z.5
 
   pub ties_below : All (λ t. IsBelow F (row_class F t.lower.0) (row_class F t.upper.0)) F.ties.items
   ties_below = all_of (λ t. IsBelow F (row_class F t.lower.0) (row_class F t.upper.0)) F.ties.items (λ x c. (tie_fits x c).below)

@@ -6,7 +6,7 @@ use Rattle.std.specs.declared.vec.Vec.{Vec}
 use Rattle.std.specs.declared.alloc.Global.{Global}
 use Rattle.kaba_base.specs.declared.Place.{Place}
 use Rattle.java_core.specs.declared.RStmt.{RStmt}
-use Rattle.java_core.specs.Trees.{Tag, Ex, Sts, no_st, loop, to_own, to_element, at_place, else_seen}
+use Rattle.java_core.specs.Trees.{Tag, Ex, Sts, no_st, loop, to_own, to_element, else_seen}
 use Rattle.java_core.specs.Programs.{Plain, PlainMethod}
 use Rattle.flow_rules.specs.declared.items.Operand.{Operand}
 use Rattle.flow_rules.specs.Labels.{size, size_if, size_sts, size_arms, label, label_if, label_sts, label_st, label_arms}
@@ -25,12 +25,12 @@ then_at old mid new X Y l n e h k = then old mid new X (Y n) e (k ∙ ap (λ m. 
 module _ (P : Plain) (m : ℕ) (k : PlainMethod) where
   -- what the arms of an `if` leave, where it is known whether an `else` follows
   pub with_other : {o z : Option (Vec RStmt Global)} (new : List Part) (n : ℕ) {all : List Part} {last : ℕ} → o ≡ z
-      → n + size_arms (else_seen at_place o) ≡ last
-      → new ++ parts_arms P (object_type P k) m k (label_arms n (else_seen at_place o)) ≡ all
-      → (n + size_arms (else_seen at_place z) ≡ last) × (new ++ parts_arms P (object_type P k) m k (label_arms n (else_seen at_place z)) ≡ all)
+      → n + size_arms (else_seen o) ≡ last
+      → new ++ parts_arms P (object_type P k) m k (label_arms n (else_seen o)) ≡ all
+      → (n + size_arms (else_seen z) ≡ last) × (new ++ parts_arms P (object_type P k) m k (label_arms n (else_seen z)) ≡ all)
   with_other new n e g p = (
-    sym (ap (λ y. n + size_arms (else_seen at_place y)) e) ∙ g,
-    sym (ap (λ y. new ++ parts_arms P (object_type P k) m k (label_arms n (else_seen at_place y))) e) ∙ p,
+    sym (ap (λ y. n + size_arms (else_seen y)) e) ∙ g,
+    sym (ap (λ y. new ++ parts_arms P (object_type P k) m k (label_arms n (else_seen y))) e) ∙ p,
   )
 
   pub loop_parts : (t : Tag) (is_while : Bool) (first : Sts) (test : Option Ex) (step body : Sts) (old a b c new : List Part) (n la lb lc : ℕ)

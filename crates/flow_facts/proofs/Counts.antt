@@ -42,91 +42,91 @@ numbers_among rs cs ss ps =
       point = number_among same_point ps;
     }
 
-pub numbers_are : (P Q : Plain) (rs : List RowItem) (cs : List ColumnItem) (ss : List ℕ) (ps : List PointItem) → rs ≡ map (λ r. r.item) (rows_of P Q)
-    → cs ≡ map (λ c. c.item) (columns_of P Q)
-    → ss ≡ map (λ s. s.number) (sites_of P Q) → ps ≡ map (λ p. p.item) (points_of P Q) → numbers_among rs cs ss ps ≡ numbers P Q
+pub numbers_are : (P : Plain) (rs : List RowItem) (cs : List ColumnItem) (ss : List ℕ) (ps : List PointItem) → rs ≡ map (λ r. r.item) (rows_of P)
+    → cs ≡ map (λ c. c.item) (columns_of P)
+    → ss ≡ map (λ s. s.number) (sites_of P) → ps ≡ map (λ p. p.item) (points_of P) → numbers_among rs cs ss ps ≡ numbers P
 unfolding numbers row_number column_number site_number point_number
-numbers_are P Q rs cs ss ps r c s p =
-    let R = map (λ r. r.item) (rows_of P Q) in
-    let C = map (λ c. c.item) (columns_of P Q) in
-    let S = map (λ s. s.number) (sites_of P Q) in
+numbers_are P rs cs ss ps r c s p =
+    let R = map (λ r. r.item) (rows_of P) in
+    let C = map (λ c. c.item) (columns_of P) in
+    let S = map (λ s. s.number) (sites_of P) in
     ap (λ k. numbers_among k cs ss ps) r ∙ ap (λ k. numbers_among R k ss ps) c ∙ ap (λ k. numbers_among R C k ps) s
     ∙ ap (λ k. numbers_among R C S k) p
 
-pub rows_are : (P Q : Plain) (xs : List Row) {same : RowItem → RowItem → Bool} → same ≡ same_row
-    → xs ≡ each field_rows 0 Q.fields ++ each (method_rows P Q) 0 Q.methods → once same (λ r. r.item) (by_place (λ r. r.place.at) xs) ≡ rows_of P Q
+pub rows_are : (P : Plain) (xs : List Row) {same : RowItem → RowItem → Bool} → same ≡ same_row
+    → xs ≡ each field_rows 0 P.fields ++ each (method_rows P) 0 P.methods → once same (λ r. r.item) (by_place (λ r. r.place.at) xs) ≡ rows_of P
 unfolding rows_of
-rows_are P Q xs h e = once_as (λ r. r.item) h (ap (by_place (λ r. r.place.at)) e)
+rows_are P xs h e = once_as (λ r. r.item) h (ap (by_place (λ r. r.place.at)) e)
 
-pub columns_are : (P Q : Plain) (xs : List Column) {same : ColumnItem → ColumnItem → Bool} → same ≡ same_column
-    → xs ≡ each field_columns 0 Q.fields ++ each (method_columns P Q) 0 Q.methods
-    → once same (λ c. c.item) (by_place (λ c. c.place.at) xs) ≡ columns_of P Q
+pub columns_are : (P : Plain) (xs : List Column) {same : ColumnItem → ColumnItem → Bool} → same ≡ same_column
+    → xs ≡ each field_columns 0 P.fields ++ each (method_columns P) 0 P.methods
+    → once same (λ c. c.item) (by_place (λ c. c.place.at) xs) ≡ columns_of P
 unfolding columns_of
-columns_are P Q xs h e = once_as (λ c. c.item) h (ap (by_place (λ c. c.place.at)) e)
+columns_are P xs h e = once_as (λ c. c.item) h (ap (by_place (λ c. c.place.at)) e)
 
 -- the numbers of the rows
-rows_numbered : (P Q : Plain) (keys : List RowItem) → keys ≡ map (λ r. r.item) (rows_of P Q) → number_among same_row keys ≡ row_number P Q
+rows_numbered : (P : Plain) (keys : List RowItem) → keys ≡ map (λ r. r.item) (rows_of P) → number_among same_row keys ≡ row_number P
 unfolding row_number
-rows_numbered P Q keys e = ap (number_among same_row) e
+rows_numbered P keys e = ap (number_among same_row) e
 
-pub sites_are : (P Q : Plain) (keys : List RowItem) (bs : List Body) (xs : List Site) → keys ≡ map (λ r. r.item) (rows_of P Q) → bs ≡ bodies_of P Q
+pub sites_are : (P : Plain) (keys : List RowItem) (bs : List Body) (xs : List Site) → keys ≡ map (λ r. r.item) (rows_of P) → bs ≡ bodies_of P
     → xs ≡ flat_map (λ b. flat_map (form_sites (number_among same_row keys)) b.parts) bs
-    → once nat_eq (λ s. s.number) (by_place (λ s. s.place.at) xs) ≡ sites_of P Q
+    → once nat_eq (λ s. s.number) (by_place (λ s. s.place.at) xs) ≡ sites_of P
 unfolding sites_of
-sites_are P Q keys bs xs k b e =
+sites_are P keys bs xs k b e =
     ap (λ l. once nat_eq (λ s. s.number) (by_place (λ s. s.place.at) l))
-    (e ∙ ap (λ n. flat_map (λ c. flat_map (form_sites n) c.parts) bs) (rows_numbered P Q keys k)
-    ∙ ap (λ l. flat_map (λ c. flat_map (form_sites (row_number P Q)) c.parts) l) b)
+    (e ∙ ap (λ n. flat_map (λ c. flat_map (form_sites n) c.parts) bs) (rows_numbered P keys k)
+    ∙ ap (λ l. flat_map (λ c. flat_map (form_sites (row_number P)) c.parts) l) b)
 
-pub points_are : (P Q : Plain) (keys : List RowItem) (ss : List PointAt) (os : List Outline) (xs : List Point) {same : PointItem → PointItem → Bool}
-    → same ≡ same_point → keys ≡ map (λ r. r.item) (rows_of P Q)
-    → ss ≡ by_place (λ p. p.place.at) (each static_points 0 Q.fields) → os ≡ by_place (λ o. o.place.at) (each (outline_if P Q) 0 Q.methods)
+pub points_are : (P : Plain) (keys : List RowItem) (ss : List PointAt) (os : List Outline) (xs : List Point) {same : PointItem → PointItem → Bool}
+    → same ≡ same_point → keys ≡ map (λ r. r.item) (rows_of P)
+    → ss ≡ by_place (λ p. p.place.at) (each static_points 0 P.fields) → os ≡ by_place (λ o. o.place.at) (each (outline_if P) 0 P.methods)
     → xs ≡ flat_map (listed (number_among same_row keys)) ss ++ flat_map (λ o. flat_map (listed (number_among same_row keys)) o.points) os
-    → once same (λ p. p.item) xs ≡ points_of P Q
+    → once same (λ p. p.item) xs ≡ points_of P
 unfolding points_of
-points_are P Q keys ss os xs h k s o e =
+points_are P keys ss os xs h k s o e =
     once_as (λ p. p.item) h
-    (e ∙ ap (λ n. flat_map (listed n) ss ++ flat_map (λ u. flat_map (listed n) u.points) os) (rows_numbered P Q keys k)
-    ∙ ap (λ l. flat_map (listed (row_number P Q)) l ++ flat_map (λ u. flat_map (listed (row_number P Q)) u.points) os) s
-    ∙ ap (λ l. flat_map (listed (row_number P Q)) (by_place (λ p. p.place.at) (each static_points 0 Q.fields))
-    ++ flat_map (λ u. flat_map (listed (row_number P Q)) u.points) l) o)
+    (e ∙ ap (λ n. flat_map (listed n) ss ++ flat_map (λ u. flat_map (listed n) u.points) os) (rows_numbered P keys k)
+    ∙ ap (λ l. flat_map (listed (row_number P)) l ++ flat_map (λ u. flat_map (listed (row_number P)) u.points) os) s
+    ∙ ap (λ l. flat_map (listed (row_number P)) (by_place (λ p. p.place.at) (each static_points 0 P.fields))
+    ++ flat_map (λ u. flat_map (listed (row_number P)) u.points) l) o)
 
-pub cells_are : (P Q : Plain) (N : Numbers) (cs : List Column) (ss : List Site) (fs : List FieldCell) (xs : List CellInfo) → N ≡ numbers P Q
-    → cs ≡ columns_of P Q → ss ≡ sites_of P Q
-    → fs ≡ fields_of N Q cs → xs ≡ each (site_cells P fs) 0 ss → xs ≡ cells_of P Q
+pub cells_are : (P : Plain) (N : Numbers) (cs : List Column) (ss : List Site) (fs : List FieldCell) (xs : List CellInfo) → N ≡ numbers P
+    → cs ≡ columns_of P → ss ≡ sites_of P
+    → fs ≡ fields_of N P cs → xs ≡ each (site_cells P fs) 0 ss → xs ≡ cells_of P
 unfolding cells_of
-cells_are P Q N cs ss fs xs n c s f e =
-    e ∙ ap (λ l. each (site_cells P l) 0 ss) (f ∙ ap (λ m. fields_of m Q cs) n ∙ ap (fields_of (numbers P Q) Q) c)
-    ∙ ap (λ l. each (site_cells P (fields_of (numbers P Q) Q (columns_of P Q))) 0 l) s
+cells_are P N cs ss fs xs n c s f e =
+    e ∙ ap (λ l. each (site_cells P l) 0 ss) (f ∙ ap (λ m. fields_of m P cs) n ∙ ap (fields_of (numbers P) P) c)
+    ∙ ap (λ l. each (site_cells P (fields_of (numbers P) P (columns_of P))) 0 l) s
 
-pub outlines_are : (P Q : Plain) (os ps : List declared.Outline) → map outline_seen os ≡ each (outline_if P Q) 0 Q.methods → ps ≡ by_place (λ o. o.place.at) os
-    → map outline_seen ps ≡ by_place (λ o. o.place.at) (each (outline_if P Q) 0 Q.methods)
-outlines_are P Q os ps e h = ap (map outline_seen) h ∙ map-by_place (λ o. o.place.at) (λ o. o.place.at) outline_seen (λ _. refl) os
+pub outlines_are : (P : Plain) (os ps : List declared.Outline) → map outline_seen os ≡ each (outline_if P) 0 P.methods → ps ≡ by_place (λ o. o.place.at) os
+    → map outline_seen ps ≡ by_place (λ o. o.place.at) (each (outline_if P) 0 P.methods)
+outlines_are P os ps e h = ap (map outline_seen) h ∙ map-by_place (λ o. o.place.at) (λ o. o.place.at) outline_seen (λ _. refl) os
     ∙ ap (by_place (λ o. o.place.at)) e
 
 -- what there is too much of, kind by kind
-module _ (P Q : Plain) where
-  pub over_rows : 16384 < length (rows_of P Q) → too_many P Q ≡ Some (record { what = counted.Rows; number = 16385 })
+module _ (P : Plain) where
+  pub over_rows : 16384 < length (rows_of P) → too_many P ≡ Some (record { what = counted.Rows; number = 16385 })
   over_rows h = over_here 16384 _ counted.Rows _ h
 
-  pub over_columns : length (rows_of P Q) ≤ 16384 → 8192 < length (columns_of P Q) → too_many P Q ≡ Some (record { what = counted.Columns; number = 8193 })
+  pub over_columns : length (rows_of P) ≤ 16384 → 8192 < length (columns_of P) → too_many P ≡ Some (record { what = counted.Columns; number = 8193 })
   over_columns r h = over_not 16384 _ counted.Rows _ r ∙ over_here 8192 _ counted.Columns _ h
 
-  pub over_sites : length (rows_of P Q) ≤ 16384 → length (columns_of P Q) ≤ 8192 → 8192 < length (sites_of P Q)
-      → too_many P Q ≡ Some (record { what = counted.Sites; number = 8193 })
+  pub over_sites : length (rows_of P) ≤ 16384 → length (columns_of P) ≤ 8192 → 8192 < length (sites_of P)
+      → too_many P ≡ Some (record { what = counted.Sites; number = 8193 })
   over_sites r c h = over_not 16384 _ counted.Rows _ r ∙ over_not 8192 _ counted.Columns _ c ∙ over_here 8192 _ counted.Sites _ h
 
-  points_counted : length (rows_of P Q) ≤ 16384 → length (columns_of P Q) ≤ 8192 → length (sites_of P Q) ≤ 8192
-      → too_many P Q ≡ over 65536 (length (points_of P Q) + length (cells_of P Q)) counted.Points None
+  points_counted : length (rows_of P) ≤ 16384 → length (columns_of P) ≤ 8192 → length (sites_of P) ≤ 8192
+      → too_many P ≡ over 65536 (length (points_of P) + length (cells_of P)) counted.Points None
   points_counted r c s = over_not 16384 _ counted.Rows _ r ∙ over_not 8192 _ counted.Columns _ c ∙ over_not 8192 _ counted.Sites _ s
 
-  pub over_points : length (rows_of P Q) ≤ 16384 → length (columns_of P Q) ≤ 8192 → length (sites_of P Q) ≤ 8192
-      → 65536 < length (points_of P Q) + length (cells_of P Q)
-      → too_many P Q ≡ Some (record { what = counted.Points; number = 65537 })
+  pub over_points : length (rows_of P) ≤ 16384 → length (columns_of P) ≤ 8192 → length (sites_of P) ≤ 8192
+      → 65536 < length (points_of P) + length (cells_of P)
+      → too_many P ≡ Some (record { what = counted.Points; number = 65537 })
   over_points r c s h = points_counted r c s ∙ over_here 65536 _ counted.Points _ h
 
-  pub none_over : length (rows_of P Q) ≤ 16384 → length (columns_of P Q) ≤ 8192 → length (sites_of P Q) ≤ 8192
-      → length (points_of P Q) + length (cells_of P Q) ≤ 65536 → too_many P Q ≡ None
+  pub none_over : length (rows_of P) ≤ 16384 → length (columns_of P) ≤ 8192 → length (sites_of P) ≤ 8192
+      → length (points_of P) + length (cells_of P) ≤ 65536 → too_many P ≡ None
   none_over r c s h = points_counted r c s ∙ over_not 65536 _ counted.Points _ h
 
 -- calls without their places

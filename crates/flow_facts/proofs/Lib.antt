@@ -1,5 +1,4 @@
 pub mod Middle
-pub mod Forms
 pub mod Sorting
 pub mod Along
 pub mod Counts

@@ -1,16 +1,12 @@
 -- The fields that have a row are fields of classes, in the rising order of their columns.
 use Rattle.std.proofs.Common.{◌≡◌, ℕ, zero, suc, eqb, ◌+◌, ◌<◌, ◌≤◌, Bool, true, false, cond, List, [], ◌∷◌, ◌++◌, length, refl, sym, ap, ◌∙◌, subst, arith}
 use Rattle.std.specs.Prelude.{nat_lt, not, Option, Some, None, slice_get}
-use Rattle.std.specs.Option.{option_map, option_map_or, is_some}
+use Rattle.std.specs.Option.{option_map_or, is_some}
 use Rattle.std.specs.List.{flat_map, list_any}
-use Rattle.std.proofs.lemmas.List.{length-map}
-use Rattle.std.proofs.lemmas.Option.{slice_get-map, slice_get_within}
+use Rattle.std.proofs.lemmas.Option.{slice_get_within}
 use Rattle.indexmap.specs.IndexSet.{insert_key}
 use Rattle.kaba_base.specs.declared.Place.{Place}
-use Rattle.java_core.specs.declared.Program.{Program}
-use Rattle.java_core.specs.declared.Field.{Field}
-use Rattle.java_core.specs.Trees.{at_place, no_place}
-use Rattle.java_core.specs.Programs.{Plain, PlainField, PlainMethod, program_of, field_seen}
+use Rattle.java_core.specs.Programs.{Plain, PlainField, PlainMethod}
 use Rattle.java_core.specs.Formed.{IsFormed}
 use Rattle.flow_rules.specs.declared.items.ObjectType.{ObjectType}
 use Rattle.flow_rules.specs.declared.items.Column.{Column}
@@ -95,10 +91,10 @@ module _ (count : ℕ) where
   of_forms [] = tt
   of_forms (a ∷ ps) = both (form_columns a) (flat_map form_columns ps) (of_form a) (of_forms ps)
 
-  of_methods : (P Q : Plain) (n : ℕ) (ks : List PlainMethod) → AllRanged (each (method_columns P Q) n ks)
-  of_methods P Q n [] = tt
-  of_methods P Q n (k ∷ ks) = both (method_columns P Q n k) (each (method_columns P Q) (n + 1) ks) (both _ (flat_map form_columns (parts_of P n k))
-      (own n k) (of_forms (parts_of P n k))) (of_methods P Q (n + 1) ks)
+  of_methods : (P : Plain) (n : ℕ) (ks : List PlainMethod) → AllRanged (each (method_columns P) n ks)
+  of_methods P n [] = tt
+  of_methods P n (k ∷ ks) = both (method_columns P n k) (each (method_columns P) (n + 1) ks) (both _ (flat_map form_columns (parts_of P n k))
+      (own n k) (of_forms (parts_of P n k))) (of_methods P (n + 1) ks)
     where
       body : (n : ℕ) (k : PlainMethod) (b : Bool) → AllRanged (when b (record { item = column.Def n; place = k.tag.place } ∷ []))
       body n k true = (tt, tt)
@@ -115,51 +111,42 @@ module _ (count : ℕ) where
           (record { item = column.Def n; place = k.tag.place } ∷ [])))
       own n k = declared n k (not k.is_static) (is_some k.body)
 
-  pub of_columns : (P Q : Plain) → length Q.fields ≤ count → AllRanged (columns_of P Q)
+  pub of_columns : (P : Plain) → length P.fields ≤ count → AllRanged (columns_of P)
   unfolding columns_of
-  of_columns P Q h = kept [] _ (sorted _ (both (each field_columns 0 Q.fields) (each (method_columns P Q) 0 Q.methods)
-      (of_fields 0 Q.fields (omega (arith, h))) (of_methods P Q 0 Q.methods)))
+  of_columns P h = kept [] _ (sorted _ (both (each field_columns 0 P.fields) (each (method_columns P) 0 P.methods)
+      (of_fields 0 P.fields (omega (arith, h))) (of_methods P 0 P.methods)))
 
-  module _ (N : Numbers) (P Q : Plain) (holder : (f : ℕ) → f < count → IsHolder P (owner_of Q (column.Fld f))) where
-    one : (n : ℕ) (i : ColumnItem) (rest : List FieldCell) → Ranged i → AreListed P (n + 1) rest → AreListed P n (field_at N Q n i ++ rest)
+  module _ (N : Numbers) (P : Plain) (holder : (f : ℕ) → f < count → IsHolder P (owner_of P (column.Fld f))) where
+    one : (n : ℕ) (i : ColumnItem) (rest : List FieldCell) → Ranged i → AreListed P (n + 1) rest → AreListed P n (field_at N P n i ++ rest)
     one n (column.Fld f) rest r h =
-        elim (N.row (row.Field f)) as (λ x. AreListed P n (field_if N Q n (owner_of Q (column.Fld f)) x ++ rest))
+        elim (N.row (row.Field f)) as (λ x. AreListed P n (field_if N P n (owner_of P (column.Fld f)) x ++ rest))
         [ None ↦ listed_lower P n (n + 1) rest (omega arith) h | Some y ↦ (omega arith, (holder f r, h)) ]
     one n (column.Dcl m) rest r h = listed_lower P n (n + 1) rest (omega arith) h
     one n (column.Def m) rest r h = listed_lower P n (n + 1) rest (omega arith) h
     one n (column.Is c) rest r h = listed_lower P n (n + 1) rest (omega arith) h
 
-    all : (n : ℕ) (ks : List Column) → AllRanged ks → AreListed P n (each (λ c k. field_at N Q c k.item) n ks)
+    all : (n : ℕ) (ks : List Column) → AllRanged ks → AreListed P n (each (λ c k. field_at N P c k.item) n ks)
     all n [] h = tt
-    all n (k ∷ ks) h = one n k.item (each (λ c k. field_at N Q c k.item) (n + 1) ks) h.0 (all (n + 1) ks h.1)
+    all n (k ∷ ks) h = one n k.item (each (λ c k. field_at N P c k.item) (n + 1) ks) h.0 (all (n + 1) ks h.1)
 
 -- the class of a field of a formed program
-holder_of : (p : Program) → IsFormed (program_of no_place p) → (f : ℕ) (g : Field) → slice_get p.fields.items f ≡ Some g
-    → IsHolder (program_of no_place p) (owner_of (program_of at_place p) (column.Fld f))
-holder_of p formed f g e =
-    let P = program_of no_place p in
-    let K = formed.fields f (field_seen no_place g) (slice_get-map (field_seen no_place) p.fields.items f ∙ ap (option_map (field_seen no_place)) e) in
-    let is : owner_of (program_of at_place p) (column.Fld f) ≡ g.owner.0 =
-    ap (λ x. option_map_or (λ k. k.owner) x 0) (slice_get-map (field_seen at_place) p.fields.items f ∙ ap (option_map (field_seen at_place)) e) in
-    subst (IsHolder P) (sym is) (record {
+holder_of : (P : Plain) → IsFormed P → (f : ℕ) (g : PlainField) → slice_get P.fields f ≡ Some g → IsHolder P (owner_of P (column.Fld f))
+holder_of P formed f g e =
+    let K = formed.fields f g e in
+    subst (IsHolder P) (sym (ap (λ x. option_map_or (λ k. k.owner) x 0) e)) (record {
       no_object = K.no_object;
       class = ap (λ x. option_map_or (λ k. k.is_interface) x false) K.stands ∙ K.class;
-      within = slice_get_within P.classes g.owner.0 K.holder K.stands;
+      within = slice_get_within P.classes g.owner K.holder K.stands;
     })
 
-pub fields_listed : (p : Program) → IsFormed (program_of no_place p) → (N : Numbers) (ks : List Column) (fs : List FieldCell)
-    → ks ≡ columns_of (program_of no_place p) (program_of at_place p)
-    → fs ≡ fields_of N (program_of at_place p) ks → AreListed (program_of no_place p) 0 fs
-fields_listed p formed N ks fs e h =
-    let P = program_of no_place p in
-    let Q = program_of at_place p in
-    let count = length Q.fields in
-    let there : length Q.fields ≡ length p.fields.items = length-map p.fields.items (field_seen at_place) in
-    let holder = λ (f : ℕ) (lt : f < count). let k : f < length p.fields.items = subst (λ n. f < n) there lt in
-    let found = in_list p.fields.items f k in holder_of p formed f found.0 found.1 in
-    subst (AreListed P 0) (sym (h ∙ ap (fields_of N Q) e)) (all count N P Q holder 0 (columns_of P Q) (of_columns count P Q (omega arith)))
+pub fields_listed : (P : Plain) → IsFormed P → (N : Numbers) (ks : List Column) (fs : List FieldCell) → ks ≡ columns_of P → fs ≡ fields_of N P ks
+    → AreListed P 0 fs
+fields_listed P formed N ks fs e h =
+    let count = length P.fields in
+    let holder = λ (f : ℕ) (lt : f < count). let found = in_list P.fields f lt in holder_of P formed f found.0 found.1 in
+    subst (AreListed P 0) (sym (h ∙ ap (fields_of N P) e)) (all count N P holder 0 (columns_of P) (of_columns count P (omega arith)))
   where
-    in_list : (xs : List Field) (i : ℕ) → i < length xs → (x : Field) × (slice_get xs i ≡ Some x)
+    in_list : (xs : List PlainField) (i : ℕ) → i < length xs → (x : PlainField) × (slice_get xs i ≡ Some x)
     in_list [] i h = absurd (omega (arith, h))
     in_list (x ∷ xs) zero h = (x, refl)
     in_list (x ∷ xs) (suc i) h = in_list xs i (omega (arith, h))

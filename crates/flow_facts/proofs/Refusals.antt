@@ -24,15 +24,15 @@ module _ {A : Type 0} {n : ℕ} {xs ys : List A} where
   above limit what e h s a = subst (λ k. IsAbove k limit what e) (counted h s) a
 
 -- more than a limit of what a program has
-pub refused : (P Q : Plain) (n limit : ℕ) (what : Counted) (e : FactsFault) → IsAbove n limit what e
-    → (limit < n → too_many P Q ≡ Some (record { what = what; number = limit + 1 })) → IsOver P Q e
-refused P Q n limit what (fault.HasInterface x) a f = a
-refused P Q n limit what (fault.TooMany kind k) a f =
+pub refused : (P : Plain) (n limit : ℕ) (what : Counted) (e : FactsFault) → IsAbove n limit what e
+    → (limit < n → too_many P ≡ Some (record { what = what; number = limit + 1 })) → IsOver P e
+refused P n limit what (fault.HasInterface x) a f = a
+refused P n limit what (fault.TooMany kind k) a f =
     let e = f a.0 in
     let p = a.1 in
     let q = a.2 in
     cc
-refused P Q n limit what fault.Memory a f = tt
+refused P n limit what fault.Memory a f = tt
 
 -- the same count, and the same list, under another name
 pub above_as : {T : Type 0} {xs ys : List T} (limit : ℕ) (what : Counted) (e : FactsFault) → xs ≡ ys → IsAbove (length xs) limit what e
@@ -43,19 +43,19 @@ pub listed_as : {T K : Type 0} {key : T → K} {limit : ℕ} {xs ys items : List
     → IsListed key limit ys items keys
 listed_as {key = key} {limit = limit} {items = items} {keys = keys} e l = subst (λ zs. IsListed key limit zs items keys) e l
 
-pub too_many_points : (P Q : Plain) → length (rows_of P Q) ≤ 16384 → length (columns_of P Q) ≤ 8192 → length (sites_of P Q) ≤ 8192
-    → 65536 < length (points_of P Q)
-    → too_many P Q ≡ Some (record { what = counted_as.Points; number = 65537 })
-too_many_points P Q r c s h = over_points P Q r c s (omega (arith, h))
+pub too_many_points : (P : Plain) → length (rows_of P) ≤ 16384 → length (columns_of P) ≤ 8192 → length (sites_of P) ≤ 8192
+    → 65536 < length (points_of P)
+    → too_many P ≡ Some (record { what = counted_as.Points; number = 65537 })
+too_many_points P r c s h = over_points P r c s (omega (arith, h))
 
 -- the cells beside the flow points
-module _ (P Q : Plain) (r : length (rows_of P Q) ≤ 16384) (c : length (columns_of P Q) ≤ 8192) (s : length (sites_of P Q) ≤ 8192) {most : ℕ}
-    (p : length (points_of P Q) + most ≡ 65536) {xs : List CellInfo} (e : xs ≡ cells_of P Q) where
-  pub too_many_cells : most < length xs → IsOver P Q (fault.TooMany counted_as.Points 65537)
-  too_many_cells h = let k : most < length (cells_of P Q) = subst (λ l. most < length l) e h in over_points P Q r c s (omega (arith, k, p))
+module _ (P : Plain) (r : length (rows_of P) ≤ 16384) (c : length (columns_of P) ≤ 8192) (s : length (sites_of P) ≤ 8192) {most : ℕ}
+    (p : length (points_of P) + most ≡ 65536) {xs : List CellInfo} (e : xs ≡ cells_of P) where
+  pub too_many_cells : most < length xs → IsOver P (fault.TooMany counted_as.Points 65537)
+  too_many_cells h = let k : most < length (cells_of P) = subst (λ l. most < length l) e h in over_points P r c s (omega (arith, k, p))
 
-  pub all_counted : length xs ≤ most → too_many P Q ≡ None
-  all_counted h = let k : length (cells_of P Q) ≤ most = subst (λ l. length l ≤ most) e h in none_over P Q r c s (omega (arith, k, p))
+  pub all_counted : length xs ≤ most → too_many P ≡ None
+  all_counted h = let k : length (cells_of P) ≤ most = subst (λ l. length l ≤ most) e h in none_over P r c s (omega (arith, k, p))
 
 -- the numbers of a list's keys fit
 pub few : {A K : Type 0} (f : A → K) (keys : List K) (xs : List A) (n : ℕ) → keys ≡ map f xs → length xs ≤ n → n ≤ 65536 → length keys < 4294967295

@@ -18,18 +18,18 @@ use Rattle.flow_facts.specs.Seen.{numbers_seen}
 use Rattle.flow_facts.specs.Views.{body_seen}
 
 -- what each row, column, site and flow point is, and each body
-pub record AreTables (Q : Plain) (d : Numbered) (t : Tables) : Type 0 where
-  pub rows : t.rows.items ≡ map (row_info (numbers_seen d.numbering) Q) d.rows.items
-  pub columns : t.columns.items ≡ map (λ c. column_info Q c.item) d.columns.items
+pub record AreTables (P : Plain) (d : Numbered) (t : Tables) : Type 0 where
+  pub rows : t.rows.items ≡ map (row_info (numbers_seen d.numbering) P) d.rows.items
+  pub columns : t.columns.items ≡ map (λ c. column_info P c.item) d.columns.items
   pub sites : t.sites.items ≡ map site_info d.sites.items
   pub points : t.points.items ≡ map (λ p. record { 0 = p.row }) d.points.items
-  pub bodies : map plain_body t.bodies.items ≡ each (λ c k. column_body (numbers_seen d.numbering) Q c k.item) 0 d.columns.items
+  pub bodies : map plain_body t.bodies.items ≡ each (λ c k. column_body (numbers_seen d.numbering) P c k.item) 0 d.columns.items
 
 -- the classes, and the names of the text
-pub record AreTexts (Q : Plain) (t : Texts) : Type 0 where
-  pub classes : map class_seen t.classes.items ≡ each (class_facts Q) 0 Q.classes
-  pub words : t.words.items ≡ once bytes_eq encode_utf8_all (all_names Q)
-  pub variables : t.variables.items ≡ all_variables Q
+pub record AreTexts (P : Plain) (t : Texts) : Type 0 where
+  pub classes : map class_seen t.classes.items ≡ each (class_facts P) 0 P.classes
+  pub words : t.words.items ≡ once bytes_eq encode_utf8_all (all_names P)
+  pub variables : t.variables.items ≡ all_variables P
 
 -- what the parts of the bodies give to each list, the calls and the tests by their place
 pub record AreOrdered (N : Numbers) (P : Plain) (bs : List Body) (l : Lists) (listed : List CallInfo) : Type 0 where
@@ -38,7 +38,7 @@ pub record AreOrdered (N : Numbers) (P : Plain) (bs : List Body) (l : Lists) (li
   pub tests : l.tests.items ≡ by_place (λ t. t.place.at) (flat_map (λ b. flat_map (tests_of N) b.parts) bs)
 
 -- all of it
-pub record IsSaid (P Q : Plain) (d : Numbered) (s : Said) : Type 0 where
-  pub tables : AreTables Q d s.tables
-  pub texts : AreTexts Q s.texts
+pub record IsSaid (P : Plain) (d : Numbered) (s : Said) : Type 0 where
+  pub tables : AreTables P d s.tables
+  pub texts : AreTexts P s.texts
   pub lists : AreOrdered (numbers_seen d.numbering) P (map body_seen d.bodies.items) s.lists s.calls.items

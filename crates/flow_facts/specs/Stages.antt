@@ -25,24 +25,24 @@ IsAbove n limit what (fault.TooMany kind k) = (limit < n) × (kind ≡ what) × 
 IsAbove n limit what fault.Memory = Unit {0}
 
 -- the rows and the columns, with their items
-pub record IsTable (P Q : Plain) (t : Table) : Type 0 where
-  pub rows : IsListed (λ r. r.item) 16384 (rows_of P Q) t.rows.items.items t.rows.keys.keys
-  pub columns : IsListed (λ c. c.item) 8192 (columns_of P Q) t.columns.items.items t.columns.keys.keys
+pub record IsTable (P : Plain) (t : Table) : Type 0 where
+  pub rows : IsListed (λ r. r.item) 16384 (rows_of P) t.rows.items.items t.rows.keys.keys
+  pub columns : IsListed (λ c. c.item) 8192 (columns_of P) t.columns.items.items t.columns.keys.keys
 
 -- the sites and the flow points, with their numbers and items
-pub record IsFlow (P Q : Plain) (f : Flow) : Type 0 where
-  pub sites : IsListed (λ s. s.number) 8192 (sites_of P Q) f.sites.items.items f.sites.keys.keys
-  pub points : IsListed (λ p. p.item) 65536 (points_of P Q) f.points.items.items f.points.keys.keys
+pub record IsFlow (P : Plain) (f : Flow) : Type 0 where
+  pub sites : IsListed (λ s. s.number) 8192 (sites_of P) f.sites.items.items f.sites.keys.keys
+  pub points : IsListed (λ p. p.item) 65536 (points_of P) f.points.items.items f.points.keys.keys
 
 -- what is numbered, in order, the bodies, and the numbers; there is not too much of anything
-pub record IsNumbered (P Q : Plain) (d : Numbered) : Type 0 where
-  pub rows : d.rows.items ≡ rows_of P Q
-  pub columns : d.columns.items ≡ columns_of P Q
-  pub sites : d.sites.items ≡ sites_of P Q
-  pub points : d.points.items ≡ points_of P Q
-  pub cells : d.cells.items ≡ cells_of P Q
-  pub bodies : map body_seen d.bodies.items ≡ bodies_of P Q
-  pub numbers : numbers_seen d.numbering ≡ numbers P Q
-  pub column_items : d.numbering.columns.keys ≡ map (λ c. c.item) (columns_of P Q)
-  pub few : length (columns_of P Q) ≤ 8192
-  pub counts : too_many P Q ≡ None
+pub record IsNumbered (P : Plain) (d : Numbered) : Type 0 where
+  pub rows : d.rows.items ≡ rows_of P
+  pub columns : d.columns.items ≡ columns_of P
+  pub sites : d.sites.items ≡ sites_of P
+  pub points : d.points.items ≡ points_of P
+  pub cells : d.cells.items ≡ cells_of P
+  pub bodies : map body_seen d.bodies.items ≡ bodies_of P
+  pub numbers : numbers_seen d.numbering ≡ numbers P
+  pub column_items : d.numbering.columns.keys ≡ map (λ c. c.item) (columns_of P)
+  pub few : length (columns_of P) ≤ 8192
+  pub counts : too_many P ≡ None

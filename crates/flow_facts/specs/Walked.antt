@@ -1,7 +1,7 @@
 -- What a walk over a tree adds to the parts of a body.
 use Rattle.std.specs.Prelude.{◌≡◌, ℕ, ◌+◌, ◌++◌, ◌∷◌, Bool, true, List, length, Option}
 use Rattle.kaba_base.specs.declared.Place.{Place}
-use Rattle.java_core.specs.Trees.{at_place, no_place, Ex, Exs}
+use Rattle.java_core.specs.Trees.{Ex, Exs}
 use Rattle.java_core.specs.Programs.{Plain, PlainMethod, program_of, method_seen}
 use Rattle.flow_rules.specs.declared.items.ObjectType.{ObjectType}
 use Rattle.flow_rules.specs.declared.items.Operand.{Operand}
@@ -16,8 +16,8 @@ use Rattle.flow_facts.specs.Views.{parts_seen, call_operand}
 -- what is said of the body of a method, by its program, the types there, its number and itself
 abbrev pub in_body : {X : Type 0} → Enclosing → (Plain → (Ex → Option ObjectType) → ℕ → PlainMethod → X) → X
 in_body w f =
-    let P = program_of no_place w.program.now in
-    let k = method_seen at_place w.method.now in
+    let P = program_of w.program.now in
+    let k = method_seen w.method.now in
     f P (object_type P k) w.number k
 
 -- so many parts more, which are these

@@ -1,5 +1,4 @@
 -- The words that several contracts here share, of crates below and of this one.
-pub use Rattle.java_core.specs.Trees.{no_place, at_place}
 pub use Rattle.java_core.specs.Programs.{Plain, program_of, method_seen}
 pub use Rattle.java_core.specs.Formed.{IsFormed}
 pub use Rattle.flow_rules.specs.Ordered.{each}

@@ -9,7 +9,7 @@ ghost use Rattle.flow_facts.specs.Gathered.{AreGathered};
 ghost use Rattle.flow_facts.specs.Said.{AreTables, AreTexts, AreOrdered, IsSaid};
 ghost use Rattle.flow_facts.specs.Seen.{calls_seen};
 ghost use Rattle.flow_facts.specs.Stages.{IsNumbered};
-ghost use Rattle.flow_facts.specs.Words.{no_place, at_place, Plain, program_of, IsFormed, body_seen, numbers_seen};
+ghost use Rattle.flow_facts.specs.Words.{Plain, program_of, IsFormed, body_seen, numbers_seen};
 
 use crate::Tried;
 use crate::gathering::{Lists, gather};
@@ -42,7 +42,7 @@ fn calls_in_order(alloc: Global, calls: Vec<PlacedCall>) -> Tried<Vec<CallInfo>>
 /// Says what each row, column, site and flow point is, and each body.
 fn list_tables(alloc: Global, program: &Program, numbered: &Numbered) -> Tried<Tables>
     requires { length numbered.now.columns.items < 4294967295 }
-    ensures { IfOk result (λ t. AreTables (program_of at_place program.now) numbered.now t) }
+    ensures { IfOk result (λ t. AreTables (program_of program.now) numbered.now t) }
 {
     let given = Given {
         alloc,
@@ -68,7 +68,7 @@ fn list_tables(alloc: Global, program: &Program, numbered: &Numbered) -> Tried<T
 
 /// Lists the classes, and the names of the text.
 fn list_texts(alloc: Global, program: &Program) -> Tried<Texts>
-    ensures { IfOk result (λ t. AreTexts (program_of at_place program.now) t) }
+    ensures { IfOk result (λ t. AreTexts (program_of program.now) t) }
 {
     let classes = made!(class_infos(alloc, program));
     let words = made!(words(alloc, program); classes);
@@ -104,9 +104,9 @@ pub struct Said {
 
 /// Says all of what is numbered.
 fn say(alloc: Global, program: &Program, numbered: &Numbered) -> Tried<Said>
-    requires formed { IsFormed (program_of no_place program.now) }
-    requires numbered { IsNumbered (program_of no_place program.now) (program_of at_place program.now) numbered.now }
-    ensures { IfOk result (λ s. IsSaid (program_of no_place program.now) (program_of at_place program.now) numbered.now s) }
+    requires formed { IsFormed (program_of program.now) }
+    requires numbered { IsNumbered (program_of program.now) numbered.now }
+    ensures { IfOk result (λ s. IsSaid (program_of program.now) numbered.now s) }
 {
     let tables = made!(list_tables(alloc, program, numbered));
     let texts = made!(list_texts(alloc, program); tables);
@@ -128,7 +128,7 @@ fn say(alloc: Global, program: &Program, numbered: &Numbered) -> Tried<Said>
 /// The facts of what is numbered and said.
 #[tactic(none)]
 fn assemble(alloc: Global, numbered: Numbered, said: Said) -> Facts
-    ensures { (P Q : Plain) → IsNumbered P Q numbered → IsSaid P Q numbered said → IsFactsOf P Q result × AreNamesOf Q result }
+    ensures { (P : Plain) → IsNumbered P numbered → IsSaid P numbered said → IsFactsOf P result × AreNamesOf P result }
 {
     let (tables, texts, lists) = (said.tables, said.texts, said.lists);
     let unordered = lists.unordered;
@@ -161,10 +161,10 @@ fn assemble(alloc: Global, numbered: Numbered, said: Said) -> Facts
 /// The facts over what is numbered in a program.
 #[tactic(none)]
 pub fn facts_over(alloc: Global, program: &Program, numbered: Numbered) -> Tried<Facts>
-    requires formed { IsFormed (program_of no_place program.now) }
-    requires numbered { IsNumbered (program_of no_place program.now) (program_of at_place program.now) numbered }
-    ensures ok { IfOk result (λ f. IsFactsOf (program_of no_place program.now) (program_of at_place program.now) f) }
-    ensures names { IfOk result (λ f. AreNamesOf (program_of at_place program.now) f) }
+    requires formed { IsFormed (program_of program.now) }
+    requires numbered { IsNumbered (program_of program.now) numbered }
+    ensures ok { IfOk result (λ f. IsFactsOf (program_of program.now) f) }
+    ensures names { IfOk result (λ f. AreNamesOf (program_of program.now) f) }
 {
     let said = made!(say(alloc, program, &numbered); numbered);
     Ok(assemble(alloc, numbered, said))

@@ -8,7 +8,7 @@ ghost use Rattle.flow_rules.specs.Parts as plain;
 ghost use Rattle.flow_rules.specs.Types.{object_type};
 ghost use Rattle.flow_facts.specs.Views.{static_place, variable_operand};
 ghost use Rattle.flow_facts.specs.Walked.{IsAdded, IsGained, in_body};
-ghost use Rattle.flow_facts.specs.Words.{no_place, at_place, program_of, method_seen, IsFormed, parts_seen};
+ghost use Rattle.flow_facts.specs.Words.{program_of, method_seen, IsFormed, parts_seen};
 
 use crate::Tried;
 use crate::enclosing::Enclosing;
@@ -20,7 +20,7 @@ use kaba_base::Place;
 
 /// What a static field is.
 fn static_place(program: &Program, field: u32) -> Operand
-    ensures value { result ≡ static_place (program_of no_place program.now) field }
+    ensures value { result ≡ static_place (program_of program.now) field }
 {
     Operand {
         point: Some(PointItem::Static(field as u64)),
@@ -32,12 +32,12 @@ fn static_place(program: &Program, field: u32) -> Operand
 
 /// Adds the parts of a value that is put in a local or a static field, and of the putting.
 fn walk_set(within: &Enclosing, target: Operand, value: &RExpr, parts: &mut Vec<Part>) -> Tried<()>
-    requires { IsFormed (program_of no_place within.now.program.now) }
-    ensures { OnOk result (IsAdded parts.old.items parts.new.items (size (expr_of at_place value.now) + 1)
+    requires { IsFormed (program_of within.now.program.now) }
+    ensures { OnOk result (IsAdded parts.old.items parts.new.items (size (expr_of value.now) + 1)
         (in_body within.now plain.parts false
-        (label (length parts.old.items) (expr_of at_place value.now)) ++ plain.a_set target
+        (label (length parts.old.items) (expr_of value.now)) ++ plain.a_set target
         (in_body within.now operand_of
-        (label (length parts.old.items) (expr_of at_place value.now))) ∷ [])) }
+        (label (length parts.old.items) (expr_of value.now))) ∷ [])) }
 {
     let value = made!(walk(within, false, value, parts));
     add(parts, Part::Set(target, value))
@@ -51,12 +51,12 @@ fn walk_assign(
     value: &RExpr,
     parts: &mut Vec<Part>,
 ) -> Tried<()>
-    requires { IsFormed (program_of no_place within.now.program.now) }
-    ensures { OnOk result (IsAdded parts.old.items parts.new.items (size_target (target_of at_place target.now) + size (expr_of at_place value.now) + 1)
+    requires { IsFormed (program_of within.now.program.now) }
+    ensures { OnOk result (IsAdded parts.old.items parts.new.items (size_target (target_of target.now) + size (expr_of value.now) + 1)
         (in_body within.now plain.parts_assign place
-        (label_target (length parts.old.items) (target_of at_place target.now))
-        (label ((length parts.old.items) + size_target (target_of at_place target.now))
-        (expr_of at_place value.now)))) }
+        (label_target (length parts.old.items) (target_of target.now))
+        (label ((length parts.old.items) + size_target (target_of target.now))
+        (expr_of value.now)))) }
 {
     match target {
         RExpr::Local { local, .. } => {
@@ -91,8 +91,8 @@ fn walk_assign(
 
 /// Adds the parts of a value that may be missing.
 fn walk_value(within: &Enclosing, value: &Option<RExpr>, parts: &mut Vec<Part>) -> Tried<()>
-    requires { IsFormed (program_of no_place within.now.program.now) }
-    ensures { OnOk result (IsGained within.now parts.old.items parts.new.items size_if plain.parts_if label_if (value_of at_place value.now)) }
+    requires { IsFormed (program_of within.now.program.now) }
+    ensures { OnOk result (IsGained within.now parts.old.items parts.new.items size_if plain.parts_if label_if (value_of value.now)) }
 {
     match value {
         Some(value) => {
@@ -105,8 +105,8 @@ fn walk_value(within: &Enclosing, value: &Option<RExpr>, parts: &mut Vec<Part>) 
 
 /// Adds the parts of a value that is given back.
 fn walk_return(within: &Enclosing, value: &Option<RExpr>, parts: &mut Vec<Part>) -> Tried<()>
-    requires { IsFormed (program_of no_place within.now.program.now) }
-    ensures { OnOk result (IsGained within.now parts.old.items parts.new.items size_put plain.parts_return label_if (value_of at_place value.now)) }
+    requires { IsFormed (program_of within.now.program.now) }
+    ensures { OnOk result (IsGained within.now parts.old.items parts.new.items size_put plain.parts_return label_if (value_of value.now)) }
 {
     match value {
         Some(value) => {
@@ -120,8 +120,8 @@ fn walk_return(within: &Enclosing, value: &Option<RExpr>, parts: &mut Vec<Part>)
 /// Adds the parts of a statement.
 #[cycle(statements)]
 fn walk_stmt(within: &Enclosing, s: &RStmt, parts: &mut Vec<Part>) -> Tried<()>
-    requires { IsFormed (program_of no_place within.now.program.now) }
-    ensures { OnOk result (IsGained within.now parts.old.items parts.new.items size_st plain.parts_st label_st (stmt_of at_place s.now)) }
+    requires { IsFormed (program_of within.now.program.now) }
+    ensures { OnOk result (IsGained within.now parts.old.items parts.new.items size_st plain.parts_st label_st (stmt_of s.now)) }
 {
     match s {
         RStmt::Local { local, value, .. } => match value {
@@ -170,8 +170,8 @@ fn walk_stmt(within: &Enclosing, s: &RStmt, parts: &mut Vec<Part>) -> Tried<()>
 /// Adds the parts of the first or the last part of a `for`.
 #[cycle(statements)]
 fn walk_step(within: &Enclosing, step: &Option<Box<RStmt>>, parts: &mut Vec<Part>) -> Tried<()>
-    requires { IsFormed (program_of no_place within.now.program.now) }
-    ensures { OnOk result (IsGained within.now parts.old.items parts.new.items size_sts plain.parts_sts label_sts (step_seen at_place step.now)) }
+    requires { IsFormed (program_of within.now.program.now) }
+    ensures { OnOk result (IsGained within.now parts.old.items parts.new.items size_sts plain.parts_sts label_sts (step_seen step.now)) }
 {
     match step {
         Some(step) => { walk_stmt(within, step, parts) }
@@ -182,8 +182,8 @@ fn walk_step(within: &Enclosing, step: &Option<Box<RStmt>>, parts: &mut Vec<Part
 /// Adds the parts of statements.
 #[cycle(statements)]
 fn walk_stmts(within: &Enclosing, body: &Vec<RStmt>, parts: &mut Vec<Part>) -> Tried<()>
-    requires { IsFormed (program_of no_place within.now.program.now) }
-    ensures { OnOk result (IsGained within.now parts.old.items parts.new.items size_sts plain.parts_sts label_sts (stmts at_place body.now.items)) }
+    requires { IsFormed (program_of within.now.program.now) }
+    ensures { OnOk result (IsGained within.now parts.old.items parts.new.items size_sts plain.parts_sts label_sts (stmts body.now.items)) }
 {
     for s in body {
         made!(walk_stmt(within, s, parts));
@@ -199,15 +199,15 @@ fn walk_arms(
     other: &Option<Vec<RStmt>>,
     parts: &mut Vec<Part>,
 ) -> Tried<()>
-    requires { IsFormed (program_of no_place within.now.program.now) }
-    ensures grown { OnOk result (length parts.new.items + size_arms (else_seen at_place other.now)
+    requires { IsFormed (program_of within.now.program.now) }
+    ensures grown { OnOk result (length parts.new.items + size_arms (else_seen other.now)
         ≡ length parts.old.items + size_arms
-        (arms_seen at_place arms.now.items (else_seen at_place other.now))) }
+        (arms_seen arms.now.items (else_seen other.now))) }
     ensures parts { OnOk result (parts_seen parts.new.items ++ in_body within.now plain.parts_arms
-        (label_arms (length parts.new.items) (else_seen at_place other.now)) ≡ parts_seen parts.old.items
+        (label_arms (length parts.new.items) (else_seen other.now)) ≡ parts_seen parts.old.items
         ++ in_body within.now plain.parts_arms
         (label_arms (length parts.old.items)
-        (arms_seen at_place arms.now.items (else_seen at_place other.now)))) }
+        (arms_seen arms.now.items (else_seen other.now)))) }
 {
     let _ = other;
     for arm in arms {
@@ -219,9 +219,9 @@ fn walk_arms(
 
 /// The parts of a method's body.
 pub fn parts_of(of: &Enclosing) -> Tried<Vec<Part>>
-    requires { IsFormed (program_of no_place of.now.program.now) }
-    ensures value { IfOk result (λ v. parts_seen v.items ≡ plain.parts_of (program_of no_place of.now.program.now) of.now.number
-        (method_seen at_place of.now.method.now)) }
+    requires { IsFormed (program_of of.now.program.now) }
+    ensures value { IfOk result (λ v. parts_seen v.items ≡ plain.parts_of (program_of of.now.program.now) of.now.number
+        (method_seen of.now.method.now)) }
 {
     let mut parts = Vec::new(of.alloc);
     match &of.method.body {

@@ -6,15 +6,15 @@ ghost use Rattle.std.specs.Str.{encode_utf8_all};
 ghost use Rattle.java_core.specs.Programs.{field_seen, slot_seen};
 ghost use Rattle.flow_rules.specs.Facts.{class_text, name_in};
 ghost use Rattle.flow_rules.specs.declared.items.ColumnItem.TheVariants as column;
-ghost use Rattle.flow_facts.specs.Words.{no_place, at_place, program_of, method_seen};
+ghost use Rattle.flow_facts.specs.Words.{program_of, method_seen};
 
 use java_core::{Field, Method, Program, Slot};
 use kaba_base::Name;
 
 /// The name of a class by its number.
 pub fn class_name(program: &Program, class: u64) -> Option<&Name>
-    ensures text { option_map_or (λ x. encode_utf8_all x.now) result [] ≡ class_text (program_of at_place program.now) class }
-    ensures name { option_map_or (λ x. x.now) result [] ≡ name_in (program_of at_place program.now) (column.Is (record { 0 = class })) }
+    ensures text { option_map_or (λ x. encode_utf8_all x.now) result [] ≡ class_text (program_of program.now) class }
+    ensures name { option_map_or (λ x. x.now) result [] ≡ name_in (program_of program.now) (column.Is (record { 0 = class })) }
 {
     let class = program.classes.get(class as usize)?;
     Some(&class.name)
@@ -22,24 +22,21 @@ pub fn class_name(program: &Program, class: u64) -> Option<&Name>
 
 /// A field by its number.
 pub fn field_by_number(program: &Program, field: u64) -> Option<&Field>
-    ensures placed { option_map (λ k. field_seen at_place k.now) result ≡ slice_get (program_of at_place program.now).fields field }
-    ensures plain { option_map (λ k. field_seen no_place k.now) result ≡ slice_get (program_of no_place program.now).fields field }
+    ensures value { option_map (λ k. field_seen k.now) result ≡ slice_get (program_of program.now).fields field }
 {
     program.fields.get(field as usize)
 }
 
 /// A method by its number.
 pub fn method_by_number(program: &Program, method: u64) -> Option<&Method>
-    ensures placed { option_map (λ k. method_seen at_place k.now) result ≡ slice_get (program_of at_place program.now).methods method }
-    ensures plain { option_map (λ k. method_seen no_place k.now) result ≡ slice_get (program_of no_place program.now).methods method }
+    ensures value { option_map (λ k. method_seen k.now) result ≡ slice_get (program_of program.now).methods method }
 {
     program.methods.get(method as usize)
 }
 
 /// A slot by its number.
 pub fn slot_by_number(program: &Program, slot: u64) -> Option<&Slot>
-    ensures placed { option_map (λ k. slot_seen at_place k.now) result ≡ slice_get (program_of at_place program.now).slots slot }
-    ensures plain { option_map (λ k. slot_seen no_place k.now) result ≡ slice_get (program_of no_place program.now).slots slot }
+    ensures value { option_map (λ k. slot_seen k.now) result ≡ slice_get (program_of program.now).slots slot }
 {
     program.slots.get(slot as usize)
 }

@@ -6,7 +6,7 @@ ghost use Rattle.flow_rules.specs.Ordered.{when};
 ghost use Rattle.flow_rules.specs.Facts.{field_at, fields_of, site_cells};
 ghost use Rattle.flow_facts.specs.Owned.{AreListed, own_of, own_at, upwards, cell_of};
 ghost use Rattle.flow_facts.specs.Seen.{field_cell_seen};
-ghost use Rattle.flow_facts.specs.Words.{no_place, at_place, program_of, IsFormed, each, numbers_seen, if_there};
+ghost use Rattle.flow_facts.specs.Words.{program_of, IsFormed, each, numbers_seen, if_there};
 
 use crate::Tried;
 use crate::given::Given;
@@ -30,7 +30,7 @@ pub struct FieldCell {
 /// The field of a column, where it is one that has a row.
 fn field_of(given: &Given, c: u32, item: ColumnItem) -> Option<FieldCell>
     ensures value { if_there field_cell_seen result
-        ≡ field_at (numbers_seen given.now.numbering.now) (program_of at_place given.now.program.now) c item }
+        ≡ field_at (numbers_seen given.now.numbering.now) (program_of given.now.program.now) c item }
 {
     match item {
         ColumnItem::Fld(field) => match given.numbering.row(RowItem::Field(field)) {
@@ -48,7 +48,7 @@ fn field_of(given: &Given, c: u32, item: ColumnItem) -> Option<FieldCell>
 pub fn fields_of(given: &Given, columns: &Vec<Column>) -> Tried<Vec<FieldCell>>
     requires { length columns.now.items < 4294967295 }
     ensures value { IfOk result (λ v. map field_cell_seen v.items
-        ≡ fields_of (numbers_seen given.now.numbering.now) (program_of at_place given.now.program.now) columns.now.items) }
+        ≡ fields_of (numbers_seen given.now.numbering.now) (program_of given.now.program.now) columns.now.items) }
 {
     let mut fields = Vec::new(given.alloc);
     for (c, column) in columns.iter().enumerate() {
@@ -85,7 +85,7 @@ fn fields_by_class(
     program: &Program,
     fields: &Vec<FieldCell>,
 ) -> Tried<Vec<Vec<FieldCell>>>
-    requires { AreListed (program_of no_place program.now) 0 (map field_cell_seen fields.now.items) }
+    requires { AreListed (program_of program.now) 0 (map field_cell_seen fields.now.items) }
     ensures { IfOk result (λ v. (c : ℕ) → own_at v.items c ≡ own_of (map field_cell_seen fields.now.items) c) }
 {
     let mut own = made!(no_fields(alloc, program.classes.len()));
@@ -130,8 +130,8 @@ fn fields_above(
     own: &Vec<Vec<FieldCell>>,
     class: ClassId,
 ) -> Tried<Vec<FieldCell>>
-    ensures { IfOk result (λ v. map field_cell_seen v.items ≡ upwards (program_of no_place program.now)
-        (own_at own.now.items) (suc (length (program_of no_place program.now).classes)) (Some class)) }
+    ensures { IfOk result (λ v. map field_cell_seen v.items ≡ upwards (program_of program.now)
+        (own_at own.now.items) (suc (length (program_of program.now).classes)) (Some class)) }
 {
     let mut found = Vec::new(alloc);
     made!(add_fields_of(own, class, &mut found));
@@ -171,11 +171,11 @@ fn add_site_cells(
     site: &Site,
     cells: &mut Vec<CellInfo>,
 ) -> Tried<()>
-    requires formed { IsFormed (program_of no_place program.now) }
-    requires listed { AreListed (program_of no_place program.now) 0 (map field_cell_seen fields.now.items) }
+    requires formed { IsFormed (program_of program.now) }
+    requires listed { AreListed (program_of program.now) 0 (map field_cell_seen fields.now.items) }
     requires own { (c : ℕ) → own_at own.now.items c ≡ own_of (map field_cell_seen fields.now.items) c }
     ensures value { OnOk result (cells.new.items ≡ cells.old.items ++ site_cells
-        (program_of no_place program.now) (map field_cell_seen fields.now.items) i site.now) }
+        (program_of program.now) (map field_cell_seen fields.now.items) i site.now) }
 {
     let _ = fields;
     if site.ty.dim != 0 {
@@ -196,14 +196,14 @@ pub fn cells_of(
     sites: &Vec<Site>,
     most: usize,
 ) -> Tried<Option<Vec<CellInfo>>>
-    requires formed { IsFormed (program_of no_place program.now) }
-    requires listed { AreListed (program_of no_place program.now) 0 (map field_cell_seen fields.now.items) }
+    requires formed { IsFormed (program_of program.now) }
+    requires listed { AreListed (program_of program.now) 0 (map field_cell_seen fields.now.items) }
     requires few { length sites.now.items < 4294967295 }
     ensures over { IfOk result (λ o. MatchOption o
-        (most < length (each (site_cells (program_of no_place program.now)
+        (most < length (each (site_cells (program_of program.now)
         (map field_cell_seen fields.now.items)) 0 sites.now.items)) (λ v. length v.items ≤ most)) }
     ensures value { IfOk result (λ o. IfSome o
-        (λ v. v.items ≡ each (site_cells (program_of no_place program.now)
+        (λ v. v.items ≡ each (site_cells (program_of program.now)
         (map field_cell_seen fields.now.items)) 0 sites.now.items)) }
 {
     let own = made!(fields_by_class(alloc, program, fields));

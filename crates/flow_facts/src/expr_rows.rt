@@ -2,11 +2,10 @@
 
 ghost use Rattle.std.specs.Prelude.{◌≡◌, ℕ};
 ghost use Rattle.std.specs.Option.{option_map};
-ghost use Rattle.kaba_base.specs.declared.Place.{Place};
-ghost use Rattle.java_core.specs.Trees.{Tag, expr_of};
+ghost use Rattle.java_core.specs.Trees.{expr_of};
 ghost use Rattle.java_core.specs.Statics.{static_seen};
 ghost use Rattle.flow_rules.specs.Operands.{object_static, object_field, call_slot, super_slot, type_in, row_of};
-ghost use Rattle.flow_facts.specs.Words.{no_place, program_of, method_seen, IsFormed};
+ghost use Rattle.flow_facts.specs.Words.{program_of, method_seen, IsFormed};
 
 use crate::by_number::method_by_number;
 use crate::types::{object_class, object_field, object_of};
@@ -28,17 +27,16 @@ fn object_static(found: Static) -> Option<ObjectType>
 /// The static type of an expression in a method, where a row can have it.
 #[tactic(auto, unfolding(flow_rules::specs::Operands::type_in))]
 pub fn type_of(program: &Program, method: &Method, e: &RExpr) -> Option<ObjectType>
-    requires { IsFormed (program_of no_place program.now) }
-    ensures value { (tag : Place → Tag) (m : ℕ)
-        → result ≡ type_in (program_of no_place program.now) m (method_seen no_place method.now) (expr_of tag e.now) }
+    requires { IsFormed (program_of program.now) }
+    ensures value { (m : ℕ) → result ≡ type_in (program_of program.now) m (method_seen method.now) (expr_of e.now) }
 {
     object_static(static_of(program, method, e))
 }
 
 /// The row of the field that a type has under a name.
 fn access_row(program: &Program, base: Option<ObjectType>, name: &Name) -> Option<RowItem>
-    requires { IsFormed (program_of no_place program.now) }
-    ensures value { result ≡ option_map RowItem.Field (object_field (program_of no_place program.now) base name.now) }
+    requires { IsFormed (program_of program.now) }
+    ensures value { result ≡ option_map RowItem.Field (object_field (program_of program.now) base name.now) }
 {
     match object_field(program, base, name) {
         Some(field) => Some(RowItem::Field(field as u64)),
@@ -58,8 +56,8 @@ fn return_row(slot: Option<u32>) -> Option<RowItem>
 
 /// The slot that a call of a name on a type calls.
 fn call_slot(program: &Program, base: Option<ObjectType>, name: &Name) -> Option<u32>
-    requires { IsFormed (program_of no_place program.now) }
-    ensures value { result ≡ call_slot (program_of no_place program.now) base name.now }
+    requires { IsFormed (program_of program.now) }
+    ensures value { result ≡ call_slot (program_of program.now) base name.now }
 {
     match object_class(base) {
         Some(class) => slot_of(program, class, name),
@@ -69,16 +67,16 @@ fn call_slot(program: &Program, base: Option<ObjectType>, name: &Name) -> Option
 
 /// The row of what a call of a name on a type gives.
 fn call_row(program: &Program, base: Option<ObjectType>, name: &Name) -> Option<RowItem>
-    requires { IsFormed (program_of no_place program.now) }
-    ensures value { result ≡ option_map RowItem.Return (call_slot (program_of no_place program.now) base name.now) }
+    requires { IsFormed (program_of program.now) }
+    ensures value { result ≡ option_map RowItem.Return (call_slot (program_of program.now) base name.now) }
 {
     return_row(call_slot(program, base, name))
 }
 
 /// The row of what `super.name(..)` in a class gives.
 fn super_row(program: &Program, class: ClassId, name: &Name) -> Option<RowItem>
-    requires { IsFormed (program_of no_place program.now) }
-    ensures value { result ≡ option_map RowItem.Return (super_slot (program_of no_place program.now) class.0 name.now) }
+    requires { IsFormed (program_of program.now) }
+    ensures value { result ≡ option_map RowItem.Return (super_slot (program_of program.now) class.0 name.now) }
 {
     match super_method(program, class, name) {
         Some(method) => match method_by_number(program, method.0 as u64) {
@@ -89,16 +87,15 @@ fn super_row(program: &Program, class: ClassId, name: &Name) -> Option<RowItem>
     }
 }
 
-/// The row that types an expression in the method of the number `m`, whatever tags its forms have: of a variable
-/// and `this` their own, of a field access that of the field, of a call that of the return, of an element that of
+/// The row that types an expression in the method of the number `m`: of a variable and
+/// `this` their own, of a field access that of the field, of a call that of the return, of an element that of
 /// the array, and of a creation or a cast its own. A literal, `null`, an operator and an `instanceof` have none.
 /// It takes a step for each form on the way to the base of the expression.
 #[tactic(auto, unfolding(flow_rules::specs::Operands::type_in))]
 pub fn row_of(program: &Program, m: u64, method: &Method, e: &RExpr) -> Option<RowItem>
-    requires { IsFormed (program_of no_place program.now) }
-    ensures value { (tag : Place → Tag)
-        → result ≡ row_of (program_of no_place program.now) (type_in (program_of no_place program.now) m (method_seen no_place method.now))
-        m (method_seen no_place method.now) (expr_of tag e.now) }
+    requires { IsFormed (program_of program.now) }
+    ensures value { result ≡ row_of (program_of program.now) (type_in (program_of program.now) m (method_seen method.now))
+        m (method_seen method.now) (expr_of e.now) }
 {
     match e {
         RExpr::This { .. } => Some(RowItem::This(m)),

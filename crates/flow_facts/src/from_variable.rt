@@ -2,7 +2,7 @@
 
 ghost use Rattle.std.specs.Prelude.{◌≡◌, ℕ, ◌+◌, ◌<◌, ◌^◌, ◌++◌, List, OnOk, length, map};
 ghost use Rattle.java_core.specs.Programs.{PlainMethod, PlainLocal, local_seen};
-ghost use Rattle.flow_facts.specs.Words.{no_place, at_place, Plain, program_of, method_seen, each};
+ghost use Rattle.flow_facts.specs.Words.{Plain, program_of, method_seen, each};
 
 use crate::Tried;
 use crate::enclosing::Enclosing;
@@ -10,12 +10,12 @@ use java_core::Local;
 
 /// What a parameter or a local of a method may give, by its number.
 pub trait FromVariable: Sized {
-    ghost given: { Plain → Plain → ℕ → PlainMethod → ℕ → PlainLocal → List Self };
+    ghost given: { Plain → ℕ → PlainMethod → ℕ → PlainLocal → List Self };
 
     /// Adds what it gives.
     fn add(of: &Enclosing, number: usize, local: &Local, list: &mut Vec<Self>) -> Tried<()>
-        ensures value { OnOk result (list.new.items ≡ list.old.items ++ given (program_of no_place of.now.program.now)
-            (program_of at_place of.now.program.now) of.now.number (method_seen at_place of.now.method.now) number (local_seen at_place local.now)) };
+        ensures value { OnOk result (list.new.items ≡ list.old.items
+            ++ given (program_of of.now.program.now) of.now.number (method_seen of.now.method.now) number (local_seen local.now)) };
 }
 
 /// Adds what parameters or locals give, the first of which has the number `first`.
@@ -26,9 +26,8 @@ fn add_from_those<T: FromVariable + Drop>(
     list: &mut Vec<T>,
 ) -> Tried<()>
     requires { first + length locals.now.items < 2 ^ 64 }
-    ensures value { OnOk result (list.new.items ≡ list.old.items ++ each (T.given (program_of no_place of.now.program.now)
-        (program_of at_place of.now.program.now) of.now.number (method_seen at_place of.now.method.now)) first
-        (map (local_seen at_place) locals.now.items)) }
+    ensures value { OnOk result (list.new.items ≡ list.old.items
+        ++ each (T.given (program_of of.now.program.now) of.now.number (method_seen of.now.method.now)) first (map local_seen locals.now.items)) }
 {
     let mut number = first;
     for local in locals {
@@ -41,12 +40,10 @@ fn add_from_those<T: FromVariable + Drop>(
 /// Adds what the parameters and then the locals of a method give.
 pub fn add_from_variables<T: FromVariable + Drop>(of: &Enclosing, list: &mut Vec<T>) -> Tried<()>
     ensures value { OnOk result (list.new.items ≡ list.old.items
-        ++ each (T.given (program_of no_place of.now.program.now)
-        (program_of at_place of.now.program.now) of.now.number (method_seen at_place of.now.method.now)) 0
-        (method_seen at_place of.now.method.now).params
-        ++ each (T.given (program_of no_place of.now.program.now)
-        (program_of at_place of.now.program.now) of.now.number (method_seen at_place of.now.method.now))
-        (length (method_seen at_place of.now.method.now).params) (method_seen at_place of.now.method.now).locals) }
+        ++ each (T.given (program_of of.now.program.now) of.now.number (method_seen of.now.method.now)) 0
+        (method_seen of.now.method.now).params
+        ++ each (T.given (program_of of.now.program.now) of.now.number (method_seen of.now.method.now))
+        (length (method_seen of.now.method.now).params) (method_seen of.now.method.now).locals) }
 {
     made!(add_from_those(of, &of.method.params, 0, list));
     let count = of.method.params.len();

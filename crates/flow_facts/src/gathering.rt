@@ -2,7 +2,7 @@
 
 ghost use Rattle.std.specs.Prelude.{IfOk, OnOk, map};
 ghost use Rattle.flow_facts.specs.Gathered.{IsPartAdded, ArePartsAdded, AreGathered};
-ghost use Rattle.flow_facts.specs.Words.{no_place, program_of, IsFormed, part_seen, parts_seen, body_seen, numbers_seen};
+ghost use Rattle.flow_facts.specs.Words.{program_of, IsFormed, part_seen, parts_seen, body_seen, numbers_seen};
 
 use crate::Tried;
 use crate::given::Given;
@@ -26,8 +26,8 @@ pub struct Lists {
 
 /// Adds what a part of a method's body gives. The slot is the method's.
 fn add_part(given: &Given, m: u64, slot: Option<u32>, part: &Part, lists: &mut Lists) -> Tried<()>
-    requires { IsFormed (program_of no_place given.now.program.now) }
-    ensures { OnOk result (IsPartAdded (numbers_seen given.now.numbering.now) (program_of no_place given.now.program.now) m slot
+    requires { IsFormed (program_of given.now.program.now) }
+    ensures { OnOk result (IsPartAdded (numbers_seen given.now.numbering.now) (program_of given.now.program.now) m slot
         (part_seen part.now) lists.old lists.new) }
 {
     let n = given.numbering;
@@ -51,8 +51,8 @@ fn add_parts(
     parts: &Vec<Part>,
     lists: &mut Lists,
 ) -> Tried<()>
-    requires { IsFormed (program_of no_place given.now.program.now) }
-    ensures { OnOk result (ArePartsAdded (numbers_seen given.now.numbering.now) (program_of no_place given.now.program.now) m slot
+    requires { IsFormed (program_of given.now.program.now) }
+    ensures { OnOk result (ArePartsAdded (numbers_seen given.now.numbering.now) (program_of given.now.program.now) m slot
         (parts_seen parts.now.items) lists.old lists.new) }
 {
     for part in parts {
@@ -63,8 +63,8 @@ fn add_parts(
 
 /// What the parts of all bodies give.
 pub fn gather(given: &Given, bodies: &Vec<Body>) -> Tried<Lists>
-    requires { IsFormed (program_of no_place given.now.program.now) }
-    ensures { IfOk result (λ l. AreGathered (numbers_seen given.now.numbering.now) (program_of no_place given.now.program.now)
+    requires { IsFormed (program_of given.now.program.now) }
+    ensures { IfOk result (λ l. AreGathered (numbers_seen given.now.numbering.now) (program_of given.now.program.now)
         (map body_seen bodies.now.items) l) }
 {
     let alloc = given.alloc;

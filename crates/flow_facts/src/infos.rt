@@ -3,7 +3,7 @@
 ghost use Rattle.std.specs.Prelude.{◌≡◌, ℕ, ◌+◌, ◌<◌, ◌++◌, ◌∷◌, [], List, Option, Some, None, IfOk, OnOk, length, map, slice_get};
 ghost use Rattle.std.specs.Option.{option_map, option_map_or};
 ghost use Rattle.flow_rules.specs.Facts.{row_info, site_of_row, this_of_row, column_info, kind_of, owner_of, slot_in, name_in, site_info, field_at, fields_of, field_cell, site_cells, param_points, body_if, column_body, body_seen, class_facts, class_seen, is_holder, variable_names, all_variables};
-ghost use Rattle.flow_facts.specs.Words.{no_place, at_place, Plain, program_of, method_seen, IsFormed, each, numbers_seen, if_there};
+ghost use Rattle.flow_facts.specs.Words.{Plain, program_of, method_seen, IsFormed, each, numbers_seen, if_there};
 
 use crate::Tried;
 use crate::by_number::{class_name, field_by_number, method_by_number};
@@ -47,7 +47,7 @@ fn this_of_row(n: &Numbering, item: RowItem) -> Option<ColId>
 /// The rows.
 pub fn row_infos(given: &Given, rows: &Vec<Row>) -> Tried<Vec<RowInfo>>
     ensures value { IfOk result (λ v. v.items
-        ≡ map (row_info (numbers_seen given.now.numbering.now) (program_of at_place given.now.program.now)) rows.now.items) }
+        ≡ map (row_info (numbers_seen given.now.numbering.now) (program_of given.now.program.now)) rows.now.items) }
 {
     let mut list = Vec::new(given.alloc);
     for row in rows {
@@ -81,7 +81,7 @@ fn kind_of(item: ColumnItem) -> ColKind
 
 /// The class that has what a column stands for.
 pub fn owner_of(program: &Program, item: ColumnItem) -> ClassId
-    ensures value { result.0 ≡ owner_of (program_of at_place program.now) item }
+    ensures value { result.0 ≡ owner_of (program_of program.now) item }
 {
     match item {
         ColumnItem::Fld(field) => match field_by_number(program, field) {
@@ -100,7 +100,7 @@ pub fn owner_of(program: &Program, item: ColumnItem) -> ClassId
 
 /// The slot of a column.
 fn slot_in(program: &Program, item: ColumnItem) -> Option<u32>
-    ensures value { result ≡ slot_in (program_of at_place program.now) item }
+    ensures value { result ≡ slot_in (program_of program.now) item }
 {
     match item {
         ColumnItem::Dcl(method) | ColumnItem::Def(method) => {
@@ -115,7 +115,7 @@ fn slot_in(program: &Program, item: ColumnItem) -> Option<u32>
 
 /// The name of what a column stands for, where it is there.
 fn named(program: &Program, item: ColumnItem) -> Option<&Name>
-    ensures value { option_map_or (λ x. x.now) result [] ≡ name_in (program_of at_place program.now) item }
+    ensures value { option_map_or (λ x. x.now) result [] ≡ name_in (program_of program.now) item }
 {
     match item {
         ColumnItem::Fld(field) => match field_by_number(program, field) {
@@ -134,7 +134,7 @@ fn named(program: &Program, item: ColumnItem) -> Option<&Name>
 
 /// The name of what a column stands for.
 fn name_in(alloc: Global, program: &Program, item: ColumnItem) -> Tried<Name>
-    ensures value { IfOk result (λ x. x ≡ name_in (program_of at_place program.now) item) }
+    ensures value { IfOk result (λ x. x ≡ name_in (program_of program.now) item) }
 {
     match named(program, item) {
         Some(name) => name.copy(alloc),
@@ -148,7 +148,7 @@ pub fn column_infos(
     program: &Program,
     columns: &Vec<Column>,
 ) -> Tried<Vec<ColumnInfo>>
-    ensures value { IfOk result (λ v. v.items ≡ map (λ c. column_info (program_of at_place program.now) c.item) columns.now.items) }
+    ensures value { IfOk result (λ v. v.items ≡ map (λ c. column_info (program_of program.now) c.item) columns.now.items) }
 {
     let mut list = Vec::new(alloc);
     for column in columns {
@@ -195,7 +195,7 @@ pub fn point_rows(alloc: Global, points: &Vec<Point>) -> Tried<Vec<RowId>>
 
 /// The points of the parameters of a method.
 fn param_points(given: &Given, m: u64, method: &Method) -> Tried<Vec<Option<u32>>>
-    ensures value { (Q : Plain) → IfOk result (λ v. v.items ≡ param_points (numbers_seen given.now.numbering.now) Q m (method_seen at_place method.now)) }
+    ensures value { (P : Plain) → IfOk result (λ v. v.items ≡ param_points (numbers_seen given.now.numbering.now) P m (method_seen method.now)) }
 {
     let mut list = Vec::new(given.alloc);
     for (i, _param) in method.params.iter().enumerate() {
@@ -209,8 +209,8 @@ fn param_points(given: &Given, m: u64, method: &Method) -> Tried<Vec<Option<u32>
 
 /// The body of a method, where its `this` is a flow point.
 fn method_body(given: &Given, c: u32, m: u64, method: &Method) -> Tried<Option<BodyInfo>>
-    ensures value { (Q : Plain) → IfOk result (λ o. if_there body_seen o
-        ≡ body_if (numbers_seen given.now.numbering.now) Q c m (method_seen at_place method.now)
+    ensures value { (P : Plain) → IfOk result (λ o. if_there body_seen o
+        ≡ body_if (numbers_seen given.now.numbering.now) P c m (method_seen method.now)
         ((numbers_seen given.now.numbering.now).point (PointItem.This m))) }
 {
     match given.numbering.point(PointItem::This(m)) {
@@ -231,7 +231,7 @@ fn method_body(given: &Given, c: u32, m: u64, method: &Method) -> Tried<Option<B
 /// The body of a column, where it has one that is run.
 fn body_of(given: &Given, c: u32, item: ColumnItem) -> Tried<Option<BodyInfo>>
     ensures value { IfOk result (λ o. if_there body_seen o
-        ≡ column_body (numbers_seen given.now.numbering.now) (program_of at_place given.now.program.now) c item) }
+        ≡ column_body (numbers_seen given.now.numbering.now) (program_of given.now.program.now) c item) }
 {
     match item {
         ColumnItem::Def(m) => match method_by_number(given.program, m) {
@@ -246,7 +246,7 @@ fn body_of(given: &Given, c: u32, item: ColumnItem) -> Tried<Option<BodyInfo>>
 pub fn body_infos(given: &Given, columns: &Vec<Column>) -> Tried<Vec<BodyInfo>>
     requires { length columns.now.items < 4294967295 }
     ensures value { IfOk result (λ v. map body_seen v.items
-        ≡ each (λ c k. column_body (numbers_seen given.now.numbering.now) (program_of at_place given.now.program.now) c k.item) 0
+        ≡ each (λ c k. column_body (numbers_seen given.now.numbering.now) (program_of given.now.program.now) c k.item) 0
         columns.now.items) }
 {
     let mut bodies = Vec::new(given.alloc);

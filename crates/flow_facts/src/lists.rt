@@ -3,7 +3,7 @@
 ghost use Rattle.std.specs.Prelude.{◌≡◌, ℕ, ◌+◌, ◌<◌, ◌++◌, ◌∷◌, [], List, Option, Some, None, IfOk, OnOk, length, map, position};
 ghost use Rattle.flow_rules.specs.Lists.{created, moved, tied, accessed, created_args, moved_args, news_of, flows_of, loads_of, stores_of, calls_of, casts_of, tests_of, accesses_of, supers_of, ties_of, point_at, row_at, row_in};
 ghost use Rattle.flow_facts.specs.Seen.{calls_seen};
-ghost use Rattle.flow_facts.specs.Words.{no_place, program_of, IsFormed, each, part_seen, parts_seen, body_seen, numbers_seen, if_there};
+ghost use Rattle.flow_facts.specs.Words.{program_of, IsFormed, each, part_seen, parts_seen, body_seen, numbers_seen, if_there};
 
 use crate::Tried;
 use crate::given::Given;

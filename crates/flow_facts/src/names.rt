@@ -8,7 +8,7 @@ ghost use Rattle.java_core.specs.Programs.{class_seen as plain_class, local_seen
 ghost use Rattle.flow_rules.specs.Ordered.{once, once_after};
 ghost use Rattle.flow_rules.specs.Facts.{class_seen, class_facts, is_holder, all_names, all_variables, variable_names};
 ghost use Rattle.flow_facts.specs.Holders.{AreHolders};
-ghost use Rattle.flow_facts.specs.Words.{at_place, Plain, program_of, method_seen, each};
+ghost use Rattle.flow_facts.specs.Words.{Plain, program_of, method_seen, each};
 
 use crate::Tried;
 use fact_model::ClassInfo;
@@ -73,7 +73,7 @@ fn mark_all<T: Member>(members: &Vec<T>, holders: &mut [bool])
 fn mark_members(program: &Program, holders: &mut [bool])
     ensures count { length holders.new ≡ length holders.old }
     ensures value { (c : ℕ) → c < length holders.old → get_or holders.new c false ≡ (get_or holders.old c false
-        || is_holder (program_of at_place program.now) c) }
+        || is_holder (program_of program.now) c) }
 {
     mark_all(&program.fields, holders);
     mark_all(&program.methods, holders);
@@ -81,7 +81,7 @@ fn mark_members(program: &Program, holders: &mut [bool])
 
 /// For each class, whether it has static members.
 fn holders(alloc: Global, program: &Program) -> Tried<Vec<bool>>
-    ensures { IfOk result (λ v. AreHolders (program_of at_place program.now) v.items) }
+    ensures { IfOk result (λ v. AreHolders (program_of program.now) v.items) }
 {
     let mut holders = vec![in alloc; false; program.classes.len()]?;
     mark_members(program, &mut holders);
@@ -90,8 +90,8 @@ fn holders(alloc: Global, program: &Program) -> Tried<Vec<bool>>
 
 /// A class. `holder` says whether it has static members.
 fn class_info(alloc: Global, class: &Class, holder: bool) -> Tried<ClassInfo>
-    ensures value { (Q : Plain) (c : ℕ) → holder ≡ is_holder Q c
-        → IfOk result (λ x. class_seen x ∷ [] ≡ class_facts Q c (plain_class at_place class.now)) }
+    ensures value { (P : Plain) (c : ℕ) → holder ≡ is_holder P c
+        → IfOk result (λ x. class_seen x ∷ [] ≡ class_facts P c (plain_class class.now)) }
 {
     let name = made!(class.name.copy(alloc));
     let faces = made!(class.faces.as_slice().to_vec(alloc); name);
@@ -106,9 +106,9 @@ fn class_info(alloc: Global, class: &Class, holder: bool) -> Tried<ClassInfo>
 
 /// The classes, each with whether it has static members.
 fn list_classes(alloc: Global, program: &Program, holders: &[bool]) -> Tried<Vec<ClassInfo>>
-    requires { AreHolders (program_of at_place program.now) holders.now }
+    requires { AreHolders (program_of program.now) holders.now }
     ensures value { IfOk result (λ v. map class_seen v.items
-        ≡ each (class_facts (program_of at_place program.now)) 0 (program_of at_place program.now).classes) }
+        ≡ each (class_facts (program_of program.now)) 0 (program_of program.now).classes) }
 {
     let mut list = Vec::new(alloc);
     for (c, class) in program.classes.iter().enumerate() {
@@ -121,7 +121,7 @@ fn list_classes(alloc: Global, program: &Program, holders: &[bool]) -> Tried<Vec
 /// The classes.
 pub fn class_infos(alloc: Global, program: &Program) -> Tried<Vec<ClassInfo>>
     ensures value { IfOk result (λ v. map class_seen v.items
-        ≡ each (class_facts (program_of at_place program.now)) 0 (program_of at_place program.now).classes) }
+        ≡ each (class_facts (program_of program.now)) 0 (program_of program.now).classes) }
 {
     let holders = made!(holders(alloc, program));
     list_classes(alloc, program, &holders)
@@ -137,7 +137,7 @@ fn add_name(alloc: Global, name: &Name, names: &mut Vec<Name>) -> Tried<()>
 
 /// Adds the names of parameters or locals.
 fn add_variables(alloc: Global, locals: &Vec<Local>, names: &mut Vec<Name>) -> Tried<()>
-    ensures value { OnOk result (names.new.items ≡ names.old.items ++ map (λ v. v.name) (map (local_seen at_place) locals.now.items)) }
+    ensures value { OnOk result (names.new.items ≡ names.old.items ++ map (λ v. v.name) (map local_seen locals.now.items)) }
 {
     for local in locals {
         made!(add_name(alloc, &local.name, names));
@@ -147,7 +147,7 @@ fn add_variables(alloc: Global, locals: &Vec<Local>, names: &mut Vec<Name>) -> T
 
 /// Adds the names of the fields.
 fn add_fields(alloc: Global, program: &Program, names: &mut Vec<Name>) -> Tried<()>
-    ensures value { OnOk result (names.new.items ≡ names.old.items ++ map (λ f. f.name) (program_of at_place program.now).fields) }
+    ensures value { OnOk result (names.new.items ≡ names.old.items ++ map (λ f. f.name) (program_of program.now).fields) }
 {
     for field in &program.fields {
         made!(add_name(alloc, &field.name, names));
@@ -157,7 +157,7 @@ fn add_fields(alloc: Global, program: &Program, names: &mut Vec<Name>) -> Tried<
 
 /// The names of the fields, parameters and locals.
 pub fn variables(alloc: Global, program: &Program) -> Tried<Vec<Name>>
-    ensures value { IfOk result (λ v. v.items ≡ all_variables (program_of at_place program.now)) }
+    ensures value { IfOk result (λ v. v.items ≡ all_variables (program_of program.now)) }
 {
     let mut names = Vec::new(alloc);
     made!(add_fields(alloc, program, &mut names); names);
@@ -170,7 +170,7 @@ pub fn variables(alloc: Global, program: &Program) -> Tried<Vec<Name>>
 
 /// The names of the text: of the types but `Object`, of the fields, and of each method with its parameters and locals.
 fn all_names(alloc: Global, program: &Program) -> Tried<Vec<Name>>
-    ensures value { IfOk result (λ v. v.items ≡ all_names (program_of at_place program.now)) }
+    ensures value { IfOk result (λ v. v.items ≡ all_names (program_of program.now)) }
 {
     let mut names = Vec::new(alloc);
     made!(add_types(alloc, program, &mut names); names);
@@ -185,7 +185,7 @@ fn all_names(alloc: Global, program: &Program) -> Tried<Vec<Name>>
 
 /// Adds the names of the types but `Object`.
 fn add_types(alloc: Global, program: &Program, names: &mut Vec<Name>) -> Tried<()>
-    ensures value { OnOk result (names.new.items ≡ names.old.items ++ map (λ k. k.name) (drop 1 (program_of at_place program.now).classes)) }
+    ensures value { OnOk result (names.new.items ≡ names.old.items ++ map (λ k. k.name) (drop 1 (program_of program.now).classes)) }
 {
     if let [_, rest @ ..] = program.classes.as_slice() {
         for class in rest {
@@ -225,7 +225,7 @@ fn add_word(
 
 /// The names of the text, each once where it first stands.
 pub fn words(alloc: Global, program: &Program) -> Tried<Vec<Name>>
-    ensures value { IfOk result (λ v. v.items ≡ once bytes_eq encode_utf8_all (all_names (program_of at_place program.now))) }
+    ensures value { IfOk result (λ v. v.items ≡ once bytes_eq encode_utf8_all (all_names (program_of program.now))) }
 {
     let mut words = Vec::new(alloc);
     let mut seen = IndexSet::new(alloc);

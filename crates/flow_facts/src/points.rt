@@ -5,7 +5,7 @@ ghost use Rattle.std.specs.List.{flat_map};
 ghost use Rattle.flow_rules.specs.Ordered.{by_place};
 ghost use Rattle.flow_rules.specs.Parts as plain;
 ghost use Rattle.flow_rules.specs.Numbered.{own_point, form_points, variable_points, method_points};
-ghost use Rattle.flow_facts.specs.Words.{at_place, Plain, method_seen, parts_seen};
+ghost use Rattle.flow_facts.specs.Words.{Plain, method_seen, parts_seen};
 
 use crate::Tried;
 use crate::enclosing::Enclosing;
@@ -59,7 +59,7 @@ fn form_points(alloc: Global, parts: &Vec<Part>) -> Tried<Vec<PointAt>>
 
 /// A parameter or a local may be a flow point.
 impl FromVariable for PointAt {
-    ghost given = { λ P Q. variable_points };
+    ghost given = { λ P. variable_points };
 
     fn add(of: &Enclosing, number: usize, local: &Local, points: &mut Vec<PointAt>) -> Tried<()> {
         let item = PointItem::Local(of.number, number as u64);
@@ -71,9 +71,9 @@ impl FromVariable for PointAt {
 
 /// What may be flow points of a body with these parts.
 pub fn method_points(of: &Enclosing, parts: &Vec<Part>) -> Tried<Vec<PointAt>>
-    ensures value { (P Q : Plain) → parts_seen parts.now.items
-        ≡ plain.parts_of P of.now.number (method_seen at_place of.now.method.now)
-        → IfOk result (λ v. v.items ≡ method_points P Q of.now.number (method_seen at_place of.now.method.now)) }
+    ensures value { (P : Plain) → parts_seen parts.now.items
+        ≡ plain.parts_of P of.now.number (method_seen of.now.method.now)
+        → IfOk result (λ v. v.items ≡ method_points P of.now.number (method_seen of.now.method.now)) }
 {
     let place = of.method.place;
     let mut points = Vec::new(of.alloc);

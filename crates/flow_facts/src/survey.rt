@@ -5,7 +5,7 @@ ghost use Rattle.java_core.specs.Programs.{field_seen};
 ghost use Rattle.flow_rules.specs.Parts as plain;
 ghost use Rattle.flow_rules.specs.Numbered.{row_if, own_row, form_rows, mark, array_mark, form_columns, is_first, field_rows, this_rows, result_rows, variable_rows, method_rows, field_columns, method_columns, static_points, body_at, outline_if, bodies_of};
 ghost use Rattle.flow_rules.specs.Operands.{result_in};
-ghost use Rattle.flow_facts.specs.Words.{no_place, at_place, Plain, program_of, method_seen, IsFormed, each, parts_seen, body_seen, outline_seen};
+ghost use Rattle.flow_facts.specs.Words.{Plain, program_of, method_seen, IsFormed, each, parts_seen, body_seen, outline_seen};
 
 use crate::Tried;
 use crate::bodies::parts_of;
@@ -59,7 +59,7 @@ impl FromPart for Row {
 
 /// Whether a method has the rows of its slot's return and parameters; a static method has its own.
 fn is_first(of: &Enclosing) -> bool
-    ensures value { result ≡ is_first (program_of no_place of.now.program.now) of.now.number (method_seen at_place of.now.method.now) }
+    ensures value { result ≡ is_first (program_of of.now.program.now) of.now.number (method_seen of.now.method.now) }
 {
     match of.method.slot {
         None => true,
@@ -85,10 +85,10 @@ impl FromVariable for Row {
 
 /// Adds the rows of a method, whose body has these parts.
 fn add_method_rows(of: &Enclosing, parts: &Vec<Part>, rows: &mut Vec<Row>) -> Tried<()>
-    requires { parts_seen parts.now.items ≡ plain.parts_of (program_of no_place of.now.program.now) of.now.number (method_seen at_place of.now.method.now) }
+    requires { parts_seen parts.now.items ≡ plain.parts_of (program_of of.now.program.now) of.now.number (method_seen of.now.method.now) }
     ensures value { OnOk result (rows.new.items ≡ rows.old.items ++ method_rows
-        (program_of no_place of.now.program.now) (program_of at_place of.now.program.now) of.now.number
-        (method_seen at_place of.now.method.now)) }
+        (program_of of.now.program.now) of.now.number
+        (method_seen of.now.method.now)) }
 {
     let method = of.method;
     if method.body.is_some() && !method.is_static {
@@ -144,10 +144,10 @@ impl FromPart for Column {
 
 /// Adds the columns of a method, whose body has these parts.
 fn add_method_columns(of: &Enclosing, parts: &Vec<Part>, columns: &mut Vec<Column>) -> Tried<()>
-    ensures value { (P Q : Plain) → parts_seen parts.now.items
-        ≡ plain.parts_of P of.now.number (method_seen at_place of.now.method.now)
-        → OnOk result (columns.new.items ≡ columns.old.items ++ method_columns P Q of.now.number
-        (method_seen at_place of.now.method.now)) }
+    ensures value { (P : Plain) → parts_seen parts.now.items
+        ≡ plain.parts_of P of.now.number (method_seen of.now.method.now)
+        → OnOk result (columns.new.items ≡ columns.old.items ++ method_columns P of.now.number
+        (method_seen of.now.method.now)) }
 {
     let method = of.method;
     if !method.is_static {
@@ -163,11 +163,11 @@ fn add_method_columns(of: &Enclosing, parts: &Vec<Part>, columns: &mut Vec<Colum
 
 /// Adds the rows, the columns and the points of the fields.
 fn survey_fields(program: &Program, survey: &mut Surveyed) -> Tried<()>
-    ensures rows { OnOk result (survey.new.rows.items ≡ survey.old.rows.items ++ each field_rows 0 (map (field_seen at_place) program.now.fields.items)) }
+    ensures rows { OnOk result (survey.new.rows.items ≡ survey.old.rows.items ++ each field_rows 0 (map field_seen program.now.fields.items)) }
     ensures columns { OnOk result (survey.new.columns.items ≡ survey.old.columns.items ++ each field_columns 0
-        (map (field_seen at_place) program.now.fields.items)) }
+        (map field_seen program.now.fields.items)) }
     ensures statics { OnOk result (survey.new.statics.items ≡ survey.old.statics.items ++ each static_points 0
-        (map (field_seen at_place) program.now.fields.items)) }
+        (map field_seen program.now.fields.items)) }
     ensures outlines { OnOk result (survey.new.outlines ≡ survey.old.outlines) }
     ensures bodies { OnOk result (survey.new.bodies ≡ survey.old.bodies) }
 {
@@ -179,9 +179,9 @@ fn survey_fields(program: &Program, survey: &mut Surveyed) -> Tried<()>
 
 /// Adds the row, the column and the point of a field.
 fn survey_field(f: usize, field: &Field, survey: &mut Surveyed) -> Tried<()>
-    ensures rows { OnOk result (survey.new.rows.items ≡ survey.old.rows.items ++ field_rows f (field_seen at_place field.now)) }
-    ensures columns { OnOk result (survey.new.columns.items ≡ survey.old.columns.items ++ field_columns f (field_seen at_place field.now)) }
-    ensures statics { OnOk result (survey.new.statics.items ≡ survey.old.statics.items ++ static_points f (field_seen at_place field.now)) }
+    ensures rows { OnOk result (survey.new.rows.items ≡ survey.old.rows.items ++ field_rows f (field_seen field.now)) }
+    ensures columns { OnOk result (survey.new.columns.items ≡ survey.old.columns.items ++ field_columns f (field_seen field.now)) }
+    ensures statics { OnOk result (survey.new.statics.items ≡ survey.old.statics.items ++ static_points f (field_seen field.now)) }
     ensures outlines { OnOk result (survey.new.outlines ≡ survey.old.outlines) }
     ensures bodies { OnOk result (survey.new.bodies ≡ survey.old.bodies) }
 {
@@ -198,20 +198,18 @@ fn survey_field(f: usize, field: &Field, survey: &mut Surveyed) -> Tried<()>
 
 /// Adds the rows, the columns, the outline and the parts of a method.
 fn survey_method(of: &Enclosing, survey: &mut Surveyed) -> Tried<()>
-    requires { IsFormed (program_of no_place of.now.program.now) }
+    requires { IsFormed (program_of of.now.program.now) }
     ensures rows { OnOk result (survey.new.rows.items ≡ survey.old.rows.items ++ method_rows
-        (program_of no_place of.now.program.now) (program_of at_place of.now.program.now) of.now.number
-        (method_seen at_place of.now.method.now)) }
+        (program_of of.now.program.now) of.now.number
+        (method_seen of.now.method.now)) }
     ensures columns { OnOk result (survey.new.columns.items ≡ survey.old.columns.items ++ method_columns
-        (program_of no_place of.now.program.now) (program_of at_place of.now.program.now) of.now.number
-        (method_seen at_place of.now.method.now)) }
+        (program_of of.now.program.now) of.now.number
+        (method_seen of.now.method.now)) }
     ensures statics { OnOk result (survey.new.statics ≡ survey.old.statics) }
     ensures outlines { OnOk result (map outline_seen survey.new.outlines.items
-        ≡ map outline_seen survey.old.outlines.items ++ outline_if (program_of no_place of.now.program.now)
-        (program_of at_place of.now.program.now) of.now.number (method_seen at_place of.now.method.now)) }
+        ≡ map outline_seen survey.old.outlines.items ++ outline_if (program_of of.now.program.now) of.now.number (method_seen of.now.method.now)) }
     ensures bodies { OnOk result (map body_seen survey.new.bodies.items
-        ≡ map body_seen survey.old.bodies.items ++ body_at (program_of no_place of.now.program.now)
-        (program_of at_place of.now.program.now) of.now.number (method_seen at_place of.now.method.now)) }
+        ≡ map body_seen survey.old.bodies.items ++ body_at (program_of of.now.program.now) of.now.number (method_seen of.now.method.now)) }
 {
     let method = of.method;
     let parts = parts_of(of)?;
@@ -233,19 +231,19 @@ fn survey_method(of: &Enclosing, survey: &mut Surveyed) -> Tried<()>
 /// What is numbered in a program, in its order.
 #[tactic(auto, unfolding(flow_rules::specs::Numbered::bodies_of))]
 pub fn survey(alloc: Global, program: &Program) -> Tried<Surveyed>
-    requires { IsFormed (program_of no_place program.now) }
-    ensures rows { IfOk result (λ s. s.rows.items ≡ each field_rows 0 (program_of at_place program.now).fields
-        ++ each (method_rows (program_of no_place program.now) (program_of at_place program.now)) 0
-        (program_of at_place program.now).methods) }
+    requires { IsFormed (program_of program.now) }
+    ensures rows { IfOk result (λ s. s.rows.items ≡ each field_rows 0 (program_of program.now).fields
+        ++ each (method_rows (program_of program.now)) 0
+        (program_of program.now).methods) }
     ensures columns { IfOk result (λ s. s.columns.items
-        ≡ each field_columns 0 (program_of at_place program.now).fields
-        ++ each (method_columns (program_of no_place program.now) (program_of at_place program.now)) 0
-        (program_of at_place program.now).methods) }
-    ensures statics { IfOk result (λ s. s.statics.items ≡ each static_points 0 (program_of at_place program.now).fields) }
+        ≡ each field_columns 0 (program_of program.now).fields
+        ++ each (method_columns (program_of program.now)) 0
+        (program_of program.now).methods) }
+    ensures statics { IfOk result (λ s. s.statics.items ≡ each static_points 0 (program_of program.now).fields) }
     ensures outlines { IfOk result (λ s. map outline_seen s.outlines.items
-        ≡ each (outline_if (program_of no_place program.now) (program_of at_place program.now)) 0
-        (program_of at_place program.now).methods) }
-    ensures bodies { IfOk result (λ s. map body_seen s.bodies.items ≡ bodies_of (program_of no_place program.now) (program_of at_place program.now)) }
+        ≡ each (outline_if (program_of program.now)) 0
+        (program_of program.now).methods) }
+    ensures bodies { IfOk result (λ s. map body_seen s.bodies.items ≡ bodies_of (program_of program.now)) }
 {
     let mut survey = Surveyed {
         rows: Vec::new(alloc),

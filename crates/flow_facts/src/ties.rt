@@ -3,7 +3,7 @@
 ghost use Rattle.std.specs.Prelude.{◌≡◌, ℕ, ◌++◌, List, Option, Some, None, OnOk, if◌then◌else◌};
 ghost use Rattle.std.specs.Option.{is_some};
 ghost use Rattle.flow_rules.specs.Lists.{left_is_lower, is_left_lower, narrower, same_type, tied, slot_ties, method_ties, param_row, ties_of, is_this, is_comparison};
-ghost use Rattle.flow_facts.specs.Words.{no_place, Plain, program_of, IsFormed, part_seen, numbers_seen};
+ghost use Rattle.flow_facts.specs.Words.{Plain, program_of, IsFormed, part_seen, numbers_seen};
 
 use crate::Tried;
 use crate::by_number::method_by_number;
@@ -40,8 +40,8 @@ fn same_type(left: ObjectType, right: ObjectType) -> bool
 
 /// Whether the first type is a subtype of the second, of one dimension.
 fn narrower(program: &Program, left: ObjectType, right: ObjectType) -> bool
-    requires { IsFormed (program_of no_place program.now) }
-    ensures value { result ≡ narrower (program_of no_place program.now) left right }
+    requires { IsFormed (program_of program.now) }
+    ensures value { result ≡ narrower (program_of program.now) left right }
 {
     left.dim == right.dim && is_subtype(program, left.class, right.class)
 }
@@ -62,8 +62,8 @@ fn is_left_lower(
     s: ObjectType,
     t: ObjectType,
 ) -> bool
-    requires { IsFormed (program_of no_place program.now) }
-    ensures value { result ≡ is_left_lower (program_of no_place program.now) left.now right.now s t }
+    requires { IsFormed (program_of program.now) }
+    ensures value { result ≡ is_left_lower (program_of program.now) left.now right.now s t }
 {
     if same_type(s, t) {
         left_is_lower(left, right)
@@ -85,7 +85,7 @@ fn add_either(is_lower: bool, l: Option<u32>, r: Option<u32>, ties: &mut Vec<Tie
 
 /// The row of a parameter of a method.
 fn param_row(program: &Program, callee: u64, i: u64) -> Option<RowItem>
-    ensures value { result ≡ param_row (program_of no_place program.now) callee i }
+    ensures value { result ≡ param_row (program_of program.now) callee i }
 {
     match method_by_number(program, callee) {
         Some(method) => match method.slot {
@@ -119,7 +119,7 @@ fn add_method_args(
     args: &Vec<Operand>,
     ties: &mut Vec<TieInfo>,
 ) -> Tried<()>
-    ensures value { OnOk result (ties.new.items ≡ ties.old.items ++ method_ties (numbers_seen n.now) (program_of no_place program.now) callee args.now.items) }
+    ensures value { OnOk result (ties.new.items ≡ ties.old.items ++ method_ties (numbers_seen n.now) (program_of program.now) callee args.now.items) }
 {
     for (i, arg) in args.iter().enumerate() {
         let parameter = row_in(n, param_row(program, callee, i as u64));
@@ -137,9 +137,9 @@ pub fn add_ties(
     part: &Part,
     ties: &mut Vec<TieInfo>,
 ) -> Tried<()>
-    requires { IsFormed (program_of no_place program.now) }
+    requires { IsFormed (program_of program.now) }
     ensures value { OnOk result (ties.new.items ≡ ties.old.items ++ ties_of (numbers_seen n.now)
-        (program_of no_place program.now) m slot (part_seen part.now)) }
+        (program_of program.now) m slot (part_seen part.now)) }
 {
     match part {
         Part::Set(target, value) => add_tied(row_at(n, value), row_at(n, target), ties),

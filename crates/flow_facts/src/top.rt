@@ -6,7 +6,7 @@ ghost use Rattle.flow_rules.specs.Numbered.{rows_of, columns_of, sites_of, point
 ghost use Rattle.flow_rules.specs.Facts.{AreNamesOf, IsFactsOf, IsRefused, IsWithin, first_interface, numbers, cells_of, too_many, IsOver};
 ghost use Rattle.flow_rules.specs.Ordered.{by_place, once};
 ghost use Rattle.flow_facts.specs.Stages.{IsAbove, IsListed, IsTable, IsFlow, IsNumbered};
-ghost use Rattle.flow_facts.specs.Words.{no_place, at_place, program_of, IsFormed, each, body_seen, outline_seen, numbers_seen};
+ghost use Rattle.flow_facts.specs.Words.{program_of, IsFormed, each, body_seen, outline_seen, numbers_seen};
 
 use crate::assembled::facts_over;
 use crate::cells::{cells_of, fields_of};
@@ -27,7 +27,7 @@ use std::mem::drop;
 
 /// The first interface that is declared.
 fn first_interface(program: &Program) -> Option<&Name>
-    ensures value { option_map (λ x. x.now) result ≡ first_interface (program_of at_place program.now).classes }
+    ensures value { option_map (λ x. x.now) result ≡ first_interface (program_of program.now).classes }
 {
     for class in &program.classes {
         if class.is_interface {
@@ -73,15 +73,15 @@ fn number_points(
     statics: Vec<PointAt>,
     outlines: Vec<Outline>,
 ) -> Result<Listed<Point, PointItem>, FactsFault>
-    requires table { IsTable (program_of no_place program.now) (program_of at_place program.now) table.now }
-    requires statics { statics.items ≡ each static_points 0 (program_of at_place program.now).fields }
+    requires table { IsTable (program_of program.now) table.now }
+    requires statics { statics.items ≡ each static_points 0 (program_of program.now).fields }
     requires outlines { map outline_seen outlines.items
-        ≡ each (outline_if (program_of no_place program.now) (program_of at_place program.now)) 0
-        (program_of at_place program.now).methods }
-    requires sites { length (sites_of (program_of no_place program.now) (program_of at_place program.now)) ≤ 8192 }
+        ≡ each (outline_if (program_of program.now)) 0
+        (program_of program.now).methods }
+    requires sites { length (sites_of (program_of program.now)) ≤ 8192 }
     ensures ok { IfOk result (λ l. IsListed (λ p. p.item) 65536
-        (points_of (program_of no_place program.now) (program_of at_place program.now)) l.items.items l.keys.keys) }
-    ensures refused { IfErr result (λ e. IsOver (program_of no_place program.now) (program_of at_place program.now) e) }
+        (points_of (program_of program.now)) l.items.items l.keys.keys) }
+    ensures refused { IfErr result (λ e. IsOver (program_of program.now) e) }
 {
     let rows = &table.rows.keys;
     let statics = made!(by_place(statics) => FactsFault; outlines);
@@ -106,17 +106,17 @@ fn number_cells(
     sites: &Vec<Site>,
     most: usize,
 ) -> Result<Vec<CellInfo>, FactsFault>
-    requires formed { IsFormed (program_of no_place program.now) }
-    requires numbers { numbers_seen n.now ≡ numbers (program_of no_place program.now) (program_of at_place program.now) }
-    requires of_columns { columns.now.items ≡ columns_of (program_of no_place program.now) (program_of at_place program.now) }
-    requires of_sites { sites.now.items ≡ sites_of (program_of no_place program.now) (program_of at_place program.now) }
-    requires rows { length (rows_of (program_of no_place program.now) (program_of at_place program.now)) ≤ 16384 }
-    requires columns { length (columns_of (program_of no_place program.now) (program_of at_place program.now)) ≤ 8192 }
-    requires sites { length (sites_of (program_of no_place program.now) (program_of at_place program.now)) ≤ 8192 }
-    requires points { length (points_of (program_of no_place program.now) (program_of at_place program.now)) + most ≡ 65536 }
-    ensures items { IfOk result (λ v. v.items ≡ cells_of (program_of no_place program.now) (program_of at_place program.now)) }
-    ensures counts { IfOk result (λ v. too_many (program_of no_place program.now) (program_of at_place program.now) ≡ None) }
-    ensures refused { IfErr result (λ e. IsOver (program_of no_place program.now) (program_of at_place program.now) e) }
+    requires formed { IsFormed (program_of program.now) }
+    requires numbers { numbers_seen n.now ≡ numbers (program_of program.now) }
+    requires of_columns { columns.now.items ≡ columns_of (program_of program.now) }
+    requires of_sites { sites.now.items ≡ sites_of (program_of program.now) }
+    requires rows { length (rows_of (program_of program.now)) ≤ 16384 }
+    requires columns { length (columns_of (program_of program.now)) ≤ 8192 }
+    requires sites { length (sites_of (program_of program.now)) ≤ 8192 }
+    requires points { length (points_of (program_of program.now)) + most ≡ 65536 }
+    ensures items { IfOk result (λ v. v.items ≡ cells_of (program_of program.now)) }
+    ensures counts { IfOk result (λ v. too_many (program_of program.now) ≡ None) }
+    ensures refused { IfErr result (λ e. IsOver (program_of program.now) e) }
 {
     let given = Given {
         alloc,
@@ -137,14 +137,14 @@ fn number_table(
     rows: Vec<Row>,
     columns: Vec<Column>,
 ) -> Result<Table, FactsFault>
-    requires rows { rows.items ≡ each field_rows 0 (program_of at_place program.now).fields
-        ++ each (method_rows (program_of no_place program.now) (program_of at_place program.now)) 0
-        (program_of at_place program.now).methods }
-    requires columns { columns.items ≡ each field_columns 0 (program_of at_place program.now).fields
-        ++ each (method_columns (program_of no_place program.now) (program_of at_place program.now)) 0
-        (program_of at_place program.now).methods }
-    ensures ok { IfOk result (λ t. IsTable (program_of no_place program.now) (program_of at_place program.now) t) }
-    ensures refused { IfErr result (λ e. IsOver (program_of no_place program.now) (program_of at_place program.now) e) }
+    requires rows { rows.items ≡ each field_rows 0 (program_of program.now).fields
+        ++ each (method_rows (program_of program.now)) 0
+        (program_of program.now).methods }
+    requires columns { columns.items ≡ each field_columns 0 (program_of program.now).fields
+        ++ each (method_columns (program_of program.now)) 0
+        (program_of program.now).methods }
+    ensures ok { IfOk result (λ t. IsTable (program_of program.now) t) }
+    ensures refused { IfErr result (λ e. IsOver (program_of program.now) e) }
 {
     let rows = made!(number_by_place(alloc, rows, 16384, Counted::Rows); columns);
     let columns = made!(number_by_place(alloc, columns, 8192, Counted::Columns); rows);
@@ -160,14 +160,14 @@ fn number_flow(
     statics: Vec<PointAt>,
     outlines: Vec<Outline>,
 ) -> Result<Flow, FactsFault>
-    requires table { IsTable (program_of no_place program.now) (program_of at_place program.now) table.now }
-    requires bodies { map body_seen bodies.now.items ≡ bodies_of (program_of no_place program.now) (program_of at_place program.now) }
-    requires statics { statics.items ≡ each static_points 0 (program_of at_place program.now).fields }
+    requires table { IsTable (program_of program.now) table.now }
+    requires bodies { map body_seen bodies.now.items ≡ bodies_of (program_of program.now) }
+    requires statics { statics.items ≡ each static_points 0 (program_of program.now).fields }
     requires outlines { map outline_seen outlines.items
-        ≡ each (outline_if (program_of no_place program.now) (program_of at_place program.now)) 0
-        (program_of at_place program.now).methods }
-    ensures ok { IfOk result (λ f. IsFlow (program_of no_place program.now) (program_of at_place program.now) f) }
-    ensures refused { IfErr result (λ e. IsOver (program_of no_place program.now) (program_of at_place program.now) e) }
+        ≡ each (outline_if (program_of program.now)) 0
+        (program_of program.now).methods }
+    ensures ok { IfOk result (λ f. IsFlow (program_of program.now) f) }
+    ensures refused { IfErr result (λ e. IsOver (program_of program.now) e) }
 {
     let sites = made!(
         all_sites(alloc, &table.rows.keys, bodies) => FactsFault;
@@ -189,12 +189,12 @@ fn number_whole(
     flow: Flow,
     bodies: Vec<Body>,
 ) -> Result<Numbered, FactsFault>
-    requires formed { IsFormed (program_of no_place program.now) }
-    requires table { IsTable (program_of no_place program.now) (program_of at_place program.now) table }
-    requires flow { IsFlow (program_of no_place program.now) (program_of at_place program.now) flow }
-    requires bodies { map body_seen bodies.items ≡ bodies_of (program_of no_place program.now) (program_of at_place program.now) }
-    ensures ok { IfOk result (λ d. IsNumbered (program_of no_place program.now) (program_of at_place program.now) d) }
-    ensures refused { IfErr result (λ e. IsOver (program_of no_place program.now) (program_of at_place program.now) e) }
+    requires formed { IsFormed (program_of program.now) }
+    requires table { IsTable (program_of program.now) table }
+    requires flow { IsFlow (program_of program.now) flow }
+    requires bodies { map body_seen bodies.items ≡ bodies_of (program_of program.now) }
+    ensures ok { IfOk result (λ d. IsNumbered (program_of program.now) d) }
+    ensures refused { IfErr result (λ e. IsOver (program_of program.now) e) }
 {
     let (rows, columns) = (table.rows, table.columns);
     let (sites, points) = (flow.sites, flow.points);
@@ -231,9 +231,9 @@ fn number_whole(
 
 /// Numbers the rows, the columns, the sites, the flow points and the cells.
 fn number_all(alloc: Global, program: &Program) -> Result<Numbered, FactsFault>
-    requires { IsFormed (program_of no_place program.now) }
-    ensures ok { IfOk result (λ d. IsNumbered (program_of no_place program.now) (program_of at_place program.now) d) }
-    ensures refused { IfErr result (λ e. IsOver (program_of no_place program.now) (program_of at_place program.now) e) }
+    requires { IsFormed (program_of program.now) }
+    ensures ok { IfOk result (λ d. IsNumbered (program_of program.now) d) }
+    ensures refused { IfErr result (λ e. IsOver (program_of program.now) e) }
 {
     let surveyed = made!(survey(alloc, program) => FactsFault;);
     let (statics, outlines) = (surveyed.statics, surveyed.outlines);
@@ -254,11 +254,11 @@ fn number_all(alloc: Global, program: &Program) -> Result<Numbered, FactsFault>
 /// A `TooMany` comes where there is more of something than its limit: first the rows are counted,
 /// then the columns, the sites, and the flow points with the cells.
 pub fn facts(alloc: Global, program: &Program) -> Result<Facts, FactsFault>
-    requires { IsFormed (program_of no_place program.now) }
-    ensures ok { IfOk result (λ f. IsFactsOf (program_of no_place program.now) (program_of at_place program.now) f) }
-    ensures names { IfOk result (λ f. AreNamesOf (program_of at_place program.now) f) }
-    ensures within { IfOk result (λ f. IsWithin (program_of no_place program.now) (program_of at_place program.now)) }
-    ensures refused { IfErr result (λ e. IsRefused (program_of no_place program.now) (program_of at_place program.now) e) }
+    requires { IsFormed (program_of program.now) }
+    ensures ok { IfOk result (λ f. IsFactsOf (program_of program.now) f) }
+    ensures names { IfOk result (λ f. AreNamesOf (program_of program.now) f) }
+    ensures within { IfOk result (λ f. IsWithin (program_of program.now)) }
+    ensures refused { IfErr result (λ e. IsRefused (program_of program.now) e) }
 {
     match first_interface(program) {
         Some(name) => Err(FactsFault::HasInterface(name.copy(alloc)?)),
@@ -277,10 +277,10 @@ pub fn facts(alloc: Global, program: &Program) -> Result<Facts, FactsFault>
 /// items of the columns stand in their order. A
 /// `TooMany` comes where the facts of the program have one.
 pub fn numbering_of(alloc: Global, program: &Program) -> Result<Numbering, FactsFault>
-    requires { IsFormed (program_of no_place program.now) }
-    ensures ok { IfOk result (λ n. numbers_seen n ≡ numbers (program_of no_place program.now) (program_of at_place program.now)) }
-    ensures columns { IfOk result (λ n. n.columns.keys ≡ map (λ c. c.item) (columns_of (program_of no_place program.now) (program_of at_place program.now))) }
-    ensures refused { IfErr result (λ e. IsOver (program_of no_place program.now) (program_of at_place program.now) e) }
+    requires { IsFormed (program_of program.now) }
+    ensures ok { IfOk result (λ n. numbers_seen n ≡ numbers (program_of program.now)) }
+    ensures columns { IfOk result (λ n. n.columns.keys ≡ map (λ c. c.item) (columns_of (program_of program.now))) }
+    ensures refused { IfErr result (λ e. IsOver (program_of program.now) e) }
 {
     let numbered = made!(number_all(alloc, program));
     Ok(numbered.numbering)

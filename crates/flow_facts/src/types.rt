@@ -4,7 +4,7 @@ ghost use Rattle.std.specs.Prelude.{◌≡◌, Option, Some, None, slice_get, op
 ghost use Rattle.std.specs.Option.{option_map};
 ghost use Rattle.flow_rules.specs.Operands.{object_of, object_if, object_class, object_field, call_slot, call_declaration};
 ghost use Rattle.flow_rules.specs.Types.{field_object, slot_object, method_object, variable_object, element_object};
-ghost use Rattle.flow_facts.specs.Words.{no_place, at_place, program_of, method_seen, IsFormed};
+ghost use Rattle.flow_facts.specs.Words.{program_of, method_seen, IsFormed};
 
 use crate::by_number::{field_by_number, method_by_number, slot_by_number};
 use flow_rules::ObjectType;
@@ -33,7 +33,7 @@ pub fn object_if(ty: Option<Ty>) -> Option<ObjectType>
 
 /// The type of a field.
 pub fn field_object(program: &Program, field: u32) -> Option<ObjectType>
-    ensures value { result ≡ field_object (program_of no_place program.now) field }
+    ensures value { result ≡ field_object (program_of program.now) field }
 {
     let member = field_by_number(program, field as u64)?;
     object_of(member.ty)
@@ -41,7 +41,7 @@ pub fn field_object(program: &Program, field: u32) -> Option<ObjectType>
 
 /// What a method of the slot gives back.
 pub fn slot_object(program: &Program, slot: u32) -> Option<ObjectType>
-    ensures value { result ≡ slot_object (program_of no_place program.now) slot }
+    ensures value { result ≡ slot_object (program_of program.now) slot }
 {
     let slot = slot_by_number(program, slot as u64)?;
     object_if(slot.result)
@@ -49,7 +49,7 @@ pub fn slot_object(program: &Program, slot: u32) -> Option<ObjectType>
 
 /// What a method gives back.
 pub fn method_object(program: &Program, method: u32) -> Option<ObjectType>
-    ensures value { result ≡ method_object (program_of no_place program.now) method }
+    ensures value { result ≡ method_object (program_of program.now) method }
 {
     let member = method_by_number(program, method as u64)?;
     object_if(member.result)
@@ -80,8 +80,8 @@ pub fn object_class(ty: Option<ObjectType>) -> Option<ClassId>
 
 /// The instance field that a type has under a name.
 pub fn object_field(program: &Program, ty: Option<ObjectType>, name: &Name) -> Option<u32>
-    requires { IsFormed (program_of no_place program.now) }
-    ensures value { result ≡ object_field (program_of no_place program.now) ty name.now }
+    requires { IsFormed (program_of program.now) }
+    ensures value { result ≡ object_field (program_of program.now) ty name.now }
 {
     let class = object_class(ty)?;
     number_of(member_field(program, class, name))
@@ -89,8 +89,8 @@ pub fn object_field(program: &Program, ty: Option<ObjectType>, name: &Name) -> O
 
 /// The declaration of a method that a call of the name on the type finds.
 pub fn call_declaration(program: &Program, ty: Option<ObjectType>, name: &Name) -> Option<u32>
-    requires { IsFormed (program_of no_place program.now) }
-    ensures value { result ≡ call_declaration (program_of no_place program.now) ty name.now }
+    requires { IsFormed (program_of program.now) }
+    ensures value { result ≡ call_declaration (program_of program.now) ty name.now }
 {
     let class = object_class(ty)?;
     number_of(declaration_of(program, class, name))
@@ -108,7 +108,7 @@ pub fn number_of(member: Option<MemberId>) -> Option<u32>
 
 /// The type of a parameter or a local of a method.
 pub fn variable_object(method: &Method, local: u32) -> Option<ObjectType>
-    ensures value { result ≡ variable_object (method_seen at_place method.now) local }
+    ensures value { result ≡ variable_object (method_seen method.now) local }
 {
     let at = local as usize;
     let count = method.params.len();

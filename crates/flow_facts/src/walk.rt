@@ -9,7 +9,7 @@ ghost use Rattle.flow_rules.specs.Types.{object_type};
 ghost use Rattle.flow_facts.specs.Views.{load_operand, call_operand, static_operand, super_operand, variable_operand};
 ghost use Rattle.flow_facts.specs.Walked.{IsAdded, IsMade, IsWalked, AreWalked, args_from, parts_from, call_from};
 ghost use Rattle.flow_rules.specs.Parts as plain;
-ghost use Rattle.flow_facts.specs.Words.{no_place, at_place, program_of, method_seen, IsFormed, part_seen, parts_seen};
+ghost use Rattle.flow_facts.specs.Words.{program_of, method_seen, IsFormed, part_seen, parts_seen};
 
 use crate::Tried;
 use crate::by_number::method_by_number;
@@ -39,7 +39,7 @@ pub fn class_object(class: ClassId) -> Option<ObjectType>
 
 /// What `this` is.
 pub fn this_operand(within: &Enclosing) -> Operand
-    ensures value { result ≡ this_operand within.now.number (method_seen at_place within.now.method.now) }
+    ensures value { result ≡ this_operand within.now.number (method_seen within.now.method.now) }
 {
     Operand {
         point: Some(PointItem::This(within.number)),
@@ -51,7 +51,7 @@ pub fn this_operand(within: &Enclosing) -> Operand
 
 /// The row of a parameter or a local.
 pub fn variable_row(m: u64, method: &Method, local: u64) -> RowItem
-    ensures value { result ≡ variable_row m (method_seen at_place method.now) local }
+    ensures value { result ≡ variable_row m (method_seen method.now) local }
 {
     match method.slot {
         Some(slot) if local < method.params.len() as u64 => RowItem::Param(slot as u64, local),
@@ -61,7 +61,7 @@ pub fn variable_row(m: u64, method: &Method, local: u64) -> RowItem
 
 /// What a parameter or a local is.
 pub fn variable_operand(within: &Enclosing, local: u32) -> Operand
-    ensures value { result ≡ variable_operand within.now.number (method_seen at_place within.now.method.now) local }
+    ensures value { result ≡ variable_operand within.now.number (method_seen within.now.method.now) local }
 {
     Operand {
         point: Some(PointItem::Local(within.number, local as u64)),
@@ -97,7 +97,7 @@ fn creation(m: u64, label: usize, number: u32, ty: Option<ObjectType>) -> Operan
 
 /// The slot of a method.
 fn slot_of_method(program: &Program, method: Option<u32>) -> Option<u32>
-    ensures value { result ≡ option_and_then (slot_of_method (program_of no_place program.now)) method }
+    ensures value { result ≡ option_and_then (slot_of_method (program_of program.now)) method }
 {
     match method {
         Some(method) => match method_by_number(program, method as u64) {
@@ -110,7 +110,7 @@ fn slot_of_method(program: &Program, method: Option<u32>) -> Option<u32>
 
 /// Whether a creation there is the base of a field access: `.length` of an array is none.
 pub fn is_accessed(e: &RExpr) -> bool
-    ensures value { (n : ℕ) → result ≡ plain.is_accessed (label n (expr_of at_place e.now)) }
+    ensures value { (n : ℕ) → result ≡ plain.is_accessed (label n (expr_of e.now)) }
 {
     match e {
         RExpr::NewArray { .. } => false,
@@ -138,9 +138,9 @@ fn fill(parts: &mut Vec<Part>, at: usize, part: Part)
 /// Adds the parts of an expression, and gives what it is. `used` says whether a creation there is a flow point.
 #[cycle(walk)]
 pub fn walk(within: &Enclosing, used: bool, e: &RExpr, parts: &mut Vec<Part>) -> Tried<Operand>
-    requires { IsFormed (program_of no_place within.now.program.now) }
-    ensures { IfOk result (λ o. IsWalked (program_of no_place within.now.program.now) within.now.number (method_seen at_place within.now.method.now)
-        used (expr_of at_place e.now) parts.old.items parts.new.items o) }
+    requires { IsFormed (program_of within.now.program.now) }
+    ensures { IfOk result (λ o. IsWalked (program_of within.now.program.now) within.now.number (method_seen within.now.method.now)
+        used (expr_of e.now) parts.old.items parts.new.items o) }
 {
     match e {
         RExpr::Int { .. }
@@ -282,11 +282,11 @@ fn add_load(
     name: &Name,
     parts: &mut Vec<Part>,
 ) -> Tried<Operand>
-    requires { IsFormed (program_of no_place within.now.program.now) }
+    requires { IsFormed (program_of within.now.program.now) }
     ensures { IfOk result (λ o. IsMade parts.old.items parts.new.items 1
-        (plain.a_load place base (object_field (program_of no_place within.now.program.now) base.ty name.now)
-        (load_operand (program_of no_place within.now.program.now) within.now.number (length parts.old.items) base.ty name.now) ∷ []) o
-        (load_operand (program_of no_place within.now.program.now) within.now.number (length parts.old.items) base.ty name.now)) }
+        (plain.a_load place base (object_field (program_of within.now.program.now) base.ty name.now)
+        (load_operand (program_of within.now.program.now) within.now.number (length parts.old.items) base.ty name.now) ∷ []) o
+        (load_operand (program_of within.now.program.now) within.now.number (length parts.old.items) base.ty name.now)) }
 {
     let field = object_field(within.program, base.ty, name);
     let (row, ty) = match field {
@@ -309,9 +309,9 @@ fn walk_all(
     args: &Vec<RExpr>,
     parts: &mut Vec<Part>,
 ) -> Tried<Vec<Operand>>
-    requires { IsFormed (program_of no_place within.now.program.now) }
-    ensures { IfOk result (λ o. AreWalked (program_of no_place within.now.program.now) within.now.number (method_seen at_place within.now.method.now) used
-        (exprs at_place args.now.items) parts.old.items parts.new.items o.items) }
+    requires { IsFormed (program_of within.now.program.now) }
+    ensures { IfOk result (λ o. AreWalked (program_of within.now.program.now) within.now.number (method_seen within.now.method.now) used
+        (exprs args.now.items) parts.old.items parts.new.items o.items) }
 {
     let mut list = Vec::new(within.alloc);
     for e in args {
@@ -331,11 +331,11 @@ fn add_call(
     args: &Vec<RExpr>,
     parts: &mut Vec<Part>,
 ) -> Tried<Operand>
-    requires { IsFormed (program_of no_place within.now.program.now) }
-    ensures { IfOk result (λ o. IsMade parts.old.items parts.new.items (1 + sizes (exprs at_place args.now.items))
-        (call_from (program_of no_place within.now.program.now) within.now.number (method_seen at_place within.now.method.now) place base name.now
-        (length parts.old.items) (exprs at_place args.now.items)) o
-        (call_operand (program_of no_place within.now.program.now) within.now.number (length parts.old.items) base.ty name.now)) }
+    requires { IsFormed (program_of within.now.program.now) }
+    ensures { IfOk result (λ o. IsMade parts.old.items parts.new.items (1 + sizes (exprs args.now.items))
+        (call_from (program_of within.now.program.now) within.now.number (method_seen within.now.method.now) place base name.now
+        (length parts.old.items) (exprs args.now.items)) o
+        (call_operand (program_of within.now.program.now) within.now.number (length parts.old.items) base.ty name.now)) }
 {
     let at = parts.len();
     made!(add(parts, Part::Pair(BinOp::Both, NOTHING, NOTHING)));
@@ -354,8 +354,8 @@ fn add_call(
 /// What the call of a slot is.
 fn call_operand(within: &Enclosing, label: usize, slot: Option<u32>) -> Operand
     ensures value { (s : Option ObjectType) (x : List ℕ)
-        → slot ≡ call_slot (program_of no_place within.now.program.now) s x
-        → result ≡ call_operand (program_of no_place within.now.program.now) within.now.number label s x }
+        → slot ≡ call_slot (program_of within.now.program.now) s x
+        → result ≡ call_operand (program_of within.now.program.now) within.now.number label s x }
 {
     match slot {
         Some(slot) => {
@@ -375,14 +375,14 @@ fn add_static_call(
     args: &Vec<RExpr>,
     parts: &mut Vec<Part>,
 ) -> Tried<Operand>
-    requires { IsFormed (program_of no_place within.now.program.now) }
-    ensures { IfOk result (λ o. IsMade parts.old.items parts.new.items (1 + sizes (exprs at_place args.now.items))
-        (plain.a_static_call place callee (args_from (program_of no_place within.now.program.now) within.now.number (method_seen at_place within.now.method.now)
-        (length parts.old.items + 1) (exprs at_place args.now.items))
-        (static_operand (program_of no_place within.now.program.now) within.now.number (length parts.old.items) callee)
-        ∷ parts_from (program_of no_place within.now.program.now) within.now.number (method_seen at_place within.now.method.now) false
-        (length parts.old.items + 1) (exprs at_place args.now.items)) o
-        (static_operand (program_of no_place within.now.program.now) within.now.number (length parts.old.items) callee)) }
+    requires { IsFormed (program_of within.now.program.now) }
+    ensures { IfOk result (λ o. IsMade parts.old.items parts.new.items (1 + sizes (exprs args.now.items))
+        (plain.a_static_call place callee (args_from (program_of within.now.program.now) within.now.number (method_seen within.now.method.now)
+        (length parts.old.items + 1) (exprs args.now.items))
+        (static_operand (program_of within.now.program.now) within.now.number (length parts.old.items) callee)
+        ∷ parts_from (program_of within.now.program.now) within.now.number (method_seen within.now.method.now) false
+        (length parts.old.items + 1) (exprs args.now.items)) o
+        (static_operand (program_of within.now.program.now) within.now.number (length parts.old.items) callee)) }
 {
     let at = parts.len();
     made!(add(parts, Part::Pair(BinOp::Both, NOTHING, NOTHING)));
@@ -407,15 +407,15 @@ fn add_super_call(
     args: &Vec<RExpr>,
     parts: &mut Vec<Part>,
 ) -> Tried<Operand>
-    requires { IsFormed (program_of no_place within.now.program.now) }
-    ensures { IfOk result (λ o. IsMade parts.old.items parts.new.items (1 + sizes (exprs at_place args.now.items))
-        (plain.a_super_call place (super_method (program_of no_place within.now.program.now) within.now.method.now.owner.0 name.now)
-        (args_from (program_of no_place within.now.program.now) within.now.number (method_seen at_place within.now.method.now)
-        (length parts.old.items + 1) (exprs at_place args.now.items))
-        (super_operand (program_of no_place within.now.program.now) within.now.number (length parts.old.items) within.now.method.now.owner.0 name.now)
-        ∷ parts_from (program_of no_place within.now.program.now) within.now.number (method_seen at_place within.now.method.now) false
-        (length parts.old.items + 1) (exprs at_place args.now.items)) o
-        (super_operand (program_of no_place within.now.program.now) within.now.number (length parts.old.items) within.now.method.now.owner.0 name.now)) }
+    requires { IsFormed (program_of within.now.program.now) }
+    ensures { IfOk result (λ o. IsMade parts.old.items parts.new.items (1 + sizes (exprs args.now.items))
+        (plain.a_super_call place (super_method (program_of within.now.program.now) within.now.method.now.owner.0 name.now)
+        (args_from (program_of within.now.program.now) within.now.number (method_seen within.now.method.now)
+        (length parts.old.items + 1) (exprs args.now.items))
+        (super_operand (program_of within.now.program.now) within.now.number (length parts.old.items) within.now.method.now.owner.0 name.now)
+        ∷ parts_from (program_of within.now.program.now) within.now.number (method_seen within.now.method.now) false
+        (length parts.old.items + 1) (exprs args.now.items)) o
+        (super_operand (program_of within.now.program.now) within.now.number (length parts.old.items) within.now.method.now.owner.0 name.now)) }
 {
     let at = parts.len();
     made!(add(parts, Part::Pair(BinOp::Both, NOTHING, NOTHING)));
@@ -428,8 +428,8 @@ fn add_super_call(
 
 /// What a super call of a method is.
 fn super_operand(within: &Enclosing, label: usize, callee: Option<u32>) -> Operand
-    ensures value { (c : ℕ) (x : List ℕ) → callee ≡ super_method (program_of no_place within.now.program.now) c x
-        → result ≡ super_operand (program_of no_place within.now.program.now) within.now.number label c x }
+    ensures value { (c : ℕ) (x : List ℕ) → callee ≡ super_method (program_of within.now.program.now) c x
+        → result ≡ super_operand (program_of within.now.program.now) within.now.number label c x }
 {
     let row = match slot_of_method(within.program, callee) {
         Some(slot) => Some(RowItem::Return(slot as u64)),

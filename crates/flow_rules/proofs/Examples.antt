@@ -54,31 +54,31 @@ program =
       main = 0;
     }
 
-rows : map (λ r. r.item) (rows_of program program) ≡ row.Field 1 ∷ row.Local 0 1 ∷ row.New 0 ∷ []
+rows : map (λ r. r.item) (rows_of program) ≡ row.Field 1 ∷ row.Local 0 1 ∷ row.New 0 ∷ []
 unfolding rows_of parts_of type_in field_of member_field
 rows = refl
 
-columns : map (λ c. c.item) (columns_of program program) ≡ column.Fld 0 ∷ column.Fld 1 ∷ []
+columns : map (λ c. c.item) (columns_of program) ≡ column.Fld 0 ∷ column.Fld 1 ∷ []
 unfolding columns_of parts_of type_in field_of member_field
 columns = refl
 
-points : map (λ p. p.item) (points_of program program) ≡ point.Local 0 1 ∷ []
+points : map (λ p. p.item) (points_of program) ≡ point.Local 0 1 ∷ []
 unfolding points_of rows_of row_number parts_of type_in field_of member_field
 points = refl
 
 -- the creation flows into x
-news : gathered program program (λ b. news_of (numbers program program) b.number) ≡ record { point = 0; site = record { 0 = 0 } } ∷ []
+news : gathered program (λ b. news_of (numbers program) b.number) ≡ record { point = 0; site = record { 0 = 0 } } ∷ []
 unfolding numbers bodies_of points_of point_number sites_of site_number rows_of row_number columns_of column_number parts_of type_in field_of member_field
 news = refl
 
 -- x is tied above the creation, and its field b above x
-ties : gathered program program (λ b. ties_of (numbers program program) program b.number b.slot)
+ties : gathered program (λ b. ties_of (numbers program) program b.number b.slot)
     ≡ record { lower = record { 0 = 2 }; upper = record { 0 = 1 } } ∷ record { lower = record { 0 = 1 }; upper = record { 0 = 0 } } ∷ []
 unfolding numbers bodies_of points_of point_number sites_of site_number rows_of row_number columns_of column_number parts_of type_in field_of member_field below
 ties = refl
 
 -- the one object has a cell for b, and none for the int a
-cells : cells_of program program ≡ record { site = record { 0 = 0 }; column = Some (record { 0 = 1 }); row = record { 0 = 0 } } ∷ []
+cells : cells_of program ≡ record { site = record { 0 = 0 }; column = Some (record { 0 = 1 }); row = record { 0 = 0 } } ∷ []
 unfolding cells_of numbers bodies_of points_of point_number sites_of site_number rows_of row_number columns_of column_number parts_of type_in field_of
     member_field below
 cells = refl

@@ -43,33 +43,33 @@ module _ {A K : Type 0} (eq : K → K → Bool) (exact : (x y : K) → eq x y �
     there = λ x c. p.there x (place_has place xs x c);
   }
 
-module _ (P Q : Plain) where
+module _ (P : Plain) where
   abbrev pub raw_rows : List Row
-  raw_rows = each field_rows 0 Q.fields ++ each (method_rows P Q) 0 Q.methods
+  raw_rows = each field_rows 0 P.fields ++ each (method_rows P) 0 P.methods
 
-  pub numbered_rows : AreNumbered (λ (r : Row). r.item) raw_rows (rows_of P Q) (row_number P Q)
+  pub numbered_rows : AreNumbered (λ (r : Row). r.item) raw_rows (rows_of P) (row_number P)
   unfolding row_number rows_of
   numbered_rows = placed_numbered same_row row_exact row_alike (λ r. r.item) (λ r. r.place.at) raw_rows
 
   abbrev pub raw_columns : List Column
-  raw_columns = each field_columns 0 Q.fields ++ each (method_columns P Q) 0 Q.methods
+  raw_columns = each field_columns 0 P.fields ++ each (method_columns P) 0 P.methods
 
-  pub numbered_columns : AreNumbered (λ (c : Column). c.item) raw_columns (columns_of P Q) (column_number P Q)
+  pub numbered_columns : AreNumbered (λ (c : Column). c.item) raw_columns (columns_of P) (column_number P)
   unfolding column_number columns_of
   numbered_columns = placed_numbered same_column column_exact column_alike (λ c. c.item) (λ c. c.place.at) raw_columns
 
   abbrev pub raw_sites : List Site
-  raw_sites = flat_map (λ b. flat_map (form_sites (row_number P Q)) b.parts) (bodies_of P Q)
+  raw_sites = flat_map (λ b. flat_map (form_sites (row_number P)) b.parts) (bodies_of P)
 
-  pub numbered_sites : AreNumbered (λ (s : Site). s.number) raw_sites (sites_of P Q) (site_number P Q)
+  pub numbered_sites : AreNumbered (λ (s : Site). s.number) raw_sites (sites_of P) (site_number P)
   unfolding site_number sites_of
   numbered_sites = placed_numbered nat_eq nat_exact nat_alike (λ s. s.number) (λ s. s.place.at) raw_sites
 
   abbrev pub raw_points : List Point
-  raw_points = flat_map (listed (row_number P Q)) (by_place (λ p. p.place.at) (each static_points 0 Q.fields))
-      ++ flat_map (λ o. flat_map (listed (row_number P Q)) o.points) (by_place (λ o. o.place.at) (each (outline_if P Q) 0 Q.methods))
+  raw_points = flat_map (listed (row_number P)) (by_place (λ p. p.place.at) (each static_points 0 P.fields))
+      ++ flat_map (λ o. flat_map (listed (row_number P)) o.points) (by_place (λ o. o.place.at) (each (outline_if P) 0 P.methods))
 
-  pub numbered_points : AreNumbered (λ (p : Point). p.item) raw_points (points_of P Q) (point_number P Q)
+  pub numbered_points : AreNumbered (λ (p : Point). p.item) raw_points (points_of P) (point_number P)
   unfolding point_number points_of
   numbered_points = once_numbered same_point point_exact point_alike (λ p. p.item) raw_points
 

@@ -44,26 +44,26 @@ pub record TooMany : Type 0 where
 
 -- how rows and columns are printed, as bytes of UTF-8
 abbrev pub class_text : Plain → ℕ → List ℕ
-class_text Q c = option_map_or (λ k. encode_utf8_all k.name) (slice_get Q.classes c) []
+class_text P c = option_map_or (λ k. encode_utf8_all k.name) (slice_get P.classes c) []
 
 abbrev pub member_text : Plain → ℕ → List ℕ → List ℕ
-member_text Q c x = class_text Q c ++ codes "." ++ encode_utf8_all x
+member_text P c x = class_text P c ++ codes "." ++ encode_utf8_all x
 
 abbrev pub field_text : Plain → ℕ → List ℕ
-field_text Q f = option_map_or (λ k. member_text Q k.owner k.name) (slice_get Q.fields f) []
+field_text P f = option_map_or (λ k. member_text P k.owner k.name) (slice_get P.fields f) []
 
 abbrev pub method_text : Plain → ℕ → List ℕ
-method_text Q m = option_map_or (λ k. member_text Q k.owner k.name) (slice_get Q.methods m) []
+method_text P m = option_map_or (λ k. member_text P k.owner k.name) (slice_get P.methods m) []
 
 abbrev pub variable_name : Plain → ℕ → ℕ → List ℕ
-variable_name Q m i = option_map_or (λ k. option_map_or (λ v. v.name) (slice_get (k.params ++ k.locals) i) []) (slice_get Q.methods m) []
+variable_name P m i = option_map_or (λ k. option_map_or (λ v. v.name) (slice_get (k.params ++ k.locals) i) []) (slice_get P.methods m) []
 
 abbrev pub variable_text : Plain → ℕ → ℕ → List ℕ
-variable_text Q m i = method_text Q m ++ codes "." ++ encode_utf8_all (variable_name Q m i)
+variable_text P m i = method_text P m ++ codes "." ++ encode_utf8_all (variable_name P m i)
 
 -- the first method of a slot
 abbrev pub first_of : Plain → ℕ → ℕ
-first_of Q s = option_map_or (λ z. z.first) (slice_get Q.slots s) 0
+first_of P s = option_map_or (λ z. z.first) (slice_get P.slots s) 0
 
 abbrev pub brackets : ℕ → List ℕ
 brackets zero = []
@@ -73,24 +73,24 @@ abbrev pub at_line : Place → List ℕ
 at_line p = codes "@" ++ decimal p.line
 
 abbrev pub row_text : Plain → RowItem → List ℕ → ℕ → Place → List ℕ
-row_text Q (row.Field f) t d p = field_text Q f
-row_text Q (row.This m) t d p = method_text Q m ++ codes ".this"
-row_text Q (row.Return s) t d p = method_text Q (first_of Q s) ++ codes ".return"
-row_text Q (row.Param s i) t d p = variable_text Q (first_of Q s) i
-row_text Q (row.Result m) t d p = method_text Q m ++ codes ".return"
-row_text Q (row.Local m i) t d p = variable_text Q m i
-row_text Q (row.New n) t d p = codes "new " ++ t ++ brackets d ++ at_line p
-row_text Q (row.Cast n) t d p = codes "cast " ++ t ++ at_line p
-row_text Q (row.Test n) t d p = codes "instanceof " ++ t ++ at_line p
+row_text P (row.Field f) t d p = field_text P f
+row_text P (row.This m) t d p = method_text P m ++ codes ".this"
+row_text P (row.Return s) t d p = method_text P (first_of P s) ++ codes ".return"
+row_text P (row.Param s i) t d p = variable_text P (first_of P s) i
+row_text P (row.Result m) t d p = method_text P m ++ codes ".return"
+row_text P (row.Local m i) t d p = variable_text P m i
+row_text P (row.New n) t d p = codes "new " ++ t ++ brackets d ++ at_line p
+row_text P (row.Cast n) t d p = codes "cast " ++ t ++ at_line p
+row_text P (row.Test n) t d p = codes "instanceof " ++ t ++ at_line p
 
 abbrev pub row_label : Plain → Row → List ℕ
-row_label Q r = chars (row_text Q r.item (class_text Q r.ty.class.0) r.ty.dim r.place)
+row_label P r = chars (row_text P r.item (class_text P r.ty.class.0) r.ty.dim r.place)
 
 abbrev pub column_text : Plain → ColumnItem → List ℕ
-column_text Q (column.Fld f) = codes "fld(" ++ field_text Q f ++ codes ")"
-column_text Q (column.Dcl m) = codes "dcl(" ++ method_text Q m ++ codes ")"
-column_text Q (column.Def m) = codes "def(" ++ method_text Q m ++ codes ")"
-column_text Q (column.Is c) = codes "is(" ++ class_text Q c.0 ++ codes ")"
+column_text P (column.Fld f) = codes "fld(" ++ field_text P f ++ codes ")"
+column_text P (column.Dcl m) = codes "dcl(" ++ method_text P m ++ codes ")"
+column_text P (column.Def m) = codes "def(" ++ method_text P m ++ codes ")"
+column_text P (column.Is c) = codes "is(" ++ class_text P c.0 ++ codes ")"
 
 -- the class, the slot and the name of what a column stands for
 abbrev pub kind_of : ColumnItem → ColKind
@@ -100,25 +100,25 @@ kind_of (column.Def m) = kind.Def
 kind_of (column.Is c) = kind.Is
 
 abbrev pub owner_of : Plain → ColumnItem → ℕ
-owner_of Q (column.Fld f) = option_map_or (λ k. k.owner) (slice_get Q.fields f) 0
-owner_of Q (column.Dcl m) = option_map_or (λ k. k.owner) (slice_get Q.methods m) 0
-owner_of Q (column.Def m) = option_map_or (λ k. k.owner) (slice_get Q.methods m) 0
-owner_of Q (column.Is c) = c.0
+owner_of P (column.Fld f) = option_map_or (λ k. k.owner) (slice_get P.fields f) 0
+owner_of P (column.Dcl m) = option_map_or (λ k. k.owner) (slice_get P.methods m) 0
+owner_of P (column.Def m) = option_map_or (λ k. k.owner) (slice_get P.methods m) 0
+owner_of P (column.Is c) = c.0
 
 abbrev pub slot_in : Plain → ColumnItem → Option ℕ
-slot_in Q (column.Fld f) = None
-slot_in Q (column.Dcl m) = option_and_then (λ k. k.slot) (slice_get Q.methods m)
-slot_in Q (column.Def m) = option_and_then (λ k. k.slot) (slice_get Q.methods m)
-slot_in Q (column.Is c) = None
+slot_in P (column.Fld f) = None
+slot_in P (column.Dcl m) = option_and_then (λ k. k.slot) (slice_get P.methods m)
+slot_in P (column.Def m) = option_and_then (λ k. k.slot) (slice_get P.methods m)
+slot_in P (column.Is c) = None
 
 abbrev pub name_in : Plain → ColumnItem → List ℕ
-name_in Q (column.Fld f) = option_map_or (λ k. k.name) (slice_get Q.fields f) []
-name_in Q (column.Dcl m) = option_map_or (λ k. k.name) (slice_get Q.methods m) []
-name_in Q (column.Def m) = option_map_or (λ k. k.name) (slice_get Q.methods m) []
-name_in Q (column.Is c) = option_map_or (λ k. k.name) (slice_get Q.classes c.0) []
+name_in P (column.Fld f) = option_map_or (λ k. k.name) (slice_get P.fields f) []
+name_in P (column.Dcl m) = option_map_or (λ k. k.name) (slice_get P.methods m) []
+name_in P (column.Def m) = option_map_or (λ k. k.name) (slice_get P.methods m) []
+name_in P (column.Is c) = option_map_or (λ k. k.name) (slice_get P.classes c.0) []
 
 abbrev pub column_info : Plain → ColumnItem → ColumnInfo
-column_info Q i = record { kind = kind_of i; class = record { 0 = owner_of Q i }; slot = slot_in Q i; name = name_in Q i; label = chars (column_text Q i) }
+column_info P i = record { kind = kind_of i; class = record { 0 = owner_of P i }; slot = slot_in P i; name = name_in P i; label = chars (column_text P i) }
 
 -- a body by its column, and a call, as plain data
 pub record PlainBody : Type 0 where
@@ -151,10 +151,10 @@ abbrev pub class_seen : ClassInfo → ClassFacts
 class_seen k = record { name = k.name; parent = k.parent; faces = k.faces.items; is_interface = k.is_interface; holder = k.holder }
 
 abbrev pub is_holder : Plain → ℕ → Bool
-is_holder Q c = list_any (λ f. f.is_static && (f.owner == c)) Q.fields || list_any (λ m. m.is_static && (m.owner == c)) Q.methods
+is_holder P c = list_any (λ f. f.is_static && (f.owner == c)) P.fields || list_any (λ m. m.is_static && (m.owner == c)) P.methods
 
 abbrev pub class_facts : Plain → ℕ → PlainClass → List ClassFacts
-class_facts Q c k = record { name = k.name; parent = k.parent; faces = k.faces; is_interface = k.is_interface; holder = is_holder Q c } ∷ []
+class_facts P c k = record { name = k.name; parent = k.parent; faces = k.faces; is_interface = k.is_interface; holder = is_holder P c } ∷ []
 
 -- the names of a method, its parameters and its locals
 abbrev pub variable_names : PlainMethod → List (List ℕ)
@@ -174,9 +174,9 @@ module _ (N : Numbers) where
   this_of_row (row.This m) = option_map (λ c. record { 0 = c }) (N.column (column.Def m))
   this_of_row _ = None
 
-module _ (N : Numbers) (Q : Plain) where
+module _ (N : Numbers) (P : Plain) where
   abbrev pub row_info : Row → RowInfo
-  row_info r = record { label = row_label Q r; class = r.ty.class; dim = r.ty.dim; site = site_of_row N r.item; this_of = this_of_row N r.item }
+  row_info r = record { label = row_label P r; class = r.ty.class; dim = r.ty.dim; site = site_of_row N r.item; this_of = this_of_row N r.item }
 
   -- a field that has a row: its column, its row and its class
   abbrev pub field_if : ℕ → ℕ → Option ℕ → List FieldCell
@@ -184,7 +184,7 @@ module _ (N : Numbers) (Q : Plain) where
   field_if c o (Some r) = record { column = c; row = r; owner = o } ∷ []
 
   abbrev pub field_at : ℕ → ColumnItem → List FieldCell
-  field_at c (column.Fld f) = field_if c (owner_of Q (column.Fld f)) (N.row (row.Field f))
+  field_at c (column.Fld f) = field_if c (owner_of P (column.Fld f)) (N.row (row.Field f))
   field_at c (column.Dcl m) = []
   field_at c (column.Def m) = []
   field_at c (column.Is b) = []
@@ -200,7 +200,7 @@ module _ (N : Numbers) (Q : Plain) where
   body_if c m k (Some t) = record { column = c; this = t; params = param_points m k; result = N.point (point.Result m) } ∷ []
 
   abbrev pub column_body : ℕ → ColumnItem → List PlainBody
-  column_body c (column.Def m) = option_map_or (λ k. body_if c m k (N.point (point.This m))) (slice_get Q.methods m) []
+  column_body c (column.Def m) = option_map_or (λ k. body_if c m k (N.point (point.This m))) (slice_get P.methods m) []
   column_body c (column.Fld f) = []
   column_body c (column.Dcl m) = []
   column_body c (column.Is a) = []
@@ -221,37 +221,37 @@ site_cells P fs i s = if s.ty.dim == 0 then flat_map (field_cell P i s.ty.class.
 
 -- the names of the text: of the types but Object, of the fields, and of each method with its parameters and locals
 abbrev pub all_names : Plain → List (List ℕ)
-all_names Q = map (λ k. k.name) (drop 1 Q.classes) ++ map (λ f. f.name) Q.fields ++ flat_map (λ k. k.name ∷ variable_names k) Q.methods
+all_names P = map (λ k. k.name) (drop 1 P.classes) ++ map (λ f. f.name) P.fields ++ flat_map (λ k. k.name ∷ variable_names k) P.methods
 
 -- the names of the fields, parameters and locals
 abbrev pub all_variables : Plain → List (List ℕ)
-all_variables Q = map (λ f. f.name) Q.fields ++ flat_map variable_names Q.methods
+all_variables P = map (λ f. f.name) P.fields ++ flat_map variable_names P.methods
 
-module _ (P Q : Plain) where
+module _ (P : Plain) where
   unfoldable pub numbers : Numbers
-  numbers = record { row = row_number P Q; column = column_number P Q; site = site_number P Q; point = point_number P Q }
+  numbers = record { row = row_number P; column = column_number P; site = site_number P; point = point_number P }
 
   -- the cells by site, and then by column
   unfoldable pub cells_of : List CellInfo
-  cells_of = each (site_cells P (fields_of numbers Q (columns_of P Q))) 0 (sites_of P Q)
+  cells_of = each (site_cells P (fields_of numbers P (columns_of P))) 0 (sites_of P)
 
   -- what the parts of all bodies give
   abbrev pub gathered : {A : Type 0} → (Body → Part → List A) → List A
-  gathered f = flat_map (λ b. flat_map (f b) b.parts) (bodies_of P Q)
+  gathered f = flat_map (λ b. flat_map (f b) b.parts) (bodies_of P)
 
   -- the facts of a program
   pub record IsFactsOf (F : Facts) : Type 0 where
-    pub rows : F.rows.items ≡ map (row_info numbers Q) (rows_of P Q)
-    pub columns : F.columns.items ≡ map (λ c. column_info Q c.item) (columns_of P Q)
-    pub sites : F.sites.items ≡ map site_info (sites_of P Q)
-    pub classes : map class_seen F.classes.items ≡ each (class_facts Q) 0 Q.classes
-    pub points : F.points.items ≡ map (λ p. record { 0 = p.row }) (points_of P Q)
+    pub rows : F.rows.items ≡ map (row_info numbers P) (rows_of P)
+    pub columns : F.columns.items ≡ map (λ c. column_info P c.item) (columns_of P)
+    pub sites : F.sites.items ≡ map site_info (sites_of P)
+    pub classes : map class_seen F.classes.items ≡ each (class_facts P) 0 P.classes
+    pub points : F.points.items ≡ map (λ p. record { 0 = p.row }) (points_of P)
     pub cells : F.cells.items ≡ cells_of
     pub news : IsSameSet F.news.items (gathered (λ b. news_of numbers b.number))
     pub flows : IsSameSet F.flows.items (gathered (λ b. flows_of numbers b.number))
     pub loads : IsSameSet F.loads.items (gathered (λ b. loads_of numbers))
     pub stores : IsSameSet F.stores.items (gathered (λ b. stores_of numbers))
-    pub bodies : map body_seen F.bodies.items ≡ each (λ c k. column_body numbers Q c k.item) 0 (columns_of P Q)
+    pub bodies : map body_seen F.bodies.items ≡ each (λ c k. column_body numbers P c k.item) 0 (columns_of P)
     pub calls : map call_seen F.calls.items ≡ map (λ c. c.item) (by_place (λ c. c.place.at) (gathered (λ b. calls_of numbers)))
     pub casts : IsSameSet F.casts.items (gathered (λ b. casts_of numbers))
     pub accesses : IsSameSet F.accesses.items (gathered (λ b. accesses_of numbers))
@@ -265,20 +265,20 @@ module _ (P Q : Plain) where
     pub spots : F.spots.items ≡ []
 
 -- the names in the facts: each of the text once, in the order of the program, and those of the variables
-pub record AreNamesOf (Q : Plain) (F : Facts) : Type 0 where
-  pub words : F.words.items ≡ once bytes_eq encode_utf8_all (all_names Q)
-  pub vars : IsSameSet F.vars.items (all_variables Q)
+pub record AreNamesOf (P : Plain) (F : Facts) : Type 0 where
+  pub words : F.words.items ≡ once bytes_eq encode_utf8_all (all_names P)
+  pub vars : IsSameSet F.vars.items (all_variables P)
 
 -- how many of each kind there may be
 abbrev pub over : ℕ → ℕ → Counted → Option TooMany → Option TooMany
 over limit n what rest = if nat_lt limit n then Some (record { what = what; number = limit + 1 }) else rest
 
 -- what there is too much of, the rows first, then the columns, the sites, and the flow points with the cells
-abbrev pub too_many : Plain → Plain → Option TooMany
-too_many P Q =
-    over 16384 (length (rows_of P Q)) counted.Rows
-    (over 8192 (length (columns_of P Q)) counted.Columns
-    (over 8192 (length (sites_of P Q)) counted.Sites (over 65536 (length (points_of P Q) + length (cells_of P Q)) counted.Points None)))
+abbrev pub too_many : Plain → Option TooMany
+too_many P =
+    over 16384 (length (rows_of P)) counted.Rows
+    (over 8192 (length (columns_of P)) counted.Columns
+    (over 8192 (length (sites_of P)) counted.Sites (over 65536 (length (points_of P) + length (cells_of P)) counted.Points None)))
 
 -- the name of the first interface
 abbrev pub first_interface : List PlainClass → Option (List ℕ)
@@ -286,18 +286,18 @@ first_interface [] = None
 first_interface (k ∷ ks) = if k.is_interface then Some k.name else first_interface ks
 
 -- what a fault says of what there is too much of
-abbrev pub IsOver : Plain → Plain → FactsFault → Type 0
-IsOver P Q (fault.HasInterface x) = ⊥
-IsOver P Q (fault.TooMany what n) = too_many P Q ≡ Some (record { what = what; number = n })
-IsOver P Q fault.Memory = Unit {0}
+abbrev pub IsOver : Plain → FactsFault → Type 0
+IsOver P (fault.HasInterface x) = ⊥
+IsOver P (fault.TooMany what n) = too_many P ≡ Some (record { what = what; number = n })
+IsOver P fault.Memory = Unit {0}
 
 -- what a fault says of the program
-abbrev pub IsRefused : Plain → Plain → FactsFault → Type 0
-IsRefused P Q (fault.HasInterface x) = first_interface Q.classes ≡ Some x
-IsRefused P Q (fault.TooMany what n) = (first_interface Q.classes ≡ None) × (too_many P Q ≡ Some (record { what = what; number = n }))
-IsRefused P Q fault.Memory = Unit {0}
+abbrev pub IsRefused : Plain → FactsFault → Type 0
+IsRefused P (fault.HasInterface x) = first_interface P.classes ≡ Some x
+IsRefused P (fault.TooMany what n) = (first_interface P.classes ≡ None) × (too_many P ≡ Some (record { what = what; number = n }))
+IsRefused P fault.Memory = Unit {0}
 
 -- a program of which the facts can be given
-pub record IsWithin (P Q : Plain) : Type 0 where
-  pub interfaces : first_interface Q.classes ≡ None
-  pub counts : too_many P Q ≡ None
+pub record IsWithin (P : Plain) : Type 0 where
+  pub interfaces : first_interface P.classes ≡ None
+  pub counts : too_many P ≡ None

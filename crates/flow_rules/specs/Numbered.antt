@@ -1,4 +1,4 @@
--- Rows, columns, sites and flow points, each numbered by its place. P is the program as typing sees it, Q the same with its places.
+-- Rows, columns, sites and flow points, each numbered by its place.
 use Rattle.std.specs.Prelude.{ℕ, ◌==◌, ◌&&◌, ◌||◌, nat_lt, nat_eq, Bool, true, false, not, List, [], ◌∷◌, ◌++◌, length, map, Option, Some, None, slice_get, position}
 use Rattle.std.specs.Option.{option_map_or, is_some}
 use Rattle.std.specs.List.{flat_map}
@@ -158,7 +158,7 @@ module _ (number : RowItem → Option ℕ) where
   abbrev pub listed : PointAt → List Point
   listed p = point_with p (number p.row)
 
-module _ (P Q : Plain) where
+module _ (P : Plain) where
   abbrev pub result_rows : ℕ → PlainMethod → List Row
   result_rows m k = when (is_first P m k) (row_if (result_in k.slot m) k.tag.place (object_if k.result))
 
@@ -171,7 +171,7 @@ module _ (P Q : Plain) where
 
   -- the rows by their place
   unfoldable pub rows_of : List Row
-  rows_of = once same_row (λ r. r.item) (by_place (λ r. r.place.at) (each field_rows 0 Q.fields ++ each method_rows 0 Q.methods))
+  rows_of = once same_row (λ r. r.item) (by_place (λ r. r.place.at) (each field_rows 0 P.fields ++ each method_rows 0 P.methods))
 
   abbrev pub method_columns : ℕ → PlainMethod → List Column
   method_columns m k =
@@ -181,7 +181,7 @@ module _ (P Q : Plain) where
 
   -- the columns by their place; a mark stands where it is first met
   unfoldable pub columns_of : List Column
-  columns_of = once same_column (λ c. c.item) (by_place (λ c. c.place.at) (each field_columns 0 Q.fields ++ each method_columns 0 Q.methods))
+  columns_of = once same_column (λ c. c.item) (by_place (λ c. c.place.at) (each field_columns 0 P.fields ++ each method_columns 0 P.methods))
 
   -- the numbers of a row and of a column
   unfoldable pub row_number : RowItem → Option ℕ
@@ -195,7 +195,7 @@ module _ (P Q : Plain) where
   body_at m k = record { number = m; slot = k.slot; parts = parts_of P m k } ∷ []
 
   unfoldable pub bodies_of : List Body
-  bodies_of = each body_at 0 Q.methods
+  bodies_of = each body_at 0 P.methods
 
   -- the sites by their place
   unfoldable pub sites_of : List Site
@@ -220,8 +220,8 @@ module _ (P Q : Plain) where
   -- the flow points: the static fields by their place, and then the bodies' by the place of the body
   unfoldable pub points_of : List Point
   points_of = once same_point (λ p. p.item)
-      (flat_map (listed row_number) (by_place (λ p. p.place.at) (each static_points 0 Q.fields))
-      ++ flat_map (λ o. flat_map (listed row_number) o.points) (by_place (λ o. o.place.at) (each outline_if 0 Q.methods)))
+      (flat_map (listed row_number) (by_place (λ p. p.place.at) (each static_points 0 P.fields))
+      ++ flat_map (λ o. flat_map (listed row_number) o.points) (by_place (λ o. o.place.at) (each outline_if 0 P.methods)))
 
   unfoldable pub point_number : PointItem → Option ℕ
   point_number i = number_among same_point (map (λ p. p.item) points_of) i

@@ -7,14 +7,14 @@ use Rattle.flow_rules.specs.Facts.{AreNamesOf, IsFactsOf, IsWithin}
 use Rattle.run_cover.specs.Covers.{CoversProgram}
 use Rattle.program_facts.specs.Solved.{HasCoveringSets}
 
-pub record AreProgramFacts (P Q : Plain) (F : Facts) : Type 0 where
+pub record AreProgramFacts (P : Plain) (F : Facts) : Type 0 where
   -- the program has no interface, and not too much of anything
-  pub within : IsWithin P Q
+  pub within : IsWithin P
   -- each list has what the text gives, in its order or as a set; there are no makers and no spots
-  pub is : IsFactsOf P Q F
-  pub names : AreNamesOf Q F
+  pub is : IsFactsOf P F
+  pub names : AreNamesOf P F
   pub in_range : InRange F
   pub in_order : InOrder F
   -- sets that the inclusions close cover each run, and the points-to sets do
-  pub covers : CoversProgram P Q F
-  pub solved : HasCoveringSets P Q F
+  pub covers : CoversProgram P F
+  pub solved : HasCoveringSets P F

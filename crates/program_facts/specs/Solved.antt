@@ -10,9 +10,9 @@ use Rattle.fact_model.specs.declared.sets.PointsTo.{PointsTo}
 use Rattle.run_cover.specs.Covers.{solved, watched}
 
 -- under their watch no run of the program escapes, and each but for what it notes is the run without a watch
-pub record CoverRun (P Q : Plain) (F : Facts) (t : PointsTo) (words : List (List ℕ)) (n : ℕ) : Type 0 where
-  pub covers : (run_in (watched P Q F (solved t)) P.main words n).end ≢ Escaped
-  pub same : unnoted (run_in (watched P Q F (solved t)) P.main words n) ≡ run P words n
+pub record CoverRun (P : Plain) (F : Facts) (t : PointsTo) (words : List (List ℕ)) (n : ℕ) : Type 0 where
+  pub covers : (run_in (watched P F (solved t)) P.main words n).end ≢ Escaped
+  pub same : unnoted (run_in (watched P F (solved t)) P.main words n) ≡ run P words n
 
-unfoldable pub HasCoveringSets : Plain → Plain → Facts → Type 0
-HasCoveringSets P Q F = (t : PointsTo) → AreSets F t → (words : List (List ℕ)) (n : ℕ) → CoverRun P Q F t words n
+unfoldable pub HasCoveringSets : Plain → Facts → Type 0
+HasCoveringSets P F = (t : PointsTo) → AreSets F t → (words : List (List ℕ)) (n : ℕ) → CoverRun P F t words n

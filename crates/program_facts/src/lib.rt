@@ -5,7 +5,6 @@
 #![tactic(auto)]
 
 ghost use Rattle.std.specs.Prelude.{◌≡◌, ◌≢◌, ◌<◌, ◌↔◌, IfErr, IfOk, IsTrue, length};
-ghost use Rattle.java_core.specs.Trees.{at_place, no_place};
 ghost use Rattle.java_core.specs.Programs.{Plain, program_of};
 ghost use Rattle.flow_rules.specs.Facts.{IsRefused, IsWithin};
 ghost use Rattle.program_facts.specs.Known.{AreProgramFacts};
@@ -34,8 +33,8 @@ fn are_numbered(facts: &Facts) -> bool
 /// and the flow points with the cells. `Memory` comes where memory is short, and where the calls or the
 /// `instanceof`s and casts are 4,294,967,295 or more.
 pub fn facts(alloc: Global, program: &Checked) -> Result<Facts, FactsFault>
-    ensures ok { IfOk result (λ f. AreProgramFacts (program_of no_place program.now) (program_of at_place program.now) f) }
-    ensures refused { IfErr result (λ e. IsRefused (program_of no_place program.now) (program_of at_place program.now) e) }
+    ensures ok { IfOk result (λ f. AreProgramFacts (program_of program.now) f) }
+    ensures refused { IfErr result (λ e. IsRefused (program_of program.now) e) }
 {
     let plain = program.program();
     match flow_facts::facts(alloc, plain) {
@@ -53,8 +52,8 @@ pub fn facts(alloc: Global, program: &Checked) -> Result<Facts, FactsFault>
 /// A program has one answer, the order of what is read as a set and want of memory aside: two lists of facts that it
 /// may have are the same, so are two faults, and it has not both.
 pub fn one_answer()
-    ensures facts { (P Q : Plain) (F G : Facts) → AreProgramFacts P Q F → AreProgramFacts P Q G → AreSame F G }
-    ensures faults { (P Q : Plain) (e f : FactsFault) → IsRefused P Q e → IsRefused P Q f
+    ensures facts { (P : Plain) (F G : Facts) → AreProgramFacts P F → AreProgramFacts P G → AreSame F G }
+    ensures faults { (P : Plain) (e f : FactsFault) → IsRefused P e → IsRefused P f
         → e ≢ FactsFault.Memory → f ≢ FactsFault.Memory → e ≡ f }
-    ensures apart { (P Q : Plain) (e : FactsFault) → IsWithin P Q → IsRefused P Q e → e ≡ FactsFault.Memory }
+    ensures apart { (P : Plain) (e : FactsFault) → IsWithin P → IsRefused P e → e ≡ FactsFault.Memory }
 {}

@@ -24,14 +24,13 @@ use Rattle.flow_rules.specs.Types.{field_object}
 use Rattle.flow_rules.specs.Numbered.{same_column, columns_of, column_number, sites_of, site_number}
 use Rattle.flow_rules.specs.Facts.{FieldCell, owner_of, site_info, field_if, field_at, fields_of, array_cell, site_cells, cells_of, numbers, IsFactsOf}
 use Rattle.flow_rules.specs.Facts.{field_cell as cell_for}
-use Rattle.java_core.specs.Untagged.{untagged}
 use Rattle.run_cover.specs.Covers.{is_cell, cell_number, field_cell, element_cell}
 use Rattle.run_cover.proofs.Kinded.{site_type}
 use Rattle.flow_rules.proofs.Listed.{one, flat_has, each_has, when_has, position_there}
 use Rattle.std.proofs.lemmas.Option.{slice_get-map}
 use Rattle.flow_rules.proofs.Keys.{column_exact}
 use Rattle.run_cover.proofs.HasNumbers.{field_column}
-use Rattle.run_cover.proofs.HasRows.{of_field, field_row_of}
+use Rattle.run_cover.proofs.HasRows.{field_row_of}
 
 -- the fields of a class's objects are instance fields of a class at or above it
 record IsLaid (fs : List PlainField) (c f : ℕ) : Type 0 where
@@ -105,68 +104,64 @@ module _ (P : Plain) where
       let p = position-Some (λ g. g == f) (layout P c) i f e in
       laid (length P.classes) c f (i, p.0, eqb-true (get_or (layout P c) i f) f p.1)
 
-module _ (Q : Plain) (F : Facts) (formed : IsFormed (untagged Q)) (facts : IsFactsOf (untagged Q) Q F) where
-  abbrev P : Plain
-  P = untagged Q
-
+module _ (P : Plain) (F : Facts) (formed : IsFormed P) (facts : IsFactsOf P F) where
   -- the site of a creation
   pub record IsSite (n s : ℕ) : Type 0 where
     pub site : Site
-    pub there : slice_get (sites_of P Q) s ≡ Some site
+    pub there : slice_get (sites_of P) s ≡ Some site
     pub number : site.number ≡ n
     pub type : site_type F s ≡ site.ty
 
-  pub site_of : (n s : ℕ) → site_number P Q n ≡ Some s → IsSite n s
+  pub site_of : (n s : ℕ) → site_number P n ≡ Some s → IsSite n s
   unfolding site_number
   site_of n s e =
-      let p = position-Some (nat_eq n) (map (λ (s : Site). s.number) (sites_of P Q)) s 0 e in
-      let at = slice_get-get_or (map (λ (s : Site). s.number) (sites_of P Q)) s 0 p.0 in
-      let x = mapped_some (λ (s : Site). s.number) (slice_get (sites_of P Q) s) (get_or (map (λ (s : Site). s.number) (sites_of P Q)) s 0)
-      (sym (slice_get-map (λ (s : Site). s.number) (sites_of P Q) s) ∙ at) in
-      let listed : slice_get F.sites.items s ≡ Some (site_info x.0) = ap (λ z. slice_get z s) facts.sites ∙ slice_get-map (site_info) (sites_of P Q) s
-      ∙ ap (λ z. option_map (site_info) z) x.1 in
+      let p = position-Some (nat_eq n) (map (λ (s : Site). s.number) (sites_of P)) s 0 e in
+      let at = slice_get-get_or (map (λ (s : Site). s.number) (sites_of P)) s 0 p.0 in
+      let x = mapped_some (λ (s : Site). s.number) (slice_get (sites_of P) s) (get_or (map (λ (s : Site). s.number) (sites_of P)) s 0)
+      (sym (slice_get-map (λ (s : Site). s.number) (sites_of P) s) ∙ at) in
+      let listed : slice_get F.sites.items s ≡ Some (site_info x.0) = ap (λ z. slice_get z s) facts.sites ∙ slice_get-map site_info (sites_of P) s
+      ∙ ap (λ z. option_map site_info z) x.1 in
       let same = get_or_from_slice_get F.sites.items s (site_info x.0) (record { row = record { 0 = 0 }; class = record { 0 = 0 }; dim = 0 }) listed in
       record { site = x.0; there = x.1; number = x.2 ∙ sym (eqb-true n _ p.1); type = ap (λ (z : SiteInfo). record { class = z.class; dim = z.dim }) same }
 
-  cell_there : (s : ℕ) (x : Site) (c : Option ℕ) (y : CellInfo) → slice_get (sites_of P Q) s ≡ Some x
-      → Contains (site_cells P (fields_of (numbers P Q) Q (columns_of P Q)) s x) y → is_cell s c y ≡ true → (n : ℕ) × (cell_number P Q F s c ≡ Some n)
+  cell_there : (s : ℕ) (x : Site) (c : Option ℕ) (y : CellInfo) → slice_get (sites_of P) s ≡ Some x
+      → Contains (site_cells P (fields_of (numbers P) P (columns_of P)) s x) y → is_cell s c y ≡ true → (n : ℕ) × (cell_number P F s c ≡ Some n)
   unfolding cells_of
   cell_there s x c y e h d = position_there (is_cell s c) F.cells.items y (subst (λ z. Contains z y) (sym facts.cells)
-      (each_has (site_cells P (fields_of (numbers P Q) Q (columns_of P Q))) 0 (sites_of P Q) s x y e s (omega arith) h)) d
+      (each_has (site_cells P (fields_of (numbers P) P (columns_of P))) 0 (sites_of P) s x y e s (omega arith) h)) d
 
-  pub field_has_cell : (f n s c i : ℕ) (t : ObjectType) → (numbers P Q).site n ≡ Some s → site_type F s ≡ record { class = record { 0 = c }; dim = 0 }
-      → index_of P c f ≡ Some i → field_object P f ≡ Some t → (q : ℕ) × (field_cell P Q F f s ≡ Some q)
+  pub field_has_cell : (f n s c i : ℕ) (t : ObjectType) → (numbers P).site n ≡ Some s → site_type F s ≡ record { class = record { 0 = c }; dim = 0 }
+      → index_of P c f ≡ Some i → field_object P f ≡ Some t → (q : ℕ) × (field_cell P F f s ≡ Some q)
   unfolding numbers column_number below
   field_has_cell f n s c i t en et ix ot =
       let x = site_of n s en in
       let l = indexed P c f i ix in
-      let k = of_field Q formed f l.field l.there in
-      let col = field_column P Q f k.0 k.1 (ap (λ z. z.is_static) k.2 ∙ l.instance) in
-      let r = field_row_of Q formed f t ot in
-      let at = position-Some (same_column (column.Fld f)) (map (λ (c : Column). c.item) (columns_of P Q)) col.0 (column.Fld f) col.1 in
-      let item = mapped_some (λ (c : Column). c.item) (slice_get (columns_of P Q) col.0) (column.Fld f)
-      (sym (slice_get-map (λ (c : Column). c.item) (columns_of P Q) col.0) ∙ slice_get-get_or (map (λ (c : Column). c.item) (columns_of P Q)) col.0
+      let col = field_column P f l.field l.there l.instance in
+      let r = field_row_of P formed f t ot in
+      let at = position-Some (same_column (column.Fld f)) (map (λ (c : Column). c.item) (columns_of P)) col.0 (column.Fld f) col.1 in
+      let item = mapped_some (λ (c : Column). c.item) (slice_get (columns_of P) col.0) (column.Fld f)
+      (sym (slice_get-map (λ (c : Column). c.item) (columns_of P) col.0) ∙ slice_get-get_or (map (λ (c : Column). c.item) (columns_of P)) col.0
       (column.Fld f) at.0 ∙ ap (λ z. Some z) (sym (column_exact (column.Fld f) _ at.1))) in
       let ty : x.site.ty ≡ record { class = record { 0 = c }; dim = 0 } = sym x.type ∙ et in
       let y : CellInfo = record { site = record { 0 = s }; column = Some (record { 0 = col.0 }); row = record { 0 = r.0 } } in
-      let owner : owner_of Q (column.Fld f) ≡ l.field.owner = ap (λ z. option_map_or (λ (k : PlainField). k.owner) z 0) k.1 ∙ ap (λ z. z.owner) k.2 in
-      let place : FieldCell = record { column = col.0; row = r.0; owner = owner_of Q (column.Fld f) } in
-      let in_item : Contains (field_at (numbers P Q) Q col.0 (column.Fld f)) place = subst
-      (λ z. Contains (field_if (numbers P Q) Q col.0 (owner_of Q (column.Fld f)) z) place) (sym r.1) (one place) in
-      let in_fields : Contains (fields_of (numbers P Q) Q (columns_of P Q)) place = each_has (λ c k. field_at (numbers P Q) Q c k.item) 0
-      (columns_of P Q) col.0 item.0 place item.1 col.0 (omega arith) (subst (λ z. Contains (field_at (numbers P Q) Q col.0 z) place)
+      let owner : owner_of P (column.Fld f) ≡ l.field.owner = ap (λ z. option_map_or (λ (k : PlainField). k.owner) z 0) l.there in
+      let place : FieldCell = record { column = col.0; row = r.0; owner = owner_of P (column.Fld f) } in
+      let in_item : Contains (field_at (numbers P) P col.0 (column.Fld f)) place = subst
+      (λ z. Contains (field_if (numbers P) P col.0 (owner_of P (column.Fld f)) z) place) (sym r.1) (one place) in
+      let in_fields : Contains (fields_of (numbers P) P (columns_of P)) place = each_has (λ c k. field_at (numbers P) P c k.item) 0
+      (columns_of P) col.0 item.0 place item.1 col.0 (omega arith) (subst (λ z. Contains (field_at (numbers P) P col.0 z) place)
       (sym item.2) in_item) in
-      let in_object : Contains (flat_map (cell_for P s c) (fields_of (numbers P Q) Q (columns_of P Q))) y = flat_has (cell_for P s c)
-      (fields_of (numbers P Q) Q (columns_of P Q)) place y in_fields
-      (when_has (below P c (owner_of Q (column.Fld f))) _ y (ap (λ z. below P c z) owner ∙ l.above) (one y)) in
-      let in_site : Contains (site_cells P (fields_of (numbers P Q) Q (columns_of P Q)) s x.site) y = subst
-      (λ z. Contains (if z.dim == 0 then flat_map (cell_for P s z.class.0) (fields_of (numbers P Q) Q (columns_of P Q)) else array_cell s
+      let in_object : Contains (flat_map (cell_for P s c) (fields_of (numbers P) P (columns_of P))) y = flat_has (cell_for P s c)
+      (fields_of (numbers P) P (columns_of P)) place y in_fields
+      (when_has (below P c (owner_of P (column.Fld f))) _ y (ap (λ z. below P c z) owner ∙ l.above) (one y)) in
+      let in_site : Contains (site_cells P (fields_of (numbers P) P (columns_of P)) s x.site) y = subst
+      (λ z. Contains (if z.dim == 0 then flat_map (cell_for P s z.class.0) (fields_of (numbers P) P (columns_of P)) else array_cell s
       x.site.row) y) (sym ty) in_object in
       let q = cell_there s x.site (Some col.0) y x.there in_site (and_from (s == s) (col.0 == col.0) (eq-eqb s s refl) (eq-eqb col.0 col.0 refl)) in
-      (q.0, ap (λ z. option_and_then (λ c. cell_number P Q F s (Some c)) z) col.1 ∙ q.1)
+      (q.0, ap (λ z. option_and_then (λ c. cell_number P F s (Some c)) z) col.1 ∙ q.1)
 
-  pub element_has_cell : (n s c d : ℕ) → (numbers P Q).site n ≡ Some s → site_type F s ≡ record { class = record { 0 = c }; dim = d } → (d ≡ 0 → ⊥)
-      → (q : ℕ) × (element_cell P Q F s ≡ Some q)
+  pub element_has_cell : (n s c d : ℕ) → (numbers P).site n ≡ Some s → site_type F s ≡ record { class = record { 0 = c }; dim = d } → (d ≡ 0 → ⊥)
+      → (q : ℕ) × (element_cell P F s ≡ Some q)
   unfolding numbers
   element_has_cell n s c d en et nd =
       let x = site_of n s en in

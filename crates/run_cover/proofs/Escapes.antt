@@ -44,71 +44,71 @@ optional_default : (t : Option Ty) (a : ℕ) → option_map_or default_of t Noth
 optional_default None a e = cc
 optional_default (Some t) a e = default_no_object t a e
 
-module _ (P Q : Plain) (F : Facts) (S : Sets) where
-  looks_held : (c : Option ℕ) (o : Operand) (s : ℕ) → looks_in P Q F S c o s ≡ true → held_in P Q F S c o s ≡ true
-  looks_held None o s h = (when_some o.ty (at_point P Q F S (point_at (numbers P Q) o)) s h).1
+module _ (P : Plain) (F : Facts) (S : Sets) where
+  looks_held : (c : Option ℕ) (o : Operand) (s : ℕ) → looks_in P F S c o s ≡ true → held_in P F S c o s ≡ true
+  looks_held None o s h = (when_some o.ty (at_point P F S (point_at (numbers P) o)) s h).1
   looks_held (Some n) o s h = h
 
   -- the typed sets are in the sets of the watch
-  typed_sub : (p : Spot) (s : ℕ) → typed_sites P Q F S p s ≡ true → sites_at P Q F S p s ≡ true
-  typed_sub (held m e) s h = looks_held (operand_at P Q m e).created (operand_at P Q m e) s h
-  typed_sub (bound m i) s h = (when_some (local_object P Q F S m i) (at_point P Q F S ((numbers P Q).point (point.Local m i))) s h).1
-  typed_sub (result_of m) s h = (when_some (result_object P Q F S m) (at_point P Q F S ((numbers P Q).point (point.Result m))) s h).1
-  typed_sub (set_static f) s h = (when_some (field_object P f) (at_point P Q F S ((numbers P Q).point (point.Static f))) s h).1
-  typed_sub (kept o f) s h = (when_some (field_object P f) (at_cell P Q F S (option_and_then (field_cell P Q F f) (site_in (numbers P Q) o))) s h).1
+  typed_sub : (p : Spot) (s : ℕ) → typed_sites P F S p s ≡ true → sites_at P F S p s ≡ true
+  typed_sub (held m e) s h = looks_held (operand_at P m e).created (operand_at P m e) s h
+  typed_sub (bound m i) s h = (when_some (local_object P F S m i) (at_point P F S ((numbers P).point (point.Local m i))) s h).1
+  typed_sub (result_of m) s h = (when_some (result_object P F S m) (at_point P F S ((numbers P).point (point.Result m))) s h).1
+  typed_sub (set_static f) s h = (when_some (field_object P f) (at_point P F S ((numbers P).point (point.Static f))) s h).1
+  typed_sub (kept o f) s h = (when_some (field_object P f) (at_cell P F S (option_and_then (field_cell P F f) (site_in (numbers P) o))) s h).1
   typed_sub p s h = h
 
-  value_seen : (p : Spot) (v : Value) (h : List Cell) → Of h v ((family P Q F S).spot p) → is_seen P Q F S (spot_set P Q F S p) v h ≡ true
-  value_seen p (Object a) h o = subst (λ z. option_map_or (λ c. spot_set P Q F S p c.site) z false ≡ true) (sym o.there)
-      (passes_map (typed_sites P Q F S p) (sites_at P Q F S p) (site_in (numbers P Q) o.cell.site) (typed_sub p) o.member)
+  value_seen : (p : Spot) (v : Value) (h : List Cell) → Of h v ((family P F S).spot p) → is_seen P F S (spot_set P F S p) v h ≡ true
+  value_seen p (Object a) h o = subst (λ z. option_map_or (λ c. spot_set P F S p c.site) z false ≡ true) (sym o.there)
+      (passes_map (typed_sites P F S p) (sites_at P F S p) (site_in (numbers P) o.cell.site) (typed_sub p) o.member)
   value_seen p v h o = refl
 
   all_seen : (b i : ℕ) (vs : List Value) (h : List Cell) → ((x y : ℕ) (v : Value) → y ≡ i + x → slice_get vs x ≡ Some v
-      → Of h v ((family P Q F S).spot (bound b y))) → are_seen P Q F S b i vs h ≡ true
+      → Of h v ((family P F S).spot (bound b y))) → are_seen P F S b i vs h ≡ true
   all_seen b i [] h p = refl
-  all_seen b i (v ∷ vs) h p = and_from (is_seen P Q F S (spot_set P Q F S (bound b i)) v h) (are_seen P Q F S b (suc i) vs h)
+  all_seen b i (v ∷ vs) h p = and_from (is_seen P F S (spot_set P F S (bound b i)) v h) (are_seen P F S b (suc i) vs h)
       (value_seen (bound b i) v h (p 0 i v (omega arith) refl)) (all_seen b (suc i) vs h (λ x y w e d. p (suc x) y w (omega (arith, e)) d))
 
-  watches : IsWatched (watched P Q F S) (family P Q F S)
+  watches : IsWatched (watched P F S) (family P F S)
   watches = record {
     sees = value_seen;
-    sees_all = λ b vs h p. all_seen b 0 vs h (λ x y v e d. subst (λ z. Of h v ((family P Q F S).spot (bound b z)))
+    sees_all = λ b vs h p. all_seen b 0 vs h (λ x y v e d. subst (λ z. Of h v ((family P F S).spot (bound b z)))
         (let z : x ≡ y = omega (arith, e) in z) (p x v d));
   }
 
   module _ (closed : (ps : List Fact) (f : Fact) → Inclusion F ps f → AllByRecursion (λ p. has S p ≡ true) ps → has S f ≡ true)
-      (facts : IsFactsOf P Q F) (kinded : IsKinded P Q F) where
-    body_included : (c : ℕ) (b : Body) → labelled_body P Q F S c ≡ Some b → IsIncluded (watched P Q F S) (MadeAs P Q F S) (family P Q F S) b
+      (facts : IsFactsOf P F) (kinded : IsKinded P F) where
+    body_included : (c : ℕ) (b : Body) → labelled_body P F S c ≡ Some b → IsIncluded (watched P F S) (MadeAs P F S) (family P F S) b
     unfolding labelled_body
     body_included c b e =
-        let h = then_some (labelled_with P Q F S c) (slice_get Q.methods c) b e in
+        let h = then_some (labelled_with P F S c) (slice_get P.methods c) b e in
         let y = mapped_some (λ xs. body_with c h.0 (label_sts 0 xs)) h.0.body b h.2 in
         let B : ClosedBody =
-        record { plain = P; placed = Q; facts = F; sets = S; closed = closed; are_facts = facts; kinded = kinded; number = c; method = h.0; stands = h.1 } in
-        subst (λ z. IsIncluded (watched P Q F S) (MadeAs P Q F S) (family P Q F S) z) y.2 (record {
+        record { program = P; facts = F; sets = S; closed = closed; are_facts = facts; kinded = kinded; number = c; method = h.0; stands = h.1 } in
+        subst (λ z. IsIncluded (watched P F S) (MadeAs P F S) (family P F S) z) y.2 (record {
           code = included_code B y.0 y.1;
           rest = map_plain default_of (types_of h.0.locals) default_no_object;
           ends = optional_default h.0.result;
         })
 
-    all_included : AreIncluded (watched P Q F S) (MadeAs P Q F S) (family P Q F S)
+    all_included : AreIncluded (watched P F S) (MadeAs P F S) (family P F S)
     all_included = record {
       places = same_place P;
       fresh = λ c. map_plain (λ f. default_at P f) (layout P c) (λ f a e. optional_default (field_type P f) a e);
       statics = map_plain (λ f. default_of f.ty) P.fields (λ f a e. default_no_object f.ty a e);
-      bodies = λ c j b e. let z = then_some (labelled_body P Q F S) (lookup P c j) b e in body_included z.0 b z.2;
+      bodies = λ c j b e. let z = then_some (labelled_body P F S) (lookup P c j) b e in body_included z.0 b z.2;
       static_bodies = body_included;
-      super_bodies = λ c x b e. let z = then_some (labelled_body P Q F S) (super_method P c x) b e in body_included z.0 b z.2;
+      super_bodies = λ c x b e. let z = then_some (labelled_body P F S) (super_method P c x) b e in body_included z.0 b z.2;
     }
 
-begins : (P Q : Plain) (F : Facts) (S : Sets) (m : ℕ) → Begins (watched P Q F S) (MadeAs P Q F S) (family P Q F S) m
-begins P Q F S m = record { made = record { sited = λ t e. absurd (cc); typed = λ s e. absurd (cc) }; words = λ b e. refl }
+begins : (P : Plain) (F : Facts) (S : Sets) (m : ℕ) → Begins (watched P F S) (MadeAs P F S) (family P F S) m
+begins P F S m = record { made = record { sited = λ t e. absurd (cc); typed = λ s e. absurd (cc) }; words = λ b e. refl }
 
 stays_not : (e : End) → Stays e → e ≢ Escaped
 stays_not e s d = subst (λ z. Stays z) d s
 
-pub kinded_covers : (P Q : Plain) (F : Facts) → IsFactsOf P Q F → IsKinded P Q F → CoversEachRun P Q F
+pub kinded_covers : (P : Plain) (F : Facts) → IsFactsOf P F → IsKinded P F → CoversEachRun P F
 unfolding CoversEachRun IsClosed
-kinded_covers P Q F facts kinded =
-    λ S closed words n. stays_not _ (run_stays (watched P Q F S) (MadeAs P Q F S) (family P Q F S) (all_included P Q F S closed facts kinded)
-    (watches P Q F S) P.main (begins P Q F S P.main) words n)
+kinded_covers P F facts kinded =
+    λ S closed words n. stays_not _ (run_stays (watched P F S) (MadeAs P F S) (family P F S) (all_included P F S closed facts kinded)
+    (watches P F S) P.main (begins P F S P.main) words n)

@@ -24,7 +24,6 @@ use Rattle.flow_rules.specs.declared.items.Column.{Column}
 use Rattle.flow_rules.specs.Ordered.{each, when}
 use Rattle.flow_rules.specs.Numbered.{columns_of, field_columns, method_columns, mark, array_mark, form_columns}
 use Rattle.flow_rules.specs.Facts.{ClassFacts, class_seen, class_facts, is_holder, IsFactsOf}
-use Rattle.java_core.specs.Untagged.{untag_class, untagged}
 use Rattle.flow_rules.proofs.Listed.{at_contains, each_from, flat_from, when_from}
 use Rattle.flow_rules.proofs.NumberedItems.{numbered_columns}
 use Rattle.std.proofs.lemmas.Option.{slice_get-map}
@@ -50,24 +49,18 @@ none_past (x ∷ xs) [] i e h = refl
 none_past (x ∷ xs) (y ∷ ys) zero e h = absurd (cc)
 none_past (x ∷ xs) (y ∷ ys) (suc i) e h = none_past xs ys i (omega (arith, e)) h
 
-module _ (Q : Plain) (F : Facts) (facts : IsFactsOf (untagged Q) Q F) where
-  abbrev P : Plain
-  P = untagged Q
-
+module _ (P : Plain) (F : Facts) (facts : IsFactsOf P F) where
   abbrev facts_at : ℕ → PlainClass → ClassFacts
-  facts_at c k = record { name = k.name; parent = k.parent; faces = k.faces; is_interface = k.is_interface; holder = is_holder Q c }
+  facts_at c k = record { name = k.name; parent = k.parent; faces = k.faces; is_interface = k.is_interface; holder = is_holder P c }
 
-  class_listed : (a : ℕ) (k : PlainClass) → slice_get Q.classes a ≡ Some k → (c : ClassInfo) × (slice_get F.classes.items a ≡ Some c)
+  class_listed : (a : ℕ) (k : PlainClass) → slice_get P.classes a ≡ Some k → (c : ClassInfo) × (slice_get F.classes.items a ≡ Some c)
       × (class_seen c ≡ facts_at a k)
   class_listed a k e = mapped_some class_seen (slice_get F.classes.items a) (facts_at a k) (sym (slice_get-map class_seen F.classes.items a)
-      ∙ ap (λ z. slice_get z a) facts.classes ∙ each_get (class_facts Q) facts_at (λ n x. refl) 0 Q.classes a k e a (omega arith))
-
-  of_class : (a : ℕ) (h : PlainClass) → slice_get P.classes a ≡ Some h → (k : PlainClass) × (slice_get Q.classes a ≡ Some k) × (untag_class k ≡ h)
-  of_class a h e = mapped_some untag_class (slice_get Q.classes a) h (sym (slice_get-map untag_class Q.classes a) ∙ e)
+      ∙ ap (λ z. slice_get z a) facts.classes ∙ each_get (class_facts P) facts_at (λ n x. refl) 0 P.classes a k e a (omega arith))
 
   pub same_length : length F.classes.items ≡ length P.classes
   same_length = sym (length-map F.classes.items class_seen) ∙ ap (λ z. length z) facts.classes
-      ∙ each_length (class_facts Q) facts_at (λ n x. refl) 0 Q.classes ∙ sym (length-map Q.classes untag_class)
+      ∙ each_length (class_facts P) facts_at (λ n x. refl) 0 P.classes
 
   pub same_parent : (a : ℕ) → parent_of F a ≡ java.parent_of P a
   same_parent a = go (slice_get P.classes a) refl
@@ -76,14 +69,14 @@ module _ (Q : Plain) (F : Facts) (facts : IsFactsOf (untagged Q) Q F) where
       go None e = ap (λ z. option_and_then (λ (k : ClassInfo). k.parent) z) (none_past P.classes F.classes.items a (sym same_length) e)
           ∙ ap (λ z. option_and_then (λ (k : PlainClass). k.parent) z) (sym e)
       go (Some h) e =
-          let k = of_class a h e in let c = class_listed a k.0 k.1 in
-          ap (λ z. option_and_then (λ (k : ClassInfo). k.parent) z) c.1 ∙ ap (λ z. z.parent) c.2 ∙ ap (λ z. z.parent) k.2
+          let c = class_listed a h e in
+          ap (λ z. option_and_then (λ (k : ClassInfo). k.parent) z) c.1 ∙ ap (λ z. z.parent) c.2
           ∙ ap (λ z. option_and_then (λ (k : PlainClass). k.parent) z) (sym e)
 
   same_faces : (a : ℕ) (h : PlainClass) → slice_get P.classes a ≡ Some h → faces_of F a ≡ java.faces_of P a
   same_faces a h e =
-      let k = of_class a h e in let c = class_listed a k.0 k.1 in
-      ap (λ z. option_map_or (λ (k : ClassInfo). k.faces.items) z []) c.1 ∙ ap (λ z. z.faces) c.2 ∙ ap (λ z. z.faces) k.2
+      let c = class_listed a h e in
+      ap (λ z. option_map_or (λ (k : ClassInfo). k.faces.items) z []) c.1 ∙ ap (λ z. z.faces) c.2
       ∙ ap (λ z. option_map_or (λ (k : PlainClass). k.faces) z []) (sym e)
 
   below_of : {a b : ℕ} → IsSubclass P a b → IsBelow F a b
@@ -151,8 +144,8 @@ own_apart f k y m (suc i, lt, d) e =
     only_item (zero, l, h) = ap (λ w. w.item) h
     only_item (suc j, l, h) = absurd (omega (arith, l))
 
-module _ (P Q : Plain) where
-  method_apart : (f : ℕ) (k : PlainMethod) (y : Column) (m : ℕ) → Contains (method_columns P Q f k) y → y.item ≡ column.Def m
+module _ (P : Plain) where
+  method_apart : (f : ℕ) (k : PlainMethod) (y : Column) (m : ℕ) → Contains (method_columns P f k) y → y.item ≡ column.Def m
       → (f ≡ m) × (is_some k.body ≡ true)
   method_apart f k y m c e = ⊎_elim
       (λ d. own_apart f k y m (when_from (not k.is_static) _ y d).1 e)
@@ -167,11 +160,11 @@ module _ (P Q : Plain) where
       go (zero, lt, d) = let z = ap (λ w. w.item) d ∙ e in cc
       go (suc i, lt, d) = omega (arith, lt)
 
-  pub body_listed : (y : Column) (m : ℕ) → Contains (columns_of P Q) y → y.item ≡ column.Def m → (k : PlainMethod) × (slice_get Q.methods m ≡ Some k)
+  pub body_listed : (y : Column) (m : ℕ) → Contains (columns_of P) y → y.item ≡ column.Def m → (k : PlainMethod) × (slice_get P.methods m ≡ Some k)
       × (is_some k.body ≡ true)
   body_listed y m c e =
-      let i = at_contains (columns_of P Q) y c in
-      ⊎_elim (λ d. let r = each_from field_columns 0 Q.fields y d in absurd (field_apart r.1 r.2 y m r.5 e))
-      (λ d. let r = each_from (method_columns P Q) 0 Q.methods y d in let w = method_apart r.1 r.2 y m r.5 e in
-      (r.2, subst (λ z. slice_get Q.methods z ≡ Some r.2) (let z : r.0 ≡ m = omega (arith, w.0, r.4) in z) r.3, w.1))
-      (Contains-append_cases (each field_columns 0 Q.fields) (each (method_columns P Q) 0 Q.methods) y ((numbered_columns P Q).from i.0 y i.1))
+      let i = at_contains (columns_of P) y c in
+      ⊎_elim (λ d. let r = each_from field_columns 0 P.fields y d in absurd (field_apart r.1 r.2 y m r.5 e))
+      (λ d. let r = each_from (method_columns P) 0 P.methods y d in let w = method_apart r.1 r.2 y m r.5 e in
+      (r.2, subst (λ z. slice_get P.methods z ≡ Some r.2) (let z : r.0 ≡ m = omega (arith, w.0, r.4) in z) r.3, w.1))
+      (Contains-append_cases (each field_columns 0 P.fields) (each (method_columns P) 0 P.methods) y ((numbered_columns P).from i.0 y i.1))

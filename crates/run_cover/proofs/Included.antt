@@ -41,9 +41,9 @@ pub passes_map : (X Y : ℕ → Bool) (z : Option ℕ) → ((s : ℕ) → X s �
 passes_map X Y None f h = refl
 passes_map X Y (Some s) f h = f s h
 
-pub sub_sites : (P Q : Plain) (X Y : ℕ → Bool) → ((s : ℕ) → X s ≡ true → Y s ≡ true)
-    → Sub (λ q. passes X (site_in (numbers P Q) q)) (λ q. passes Y (site_in (numbers P Q) q))
-sub_sites P Q X Y f q h = passes_map X Y (site_in (numbers P Q) q) f h
+pub sub_sites : (P : Plain) (X Y : ℕ → Bool) → ((s : ℕ) → X s ≡ true → Y s ≡ true)
+    → Sub (λ q. passes X (site_in (numbers P) q)) (λ q. passes Y (site_in (numbers P) q))
+sub_sites P X Y f q h = passes_map X Y (site_in (numbers P) q) f h
 
 pub passes_all : (X : ℕ → Bool) (z : Option ℕ) → ((s : ℕ) → z ≡ Some s → X s ≡ true) → passes X z ≡ true
 passes_all X None f = refl
@@ -54,43 +54,42 @@ exs_at no_ex i = None
 exs_at (ex_then e es) zero = Some e
 exs_at (ex_then e es) (suc i) = exs_at es i
 
-module _ (P Q : Plain) (F : Facts) (S : Sets) where
+module _ (P : Plain) (F : Facts) (S : Sets) where
   -- an object or array of the creation: it has a site just where its type is one of a row, and then of that type
   pub record MadeAs (o : Option ℕ) (k : Kind) : Type 0 where
-    pub sited : (t : ObjectType) → object_of (own_type k) ≡ Some t → (s : ℕ) × (site_in (numbers P Q) o ≡ Some s)
-    pub typed : (s : ℕ) → site_in (numbers P Q) o ≡ Some s → object_of (own_type k) ≡ Some (site_type F s)
+    pub sited : (t : ObjectType) → object_of (own_type k) ≡ Some t → (s : ℕ) × (site_in (numbers P) o ≡ Some s)
+    pub typed : (s : ℕ) → site_in (numbers P) o ≡ Some s → object_of (own_type k) ≡ Some (site_type F s)
 
   -- the family of typed sets
   abbrev pub typed_sites : Spot → ℕ → Bool
-  typed_sites (held m e) s = looks_in P Q F S (operand_at P Q m e).created (operand_at P Q m e) s
-  typed_sites (bound m i) s = local_sites P Q F S m i s
-  typed_sites (self_of m) s = at_point P Q F S ((numbers P Q).point (point.This m)) s
-  typed_sites (result_of m) s = result_sites P Q F S m s
-  typed_sites (set_static f) s = when_object (field_object P f) (at_point P Q F S ((numbers P Q).point (point.Static f))) s
-  typed_sites (kept o f) s = field_sites P Q F S f (site_in (numbers P Q) o) s
-  typed_sites (put_in o) s = element_sites P Q F S (site_in (numbers P Q) o) s
-  typed_sites (touched m e f) s = point_sites P Q F S (operand_at P Q m e) s
-  typed_sites (tested m d b) s = point_sites P Q F S (operand_at P Q m (tested_by P Q F S d)) s
-  typed_sites (ran m d b) s = point_sites P Q F S (operand_at P Q m (called_on P Q F S d)) s
+  typed_sites (held m e) s = looks_in P F S (operand_at P m e).created (operand_at P m e) s
+  typed_sites (bound m i) s = local_sites P F S m i s
+  typed_sites (self_of m) s = at_point P F S ((numbers P).point (point.This m)) s
+  typed_sites (result_of m) s = result_sites P F S m s
+  typed_sites (set_static f) s = when_object (field_object P f) (at_point P F S ((numbers P).point (point.Static f))) s
+  typed_sites (kept o f) s = field_sites P F S f (site_in (numbers P) o) s
+  typed_sites (put_in o) s = element_sites P F S (site_in (numbers P) o) s
+  typed_sites (touched m e f) s = point_sites P F S (operand_at P m e) s
+  typed_sites (tested m d b) s = point_sites P F S (operand_at P m (tested_by P F S d)) s
+  typed_sites (ran m d b) s = point_sites P F S (operand_at P m (called_on P F S d)) s
 
   abbrev pub family : Family
   family = record {
-    value = λ m e q. passes (value_sites P Q F S (operand_at P Q m e)) (site_in (numbers P Q) q);
-    spot = λ p q. passes (typed_sites p) (site_in (numbers P Q) q);
+    value = λ m e q. passes (value_sites P F S (operand_at P m e)) (site_in (numbers P) q);
+    spot = λ p q. passes (typed_sites p) (site_in (numbers P) q);
   }
 
 -- a body of a program whose parts are kinded, with sets that the inclusions of the program's facts close
 pub record ClosedBody : Type 0 where
-  pub plain : Plain
-  pub placed : Plain
+  pub program : Plain
   pub facts : Facts
   pub sets : Sets
   pub closed : (ps : List Fact) (f : Fact) → Inclusion facts ps f → AllByRecursion (λ p. has sets p ≡ true) ps → has sets f ≡ true
-  pub are_facts : IsFactsOf plain placed facts
-  pub kinded : IsKinded plain placed facts
+  pub are_facts : IsFactsOf program facts
+  pub kinded : IsKinded program facts
   pub number : ℕ
   pub method : PlainMethod
-  pub stands : slice_get placed.methods number ≡ Some method
+  pub stands : slice_get program.methods number ≡ Some method
 
 -- the labelled operands of its forms, and the run that the sets watch
 pub record Watch : Type 1 where
@@ -102,61 +101,61 @@ pub record Watch : Type 1 where
 
 abbrev pub watch : ClosedBody → Watch
 watch B = record {
-  at = operand_at B.plain B.placed B.number;
-  lang = watched B.plain B.placed B.facts B.sets;
-  Made = MadeAs B.plain B.placed B.facts B.sets;
-  sites = typed_sites B.plain B.placed B.facts B.sets;
-  spots = family B.plain B.placed B.facts B.sets;
+  at = operand_at B.program B.number;
+  lang = watched B.program B.facts B.sets;
+  Made = MadeAs B.program B.facts B.sets;
+  sites = typed_sites B.program B.facts B.sets;
+  spots = family B.program B.facts B.sets;
 }
 
 module _ (B : ClosedBody) where
-  open B use {plain as P, placed as Q, facts as F, sets as S, closed, are_facts as facts, kinded, number as m, method as k, stands}
+  open B use {program as P, facts as F, sets as S, closed, are_facts as facts, kinded, number as m, method as k, stands}
   open watch B use {at, lang as L, Made, sites, spots as V}
   open walked P m k use {env as g, operand as seen, Stands}
 
-  pub plain_used : (o : Operand) → o.created ≡ None → IsUsed P Q F S o
+  pub plain_used : (o : Operand) → o.created ≡ None → IsUsed P F S o
   plain_used o e = record { used = λ n s d f. absurd (let z = sym e ∙ d in cc) }
 
-  plain_types : (o : Operand) → o.created ≡ None → HasTypes P Q F S o
+  plain_types : (o : Operand) → o.created ≡ None → HasTypes P F S o
   unfolding HasTypes
   plain_types o e n s d f = absurd (let z = sym e ∙ d in cc)
 
   pub made_at : (p : Place) (u : Bool) (e : Ex) → Contains (parts_of P m k) (a_creation p u (seen e)) → Contains (parts_of P m k) (a_creation p u (at e))
-  made_at p u e c = part_at P Q m k stands (λ o z. a_creation p u o) e e c
+  made_at p u e c = part_at P m k stands (λ o z. a_creation p u o) e e c
 
-  pub creation : (p : Place) (u : Bool) (e : Ex) → Contains (parts_of P m k) (a_creation p u (at e)) → IsCreation P Q F u (at e)
+  pub creation : (p : Place) (u : Bool) (e : Ex) → Contains (parts_of P m k) (a_creation p u (at e)) → IsCreation P F u (at e)
   unfolding IsKindedPart
   creation p u e c = kinded.parts m k stands (a_creation p u (at e)) c
 
   -- what an expression gives has a type, and is a point where it is used
-  pub is_used : (e : Ex) → Stands (parts P (type_in P m k) m k true e) → IsUsed P Q F S (at e)
+  pub is_used : (e : Ex) → Stands (parts P (type_in P m k) m k true e) → IsUsed P F S (at e)
   unfolding IsBase
   is_used (create t n c es) st =
       let w = made_at t.place true (create t n c es) (here _ _ st) in
       let i = creation t.place true (create t n c es) w in
-      creation_used P Q F S closed facts m k stands t.place true (at (create t n c es)) w i (i.point refl)
+      creation_used P F S closed facts m k stands t.place true (at (create t n c es)) w i (i.point refl)
   is_used (create_array t n u e) st =
       let w = made_at t.place true (create_array t n u e) (here _ _ st) in
       let i = creation t.place true (create_array t n u e) w in
-      creation_used P Q F S closed facts m k stands t.place true (at (create_array t n u e)) w i (i.point refl)
-  is_used e st = plain_used (at e) (ap (λ z. z.created) (at_seen P Q m k stands e))
+      creation_used P F S closed facts m k stands t.place true (at (create_array t n u e)) w i (i.point refl)
+  is_used e st = plain_used (at e) (ap (λ z. z.created) (at_seen P m k stands e))
 
-  pub base_used : (e : Ex) → Stands (parts P (type_in P m k) m k (is_accessed e) e) → IsBase P Q F (at e) → IsUsed P Q F S (at e)
+  pub base_used : (e : Ex) → Stands (parts P (type_in P m k) m k (is_accessed e) e) → IsBase P F (at e) → IsUsed P F S (at e)
   base_used (create t n c es) st b =
       let w = made_at t.place true (create t n c es) (here _ _ st) in
-      creation_used P Q F S closed facts m k stands t.place true (at (create t n c es)) w (creation t.place true (create t n c es) w) b
+      creation_used P F S closed facts m k stands t.place true (at (create t n c es)) w (creation t.place true (create t n c es) w) b
   base_used (create_array t n u e) st b =
       let w = made_at t.place false (create_array t n u e) (here _ _ st) in
-      creation_used P Q F S closed facts m k stands t.place false (at (create_array t n u e)) w (creation t.place false (create_array t n u e) w) b
-  base_used e st b = plain_used (at e) (ap (λ z. z.created) (at_seen P Q m k stands e))
+      creation_used P F S closed facts m k stands t.place false (at (create_array t n u e)) w (creation t.place false (create_array t n u e) w) b
+  base_used e st b = plain_used (at e) (ap (λ z. z.created) (at_seen P m k stands e))
 
-  pub has_types : (u : Bool) (e : Ex) → Stands (parts P (type_in P m k) m k u e) → HasTypes P Q F S (at e)
+  pub has_types : (u : Bool) (e : Ex) → Stands (parts P (type_in P m k) m k u e) → HasTypes P F S (at e)
   unfolding HasTypes
   has_types u (create t n c es) st = λ i s d f. let w = made_at t.place u (create t n c es) (here _ _ st) in
       (site_type F s, (creation t.place u (create t n c es) w).typed i s d f)
   has_types u (create_array t n v e) st = λ i s d f. let w = made_at t.place u (create_array t n v e) (here _ _ st) in
       (site_type F s, (creation t.place u (create_array t n v e) w).typed i s d f)
-  has_types u e st = plain_types (at e) (ap (λ z. z.created) (at_seen P Q m k stands e))
+  has_types u e st = plain_types (at e) (ap (λ z. z.created) (at_seen P m k stands e))
 
   -- an expression's static type, as one of a row
   pub field_seen : (e : Ex) (x : List ℕ) → object_field P (type_in P m k e) x ≡ field_in P (static P g e) x
@@ -167,28 +166,28 @@ module _ (B : ClosedBody) where
   unfolding type_in
   slot_seen e x = ap (λ z. option_and_then (λ c. slot_of P c x) z) (class_is (static P g e))
 
-  pub gives : (d : Ex) (X : ℕ → Bool) → ((s : ℕ) → X s ≡ true → (looks_in P Q F S (at d).created (at d) s ≡ true)
-      × (value_sites P Q F S (at d) s ≡ true)) → Gives L Made V g d (λ q. passes X (site_in (numbers P Q) q))
+  pub gives : (d : Ex) (X : ℕ → Bool) → ((s : ℕ) → X s ≡ true → (looks_in P F S (at d).created (at d) s ≡ true)
+      × (value_sites P F S (at d) s ≡ true)) → Gives L Made V g d (λ q. passes X (site_in (numbers P) q))
   gives d X f = record {
-    looks = sub_sites P Q X (sites (held m d)) (λ s h. (f s h).0);
-    holds = sub_sites P Q X (value_sites P Q F S (at d)) (λ s h. (f s h).1);
+    looks = sub_sites P X (sites (held m d)) (λ s h. (f s h).0);
+    holds = sub_sites P X (value_sites P F S (at d)) (λ s h. (f s h).1);
   }
 
   -- a base that is used is in its point
-  pub base_at : (e : Ex) (z : Option ℕ) → IsUsed P Q F S (at e) → passes (value_sites P Q F S (at e)) z ≡ true → passes (point_sites P Q F S (at e)) z ≡ true
-  base_at e z u h = passes_map (value_sites P Q F S (at e)) (point_sites P Q F S (at e)) z
-      (λ s v. let a = (used_at P Q F S (at e) s u v).1 in is_at P Q F S (point_at (numbers P Q) (at e)) a.number s a.there a.holds) h
+  pub base_at : (e : Ex) (z : Option ℕ) → IsUsed P F S (at e) → passes (value_sites P F S (at e)) z ≡ true → passes (point_sites P F S (at e)) z ≡ true
+  base_at e z u h = passes_map (value_sites P F S (at e)) (point_sites P F S (at e)) z
+      (λ s v. let a = (used_at P F S (at e) s u v).1 in is_at P F S (point_at (numbers P) (at e)) a.number s a.there a.holds) h
 
-  load_kind : (p : Place) (b o : Operand) (f : ℕ) → Contains (parts_of P m k) (a_load p b (Some f) o) → IsKindedLoad P Q F b f o
+  load_kind : (p : Place) (b o : Operand) (f : ℕ) → Contains (parts_of P m k) (a_load p b (Some f) o) → IsKindedLoad P F b f o
   unfolding IsKindedPart
   load_kind p b o f c = kinded.parts m k stands (a_load p b (Some f) o) c
 
-  store_kind : (p : Place) (b o : Operand) (f : ℕ) → Contains (parts_of P m k) (a_store p b (Some f) o) → IsKindedStore P Q F b f o
+  store_kind : (p : Place) (b o : Operand) (f : ℕ) → Contains (parts_of P m k) (a_store p b (Some f) o) → IsKindedStore P F b f o
   unfolding IsKindedPart
   store_kind p b o f c = kinded.parts m k stands (a_store p b (Some f) o) c
 
   pub reads : (p : Place) (e d : Ex) (x : Option ℕ) → (at d).created ≡ None
-      → ((j : ℕ) → x ≡ Some j → Contains (parts_of P m k) (a_load p (at e) (Some j) (at d)) × (IsBase P Q F (at e) → IsUsed P Q F S (at e)))
+      → ((j : ℕ) → x ≡ Some j → Contains (parts_of P m k) (a_load p (at e) (Some j) (at d)) × (IsBase P F (at e) → IsUsed P F S (at e)))
       → Reads L Made V g e d x
   unfolding Reads
   reads p e d x pl h = λ j ej o c i made ix v.
@@ -196,47 +195,47 @@ module _ (B : ClosedBody) where
       let kind = load_kind p (at e) (at d) j w.0 in
       let u = w.1 kind.base in
       record {
-        base = base_at e (site_in (numbers P Q) o) u v;
-        gives = gives d (field_sites P Q F S j (site_in (numbers P Q) o)) (λ s r. load_goes P Q F S closed facts m k stands p (at e) j
-            (at d) w.0 kind.gives u pl (site_in (numbers P Q) o) v s r);
+        base = base_at e (site_in (numbers P) o) u v;
+        gives = gives d (field_sites P F S j (site_in (numbers P) o)) (λ s r. load_goes P F S closed facts m k stands p (at e) j
+            (at d) w.0 kind.gives u pl (site_in (numbers P) o) v s r);
       }
 
-  site_some : (o : Option ℕ) (s : ℕ) → site_in (numbers P Q) o ≡ Some s → (n : ℕ) × ((numbers P Q).site n ≡ Some s)
+  site_some : (o : Option ℕ) (s : ℕ) → site_in (numbers P) o ≡ Some s → (n : ℕ) × ((numbers P).site n ≡ Some s)
   site_some None s e = absurd (cc)
   site_some (Some n) s e = (n, e)
 
   -- the site of an object, with its class
-  pub object_site : (o : Option ℕ) (c : ℕ) → Made o (an_object c) → (s : ℕ) × (site_in (numbers P Q) o ≡ Some s)
+  pub object_site : (o : Option ℕ) (c : ℕ) → Made o (an_object c) → (s : ℕ) × (site_in (numbers P) o ≡ Some s)
       × (site_type F s ≡ record { class = record { 0 = c }; dim = 0 })
   object_site o c made = let s = made.sited (record { class = record { 0 = c }; dim = 0 }) refl in (s.0, s.1, sym (same_Some _ _ (made.typed s.0 s.1)))
 
   pub writes : (p : Place) (e d : Ex) (x : Option ℕ) → ((j : ℕ) → x ≡ Some j → Contains (parts_of P m k) (a_store p (at e) (Some j) (at d))
-      × (IsBase P Q F (at e) → IsUsed P Q F S (at e))) → IsUsed P Q F S (at d) → Writes L Made V g e d x
+      × (IsBase P F (at e) → IsUsed P F S (at e))) → IsUsed P F S (at d) → Writes L Made V g e d x
   unfolding Writes
   writes p e d x h ud = λ j ej o c i made ix v.
       let w = h j ej in
       let kind = store_kind p (at e) (at d) j w.0 in
       let u = w.1 kind.base in
       let site = object_site o c made in
-      let base : value_sites P Q F S (at e) site.0 ≡ true = subst (λ z. passes (value_sites P Q F S (at e)) z ≡ true) site.1 v in
+      let base : value_sites P F S (at e) site.0 ≡ true = subst (λ z. passes (value_sites P F S (at e)) z ≡ true) site.1 v in
       record {
-        base = base_at e (site_in (numbers P Q) o) u v;
-        gives = sub_sites P Q (value_sites P Q F S (at d)) (field_sites P Q F S j (site_in (numbers P Q) o))
-            (λ s r. subst (λ z. field_sites P Q F S j z s ≡ true) (sym site.1)
-            (store_goes P Q F S closed facts m k stands p (at e) j (at d) w.0 kind.takes u ud site.0 base
+        base = base_at e (site_in (numbers P) o) u v;
+        gives = sub_sites P (value_sites P F S (at d)) (field_sites P F S j (site_in (numbers P) o))
+            (λ s r. subst (λ z. field_sites P F S j z s ≡ true) (sym site.1)
+            (store_goes P F S closed facts m k stands p (at e) j (at d) w.0 kind.takes u ud site.0 base
             (λ t et. kinded.fields j (site_some o site.0 site.1).0 site.0 c i t (site_some o site.0 site.1).1 site.2 ix et) s r));
       }
 
-  element_kind : (p : Place) (b o : Operand) → Contains (parts_of P m k) (an_element p b o) → (t : ObjectType) → b.ty ≡ Some t → IsPoint P Q F o
+  element_kind : (p : Place) (b o : Operand) → Contains (parts_of P m k) (an_element p b o) → (t : ObjectType) → b.ty ≡ Some t → IsPoint P F o
   unfolding IsKindedPart
   element_kind p b o c = kinded.parts m k stands (an_element p b o) c
 
-  pub reads_element : (p : Place) (e d : Ex) → (at d).created ≡ None → Contains (parts_of P m k) (an_element p (at e) (at d)) → IsUsed P Q F S (at e)
+  pub reads_element : (p : Place) (e d : Ex) → (at d).created ≡ None → Contains (parts_of P m k) (an_element p (at e) (at d)) → IsUsed P F S (at e)
       → ReadsElement L Made V g e d
   unfolding ReadsElement
   reads_element p e d pl c u = λ o t w made et v.
-      gives d (element_sites P Q F S (site_in (numbers P Q) o)) (λ s r. element_goes P Q F S closed facts m k stands p (at e) (at d) c
-      (element_kind p (at e) (at d) c) u pl (site_in (numbers P Q) o) v s r)
+      gives d (element_sites P F S (site_in (numbers P) o)) (λ s r. element_goes P F S closed facts m k stands p (at e) (at d) c
+      (element_kind p (at e) (at d) c) u pl (site_in (numbers P) o) v s r)
 
   -- a subtype of an object's type is one of its class
   sub_object : (b c : TyBase) (d n : ℕ) (t : ObjectType) → d ≡ n → is_sub_base P b c ≡ true → object_in b d ≡ Some t → (u : ObjectType)
@@ -274,10 +273,10 @@ module _ (B : ClosedBody) where
   array_object Char (suc d) u t e o = absurd (let z = ap (λ z. object_of z) (same_Some (record { base = Char; dim = d }) u e) ∙ o in cc)
   array_object Str (suc d) u t e o = absurd (let z = ap (λ z. object_of z) (same_Some (record { base = Str; dim = d }) u e) ∙ o in cc)
 
-  pub writes_element : (p : Place) (e d : Ex) → Contains (parts_of P m k) (an_element_store p (at e) (at d)) → IsUsed P Q F S (at e)
-      → IsUsed P Q F S (at d) → WritesElement L Made V g e d
+  pub writes_element : (p : Place) (e d : Ex) → Contains (parts_of P m k) (an_element_store p (at e) (at d)) → IsUsed P F S (at e)
+      → IsUsed P F S (at d) → WritesElement L Made V g e d
   unfolding WritesElement
-  writes_element p e d c ue ud = λ o q t u h made et mq sub v w. passes_all (element_sites P Q F S (site_in (numbers P Q) o)) (site_in (numbers P Q) q) (λ i ei.
+  writes_element p e d c ue ud = λ o q t u h made et mq sub v w. passes_all (element_sites P F S (site_in (numbers P) o)) (site_in (numbers P) q) (λ i ei.
       let own = mq.typed i ei in
       let up = subtype_object (own_type h) u (site_type F i) sub own in
       let array = array_object t.base t.dim u up.0 et up.1 in
@@ -286,6 +285,6 @@ module _ (B : ClosedBody) where
       let cell = kinded.elements (site_some o site.0 site.1).0 site.0 up.0.class.0 t.dim (site_some o site.0 site.1).1 type array.1 in
       let less : IsBelow F (site_class F i) (site_class F site.0) = kinded.below (site_class F i) (site_class F site.0)
       (subst (λ z. below P (site_class F i) z ≡ true) (sym (ap (λ z. z.class.0) type)) up.2) in
-      subst (λ z. element_sites P Q F S z i ≡ true) (sym site.1) (element_store_goes P Q F S closed facts m k stands p (at e) (at d) c ue ud site.0
-      (subst (λ z. passes (value_sites P Q F S (at e)) z ≡ true) site.1 v) cell.0 cell.1 i less
-      (subst (λ z. passes (value_sites P Q F S (at d)) z ≡ true) ei w)))
+      subst (λ z. element_sites P F S z i ≡ true) (sym site.1) (element_store_goes P F S closed facts m k stands p (at e) (at d) c ue ud site.0
+      (subst (λ z. passes (value_sites P F S (at e)) z ≡ true) site.1 v) cell.0 cell.1 i less
+      (subst (λ z. passes (value_sites P F S (at d)) z ≡ true) ei w)))

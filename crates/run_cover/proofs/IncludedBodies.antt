@@ -26,37 +26,37 @@ use Rattle.run_cover.proofs.IncludedExpressions as expressions
 use Rattle.run_cover.proofs.Walked.{walked}
 
 module _ (B : ClosedBody) where
-  open B use {plain as P, placed as Q, facts as F, sets as S, closed, are_facts as facts, kinded, number as m, method as k, stands}
+  open B use {program as P, facts as F, sets as S, closed, are_facts as facts, kinded, number as m, method as k, stands}
   open watch B use {at, lang as L, Made, sites, spots as V}
   open walked P m k use {env as g, operand as seen, Stands, tree, tree_sts as sts, tree_if as if_there}
 
   -- a value that is put in a local or a static field, and one that is given back
-  set_kind : (v o : Operand) → Contains (parts_of P m k) (a_set v o) → (t : ObjectType) → o.ty ≡ Some t → IsPoint P Q F v
+  set_kind : (v o : Operand) → Contains (parts_of P m k) (a_set v o) → (t : ObjectType) → o.ty ≡ Some t → IsPoint P F v
   unfolding IsKindedPart
   set_kind v o c = kinded.parts m k stands (a_set v o) c
 
-  return_kind : (o : Operand) → Contains (parts_of P m k) (a_return o) → (t : ObjectType) → o.ty ≡ Some t → IsKindedReturn P Q F m k
+  return_kind : (o : Operand) → Contains (parts_of P m k) (a_return o) → (t : ObjectType) → o.ty ≡ Some t → IsKindedReturn P F m k
   unfolding IsKindedPart
   return_kind o c = kinded.parts m k stands (a_return o) c
 
-  set_goes : (v e : Ex) → Contains (parts_of P m k) (a_set (at v) (at e)) → HasTypes P Q F S (at e) → (s : ℕ) → value_sites P Q F S (at e) s ≡ true
-      → when_object (type_in P m k v) (at_point P Q F S (point_at (numbers P Q) (seen v))) s ≡ true
+  set_goes : (v e : Ex) → Contains (parts_of P m k) (a_set (at v) (at e)) → HasTypes P F S (at e) → (s : ℕ) → value_sites P F S (at e) s ≡ true
+      → when_object (type_in P m k v) (at_point P F S (point_at (numbers P) (seen v))) s ≡ true
   set_goes v e c h s w =
-      let t = value_typed P Q F S (at e) s h w in
+      let t = value_typed P F S (at e) s h w in
       let q = set_kind (at v) (at e) c t.0 t.1 in
-      when_is (type_in P m k v) q.type (at_point P Q F S (point_at (numbers P Q) (seen v))) s (ap (λ z. z.ty) (sym (at_seen P Q m k stands v)) ∙ q.typed)
-      (is_at P Q F S (point_at (numbers P Q) (seen v)) q.number s (ap (λ z. point_at (numbers P Q) z) (sym (at_seen P Q m k stands v)) ∙ q.point)
-      (operand_goes P Q F S closed facts m k stands (a_set (at v) (at e)) c (at e) (point_at (numbers P Q) (at v)) q.number s (λ x d. d) (λ x d. d) q.point w))
+      when_is (type_in P m k v) q.type (at_point P F S (point_at (numbers P) (seen v))) s (ap (λ z. z.ty) (sym (at_seen P m k stands v)) ∙ q.typed)
+      (is_at P F S (point_at (numbers P) (seen v)) q.number s (ap (λ z. point_at (numbers P) z) (sym (at_seen P m k stands v)) ∙ q.point)
+      (operand_goes P F S closed facts m k stands (a_set (at v) (at e)) c (at e) (point_at (numbers P) (at v)) q.number s (λ x d. d) (λ x d. d) q.point w))
 
   set_part : (v e : Ex) → Contains (parts_of P m k) (a_set (seen v) (seen e)) → Contains (parts_of P m k) (a_set (at v) (at e))
-  set_part v e c = part_at P Q m k stands (λ o z. a_set o z) v e c
+  set_part v e c = part_at P m k stands (λ o z. a_set o z) v e c
 
   sets_local : (t : Tag) (i : ℕ) (e : Ex) → Stands (tree false e ++ a_set (seen (local t i)) (seen e) ∷ []) → Included L Made V g e
       × Sub (V.value m e) (V.spot (bound m i))
   sets_local t i e st = (
     expressions.included B false e (left (tree false e) _ st),
-    sub_sites P Q (value_sites P Q F S (at e)) (sites (bound m i))
-        (λ s h. subst (λ z. when_object z (at_point P Q F S ((numbers P Q).point (point.Local m i))) s ≡ true) (expressions.local_seen B t i)
+    sub_sites P (value_sites P F S (at e)) (sites (bound m i))
+        (λ s h. subst (λ z. when_object z (at_point P F S ((numbers P).point (point.Local m i))) s ≡ true) (expressions.local_seen B t i)
         (set_goes (local t i) e (set_part (local t i) e (here _ [] (right (tree false e) _ st))) (sets.has_types B false e (left (tree false e) _ st)) s h)),
   )
 
@@ -64,8 +64,8 @@ module _ (B : ClosedBody) where
       × Sub (V.value m e) (V.spot (set_static f))
   sets_static t f e st = (
     expressions.included B false e (left (tree false e) _ st),
-    sub_sites P Q (value_sites P Q F S (at e)) (sites (set_static f))
-        (λ s h. subst (λ z. when_object z (at_point P Q F S ((numbers P Q).point (point.Static f))) s ≡ true) (expressions.static_seen B t f)
+    sub_sites P (value_sites P F S (at e)) (sites (set_static f))
+        (λ s h. subst (λ z. when_object z (at_point P F S ((numbers P).point (point.Static f))) s ≡ true) (expressions.static_seen B t f)
         (set_goes (static_field t f) e (set_part (static_field t f) e (here _ [] (right (tree false e) _ st)))
         (sets.has_types B false e (left (tree false e) _ st)) s h)),
   )
@@ -77,14 +77,14 @@ module _ (B : ClosedBody) where
   sets_result : (e : Option Ex) → Stands (parts_return P (type_in P m k) m k e) → SetsTo L Made V g e (result_of m)
   sets_result None st = tt
   sets_result (Some e) st =
-      let c = part_at P Q m k stands (λ o z. a_return o) e e (here _ [] (right (tree false e) _ st)) in (
+      let c = part_at P m k stands (λ o z. a_return o) e e (here _ [] (right (tree false e) _ st)) in (
         expressions.included B false e (left (tree false e) _ st),
-        sub_sites P Q (value_sites P Q F S (at e)) (sites (result_of m)) (λ s w.
-            let t = value_typed P Q F S (at e) s (sets.has_types B false e (left (tree false e) _ st)) w in
+        sub_sites P (value_sites P F S (at e)) (sites (result_of m)) (λ s w.
+            let t = value_typed P F S (at e) s (sets.has_types B false e (left (tree false e) _ st)) w in
             let q = return_kind (at e) c t.0 t.1 in
-            when_is (result_object P Q F S m) q.type (at_point P Q F S ((numbers P Q).point (point.Result m))) s (result_is P Q F S m k stands ∙ q.typed)
-            (is_at P Q F S ((numbers P Q).point (point.Result m)) q.number s q.point
-            (operand_goes P Q F S closed facts m k stands (a_return (at e)) c (at e) ((numbers P Q).point (point.Result m)) q.number s (λ x d. d)
+            when_is (result_object P F S m) q.type (at_point P F S ((numbers P).point (point.Result m))) s (result_is P F S m k stands ∙ q.typed)
+            (is_at P F S ((numbers P).point (point.Result m)) q.number s q.point
+            (operand_goes P F S closed facts m k stands (a_return (at e)) c (at e) ((numbers P).point (point.Result m)) q.number s (λ x d. d)
             (λ x d. d) q.point w))),
       )
 
@@ -101,7 +101,7 @@ module _ (B : ClosedBody) where
     sets.writes B p (this t) d (Some f) (λ j e. (
       expressions.one_some B (λ j. Contains (parts_of P m k) (a_store p (at (this t)) (Some j) (at d))) f j e
           (expressions.own_store B t p f d (here _ [] (right (tree true d) _ st))),
-      (λ b. sets.plain_used B (at (this t)) (plain P Q m k stands (this t) refl)),
+      (λ b. sets.plain_used B (at (this t)) (plain P m k stands (this t) refl)),
     )) (sets.is_used B d (left (tree true d) _ st)),
   )
   assigns p (to_field t e x) d st =
@@ -110,7 +110,7 @@ module _ (B : ClosedBody) where
         expressions.included B (is_accessed e) e se,
         expressions.included B true d sd,
         sets.writes B p e d (L.field g e x) (λ j ej. (
-          part_at P Q m k stands (λ o z. a_store p o (Some j) z) e d
+          part_at P m k stands (λ o z. a_store p o (Some j) z) e d
               (subst (λ z. Contains (parts_of P m k) (a_store p (seen e) z (seen d))) (sets.field_seen B e x
               ∙ ej) (here _ [] (right (tree (is_accessed e) e ++ tree true d) _ st))),
           (λ b. sets.base_used B e se b),
@@ -124,7 +124,7 @@ module _ (B : ClosedBody) where
         expressions.included B true e se,
         expressions.included B false i (right (tree true e) (tree false i) first2),
         expressions.included B true d sd,
-        sets.writes_element B p e d (part_at P Q m k stands (λ o z. an_element_store p o z) e d
+        sets.writes_element B p e d (part_at P m k stands (λ o z. an_element_store p o z) e d
             (here _ [] (right (tree true e ++ tree false i ++ tree true d) _ st))) (sets.is_used B e se) (sets.is_used B d sd),
       )
   assigns p no_target d st = tt

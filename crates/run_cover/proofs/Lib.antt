@@ -13,7 +13,8 @@ pub mod IncludedExpressions
 pub mod IncludedBodies
 pub mod Escapes
 pub mod HasNumbers
-pub mod Untagging
+pub mod Labelled
+pub mod Forms
 pub mod HasRows
 pub mod Types
 pub mod TypedParts

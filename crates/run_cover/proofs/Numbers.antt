@@ -1,7 +1,7 @@
 -- The numbers of a body's creations, casts and `instanceof`: each part that is one has its own, and those of a program differ.
 use Rattle.std.proofs.Common.{◌≡◌, ℕ, zero, suc, ◌+◌, List, [], ◌∷◌, ◌++◌, Option, Some, None, length, refl, sym, ap, ◌∙◌, subst, arith}
 use Rattle.std.specs.Prelude.{Bool, true, false, Contains, slice_get}
-use Rattle.std.specs.Option.{option_map, option_to_list}
+use Rattle.std.specs.Option.{option_to_list}
 use Rattle.std.specs.List.{flat_map}
 use Rattle.std.proofs.lemmas.Option.{same_Some, slice_get_within}
 use Rattle.std.proofs.lemmas.Grind.{flat_map-append}
@@ -9,7 +9,6 @@ use Rattle.std.proofs.lemmas.List.Elements.{Contains-append_left, Contains-appen
 use Rattle.java_core.specs.Trees.{Tag, Ex, Exs, no_ex, ex_then, field, index, call, static_call, super_call, create, create_array, cast, instance_of, unary, binary, Target, to_local, to_static, to_own, to_field, to_element, no_target, Sts}
 use Rattle.java_core.specs.Programs.{Plain, PlainMethod}
 use Rattle.java_core.specs.Formed.{HasNoTwice, numbers, numbers_all, numbers_if, numbers_target, numbers_sts, numbers_body, numbers_methods}
-use Rattle.java_core.specs.Untagged.{bare, bare_all, bare_if, bare_target, bare_sts}
 use Rattle.flow_rules.specs.declared.items.ObjectType.{ObjectType}
 use Rattle.flow_rules.specs.declared.items.RowItem.{RowItem}
 use Rattle.flow_rules.specs.declared.items.RowItem.TheVariants as row
@@ -53,69 +52,68 @@ module _ (P : Plain) (type : Ex → Option ObjectType) (m : ℕ) (k : PlainMetho
   in_all u es = parts_all P type m k u es
 
   mutual
-    ex_numbers : (n : ℕ) (u : Bool) (e : Ex) → numbers_in (in_ex u (label n e)) ≡ numbers (bare e)
-    ex_numbers n u (field t e x) = joined (in_ex (is_accessed (label n e)) (label n e)) _ (numbers (bare e)) (ex_numbers n (is_accessed (label n e)) e) refl
-    ex_numbers n u (index t e i) = join (in_ex true (label n e)) _ (numbers (bare e)) (numbers (bare i)) (ex_numbers n true e)
+    ex_numbers : (n : ℕ) (u : Bool) (e : Ex) → numbers_in (in_ex u (label n e)) ≡ numbers e
+    ex_numbers n u (field t e x) = joined (in_ex (is_accessed (label n e)) (label n e)) _ (numbers e) (ex_numbers n (is_accessed (label n e)) e) refl
+    ex_numbers n u (index t e i) = join (in_ex true (label n e)) _ (numbers e) (numbers i) (ex_numbers n true e)
         (ex_numbers (n + size e + 1) false i)
-    ex_numbers n u (call t e x es) = join (in_ex true (label n e)) _ (numbers (bare e)) (numbers_all (bare_all es)) (ex_numbers n true e)
+    ex_numbers n u (call t e x es) = join (in_ex true (label n e)) _ (numbers e) (numbers_all es) (ex_numbers n true e)
         (all_numbers (n + size e + 1) true es)
     ex_numbers n u (static_call t d es) = all_numbers (n + 1) false es
     ex_numbers n u (super_call t x es) = all_numbers (n + 1) false es
     ex_numbers n u (create t i c es) = ap (λ z. i ∷ z) (all_numbers (n + 1) false es)
     ex_numbers n u (create_array t i v e) = ap (λ z. i ∷ z) (ex_numbers (n + 1) false e)
     ex_numbers n u (cast t i v e) = ap (λ z. i ∷ z) (ex_numbers (n + 1) true e)
-    ex_numbers n u (instance_of t i e c) = join (in_ex true (label n e)) _ (numbers (bare e)) (i ∷ []) (ex_numbers n true e) refl
+    ex_numbers n u (instance_of t i e c) = join (in_ex true (label n e)) _ (numbers e) (i ∷ []) (ex_numbers n true e) refl
     ex_numbers n u (unary t o e) = ex_numbers n false e
     ex_numbers n u (binary t o e d) =
-        joined (in_ex false (label n e) ++ in_ex false (label (n + size e) d)) _ (numbers (bare e) ++ numbers (bare d))
-        (join (in_ex false (label n e)) (in_ex false (label (n + size e) d)) (numbers (bare e)) (numbers (bare d)) (ex_numbers n false e)
+        joined (in_ex false (label n e) ++ in_ex false (label (n + size e) d)) _ (numbers e ++ numbers d)
+        (join (in_ex false (label n e)) (in_ex false (label (n + size e) d)) (numbers e) (numbers d) (ex_numbers n false e)
         (ex_numbers (n + size e) false d)) refl
     ex_numbers n u e = refl
 
-    all_numbers : (n : ℕ) (u : Bool) (es : Exs) → numbers_in (in_all u (label_all n es)) ≡ numbers_all (bare_all es)
+    all_numbers : (n : ℕ) (u : Bool) (es : Exs) → numbers_in (in_all u (label_all n es)) ≡ numbers_all es
     all_numbers n u no_ex = refl
-    all_numbers n u (ex_then e es) = join (in_ex u (label n e)) (in_all u (label_all (n + size e) es)) (numbers (bare e)) (numbers_all (bare_all es))
+    all_numbers n u (ex_then e es) = join (in_ex u (label n e)) (in_all u (label_all (n + size e) es)) (numbers e) (numbers_all es)
         (ex_numbers n u e) (all_numbers (n + size e) u es)
 
-  set_numbers : (n : ℕ) (v : Ex) (e : Option Ex) → numbers_in (parts_set P type m k v (label_if n e)) ≡ numbers_if (bare_if e)
+  set_numbers : (n : ℕ) (v : Ex) (e : Option Ex) → numbers_in (parts_set P type m k v (label_if n e)) ≡ numbers_if e
   set_numbers n v None = refl
-  set_numbers n v (Some e) = joined (in_ex false (label n e)) _ (numbers (bare e)) (ex_numbers n false e) refl
+  set_numbers n v (Some e) = joined (in_ex false (label n e)) _ (numbers e) (ex_numbers n false e) refl
 
-  return_numbers : (n : ℕ) (e : Option Ex) → numbers_in (parts_return P type m k (label_if n e)) ≡ numbers_if (bare_if e)
+  return_numbers : (n : ℕ) (e : Option Ex) → numbers_in (parts_return P type m k (label_if n e)) ≡ numbers_if e
   return_numbers n None = refl
-  return_numbers n (Some e) = joined (in_ex false (label n e)) _ (numbers (bare e)) (ex_numbers n false e) refl
+  return_numbers n (Some e) = joined (in_ex false (label n e)) _ (numbers e) (ex_numbers n false e) refl
 
   assign_numbers : (n : ℕ) (t : Tag) (b : Target) (e : Ex)
-      → numbers_in (parts_assign P type m k t.place (label_target n b) (label (n + size_target b) e)) ≡ numbers_target (bare_target b)
-      ++ numbers (bare e)
-  assign_numbers n t (to_local s i) e = joined (in_ex false (label (n + 0) e)) _ (numbers (bare e)) (ex_numbers (n + 0) false e) refl
-  assign_numbers n t (to_static s f) e = joined (in_ex false (label (n + 0) e)) _ (numbers (bare e)) (ex_numbers (n + 0) false e) refl
-  assign_numbers n t (to_own s f) e = joined (in_ex true (label (n + 0) e)) _ (numbers (bare e)) (ex_numbers (n + 0) true e) refl
+      → numbers_in (parts_assign P type m k t.place (label_target n b) (label (n + size_target b) e)) ≡ numbers_target b
+      ++ numbers e
+  assign_numbers n t (to_local s i) e = joined (in_ex false (label (n + 0) e)) _ (numbers e) (ex_numbers (n + 0) false e) refl
+  assign_numbers n t (to_static s f) e = joined (in_ex false (label (n + 0) e)) _ (numbers e) (ex_numbers (n + 0) false e) refl
+  assign_numbers n t (to_own s f) e = joined (in_ex true (label (n + 0) e)) _ (numbers e) (ex_numbers (n + 0) true e) refl
   assign_numbers n t (to_field s b x) e =
       let one = in_ex (is_accessed (label n b)) (label n b) in
       let two = in_ex true (label (n + size b) e) in
-      joined (one ++ two) _ (numbers (bare b) ++ numbers (bare e)) (join one two (numbers (bare b)) (numbers (bare e))
+      joined (one ++ two) _ (numbers b ++ numbers e) (join one two (numbers b) (numbers e)
       (ex_numbers n (is_accessed (label n b)) b) (ex_numbers (n + size b) true e)) refl
   assign_numbers n t (to_element s b i) e =
       let one = in_ex true (label n b) in
       let two = in_ex false (label (n + size b) i) in
       let three = in_ex true (label (n + (size b + size i)) e) in
-      joined ((one ++ two) ++ three) _ ((numbers (bare b) ++ numbers (bare i)) ++ numbers (bare e))
-      (join (one ++ two) three (numbers (bare b) ++ numbers (bare i)) (numbers (bare e)) (join one two (numbers (bare b)) (numbers (bare i))
+      joined ((one ++ two) ++ three) _ ((numbers b ++ numbers i) ++ numbers e)
+      (join (one ++ two) three (numbers b ++ numbers i) (numbers e) (join one two (numbers b) (numbers i)
       (ex_numbers n true b) (ex_numbers (n + size b) false i)) (ex_numbers (n + (size b + size i)) true e)) refl
-  assign_numbers n t no_target e = joined (in_ex false (label (n + 0) e)) _ (numbers (bare e)) (ex_numbers (n + 0) false e) refl
+  assign_numbers n t no_target e = joined (in_ex false (label (n + 0) e)) _ (numbers e) (ex_numbers (n + 0) false e) refl
 
-  sts_numbers : (n : ℕ) (xs : Sts) → numbers_in (parts_sts P type m k (label_sts n xs)) ≡ numbers_sts (bare_sts xs)
+  sts_numbers : (n : ℕ) (xs : Sts) → numbers_in (parts_sts P type m k (label_sts n xs)) ≡ numbers_sts xs
   sts_numbers = of_sts P type m k (λ a ps b xs. numbers_in ps ≡ xs) (λ n. refl) (λ a b c ps qs xs ys e d. join ps qs xs ys e d)
       (λ n e. ex_numbers n false e) set_numbers return_numbers assign_numbers
 
-body_numbers : (P : Plain) (type : Ex → Option ObjectType) (m : ℕ) (k : PlainMethod) (b : Option Sts) → numbers_in (parts_body P type m k b)
-    ≡ numbers_body (option_map bare_sts b)
+body_numbers : (P : Plain) (type : Ex → Option ObjectType) (m : ℕ) (k : PlainMethod) (b : Option Sts) → numbers_in (parts_body P type m k b) ≡ numbers_body b
 body_numbers P type m k None = refl
 body_numbers P type m k (Some xs) = sts_numbers P type m k 0 xs
 
 -- the numbers of a method's parts are those of its body
-pub method_numbers : (P : Plain) (m : ℕ) (k : PlainMethod) → numbers_in (parts_of P m k) ≡ numbers_body (option_map bare_sts k.body)
+pub method_numbers : (P : Plain) (m : ℕ) (k : PlainMethod) → numbers_in (parts_of P m k) ≡ numbers_body k.body
 unfolding parts_of
 method_numbers P m k = body_numbers P (type_in P m k) m k k.body
 
@@ -180,34 +178,23 @@ one_method (x ∷ ks) (suc i) zero h k n t e d a b =
     (methods_has ks i h n e a))
 one_method (x ∷ ks) (suc i) (suc j) h k n t e d a b = ap suc (one_method ks i j h k n (twice_back (numbers_body x.body) (numbers_methods ks) t) e d a b)
 
--- the body of a method of P is this one without its tags
-pub record IsBare (P : Plain) (m : ℕ) (k : PlainMethod) : Type 0 where
-  pub plain : PlainMethod
-  pub stands : slice_get P.methods m ≡ Some plain
-  pub body : option_map bare_sts k.body ≡ plain.body
-
 -- two parts of a program's bodies with one number are one
-module _ (P Q : Plain) where
+module _ (P : Plain) where
   pub record IsPart (p : Part) : Type 0 where
     pub number : ℕ
     pub method : PlainMethod
-    pub stands : slice_get Q.methods number ≡ Some method
+    pub stands : slice_get P.methods number ≡ Some method
     pub part : Contains (parts_of P number method) p
 
-  module _ (bare_method : (m : ℕ) (k : PlainMethod) → slice_get Q.methods m ≡ Some k → IsBare P m k) (once : HasNoTwice (numbers_methods P.methods)) where
-    body_has : (p : Part) (n : ℕ) (a : IsPart p) → Contains (part_number p) n
-        → Contains (numbers_body (bare_method a.number a.method a.stands).plain.body) n
-    body_has p n a c =
-        subst (λ z. Contains z n) (method_numbers P a.number a.method ∙ ap numbers_body (bare_method a.number a.method a.stands).body)
+  module _ (once : HasNoTwice (numbers_methods P.methods)) where
+    body_has : (p : Part) (n : ℕ) (a : IsPart p) → Contains (part_number p) n → Contains (numbers_body a.method.body) n
+    body_has p n a c = subst (λ z. Contains z n) (method_numbers P a.number a.method)
         (flat_has part_number (parts_of P a.number a.method) p n a.part c)
 
     pub number_apart : (p q : Part) (n : ℕ) → IsPart p → IsPart q → Contains (part_number p) n → Contains (part_number q) n → p ≡ q
     number_apart p q n a b c d =
-        let x = bare_method a.number a.method a.stands in
-        let y = bare_method b.number b.method b.stands in
-        let e = one_method P.methods a.number b.number x.plain y.plain n once x.stands y.stands (body_has p n a c) (body_has q n b d) in
-        let g = same_Some a.method b.method (sym a.stands ∙ ap (slice_get Q.methods) e ∙ b.stands) in
+        let e = one_method P.methods a.number b.number a.method b.method n once a.stands b.stands (body_has p n a c) (body_has q n b d) in
+        let g = same_Some a.method b.method (sym a.stands ∙ ap (slice_get P.methods) e ∙ b.stands) in
         one_part (parts_of P a.number a.method) p q n
-        (subst (λ z. HasNoTwice z) (sym (method_numbers P a.number a.method ∙ ap numbers_body x.body))
-        (method_twice P.methods a.number x.plain once x.stands))
+        (subst (λ z. HasNoTwice z) (sym (method_numbers P a.number a.method)) (method_twice P.methods a.number a.method once a.stands))
         a.part (subst (λ z. Contains (parts_of P a.number z) q) (sym g) (subst (λ z. Contains (parts_of P z b.method) q) (sym e) b.part)) c d

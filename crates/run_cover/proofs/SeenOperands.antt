@@ -9,12 +9,12 @@ use Rattle.flow_rules.specs.Operands.{operand_of, type_in}
 use Rattle.flow_rules.specs.Parts.{Part, nothing, parts_of}
 use Rattle.run_cover.specs.Covers.{operand_at}
 
-module _ (P Q : Plain) (m : ℕ) (k : PlainMethod) (stands : slice_get Q.methods m ≡ Some k) where
+module _ (P : Plain) (m : ℕ) (k : PlainMethod) (stands : slice_get P.methods m ≡ Some k) where
   abbrev seen : Ex → Operand
   seen e = operand_of P (type_in P m k) m k e
 
   abbrev at : Ex → Operand
-  at e = operand_at P Q m e
+  at e = operand_at P m e
 
   pub at_seen : (e : Ex) → at e ≡ seen e
   unfolding operand_at

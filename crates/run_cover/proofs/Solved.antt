@@ -23,6 +23,6 @@ module _ (F : Facts) (t : PointsTo) (are : AreSets F t) where
   unfolding IsClosed
   solved_closed ps f rule h = from_holds f (derivable_by (Inclusion F) ps f rule (each_weaker (λ p. has (solved t) p ≡ true) (Holds F) to_holds ps h))
 
-  pub solved_covers : (P Q : Plain) → CoversEachRun P Q F → (words : List (List ℕ)) (n : ℕ) → (run_in (watched P Q F (solved t)) P.main words n).end ≢ Escaped
+  pub solved_covers : (P : Plain) → CoversEachRun P F → (words : List (List ℕ)) (n : ℕ) → (run_in (watched P F (solved t)) P.main words n).end ≢ Escaped
   unfolding CoversEachRun
-  solved_covers P Q c words n = c (solved t) solved_closed words n
+  solved_covers P c words n = c (solved t) solved_closed words n

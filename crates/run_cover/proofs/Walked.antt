@@ -5,7 +5,6 @@ use Rattle.java_core.specs.Programs.{Plain, PlainMethod}
 use Rattle.java_core.specs.Types.{Static, Env, env_of, static}
 use Rattle.java_core.specs.Typing.{Typed}
 use Rattle.java_core.specs.Formed.{FormedEx}
-use Rattle.java_core.specs.Untagged.{bare, untag_method}
 use Rattle.flow_rules.specs.declared.items.ObjectType.{ObjectType}
 use Rattle.flow_rules.specs.declared.items.Operand.{Operand}
 use Rattle.flow_rules.specs.declared.items.RowItem.{RowItem}
@@ -24,7 +23,7 @@ pub record Walked : Type 1 where
   pub tree_sts : Sts → List Part
   -- the parts of a list stand among those of the body
   pub Stands : List Part → Type 0
-  -- an expression without its tags, in the body's variables
+  -- an expression in the body's variables
   pub static : Ex → Static
   pub IsTyped : Ex → Type 0
   pub IsFormed : List ℕ → Ex → Type 0
@@ -41,7 +40,7 @@ walked P m k = record {
   tree_if = parts_if P (type_in P m k) m k;
   tree_sts = parts_sts P (type_in P m k) m k;
   Stands = λ ps. (p : Part) → Contains ps p → Contains (parts_of P m k) p;
-  static = λ e. static P (env_of m k) (bare e);
-  IsTyped = λ e. Typed P (env_of m k) (bare e);
-  IsFormed = λ scope e. FormedEx P (untag_method k) scope (bare e);
+  static = λ e. static P (env_of m k) e;
+  IsTyped = λ e. Typed P (env_of m k) e;
+  IsFormed = λ scope e. FormedEx P k scope e;
 }

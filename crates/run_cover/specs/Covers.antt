@@ -61,10 +61,10 @@ passes X None = true
 passes X (Some s) = X s
 
 -- what the facts have of an expression, and of a site
-module _ (P Q : Plain) where
+module _ (P : Plain) where
   -- what the facts see of an expression of the method m
   unfoldable pub operand_at : ℕ → Ex → Operand
-  operand_at m e = option_map_or (λ k. operand_of P (type_in P m k) m k e) (slice_get Q.methods m) nothing
+  operand_at m e = option_map_or (λ k. operand_of P (type_in P m k) m k e) (slice_get P.methods m) nothing
 
   module _ (F : Facts) where
     -- the cell of a site at a field, and that of the elements of one
@@ -72,13 +72,13 @@ module _ (P Q : Plain) where
     cell_number s c = position (is_cell s c) F.cells.items
 
     abbrev pub field_cell : ℕ → ℕ → Option ℕ
-    field_cell f s = option_and_then (λ c. cell_number s (Some c)) ((numbers P Q).column (column.Fld f))
+    field_cell f s = option_and_then (λ c. cell_number s (Some c)) ((numbers P).column (column.Fld f))
 
     abbrev pub element_cell : ℕ → Option ℕ
     element_cell s = cell_number s None
 
 -- the watch of sets over the bodies of a program
-module _ (P Q : Plain) (F : Facts) (S : Sets) where
+module _ (P : Plain) (F : Facts) (S : Sets) where
   abbrev pub at_point : Option ℕ → ℕ → Bool
   at_point None s = false
   at_point (Some p) s = S.point p s
@@ -93,15 +93,15 @@ module _ (P Q : Plain) (F : Facts) (S : Sets) where
   or_itself (Some p) r s = S.point p s
 
   abbrev pub held_in : Option ℕ → Operand → ℕ → Bool
-  held_in None o s = at_point (point_at (numbers P Q) o) s
-  held_in (Some n) o s = or_itself (point_at (numbers P Q) o) ((numbers P Q).site n) s
+  held_in None o s = at_point (point_at (numbers P) o) s
+  held_in (Some n) o s = or_itself (point_at (numbers P) o) ((numbers P).site n) s
 
   -- the sites of what an expression gives
   abbrev pub held_sites : Operand → ℕ → Bool
   held_sites o s = held_in o.created o s
 
   abbrev pub point_sites : Operand → ℕ → Bool
-  point_sites o s = at_point (point_at (numbers P Q) o) s
+  point_sites o s = at_point (point_at (numbers P) o) s
 
   -- the operand of a cast or instanceof, and the receiver of a call
   abbrev pub tested_by : Ex → Ex
@@ -115,19 +115,19 @@ module _ (P Q : Plain) (F : Facts) (S : Sets) where
 
   -- the sites that the facts give to each spot
   abbrev pub sites_at : Spot → ℕ → Bool
-  sites_at (held m e) s = held_sites (operand_at P Q m e) s
-  sites_at (bound m i) s = at_point ((numbers P Q).point (point.Local m i)) s
-  sites_at (self_of m) s = at_point ((numbers P Q).point (point.This m)) s
-  sites_at (result_of m) s = at_point ((numbers P Q).point (point.Result m)) s
-  sites_at (set_static f) s = at_point ((numbers P Q).point (point.Static f)) s
-  sites_at (kept o f) s = at_cell (option_and_then (field_cell P Q F f) (site_in (numbers P Q) o)) s
-  sites_at (put_in o) s = at_cell (option_and_then (element_cell P Q F) (site_in (numbers P Q) o)) s
-  sites_at (touched m e f) s = point_sites (operand_at P Q m e) s
-  sites_at (tested m d passed) s = point_sites (operand_at P Q m (tested_by d)) s
-  sites_at (ran m d b) s = point_sites (operand_at P Q m (called_on d)) s
+  sites_at (held m e) s = held_sites (operand_at P m e) s
+  sites_at (bound m i) s = at_point ((numbers P).point (point.Local m i)) s
+  sites_at (self_of m) s = at_point ((numbers P).point (point.This m)) s
+  sites_at (result_of m) s = at_point ((numbers P).point (point.Result m)) s
+  sites_at (set_static f) s = at_point ((numbers P).point (point.Static f)) s
+  sites_at (kept o f) s = at_cell (option_and_then (field_cell P F f) (site_in (numbers P) o)) s
+  sites_at (put_in o) s = at_cell (option_and_then (element_cell P F) (site_in (numbers P) o)) s
+  sites_at (touched m e f) s = point_sites (operand_at P m e) s
+  sites_at (tested m d passed) s = point_sites (operand_at P m (tested_by d)) s
+  sites_at (ran m d b) s = point_sites (operand_at P m (called_on d)) s
 
   abbrev pub spot_set : Spot → Set
-  spot_set p o = passes (sites_at p) (site_in (numbers P Q) o)
+  spot_set p o = passes (sites_at p) (site_in (numbers P) o)
 
   -- whether the watch lets a value pass, and the arguments of a body from number i on
   abbrev pub is_seen : Set → Value → List Cell → Bool
@@ -147,7 +147,7 @@ module _ (P Q : Plain) (F : Facts) (S : Sets) where
   labelled_with m k = option_map (λ xs. body_with m k (label_sts 0 xs)) k.body
 
   unfoldable pub labelled_body : ℕ → Option Body
-  labelled_body m = option_and_then (labelled_with m) (slice_get Q.methods m)
+  labelled_body m = option_and_then (labelled_with m) (slice_get P.methods m)
 
   -- what a run asks of the program, under the watch of the sets
   abbrev pub watched : Lang
@@ -160,10 +160,10 @@ module _ (P Q : Plain) (F : Facts) (S : Sets) where
 
 -- no run of the program under the watch of sets that the inclusions close escapes: each object and array that a local, a parameter, `this`, a field,
 -- an element or a result holds comes from a site in the set that the facts give it
-unfoldable pub CoversEachRun : Plain → Plain → Facts → Type 0
-CoversEachRun P Q F = (S : Sets) → IsClosed F S → (words : List (List ℕ)) (n : ℕ) → (run_in (watched P Q F S) P.main words n).end ≢ Escaped
+unfoldable pub CoversEachRun : Plain → Facts → Type 0
+CoversEachRun P F = (S : Sets) → IsClosed F S → (words : List (List ℕ)) (n : ℕ) → (run_in (watched P F S) P.main words n).end ≢ Escaped
 
 -- and each is the run of the program itself, but for what it notes: it ends the same way, with the same output and as many steps left
-pub record CoversProgram (P Q : Plain) (F : Facts) : Type 0 where
-  pub covers : CoversEachRun P Q F
-  pub same : (S : Sets) → IsClosed F S → (words : List (List ℕ)) (n : ℕ) → unnoted (run_in (watched P Q F S) P.main words n) ≡ run P words n
+pub record CoversProgram (P : Plain) (F : Facts) : Type 0 where
+  pub covers : CoversEachRun P F
+  pub same : (S : Sets) → IsClosed F S → (words : List (List ℕ)) (n : ℕ) → unnoted (run_in (watched P F S) P.main words n) ≡ run P words n

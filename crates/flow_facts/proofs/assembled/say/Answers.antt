@@ -1,11 +1,10 @@
 -- What each step says.
-use Rattle.java_core.specs.Trees.{at_place, no_place}
 use Rattle.java_core.specs.Programs.{program_of}
 use Rattle.flow_facts.proofs.Whole.{few_columns}
 use Rattle.flow_facts.proofs.assembled.say.Goals as goal
 
 pub list_tables-requires : goal.list_tables-requires
-list_tables-requires c = few_columns (program_of no_place c.args.program.now) (program_of at_place c.args.program.now) c.args.numbered.now c.requires.numbered
+list_tables-requires c = few_columns (program_of c.args.program.now) c.args.numbered.now c.requires.numbered
 
 pub returns : goal.returns
 returns c = record { tables = c.in-Ok.ensures; texts = c.in-Ok-list_texts.ensures; lists = c.in-Ok-put_in_order.ensures _ _ _ c.in-Ok-gather.ensures }

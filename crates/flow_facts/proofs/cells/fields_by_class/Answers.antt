@@ -1,7 +1,6 @@
 -- One field more, to those of its class.
 use Rattle.std.proofs.Common.{◌==◌, ◌∷◌, [], length, map, sym, ◌∙◌}
 use Rattle.std.proofs.lemmas.List.{length-map}
-use Rattle.java_core.specs.Trees.{no_place}
 use Rattle.java_core.specs.Programs.{program_of, class_seen}
 use Rattle.flow_rules.specs.Ordered.{when}
 use Rattle.flow_facts.specs.Owned.{own_of}
@@ -13,8 +12,8 @@ use Rattle.flow_facts.proofs.cells.fields_by_class.Goals as goal
 pub add_own-requires : goal.add_own-requires
 add_own-requires c =
     let all = c.args.program.now.classes.items in
-    within_own (program_of no_place c.args.program.now) _ c.args.fields.now.items _ _ _ (length all) c.deref-field-items.ensures.value
-    c.loop-field-test.true c.requires c.loop-field.invariant.count (sym (length-map all (class_seen no_place)))
+    within_own (program_of c.args.program.now) _ c.args.fields.now.items _ _ _ (length all) c.deref-field-items.ensures.value
+    c.loop-field-test.true c.requires c.loop-field.invariant.count (sym (length-map all class_seen))
 
 pub loop-field-preserved : goal.loop-field-preserved
 loop-field-preserved c = record {

@@ -1,6 +1,5 @@
 use Rattle.std.proofs.Common.{◌≡◌, ◌++◌, ◌∷◌, [], drop, map}
 use Rattle.flow_rules.specs.Ordered.{each}
-use Rattle.java_core.specs.Trees.{at_place}
 use Rattle.java_core.specs.Programs.{local_seen}
 use Rattle.flow_facts.specs.Seen.{numbers_seen}
 use Rattle.flow_rules.specs.declared.items.PointItem.TheVariants as point
@@ -8,5 +7,5 @@ use Rattle.flow_facts.proofs.infos.param_points.Given as goal
 
 abbrev pub invariant-loop-i : goal.invariant-loop-i
 invariant-loop-i l = l.list.items ++ each (λ i v. (numbers_seen l.given.numbering.now).point (point.Local l.m i) ∷ []) l.i
-    (map (local_seen at_place) (drop l.i l.method.params.items)) ≡ each (λ i v. (numbers_seen l.given.numbering.now).point (point.Local l.m i) ∷ []) 0
-    (map (local_seen at_place) l.method.params.items)
+    (map local_seen (drop l.i l.method.params.items)) ≡ each (λ i v. (numbers_seen l.given.numbering.now).point (point.Local l.m i) ∷ []) 0
+    (map local_seen l.method.params.items)

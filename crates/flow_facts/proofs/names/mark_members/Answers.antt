@@ -2,7 +2,6 @@
 use Rattle.std.proofs.Common.{◌≡◌, ◌<◌, Bool, true, false, List, [], ◌∷◌, length, get_or, map, refl, ap, ◌∙◌, arith}
 use Rattle.std.specs.Prelude.{◌&&◌, ◌||◌, ◌==◌}
 use Rattle.std.specs.List.{list_any}
-use Rattle.java_core.specs.Trees.{at_place}
 use Rattle.java_core.specs.Programs.{PlainField, PlainMethod, field_seen, method_seen}
 use Rattle.flow_facts.proofs.names.mark_members.Goals as goal
 
@@ -24,7 +23,7 @@ returns c = record {
       let methods = c.args.program.now.methods.items in
       let is_field : PlainField → Bool = λ f. f.is_static && (f.owner == i) in
       let is_method : PlainMethod → Bool = λ m. m.is_static && (m.owner == i) in
-      both was (list_any is_field (map (field_seen at_place) fields))
-      (c.mark_all.ensures.value i lt ∙ ap (λ b. was || b) (any_seen (field_seen at_place) is_field fields))
-      (c.mark_all-2.ensures.value i k) (any_seen (method_seen at_place) is_method methods);
+      both was (list_any is_field (map field_seen fields))
+      (c.mark_all.ensures.value i lt ∙ ap (λ b. was || b) (any_seen field_seen is_field fields))
+      (c.mark_all-2.ensures.value i k) (any_seen method_seen is_method methods);
 }

@@ -1,11 +1,10 @@
 use Rattle.std.proofs.Common.{◌≡◌, ◌++◌, drop, map}
 use Rattle.std.specs.List.{flat_map}
-use Rattle.java_core.specs.Trees.{at_place}
 use Rattle.java_core.specs.Programs.{method_seen, field_seen}
 use Rattle.flow_rules.specs.Facts.{variable_names}
 use Rattle.flow_facts.proofs.names.variables.Given as goal
 
 abbrev pub invariant-loop-method : goal.invariant-loop-method
-invariant-loop-method l = l.names.items ++ flat_map variable_names (map (method_seen at_place) (drop l.method-index l.program.methods.items))
-    ≡ map (λ f. f.name) (map (field_seen at_place) l.program.fields.items) ++ flat_map variable_names
-    (map (method_seen at_place) l.program.methods.items)
+invariant-loop-method l = l.names.items ++ flat_map variable_names (map method_seen (drop l.method-index l.program.methods.items))
+    ≡ map (λ f. f.name) (map field_seen l.program.fields.items) ++ flat_map variable_names
+    (map method_seen l.program.methods.items)

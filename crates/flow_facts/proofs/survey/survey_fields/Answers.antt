@@ -1,6 +1,5 @@
 -- One more field.
 use Rattle.std.proofs.Common.{◌∙◌}
-use Rattle.java_core.specs.Trees.{at_place}
 use Rattle.java_core.specs.Programs.{field_seen}
 use Rattle.flow_rules.specs.Numbered.{field_rows, field_columns, static_points}
 use Rattle.flow_facts.proofs.Steps.{each_step}
@@ -13,9 +12,9 @@ loop-f-preserved c =
     let at = c.field-item.is in
     let now = c.in-Ok.ensures in
     record {
-      rows = each_step (field_seen at_place) field_rows _ _ _ _ _ _ _ s h at c.loop-f.invariant.rows now.rows;
-      columns = each_step (field_seen at_place) field_columns _ _ _ _ _ _ _ s h at c.loop-f.invariant.columns now.columns;
-      statics = each_step (field_seen at_place) static_points _ _ _ _ _ _ _ s h at c.loop-f.invariant.statics now.statics;
+      rows = each_step field_seen field_rows _ _ _ _ _ _ _ s h at c.loop-f.invariant.rows now.rows;
+      columns = each_step field_seen field_columns _ _ _ _ _ _ _ s h at c.loop-f.invariant.columns now.columns;
+      statics = each_step field_seen static_points _ _ _ _ _ _ _ s h at c.loop-f.invariant.statics now.statics;
       outlines = now.outlines ∙ c.loop-f.invariant.outlines;
       bodies = now.bodies ∙ c.loop-f.invariant.bodies;
     }

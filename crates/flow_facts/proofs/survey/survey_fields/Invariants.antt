@@ -1,5 +1,4 @@
 use Rattle.std.proofs.Common.{◌≡◌, ◌++◌, drop, map}
-use Rattle.java_core.specs.Trees.{at_place}
 use Rattle.java_core.specs.Programs.{field_seen}
 use Rattle.flow_rules.specs.Ordered.{each}
 use Rattle.flow_rules.specs.Numbered.{field_rows, field_columns, static_points}
@@ -7,8 +6,8 @@ use Rattle.flow_facts.proofs.survey.survey_fields.Given as goal
 
 abbrev pub invariant-loop-f : goal.invariant-loop-f
 invariant-loop-f l =
-    let all = map (field_seen at_place) l.program.fields.items in
-    let rest = map (field_seen at_place) (drop l.f l.program.fields.items) in
+    let all = map field_seen l.program.fields.items in
+    let rest = map field_seen (drop l.f l.program.fields.items) in
     record {
       rows : l.survey.rows.items ++ each field_rows l.f rest ≡ l.fn.survey.rows.items ++ each field_rows 0 all;
       columns : l.survey.columns.items ++ each field_columns l.f rest ≡ l.fn.survey.columns.items ++ each field_columns 0 all;

@@ -1,6 +1,5 @@
 -- The numbers fit, and what is numbered stands with them.
 use Rattle.std.proofs.Common.{◌≡◌, length, arith}
-use Rattle.java_core.specs.Trees.{at_place, no_place}
 use Rattle.java_core.specs.Programs.{program_of}
 use Rattle.flow_rules.specs.Numbered.{rows_of, columns_of, sites_of, points_of}
 use Rattle.flow_facts.proofs.Counts.{numbers_are}
@@ -15,15 +14,14 @@ overflow_sub-most c =
 
 pub invariant_of-numbering : goal.invariant_of-numbering
 invariant_of-numbering c =
-    let P = program_of no_place c.args.program.now in
-    let Q = program_of at_place c.args.program.now in
+    let P = program_of c.args.program.now in
     let t = c.requires.table in
     let f = c.requires.flow in
     record {
-      few_rows = few (λ r. r.item) _ (rows_of P Q) 16384 t.rows.keys t.rows.few (omega arith);
-      few_columns = few (λ k. k.item) _ (columns_of P Q) 8192 t.columns.keys t.columns.few (omega arith);
-      few_sites = few (λ s. s.number) _ (sites_of P Q) 8192 f.sites.keys f.sites.few (omega arith);
-      few_points = few (λ p. p.item) _ (points_of P Q) 65536 f.points.keys f.points.few (omega arith);
+      few_rows = few (λ r. r.item) _ (rows_of P) 16384 t.rows.keys t.rows.few (omega arith);
+      few_columns = few (λ k. k.item) _ (columns_of P) 8192 t.columns.keys t.columns.few (omega arith);
+      few_sites = few (λ s. s.number) _ (sites_of P) 8192 f.sites.keys f.sites.few (omega arith);
+      few_points = few (λ p. p.item) _ (points_of P) 65536 f.points.keys f.points.few (omega arith);
     }
 
 pub number_cells-requires : goal.number_cells-requires
@@ -34,7 +32,7 @@ number_cells-requires c =
     let f = c.requires.flow in
     record {
       formed = c.requires.formed;
-      numbers = numbers_are (program_of no_place c.args.program.now) (program_of at_place c.args.program.now) _ _ _ _ t.rows.keys t.columns.keys
+      numbers = numbers_are (program_of c.args.program.now) _ _ _ _ t.rows.keys t.columns.keys
           f.sites.keys f.points.keys;
       of_columns = t.columns.items;
       of_sites = f.sites.items;
@@ -55,7 +53,7 @@ returns-clause-ok c =
       points = f.points.items;
       cells = c.in-Ok.ensures.items;
       bodies = c.requires.bodies;
-      numbers = numbers_are (program_of no_place c.args.program.now) (program_of at_place c.args.program.now) _ _ _ _ t.rows.keys t.columns.keys
+      numbers = numbers_are (program_of c.args.program.now) _ _ _ _ t.rows.keys t.columns.keys
           f.sites.keys f.points.keys;
       column_items = t.columns.keys;
       few = t.columns.few;
