@@ -6,7 +6,6 @@ use Rattle.std.proofs.lemmas.List.{append_assoc, length-append}
 use Rattle.kaba_base.specs.declared.ClassId.{ClassId}
 use Rattle.kaba_base.proofs.ListLemmas.{middle}
 use Rattle.java_core.specs.declared.Field.{Field}
-use Rattle.java_core.specs.Trees.{no_place}
 use Rattle.java_core.specs.Programs.{Plain, field_seen}
 use Rattle.java_core.specs.Classes.{parent_of}
 use Rattle.java_core.specs.Owned.{owned_from}
@@ -45,23 +44,24 @@ module _ (P : Plain) (done whole : List ClassId) (at : ClassId) where
 
 -- of the fields that a class declares, the instance fields are its own fields
 among : (c : ℕ) (done rest : List Field) (k : ℕ) → length done ≡ k
-    → instances (done ++ rest) (owned_from k c (map (λ f. f.owner.0) rest)) ≡ own_fields_from c k (map (field_seen no_place) rest)
+    → instances (done ++ rest) (owned_from k c (map (λ f. f.owner.0) rest)) ≡ own_fields_from c k (map field_seen rest)
 among c done [] k e = refl
 among c done (x ∷ rest) k e =
-    by_owner (x.owner.0 == c) (ap (λ o. option_map_or (λ f. not f.is_static) o false) (subst (λ i. slice_get (done ++ x ∷ rest) i ≡ Some x) e (middle done x rest)))
+    by_owner (x.owner.0 == c) (ap (λ o. option_map_or (λ f. not f.is_static) o false) (subst (λ i. slice_get (done ++ x ∷ rest) i ≡ Some x) e
+    (middle done x rest)))
     (ap (λ w. instances w (owned_from (k + 1) c (map (λ f. f.owner.0) rest))) (sym (append_assoc done (x ∷ []) rest))
     ∙ among c (done ++ x ∷ []) rest (k + 1) (length-append done (x ∷ []) ∙ ap (λ i. i + 1) e)
-    ∙ ap (λ i. own_fields_from c i (map (field_seen no_place) rest)) (let z : k + 1 ≡ suc k = omega arith in z))
+    ∙ ap (λ i. own_fields_from c i (map field_seen rest)) (let z : k + 1 ≡ suc k = omega arith in z))
   where
     by_owner : (b : Bool) → is_instance (done ++ x ∷ rest) k ≡ not x.is_static
-        → instances (done ++ x ∷ rest) (owned_from (k + 1) c (map (λ f. f.owner.0) rest)) ≡ own_fields_from c (suc k) (map (field_seen no_place) rest)
+        → instances (done ++ x ∷ rest) (owned_from (k + 1) c (map (λ f. f.owner.0) rest)) ≡ own_fields_from c (suc k) (map field_seen rest)
         → instances (done ++ x ∷ rest) (cond b (k ∷ owned_from (k + 1) c (map (λ f. f.owner.0) rest)) (owned_from (k + 1) c (map (λ f. f.owner.0) rest)))
-        ≡ (if b && not x.is_static then k ∷ [] else []) ++ own_fields_from c (suc k) (map (field_seen no_place) rest)
+        ≡ (if b && not x.is_static then k ∷ [] else []) ++ own_fields_from c (suc k) (map field_seen rest)
     by_owner true i h =
         ap (λ z. (if z then k ∷ [] else []) ++ instances (done ++ x ∷ rest) (owned_from (k + 1) c (map (λ f. f.owner.0) rest))) i
         ∙ ap (λ l. (if not x.is_static then k ∷ [] else []) ++ l) h
     by_owner false i h = h
 
 pub own_instances : (c : ℕ) (fields : List Field) → instances fields (owned_from 0 c (map (λ f. f.owner.0) fields))
-    ≡ own_fields_from c 0 (map (field_seen no_place) fields)
+    ≡ own_fields_from c 0 (map field_seen fields)
 own_instances c fields = among c [] fields 0 refl

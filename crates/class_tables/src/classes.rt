@@ -43,7 +43,6 @@ impl<'a> Model for Classes<'a> {
 
 impl<'a> Classes<'a> {
     ghost use Rattle.std.specs.Prelude.{◌≡◌, ◌++◌, ◌∷◌, [], Some, length, map, IfOk, OnOk};
-    ghost use Rattle.java_core.specs.Trees.{no_place};
     ghost use Rattle.java_core.specs.Programs.{program_of};
     ghost use Rattle.java_core.specs.Formed.{IsFormed};
     ghost use Rattle.java_core.specs.Classes.{lookup, below};
@@ -55,7 +54,7 @@ impl<'a> Classes<'a> {
 
     /// The classes of a program, of which nothing was asked yet.
     pub fn new(alloc: Global, p: &'a Program) -> Result<Classes<'a>, AllocError>
-        requires formed { IsFormed (program_of no_place p.now) }
+        requires formed { IsFormed (program_of p.now) }
         ensures value { IfOk result (λ c. c ≡ p.now) }
     {
         let count = p.classes.len();
@@ -74,7 +73,7 @@ impl<'a> Classes<'a> {
     /// The program.
     pub fn program(&self) -> &'a Program
         ensures value { result.now ≡ self.now }
-        ensures formed { IsFormed (program_of no_place self.now) }
+        ensures formed { IsFormed (program_of self.now) }
     {
         self.program
     }
@@ -83,7 +82,7 @@ impl<'a> Classes<'a> {
     #[inline]
     pub fn body(&mut self, class: u32, slot: u32) -> Result<Option<u32>, AllocError>
         ensures same { self.new ≡ self.old }
-        ensures body { IfOk result (λ m. m ≡ lookup (program_of no_place self.old) class slot) }
+        ensures body { IfOk result (λ m. m ≡ lookup (program_of self.old) class slot) }
     {
         match known_in(&self.bodies, class as usize, slot as usize) {
             Some(method) => Ok(Some(method)),
@@ -95,7 +94,7 @@ impl<'a> Classes<'a> {
     #[cold]
     fn find_body(&mut self, class: u32, slot: u32) -> Result<Option<u32>, AllocError>
         ensures same { self.new ≡ self.old }
-        ensures body { IfOk result (λ m. m ≡ lookup (program_of no_place self.old) class slot) }
+        ensures body { IfOk result (λ m. m ≡ lookup (program_of self.old) class slot) }
     {
         let width = self.program.slots.len();
         match lookup(self.program, ClassId(class), slot) {
@@ -117,7 +116,7 @@ impl<'a> Classes<'a> {
     #[inline]
     pub fn is_sub(&mut self, s: Ty, t: Ty) -> Result<bool, AllocError>
         ensures same { self.new ≡ self.old }
-        ensures value { IfOk result (λ b. b ≡ is_subtype (program_of no_place self.old) s t) }
+        ensures value { IfOk result (λ b. b ≡ is_subtype (program_of self.old) s t) }
     {
         if s.dim != t.dim {
             return Ok(false);
@@ -132,7 +131,7 @@ impl<'a> Classes<'a> {
     #[inline]
     fn is_below(&mut self, lower: ClassId, upper: ClassId) -> Result<bool, AllocError>
         ensures same { self.new ≡ self.old }
-        ensures value { IfOk result (λ b. b ≡ below (program_of no_place self.old) lower.0 upper.0) }
+        ensures value { IfOk result (λ b. b ≡ below (program_of self.old) lower.0 upper.0) }
     {
         match known_in(&self.subclasses, upper.0 as usize, lower.0 as usize) {
             Some(found) => Ok(found),
@@ -144,7 +143,7 @@ impl<'a> Classes<'a> {
     #[cold]
     fn find_below(&mut self, lower: ClassId, upper: ClassId) -> Result<bool, AllocError>
         ensures same { self.new ≡ self.old }
-        ensures value { IfOk result (λ b. b ≡ below (program_of no_place self.old) lower.0 upper.0) }
+        ensures value { IfOk result (λ b. b ≡ below (program_of self.old) lower.0 upper.0) }
     {
         let width = self.program.classes.len();
         let found = is_subtype(self.program, lower, upper);
@@ -162,7 +161,7 @@ impl<'a> Classes<'a> {
     #[cold]
     fn find_fresh(&mut self, class: u32) -> Result<Vec<Value>, AllocError>
         ensures same { self.new ≡ self.old }
-        ensures values { IfOk result (λ v. map value_of v.items ≡ fresh_of (program_of no_place self.old) class) }
+        ensures values { IfOk result (λ v. map value_of v.items ≡ fresh_of (program_of self.old) class) }
     {
         let values = fresh(self.alloc, self.program, ClassId(class))?;
         let kept = Vec::from_slice(self.alloc, &values)?;
@@ -175,7 +174,7 @@ impl<'a> Classes<'a> {
     pub fn make(&mut self, heap: &mut Heap, site: SiteId, class: u32) -> Result<u32, AllocError>
         ensures same { self.new ≡ self.old }
         ensures place { IfOk result (λ at. at ≡ length heap.old.cells) }
-        ensures cells { OnOk result (heap.new ≡ record heap.old { cells = heap.old.cells ++ new_object (program_of no_place self.old) site.0 class ∷ [] }) }
+        ensures cells { OnOk result (heap.new ≡ record heap.old { cells = heap.old.cells ++ new_object (program_of self.old) site.0 class ∷ [] }) }
     {
         match known_values(&self.objects, class as usize) {
             Some(values) => heap.object_of(site, ClassId(class), values),
@@ -188,7 +187,7 @@ impl<'a> Classes<'a> {
     fn make_first(&mut self, heap: &mut Heap, site: SiteId, class: u32) -> Result<u32, AllocError>
         ensures same { self.new ≡ self.old }
         ensures place { IfOk result (λ at. at ≡ length heap.old.cells) }
-        ensures cells { OnOk result (heap.new ≡ record heap.old { cells = heap.old.cells ++ new_object (program_of no_place self.old) site.0 class ∷ [] }) }
+        ensures cells { OnOk result (heap.new ≡ record heap.old { cells = heap.old.cells ++ new_object (program_of self.old) site.0 class ∷ [] }) }
     {
         let values = self.find_fresh(class)?;
         heap.object_of(site, ClassId(class), &values)
@@ -196,7 +195,7 @@ impl<'a> Classes<'a> {
 
     /// The type of a field.
     pub fn field_type(&self, field: u32) -> Option<Ty>
-        ensures value { result ≡ types.field_type (program_of no_place self.now) field }
+        ensures value { result ≡ types.field_type (program_of self.now) field }
     {
         field_type(self.program, MemberId(field))
     }

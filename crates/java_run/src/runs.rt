@@ -2,7 +2,6 @@
 
 ghost use Rattle.std.specs.Prelude.{◌≡◌, ◌≢◌, ℕ, List, Some, map, string_bytes, IfOk};
 ghost use Rattle.std.specs.Option.{option_map};
-ghost use Rattle.java_core.specs.Trees.{no_place};
 ghost use Rattle.java_core.specs.Programs.{Plain, program_of};
 ghost use Rattle.java_core.specs.Formed.{IsFormed};
 ghost use Rattle.java_core.specs.Typing.{IsTyped};
@@ -55,8 +54,8 @@ fn entry_at(image: &Image, method: u32) -> Option<&Entry>
 
 /// Where the code of the method that a run begins with begins.
 fn main_entry<'a>(p: &Program, image: &'a Image) -> &'a Entry
-    requires formed { IsFormed (program_of no_place p.now) }
-    requires fits { Fits (program_of no_place p.now) (tables_of image.now) }
+    requires formed { IsFormed (program_of p.now) }
+    requires fits { Fits (program_of p.now) (tables_of image.now) }
     ensures { (tables_of image.now).entry p.now.main.0 ≡ Some (entry_of result.now) }
 {
     match entry_at(image, p.main.0) {
@@ -80,9 +79,9 @@ fn end_seen(ending: Ending) -> End
 
 /// Runs a program that is formed and typed.
 fn run_program(alloc: Global, p: &Program, words: &Vec<String>, bound: u32) -> Tried<Outcome>
-    requires formed { IsFormed (program_of no_place p.now) }
-    requires typed { IsTyped (program_of no_place p.now) }
-    ensures outcome { IfOk result (λ o. IsOutcomeOf (program_of no_place p.now) (map string_bytes words.now.items) bound o) }
+    requires formed { IsFormed (program_of p.now) }
+    requires typed { IsTyped (program_of p.now) }
+    ensures outcome { IfOk result (λ o. IsOutcomeOf (program_of p.now) (map string_bytes words.now.items) bound o) }
     ensures going { IfOk result (λ o. o.end ≡ End.Going → o.used ≡ bound) }
 {
     let image = compile(alloc, p)?;
@@ -102,7 +101,7 @@ fn run_program(alloc: Global, p: &Program, words: &Vec<String>, bound: u32) -> T
 /// the bound where it goes on. The bodies are compiled once, before the first step. It gives an error
 /// where there is no memory left.
 pub fn run(alloc: Global, program: &Checked, words: &Vec<String>, bound: u32) -> Tried<Outcome>
-    ensures outcome { IfOk result (λ o. IsOutcomeOf (program_of no_place program.now) (map string_bytes words.now.items) bound o) }
+    ensures outcome { IfOk result (λ o. IsOutcomeOf (program_of program.now) (map string_bytes words.now.items) bound o) }
     ensures going { IfOk result (λ o. o.end ≡ End.Going → o.used ≡ bound) }
 {
     run_program(alloc, program.program(), words, bound)

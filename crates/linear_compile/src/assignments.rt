@@ -2,7 +2,7 @@
 
 ghost use Rattle.std.specs.Prelude.{◌≡◌, ◌+◌, ◌++◌, ◌∷◌, Option, Some, None, Bool, OnOk};
 ghost use Rattle.std.specs.Option.{option_map, option_map_or};
-ghost use Rattle.linear_compile.specs.Words.{no_place, expr_of, value_of, default_of, operand_of, operand, bare_tag, plain, env, IsReady};
+ghost use Rattle.linear_compile.specs.Words.{Tag, expr_of, value_of, default_of, operand_of, operand, plain, env, IsReady};
 ghost use Rattle.java_core.specs.Trees.{target_of, to_field, to_element};
 ghost use Rattle.java_meaning.specs.Moment.{Nothing};
 ghost use Rattle.linear_code.specs.Ops.{slot, constant};
@@ -21,7 +21,7 @@ use linear_code::{Calc, Destination, Effect, Instr, Operand, Tried};
 fn compile_local(code: &mut Code, site: Site, local: u32, value: &RExpr) -> Tried<()>
     requires { IsReady site.scope.now }
     ensures { OnOk result (code.new ≡ code_local (plain site.entry.scope.now) (env site.entry.scope.now) local
-        (expr_of no_place value.now) site.entry.at ++ code.old) }
+        (expr_of value.now) site.entry.at ++ code.old) }
 {
     let to = Destination {
         is_int: is_int_local(site.scope, local),
@@ -73,7 +73,7 @@ pub fn compile_declaration(
 ) -> Tried<()>
     requires { IsReady site.scope.now }
     ensures { OnOk result (code.new ≡ default_op (plain site.entry.scope.now) (env site.entry.scope.now) local ∷ (code_initial (plain site.entry.scope.now)
-        (env site.entry.scope.now) local (value_of no_place value.now) site.entry.at ++ code.old)) }
+        (env site.entry.scope.now) local (value_of value.now) site.entry.at ++ code.old)) }
 {
     match value {
         Some(value) => {
@@ -87,8 +87,8 @@ pub fn compile_declaration(
 /// An assignment.
 pub fn compile_assignment(code: &mut Code, site: Site, target: &RExpr, value: &RExpr) -> Tried<()>
     requires { IsReady site.scope.now }
-    ensures { OnOk result (code.new ≡ code_assign (plain site.entry.scope.now) (env site.entry.scope.now) (target_of no_place target.now)
-        (expr_of no_place value.now) site.entry.at ++ code.old) }
+    ensures { OnOk result (code.new ≡ code_assign (plain site.entry.scope.now) (env site.entry.scope.now) (target_of target.now)
+        (expr_of value.now) site.entry.at ++ code.old) }
 {
     match target {
         RExpr::Local { local, .. } => compile_local(code, site, *local, value),
@@ -137,8 +137,8 @@ fn store(
 /// A field of what an expression gives is set.
 fn store_field(code: &mut Code, site: Site, base: &RExpr, name: &Name, value: &RExpr) -> Tried<()>
     requires { IsReady site.scope.now }
-    ensures { OnOk result (code.new ≡ code_assign (plain site.entry.scope.now) (env site.entry.scope.now)
-        (to_field bare_tag (expr_of no_place base.now) name.now) (expr_of no_place value.now) site.entry.at ++ code.old) }
+    ensures { (t : Tag) → OnOk result (code.new ≡ code_assign (plain site.entry.scope.now) (env site.entry.scope.now)
+        (to_field t (expr_of base.now) name.now) (expr_of value.now) site.entry.at ++ code.old) }
 {
     let next = further(site.at, 1)?;
     let field = field_of(site.scope, base, name);
@@ -162,8 +162,8 @@ fn store_element(
     value: &RExpr,
 ) -> Tried<()>
     requires { IsReady site.scope.now }
-    ensures { OnOk result (code.new ≡ code_assign (plain site.entry.scope.now) (env site.entry.scope.now) (to_element bare_tag (expr_of no_place base.now)
-        (expr_of no_place index.now)) (expr_of no_place value.now) site.entry.at ++ code.old) }
+    ensures { (t : Tag) → OnOk result (code.new ≡ code_assign (plain site.entry.scope.now) (env site.entry.scope.now) (to_element t (expr_of base.now)
+        (expr_of index.now)) (expr_of value.now) site.entry.at ++ code.old) }
 {
     let next = further(site.at, 1)?;
     let last = further(site.at, 2)?;

@@ -2,7 +2,7 @@
 #![tactic(auto)]
 
 ghost use Rattle.std.specs.Prelude.{IfOk};
-ghost use Rattle.linear_compile.specs.Words.{no_place, program_of, IsFormed};
+ghost use Rattle.linear_compile.specs.Words.{program_of, IsFormed};
 ghost use Rattle.linear_code.specs.Seen.{tables_of};
 ghost use Rattle.linear_code.specs.Fits.{Fits};
 
@@ -50,8 +50,8 @@ use std::alloc::{AllocError, Global};
 /// The code of all bodies of a program. `AllocError` comes where memory is short, and where a slot, a
 /// place of the code or a jump passes 32 bits.
 pub fn compile(alloc: Global, p: &Program) -> Result<Image, AllocError>
-    requires formed { IsFormed (program_of no_place p.now) }
-    ensures fits { IfOk result (λ i. Fits (program_of no_place p.now) (tables_of i)) }
+    requires formed { IsFormed (program_of p.now) }
+    ensures fits { IfOk result (λ i. Fits (program_of p.now) (tables_of i)) }
 {
     let places = places(alloc, p)?;
     let mut code = Vec::new(alloc);

@@ -1,7 +1,7 @@
 //! Operands.
 
 ghost use Rattle.std.specs.Prelude.{◌≡◌, ◌+◌, IfOk};
-ghost use Rattle.linear_compile.specs.Words.{no_place, expr_of, exprs, operand_of, operand, count};
+ghost use Rattle.linear_compile.specs.Words.{expr_of, exprs, operand_of, operand, count};
 
 use crate::code::{further, small};
 use java_core::RExpr;
@@ -9,7 +9,7 @@ use linear_code::{Operand, Tried};
 
 /// Where the value of an expression stands after its code.
 pub fn operand(e: &RExpr, at: u32) -> Tried<Operand>
-    ensures { IfOk result (λ o. operand_of o ≡ operand (expr_of no_place e.now) at) }
+    ensures { IfOk result (λ o. operand_of o ≡ operand (expr_of e.now) at) }
 {
     match e {
         RExpr::Int { value, .. } => Ok(Operand::Int(*value)),
@@ -24,7 +24,7 @@ pub fn operand(e: &RExpr, at: u32) -> Tried<Operand>
 
 /// How many arguments there are.
 pub fn count(args: &Vec<RExpr>) -> Tried<u32>
-    ensures { IfOk result (λ n. n ≡ count (exprs no_place args.now.items)) }
+    ensures { IfOk result (λ n. n ≡ count (exprs args.now.items)) }
 {
     small(args.len())
 }

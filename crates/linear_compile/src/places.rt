@@ -2,7 +2,7 @@
 
 ghost use Rattle.std.specs.Prelude.{◌≡◌, ◌==◌, ℕ, position, slice_get, IfOk};
 ghost use Rattle.std.specs.Option.{unwrap_or};
-ghost use Rattle.linear_compile.specs.Words.{no_place, program_of, place_of};
+ghost use Rattle.linear_compile.specs.Words.{program_of, place_of};
 ghost use Rattle.java_meaning.specs.Languages as languages;
 
 use crate::code::small;
@@ -21,7 +21,7 @@ struct Layout {
 
 /// The places of all fields by their numbers; a static field has none, and 0 stands for it.
 pub fn places(alloc: Global, p: &Program) -> Tried<Vec<u32>>
-    ensures { IfOk result (λ v. (f : ℕ) → unwrap_or (slice_get v.items f) 0 ≡ place_of (program_of no_place p.now) f) }
+    ensures { IfOk result (λ v. (f : ℕ) → unwrap_or (slice_get v.items f) 0 ≡ place_of (program_of p.now) f) }
 {
     let mut places = Vec::new(alloc);
     let mut last = layout_of(alloc, p, ClassId(0))?;
@@ -34,7 +34,7 @@ pub fn places(alloc: Global, p: &Program) -> Tried<Vec<u32>>
 
 /// The layout of a class.
 fn layout_of(alloc: Global, p: &Program, class: ClassId) -> Tried<Layout>
-    ensures { IfOk result (λ l. (l.class ≡ class) × (l.fields.items ≡ languages.layout (program_of no_place p.now) class.0)) }
+    ensures { IfOk result (λ l. (l.class ≡ class) × (l.fields.items ≡ languages.layout (program_of p.now) class.0)) }
 {
     Ok(Layout {
         class,
@@ -44,8 +44,8 @@ fn layout_of(alloc: Global, p: &Program, class: ClassId) -> Tried<Layout>
 
 /// The layout of a class, which is the last one where that was of the same class.
 fn next_layout(alloc: Global, p: &Program, class: ClassId, last: Layout) -> Tried<Layout>
-    requires { last.fields.items ≡ languages.layout (program_of no_place p.now) last.class.0 }
-    ensures { IfOk result (λ l. (l.class ≡ class) × (l.fields.items ≡ languages.layout (program_of no_place p.now) class.0)) }
+    requires { last.fields.items ≡ languages.layout (program_of p.now) last.class.0 }
+    ensures { IfOk result (λ l. (l.class ≡ class) × (l.fields.items ≡ languages.layout (program_of p.now) class.0)) }
 {
     if last.class == class {
         Ok(last)

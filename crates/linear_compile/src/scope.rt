@@ -2,7 +2,7 @@
 
 ghost use Rattle.std.specs.Prelude.{◌≡◌, slice_get, Option};
 ghost use Rattle.std.specs.Option.{option_map};
-ghost use Rattle.linear_compile.specs.Words.{no_place, expr_of, field_in, static, slot_in, place_of, is_int, plain, env, IsReady, receiver};
+ghost use Rattle.linear_compile.specs.Words.{Place, expr_of, base_seen, field_in, static, slot_in, place_of, is_int, plain, env, IsReady};
 ghost use Rattle.java_core.specs.Classes.{super_method};
 ghost use Rattle.java_core.specs.Types.{field_type};
 
@@ -86,7 +86,7 @@ pub fn place_of(scope: &Scope, field: MemberId) -> u32
 #[tactic(auto, unfolding(crate::specs::Scopes::plain, crate::specs::Scopes::env))]
 pub fn field_of(scope: &Scope, e: &RExpr, name: &Name) -> Option<MemberId>
     requires { IsReady scope.now }
-    ensures { option_map (λ d. d.0) result ≡ field_in (plain scope.now) (static (plain scope.now) (env scope.now) (expr_of no_place e.now)) name.now }
+    ensures { option_map (λ d. d.0) result ≡ field_in (plain scope.now) (static (plain scope.now) (env scope.now) (expr_of e.now)) name.now }
 {
     field_in(
         scope.program,
@@ -99,7 +99,7 @@ pub fn field_of(scope: &Scope, e: &RExpr, name: &Name) -> Option<MemberId>
 #[tactic(auto, unfolding(crate::specs::Scopes::plain, crate::specs::Scopes::env))]
 pub fn slot_of(scope: &Scope, base: &Option<Box<RExpr>>, name: &Name) -> Option<u32>
     requires { IsReady scope.now }
-    ensures { result ≡ slot_in (plain scope.now) (env scope.now) (receiver base.now) name.now }
+    ensures { (p : Place) → result ≡ slot_in (plain scope.now) (env scope.now) (base_seen base.now p) name.now }
 {
     match base {
         Some(base) => slot_in(

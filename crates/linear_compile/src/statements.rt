@@ -1,7 +1,7 @@
 //! The code of statements.
 
 ghost use Rattle.std.specs.Prelude.{◌≡◌, ◌≤◌, ◌-◌, ◌++◌, List, length, OnOk};
-ghost use Rattle.linear_compile.specs.Words.{no_place, expr_of, value_of, stmts, Op, plain, env, IsReady};
+ghost use Rattle.linear_compile.specs.Words.{expr_of, value_of, stmts, Op, plain, env, IsReady};
 ghost use Rattle.java_core.specs.Trees.{Arms, stmt_of, arms_seen, step_seen};
 ghost use Rattle.linear_code.specs.Code.{code_print, code_return, code_st, code_sts, code_arms};
 ghost use Rattle.linear_compile.specs.Exits.{IsWithin, arm_code};
@@ -37,7 +37,7 @@ macro_rules! exits {
 fn compile_print(code: &mut Code, site: Site, newline: bool, value: &Option<RExpr>) -> Tried<()>
     requires { IsReady site.scope.now }
     ensures { OnOk result (code.new ≡ code_print (plain site.entry.scope.now) (env site.entry.scope.now) newline
-        (value_of no_place value.now) site.entry.at ++ code.old) }
+        (value_of value.now) site.entry.at ++ code.old) }
 {
     match value {
         Some(value) => {
@@ -52,7 +52,7 @@ fn compile_print(code: &mut Code, site: Site, newline: bool, value: &Option<RExp
 fn compile_return(code: &mut Code, site: Site, value: &Option<RExpr>) -> Tried<()>
     requires { IsReady site.scope.now }
     ensures { OnOk result (code.new ≡ code_return (plain site.entry.scope.now) (env site.entry.scope.now)
-        (value_of no_place value.now) site.entry.at ++ code.old) }
+        (value_of value.now) site.entry.at ++ code.old) }
 {
     match value {
         Some(value) => {
@@ -68,7 +68,7 @@ fn compile_return(code: &mut Code, site: Site, value: &Option<RExpr>) -> Tried<(
 fn compile_stmt(code: &mut Code, site: Site, s: &RStmt, exits: Exits) -> Tried<()>
     requires ready { IsReady site.scope.now }
     requires within { IsWithin exits (length code.old) }
-    ensures { OnOk result (code.new ≡ code_st (plain site.entry.scope.now) (env site.entry.scope.now) (stmt_of no_place s.now) site.entry.at
+    ensures { OnOk result (code.new ≡ code_st (plain site.entry.scope.now) (env site.entry.scope.now) (stmt_of s.now) site.entry.at
         (length code.old - exits.broke) (length code.old - exits.next) ++ code.old) }
 {
     match s {
@@ -121,7 +121,7 @@ fn compile_stmt(code: &mut Code, site: Site, s: &RStmt, exits: Exits) -> Tried<(
 pub fn compile_stmts(code: &mut Code, site: Site, list: &Vec<RStmt>, exits: Exits) -> Tried<()>
     requires ready { IsReady site.scope.now }
     requires within { IsWithin exits (length code.old) }
-    ensures { OnOk result (code.new ≡ code_sts (plain site.entry.scope.now) (env site.entry.scope.now) (stmts no_place list.now.items) site.entry.at
+    ensures { OnOk result (code.new ≡ code_sts (plain site.entry.scope.now) (env site.entry.scope.now) (stmts list.now.items) site.entry.at
         (length code.old - exits.broke) (length code.old - exits.next) ++ code.old) }
 {
     for i in (0..list.len()).rev() {
@@ -135,7 +135,7 @@ pub fn compile_stmts(code: &mut Code, site: Site, list: &Vec<RStmt>, exits: Exit
 fn compile_step(code: &mut Code, site: Site, step: &Option<Box<RStmt>>, exits: Exits) -> Tried<()>
     requires ready { IsReady site.scope.now }
     requires within { IsWithin exits (length code.old) }
-    ensures { OnOk result (code.new ≡ code_sts (plain site.entry.scope.now) (env site.entry.scope.now) (step_seen no_place step.now) site.entry.at
+    ensures { OnOk result (code.new ≡ code_sts (plain site.entry.scope.now) (env site.entry.scope.now) (step_seen step.now) site.entry.at
         (length code.old - exits.broke) (length code.old - exits.next) ++ code.old) }
 {
     match step {
@@ -158,7 +158,7 @@ fn compile_arms(
     requires placed { end ≤ length code.old }
     ensures { OnOk result ((other : Arms) (rest : List Op) → length rest ≡ end
         → code.old ≡ code_arms (plain site.entry.scope.now) (env site.entry.scope.now) other site.entry.at (end - exits.broke) (end - exits.next) ++ rest
-        → code.new ≡ code_arms (plain site.entry.scope.now) (env site.entry.scope.now) (arms_seen no_place arms.now.items other) site.entry.at
+        → code.new ≡ code_arms (plain site.entry.scope.now) (env site.entry.scope.now) (arms_seen arms.now.items other) site.entry.at
         (end - exits.broke) (end - exits.next) ++ rest) }
 {
     for i in (0..arms.len()).rev() {
@@ -175,8 +175,8 @@ fn compile_arm(code: &mut Code, site: Site, arm: &RArm, end: usize, exits: Exits
     requires placed { end ≤ length code.old }
     ensures placed { OnOk result (end ≤ length code.new) }
     ensures code { OnOk result ((more rest : List Op) → length rest ≡ end → code.old ≡ more ++ rest
-        → code.new ≡ arm_code (plain site.entry.scope.now) (env site.entry.scope.now) (expr_of no_place arm.now.test)
-        (stmts no_place arm.now.body.items) site.entry.at (end - exits.broke) (end - exits.next) more ++ rest) }
+        → code.new ≡ arm_code (plain site.entry.scope.now) (env site.entry.scope.now) (expr_of arm.now.test)
+        (stmts arm.now.body.items) site.entry.at (end - exits.broke) (end - exits.next) more ++ rest) }
 {
     let start = code.len();
     pass_over(code, end)?;

@@ -1,5 +1,4 @@
 -- The words that several contracts here share, of crates below and of this one.
-pub use Rattle.java_core.specs.Trees.{no_place}
 pub use Rattle.java_core.specs.Programs.{program_of}
 pub use Rattle.java_heap.specs.Seen.{value_of}
 pub use Rattle.java_meaning.specs.Moment.{State, Outcome, Number, Object, step, with_some, or_fault, on_bool, stop, Faulted}

@@ -1,7 +1,7 @@
 //! The machine before a run.
 
 ghost use Rattle.std.specs.Prelude.{◌≡◌, map, string_bytes, IfOk};
-ghost use Rattle.linear_state.specs.Shared.{no_place, program_of, value_of, config_of, Object};
+ghost use Rattle.linear_state.specs.Shared.{program_of, value_of, config_of, Object};
 ghost use Rattle.java_meaning.specs.Values.{default_of};
 ghost use Rattle.linear_code.specs.Machine.{first_config};
 ghost use Rattle.linear_code.specs.Seen.{entry_of};
@@ -50,7 +50,7 @@ pub fn start<'a>(
     words: &Vec<String>,
     bound: u32,
 ) -> Result<Machine<'a>, AllocError>
-    ensures config { IfOk result (λ m. config_of m ≡ first_config (program_of no_place p.now) (entry_of entry.now)
+    ensures config { IfOk result (λ m. config_of m ≡ first_config (program_of p.now) (entry_of entry.now)
         (map (λ w. units_of (string_bytes w)) words.now.items) bound) }
     ensures same { IfOk result (λ m. m.classes ≡ classes.entry) }
 {

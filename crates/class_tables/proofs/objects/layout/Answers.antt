@@ -1,5 +1,4 @@
 use Rattle.std.proofs.Common.{◌≡◌, ◌∙◌, ap, drop, length, arith}
-use Rattle.java_core.specs.Trees.{no_place}
 use Rattle.java_core.specs.Programs.{program_of}
 use Rattle.java_meaning.specs.Languages.{layout}
 use Rattle.class_tables.specs.Lines.{fields_down}
@@ -9,7 +8,7 @@ use Rattle.class_tables.proofs.objects.layout.Goals as goal
 pub returns : goal.returns
 unfolding layout
 returns c =
-    let P = program_of no_place c.args.p.now in
+    let P = program_of c.args.p.now in
     let end : c.loop-i.i ≡ 0 = omega (arith, c.loop-i-test.false) in
     c.loop-i.invariant ∙ ap (λ i. fields_down P (drop i c.in_ok-line.line.items)) end ∙ ap (fields_down P) c.in_ok-line.ensures
     ∙ down_layout P (length P.classes) c.args.class

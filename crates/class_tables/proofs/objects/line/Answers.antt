@@ -1,5 +1,4 @@
 use Rattle.std.proofs.Common.{◌<◌, ◌+◌, ◌++◌, ◌-◌, length, sym, ap, ◌∙◌, subst}
-use Rattle.java_core.specs.Trees.{no_place}
 use Rattle.java_core.specs.Programs.{program_of}
 use Rattle.class_tables.specs.Lines.{line_in}
 use Rattle.class_tables.proofs.Layouts.{line_ends, line_goes}
@@ -7,7 +6,7 @@ use Rattle.class_tables.proofs.objects.line.Goals as goal
 
 pub returns-in-None : goal.returns-in-None
 returns-in-None c =
-    let P = program_of no_place c.args.p.now in
+    let P = program_of c.args.p.now in
     let n = length P.classes in
     let lt : c.loop-step._step < n = subst (λ e. c.loop-step._step < e) c.class_count-step-end.ensures c.loop-step-test.true in
     c.in_ok-push.ensures.items
@@ -16,7 +15,7 @@ returns-in-None c =
 
 pub loop-step-preserved : goal.loop-step-preserved
 loop-step-preserved c =
-    let P = program_of no_place c.args.p.now in
+    let P = program_of c.args.p.now in
     let n = length P.classes in
     let lt : c.loop-step._step < n = subst (λ e. c.loop-step._step < e) c.class_count-step-end.ensures c.loop-step-test.true in
     ap (λ l. l ++ line_in P (n - (c.loop-step._step + 1)) c.in-Some.parent) c.in_ok-push.ensures.items

@@ -1,6 +1,6 @@
 use Rattle.std.proofs.Common.{false, ◌∷◌, ap, ◌∙◌}
 use Rattle.std.specs.Option.{option_map_or}
-use Rattle.java_core.specs.Trees.{no_place, stmts}
+use Rattle.java_core.specs.Trees.{stmts}
 use Rattle.java_meaning.specs.Moment.{Nothing}
 use Rattle.java_meaning.specs.Values.{default_of}
 use Rattle.linear_code.specs.Ops.{Operand, constant, give}
@@ -12,7 +12,7 @@ pub returns : goal.returns
 unfolding env
 returns c =
     let s = c.args.scope.now in
-    let xs = stmts no_place c.args.body.now.items in
+    let xs = stmts c.args.body.now.items in
     let old = c.args.code.now in
     let ends = constant (option_map_or default_of s.method.now.result Nothing) in
     body_made (plain s) (env s) xs (give false ends) old c.put.new.self c.compile_stmts.new.code _ _ c.len-end.result

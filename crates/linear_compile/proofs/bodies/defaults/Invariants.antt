@@ -1,5 +1,4 @@
 use Rattle.std.proofs.Common.{◌≡◌, ◌++◌, drop, map}
-use Rattle.java_core.specs.Trees.{no_place}
 use Rattle.java_core.specs.Programs.{local_seen}
 use Rattle.java_core.specs.Types.{types_of}
 use Rattle.java_heap.specs.Seen.{value_of}
@@ -8,5 +7,5 @@ use Rattle.linear_compile.proofs.bodies.defaults.Given as goal
 
 abbrev pub invariant-loop-local : goal.invariant-loop-local
 invariant-loop-local l =
-    map value_of l.values.items ++ map default_of (types_of (map (local_seen no_place) (drop l.local-index l.locals.items)))
-    ≡ map default_of (types_of (map (local_seen no_place) l.locals.items))
+    map value_of l.values.items ++ map default_of (types_of (map local_seen (drop l.local-index l.locals.items)))
+    ≡ map default_of (types_of (map local_seen l.locals.items))

@@ -1,5 +1,4 @@
 use Rattle.std.proofs.Common.{◌≡◌, ◌++◌, drop, map, Some}
-use Rattle.java_core.specs.Trees.{no_place}
 use Rattle.java_core.specs.Programs.{local_seen}
 use Rattle.java_core.specs.Types.{types_of}
 use Rattle.linear_code.specs.Code.{is_int}
@@ -7,5 +6,5 @@ use Rattle.linear_compile.proofs.bodies.ints.Given as goal
 
 abbrev pub invariant-loop-param : goal.invariant-loop-param
 invariant-loop-param l =
-    l.ints.items ++ map (λ t. is_int (Some t)) (types_of (map (local_seen no_place) (drop l.param-index l.params.items)))
-    ≡ map (λ t. is_int (Some t)) (types_of (map (local_seen no_place) l.params.items))
+    l.ints.items ++ map (λ t. is_int (Some t)) (types_of (map local_seen (drop l.param-index l.params.items)))
+    ≡ map (λ t. is_int (Some t)) (types_of (map local_seen l.params.items))

@@ -1,5 +1,4 @@
 use Rattle.std.proofs.Common.{◌-◌, ap, sym, ◌∙◌, arith}
-use Rattle.java_core.specs.Trees.{no_place}
 use Rattle.java_core.specs.Programs.{program_of}
 use Rattle.java_core.specs.Classes.{lookup}
 use Rattle.linear_code.specs.Seen.{tables_of}
@@ -13,7 +12,7 @@ pub returns : goal.returns
 returns c =
     let m = c.args.m.now in
     let T = tables_of c.args.image.now in
-    paid _ _ _ _ _ _ _ (m.left - 1) _ c.begin_some.new.m c.begin_some.ensures (omega (arith, c.if-m-eq0.false)) (ap (program_of no_place) c.body.ensures.same)
+    paid _ _ _ _ _ _ _ (m.left - 1) _ c.begin_some.new.m c.begin_some.ensures (omega (arith, c.if-m-eq0.false)) (ap program_of c.body.ensures.same)
     (λ go. one_step (m.left - 1) (state_of m)
     (λ s. begins (plain_of m) T (config_of m) m.slots c.args.frame.slot (lookup (plain_of m) c.args.class c.args.method) c.args.frame.many s go)
     (omega (arith, c.if-m-eq0.false))

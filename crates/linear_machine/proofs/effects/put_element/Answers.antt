@@ -5,7 +5,6 @@ use Rattle.linear_state.proofs.Turned.{turned_in}
 use Rattle.linear_state.proofs.Branches.{some_is}
 use mir.Syntax.{w32}
 use mir.Val.{SFits}
-use Rattle.java_core.specs.Trees.{no_place}
 use Rattle.java_core.specs.Programs.{program_of}
 use Rattle.java_heap.specs.Seen.{value_of}
 use Rattle.java_meaning.specs.Meaning.{write_element}
@@ -18,7 +17,7 @@ pub returns-in_ok-kept-in-Some : goal.returns-in_ok-kept-in-Some
 returns-in_ok-kept-in-Some c =
     let m = c.args.m.now in
     let f : SFits w32 c.in-Some.index = search rules in
-    turned_in _ _ _ _ _ _ _ _ _ c.done.ensures (ap (program_of no_place) c.write_element.ensures.same) (λ go. some_is _ _ _ _ (sym c.in-Some.ensures.value)
+    turned_in _ _ _ _ _ _ _ _ _ c.done.ensures (ap program_of c.write_element.ensures.same) (λ go. some_is _ _ _ _ (sym c.in-Some.ensures.value)
     ∙ passed (λ n. write_element (language_of (plain_of m)) (value_of c.args.array) n (value_of c.args.value) (state_of m) (to_next m go)) c.in-Some.index f
     ∙ c.in_ok-kept-in-Some.ensures.kept (state_of m) (to_next m go)
     ∙ keeps_same c.in_ok-kept-in-Some.kept m.heap c.write_element.new.heap (state_of m) _)

@@ -1,6 +1,5 @@
 use Rattle.std.proofs.Common.{ap, sym, subst, ◌∙◌, Some}
 use Rattle.std.specs.Prelude.{IfOk}
-use Rattle.java_core.specs.Trees.{no_place}
 use Rattle.java_core.specs.Programs.{program_of}
 use Rattle.java_heap.specs.Seen.{value_of, kind_of}
 use Rattle.java_meaning.specs.Moment.{Object}
@@ -13,7 +12,7 @@ use Rattle.linear_state.proofs.arrays.write_element.Goals as goal
 
 pub returns-in-Some-clause-kept : goal.returns-in-Some-clause-kept
 returns-in-Some-clause-kept c =
-    let P = program_of no_place c.args.classes.now in
+    let P = program_of c.args.classes.now in
     let h = c.args.heap.now in
     let g = c.write_at.new.heap in
     subst (λ y. IfOk c.write_at.result (λ x. Keeps h g x (λ s k. write_element (language_of P) (value_of y) c.args.index (value_of c.args.value) s k)))
