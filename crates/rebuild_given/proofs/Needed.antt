@@ -32,11 +32,11 @@ use Rattle.rebuild_looks.specs.Known.{Known, sides}
 use Rattle.rebuild_looks.proofs.Bodies.{number, finds_super, runs_body}
 use Rattle.rebuild_given.proofs.Rest.{half, need_slot, nearest, above, between}
 
-module _ {P Q : Plain} {F : Facts} {H : Hierarchy} {W : Plain} (K : Known P Q F H W) where
+module _ {P : Plain} {F : Facts} {H : Hierarchy} {W : Plain} (K : Known P F H W) where
   open sides K use {places as T, renaming as R}
 
   -- a node offers an item where it offers the item's column
-  pub offers_item : (n c : ℕ) (i : ColumnItem) → (numbers P Q).column i ≡ Some c → Offers (shape H) n c → known.Offers K n i
+  pub offers_item : (n c : ℕ) (i : ColumnItem) → (numbers P).column i ≡ Some c → Offers (shape H) n c → known.Offers K n i
   offers_item n c i e o = record {
     node = o.at;
     stands = record { number = c; numbered = e; place = record { 0 = o.at }; placed = placed H c o.at o.stands; at = refl };
@@ -49,8 +49,8 @@ module _ {P Q : Plain} {F : Facts} {H : Hierarchy} {W : Plain} (K : Known P Q F 
     G = given F pt t
 
     -- another method's body of the slot is another body
-    other : (c d k j s : ℕ) → (numbers P Q).column (column.Def d) ≡ Some c → column_slot F c ≡ Some s → slot_of_method P k ≡ Some s
-        → (st : StandsAt P Q F H W T (column.Def k) j) → k ≢ d → IsOther G (shape H) c st.number j
+    other : (c d k j s : ℕ) → (numbers P).column (column.Def d) ≡ Some c → column_slot F c ≡ Some s → slot_of_method P k ≡ Some s
+        → (st : StandsAt P F H W T (column.Def k) j) → k ≢ d → IsOther G (shape H) c st.number j
     other c d k j s e slot of st ne = record {
       body = ap is_def (K.columns.kind (column.Def k) st.number st.numbered);
       slot = K.columns.slot (column.Def k) st.number st.numbered ∙ of ∙ sym slot;
@@ -61,7 +61,7 @@ module _ {P Q : Plain} {F : Facts} {H : Hierarchy} {W : Plain} (K : Known P Q F 
         method_of : column.Def k ≡ column.Def d → k ≡ d
         method_of h = cc
 
-    module _ (s x c d : ℕ) (need : G.needs s x c ≡ true) (e : (numbers P Q).column (column.Def d) ≡ Some c) where
+    module _ (s x c d : ℕ) (need : G.needs s x c ≡ true) (e : (numbers P).column (column.Def d) ≡ Some c) where
       abbrev n : ℕ
       n = place_of_row H (site_row F s)
 
@@ -71,7 +71,7 @@ module _ {P Q : Plain} {F : Facts} {H : Hierarchy} {W : Plain} (K : Known P Q F 
       pub need_offers : known.Offers K (place_of_row H (site_row F s)) (column.Def d)
       need_offers = offers_item n c (column.Def d) e ((half F pt t A O S B H table none).needed s x c need)
 
-      none_nearer : (k j : ℕ) → slot_of_method P k ≡ Some x → StandsAt P Q F H W T (column.Def k) j → is_le H.order n j ≡ true
+      none_nearer : (k j : ℕ) → slot_of_method P k ≡ Some x → StandsAt P F H W T (column.Def k) j → is_le H.order n j ≡ true
           → is_le H.order j need_offers.node ≡ true → k ≡ d
       unfolding need_offers offers_item
       none_nearer k j of st le high =
@@ -87,7 +87,7 @@ module _ {P Q : Plain} {F : Facts} {H : Hierarchy} {W : Plain} (K : Known P Q F 
           → lookup W (T.type_of (place_of_row H (site_row F s))) q ≡ Some (number K (place_of_row H (site_row F s)) d x need_of need_offers)
       needed_body v m q up of found = runs_body K n d x need_of need_offers none_nearer v m q up of found
 
-    module _ (r c d : ℕ) (run : is_super F r c ≡ true) (e : (numbers P Q).column (column.Def d) ≡ Some c) where
+    module _ (r c d : ℕ) (run : is_super F r c ≡ true) (e : (numbers P).column (column.Def d) ≡ Some c) where
       pub super_offers : known.Offers K (place_of_row H r) (column.Def d)
       super_offers = offers_item (place_of_row H r) c (column.Def d) e ((half F pt t A O S B H table none).ran r c run)
 
@@ -107,7 +107,7 @@ module _ {P Q : Plain} {F : Facts} {H : Hierarchy} {W : Plain} (K : Known P Q F 
           let o = (half F pt t A O S B H table none).ran r c run in
           above F pt t A O S B H table none r c run (o.stands ∙ ap Some (sym same))
 
-      none_between : (k j : ℕ) → slot_of_method P k ≡ Some super_slot → StandsAt P Q F H W T (column.Def k) j
+      none_between : (k j : ℕ) → slot_of_method P k ≡ Some super_slot → StandsAt P F H W T (column.Def k) j
           → is_le H.order (place_of_row H r) j ≡ true → place_of_row H r ≢ j
           → is_le H.order j super_offers.node ≡ true → k ≡ d
       unfolding super_offers offers_item

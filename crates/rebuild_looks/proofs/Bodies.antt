@@ -44,7 +44,7 @@ no_head true false true h e f = false≢true h
 no_head true false false h e f = false≢true f
 no_head false b c h e f = false≢true e
 
-module _ {P Q : Plain} {F : Facts} {H : Hierarchy} {W : Plain} (K : Known P Q F H W) where
+module _ {P : Plain} {F : Facts} {H : Hierarchy} {W : Plain} (K : Known P F H W) where
   open sides K use {places as T, renaming as R}
 
   -- the new body of an old method is one
@@ -111,7 +111,7 @@ module _ {P Q : Plain} {F : Facts} {H : Hierarchy} {W : Plain} (K : Known P Q F 
     bodied_there = ap (λ z. option_map_or (λ (k : PlainMethod). is_some k.body) z false) body.stands ∙ is_bodied
 
     -- what of the slot stands at a node between is the body, where no other body is
-    module _ (j : ℕ) (high : is_le H.order j o.node ≡ true) (only : (k : ℕ) → slot_of_method P k ≡ Some s → StandsAt P Q F H W T (column.Def k) j → k ≡ d) where
+    module _ (j : ℕ) (high : is_le H.order j o.node ≡ true) (only : (k : ℕ) → slot_of_method P k ≡ Some s → StandsAt P F H W T (column.Def k) j → k ≡ d) where
       offered_there : offers_body F H j s ≡ true
       offered_there = asked_body K j s (record { method = d; of = of; offers = record { node = o.node; stands = o.stands; above = high } })
 
@@ -132,7 +132,7 @@ module _ {P Q : Plain} {F : Facts} {H : Hierarchy} {W : Plain} (K : Known P Q F 
       by_sort y new at (a_head h none) = absurd (no_head_there h)
       by_sort y new at (a_filler f b) = absurd (no_filler f)
 
-    on_way : (only : (k j : ℕ) → slot_of_method P k ≡ Some s → StandsAt P Q F H W T (column.Def k) j → is_le H.order n j ≡ true
+    on_way : (only : (k j : ℕ) → slot_of_method P k ≡ Some s → StandsAt P F H W T (column.Def k) j → is_le H.order n j ≡ true
         → is_le H.order j o.node ≡ true → k ≡ d)
         → (y : ℕ) (new : PlainMethod) → slice_get W.methods y ≡ Some new → new.is_static ≡ false → new.name ≡ R.method_name d
         → IsSubclass W (T.type_of n) new.owner → IsSubclass W new.owner (T.type_of o.node) → y ≡ number
@@ -146,7 +146,7 @@ module _ {P Q : Plain} {F : Facts} {H : Hierarchy} {W : Plain} (K : Known P Q F 
         (class_node K o.node (column.Def d) refl (offers_own K o.node (column.Def d) o.stands))) (subclass_of K n o.node o.above)
 
     -- an object of the node runs the body, where no other one that it offers is nearer
-    module _ (nearest : (k j : ℕ) → slot_of_method P k ≡ Some s → StandsAt P Q F H W T (column.Def k) j → is_le H.order n j ≡ true
+    module _ (nearest : (k j : ℕ) → slot_of_method P k ≡ Some s → StandsAt P F H W T (column.Def k) j → is_le H.order n j ≡ true
         → is_le H.order j o.node ≡ true → k ≡ d) where
       pub finds_body : (q : ℕ) → body.method.slot ≡ Some q → lookup W (T.type_of n) q ≡ Some number
       unfolding lookup
@@ -182,7 +182,7 @@ module _ {P Q : Plain} {F : Facts} {H : Hierarchy} {W : Plain} (K : Known P Q F 
               (body.is.name ∙ same_name K d m s of e ∙ sym x.name))
 
     -- a super call at the node finds the body, where it stands strictly above and no other one is between
-    module _ (other : n ≢ o.node) (between : (k j : ℕ) → slot_of_method P k ≡ Some s → StandsAt P Q F H W T (column.Def k) j
+    module _ (other : n ≢ o.node) (between : (k j : ℕ) → slot_of_method P k ≡ Some s → StandsAt P F H W T (column.Def k) j
         → is_le H.order n j ≡ true → n ≢ j → is_le H.order j o.node ≡ true → k ≡ d) where
       pub finds_super : super_method W (T.type_of n) (R.method_name d) ≡ Some number
       unfolding super_method

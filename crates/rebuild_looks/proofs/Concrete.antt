@@ -34,7 +34,7 @@ no_not : (b : Bool) → not (not b) ≡ true → b ≡ true
 no_not true h = refl
 no_not false h = absurd (false≢true h)
 
-module _ {P Q : Plain} {F : Facts} {H : Hierarchy} {W : Plain} (K : Known P Q F H W) where
+module _ {P : Plain} {F : Facts} {H : Hierarchy} {W : Plain} (K : Known P F H W) where
   open K.rebuilt use {places as T}
 
   own_is : (c q g : ℕ) → own_declaration W c q ≡ Some g → HasOwn W c q g

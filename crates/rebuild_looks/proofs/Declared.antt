@@ -27,17 +27,17 @@ not_headed true false true h = inr refl
 not_headed true false false h = absurd (false≢true (sym h))
 not_headed false b c h = absurd (false≢true (sym h))
 
-module _ {P Q : Plain} {F : Facts} {H : Hierarchy} {W : Plain} (K : Known P Q F H W) where
+module _ {P : Plain} {F : Facts} {H : Hierarchy} {W : Plain} (K : Known P F H W) where
   open sides K use {places as T, renaming as R}
 
   -- a new method that is the body of the old method m, at a node
   pub record IsNewBody (m n g : ℕ) : Type 0 where
     pub method : PlainMethod
     pub stands : slice_get W.methods g ≡ Some method
-    pub is : IsBody P Q F H W T m method
+    pub is : IsBody P F H W T m method
     pub owner : method.owner ≡ T.type_of n
 
-  pub new_body : (m n : ℕ) → StandsAt P Q F H W T (column.Def m) n → (g : ℕ) × IsNewBody m n g
+  pub new_body : (m n : ℕ) → StandsAt P F H W T (column.Def m) n → (g : ℕ) × IsNewBody m n g
   new_body m n s =
       let x = K.rebuilt.members.each_body m n s in (
         x.0,
@@ -78,7 +78,7 @@ module _ {P Q : Plain} {F : Facts} {H : Hierarchy} {W : Plain} (K : Known P Q F 
     of_k : slot_of_method P k ≡ Some s
     of_k = ap (option_and_then (λ (z : PlainMethod). z.slot)) old.stands ∙ old.slot
 
-    by_slot : (g : ℕ) (new : PlainMethod) → slice_get W.methods g ≡ Some new → IsOfSlot P Q F H W T at k new → IsDeclared n m
+    by_slot : (g : ℕ) (new : PlainMethod) → slice_get W.methods g ≡ Some new → IsOfSlot P F H W T at k new → IsDeclared n m
     by_slot g new there o = record {
       number = g;
       method = new;
@@ -88,12 +88,12 @@ module _ {P Q : Plain} {F : Facts} {H : Hierarchy} {W : Plain} (K : Known P Q F 
       above = up_to n at new.owner up o.owner;
     }
 
-    by_head : StandsAt P Q F H W T (column.Dcl k) at → is_headed F H at s ≡ true → IsDeclared n m
+    by_head : StandsAt P F H W T (column.Dcl k) at → is_headed F H at s ≡ true → IsDeclared n m
     by_head stands headed =
         let x = K.rebuilt.members.each_head k at s old.method stands old.stands old.slot headed in
         by_slot x.0 x.1 x.2 x.4
 
-    by_filler : StandsAt P Q F H W T (column.Dcl k) at → is_made_at F H at ≡ true → offers_body F H at s ≡ false → IsDeclared n m
+    by_filler : StandsAt P F H W T (column.Dcl k) at → is_made_at F H at ≡ true → offers_body F H at s ≡ false → IsDeclared n m
     by_filler stands made none =
         let offered = asked_slot K at s (offers_item K at s (column.Dcl k) refl of_k (offers_own K at (column.Dcl k) stands)) in
         let filled = and_from (is_made_at F H at) (offers_slot F H at s && not (offers_body F H at s)) made
@@ -101,7 +101,7 @@ module _ {P Q : Plain} {F : Facts} {H : Hierarchy} {W : Plain} (K : Known P Q F 
         let x = K.rebuilt.members.each_filler k at s old.method (stands_live K at (column.Dcl k) stands) old.stands old.slot filled in
         by_slot x.0 x.1 x.2 x.3
 
-    by_declaration : StandsAt P Q F H W T (column.Dcl k) at → IsDeclared n m
+    by_declaration : StandsAt P F H W T (column.Dcl k) at → IsDeclared n m
     by_declaration stands =
         ⊎_elim (λ b. by_body n at m s up e (body_asked K at s b)) (λ none. ⊎_elim (λ headed. by_head stands headed)
         (λ no. by_filler stands (⊎_elim (λ made. made) (λ b. absurd (false≢true (sym none ∙ b)))

@@ -23,7 +23,7 @@ use Rattle.rebuild_looks.specs.Known.{Known, Offers, sides}
 use Rattle.java_core.proofs.Upwards.{along}
 use Rattle.rebuild_looks.proofs.Along.{OneOnWay, nearest_on_way}
 use Rattle.java_meaning.specs.Languages.{index_of}
-use Rattle.java_meaning.proofs.Layouts.{members, places}
+use Rattle.java_meaning.proofs.Layouts.{members}
 use Rattle.rebuild_looks.proofs.Nodes.{subclass_of, below_is, class_node, member_class, le_of, is_offered_at, offers_own, offers_below, stands_live, stands_once, no_holder}
 
 -- a static member's class has a holder
@@ -47,11 +47,11 @@ method_holder P m k e s =
           (eq-eqb k.owner k.owner refl),
     ))
 
-module _ {P Q : Plain} {F : Facts} {H : Hierarchy} {W : Plain} (K : Known P Q F H W) where
+module _ {P : Plain} {F : Facts} {H : Hierarchy} {W : Plain} (K : Known P F H W) where
   open sides K use {places as T, renaming as R}
 
   -- the field's new name is that of its column
-  pub field_name_is : (f c : ℕ) → (numbers P Q).column (column.Fld f) ≡ Some c → R.field_name f ≡ member_name H c
+  pub field_name_is : (f c : ℕ) → (numbers P).column (column.Fld f) ≡ Some c → R.field_name f ≡ member_name H c
   unfolding renaming_of
   field_name_is f c e = ap (λ o. option_map_or (member_name H) o []) e
 
@@ -59,9 +59,9 @@ module _ {P Q : Plain} {F : Facts} {H : Hierarchy} {W : Plain} (K : Known P Q F 
   pub record IsNewField (f g : ℕ) : Type 0 where
     pub field : PlainField
     pub stands : slice_get W.fields g ≡ Some field
-    pub is : IsField P Q F H W T f field
+    pub is : IsField P F H W T f field
 
-  pub new_field : (f n : ℕ) → StandsAt P Q F H W T (column.Fld f) n → (g : ℕ) × IsNewField f g
+  pub new_field : (f n : ℕ) → StandsAt P F H W T (column.Fld f) n → (g : ℕ) × IsNewField f g
   new_field f n s = let x = K.rebuilt.members.each_field f n s in (x.0, record { field = x.1; stands = x.2; is = x.3 })
 
   -- it is one
@@ -93,7 +93,7 @@ module _ {P Q : Plain} {F : Facts} {H : Hierarchy} {W : Plain} (K : Known P Q F 
       let owner : T.type_of a.is.at.node ≡ T.type_of b.is.at.node = sym a.is.at.owner_is ∙ ap (λ (z : PlainField). z.owner) same ∙ b.is.at.owner_is in
       let node = K.rebuilt.types.nodes_once a.is.at.node b.is.at.node (stands_live K a.is.at.node (column.Fld e) s)
       (stands_live K b.is.at.node (column.Fld f) t) owner in
-      fields_apart e f b.is.at.node (offers_own K b.is.at.node (column.Fld e) (subst (λ z. StandsAt P Q F H W T (column.Fld e) z) node s))
+      fields_apart e f b.is.at.node (offers_own K b.is.at.node (column.Fld e) (subst (λ z. StandsAt P F H W T (column.Fld e) z) node s))
       (offers_own K b.is.at.node (column.Fld f) t) (sym a.is.name ∙ ap (λ (z : PlainField). z.name) same ∙ b.is.name)
 
   holder_is : (c : ℕ) → R.holder_of c ≡ T.holder_of c

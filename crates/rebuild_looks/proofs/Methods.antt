@@ -38,12 +38,12 @@ module _ (R : Renaming) (m s : ℕ) (old : PlainMethod) (slot : old.slot ≡ Som
     result = t.result ∙ ap (λ z. retyped_if (R.row_type (result_in z m)) old.result) slot ∙ ap (retyped_if (R.row_type (row.Return s))) in_slot.result;
   }
 
-module _ {P Q : Plain} {F : Facts} {H : Hierarchy} {W : Plain} (K : Known P Q F H W) where
+module _ {P : Plain} {F : Facts} {H : Hierarchy} {W : Plain} (K : Known P F H W) where
   open sides K use {places as T, renaming as R}
 
   -- why it stands at the node: as the body of an old method, as a head, or as a filler
   pub data Sort (n s : ℕ) (new : PlainMethod) : Type 0 where
-    a_body : (m : ℕ) → IsBody P Q F H W T m new → StandsAt P Q F H W T (column.Def m) n → slot_of_method P m ≡ Some s → Sort n s new
+    a_body : (m : ℕ) → IsBody P F H W T m new → StandsAt P F H W T (column.Def m) n → slot_of_method P m ≡ Some s → Sort n s new
     a_head : is_headed F H n s ≡ true → new.body ≡ None → Sort n s new
     a_filler : is_filled F H n s ≡ true → is_some new.body ≡ true → Sort n s new
 
@@ -62,7 +62,7 @@ module _ {P Q : Plain} {F : Facts} {H : Hierarchy} {W : Plain} (K : Known P Q F 
     pub offered : OffersSlot K node slot
     pub sort : Sort node slot new
 
-  from_body : (m : ℕ) (new : PlainMethod) → IsBody P Q F H W T m new → IsNewMethod new
+  from_body : (m : ℕ) (new : PlainMethod) → IsBody P F H W T m new → IsNewMethod new
   from_body m new b =
       let s = K.columns.slotted (column.Def m) b.at.stands.number b.at.stands.numbered refl in
       let slot : b.old.slot ≡ Some s.0 = sym (ap (option_and_then (λ (k : PlainMethod). k.slot)) b.old_stands) ∙ s.1 in
@@ -82,7 +82,7 @@ module _ {P Q : Plain} {F : Facts} {H : Hierarchy} {W : Plain} (K : Known P Q F 
         sort = a_body m b b.at.stands s.1;
       }
 
-  from_slot : (n m : ℕ) (new : PlainMethod) (o : IsOfSlot P Q F H W T n m new) → is_live H.order n ≡ true → OffersSlot K n o.was.slot
+  from_slot : (n m : ℕ) (new : PlainMethod) (o : IsOfSlot P F H W T n m new) → is_live H.order n ≡ true → OffersSlot K n o.was.slot
       → Sort n o.was.slot new → IsNewMethod new
   from_slot n m new o live offered sort = record {
     node = n;
@@ -99,13 +99,13 @@ module _ {P Q : Plain} {F : Facts} {H : Hierarchy} {W : Plain} (K : Known P Q F 
     sort = sort;
   }
 
-  from_head : (n m : ℕ) (new : PlainMethod) → IsHead P Q F H W T n m new → IsNewMethod new
+  from_head : (n m : ℕ) (new : PlainMethod) → IsHead P F H W T n m new → IsNewMethod new
   from_head n m new h =
       let of : slot_of_method P m ≡ Some h.of.was.slot = ap (option_and_then (λ (k : PlainMethod). k.slot)) h.of.was.old_stands ∙ h.of.was.of_slot in
       from_slot n m new h.of (stands_live K n (column.Dcl m) h.stands)
       (offers_item K n h.of.was.slot (column.Dcl m) refl of (offers_own K n (column.Dcl m) h.stands)) (a_head h.headed h.bodyless)
 
-  from_filler : (n m : ℕ) (new : PlainMethod) → IsFiller P Q F H W T n m new → IsNewMethod new
+  from_filler : (n m : ℕ) (new : PlainMethod) → IsFiller P F H W T n m new → IsNewMethod new
   from_filler n m new f =
       let parts = and_parts (is_made_at F H n) (offers_slot F H n f.of.was.slot && not (offers_body F H n f.of.was.slot)) f.filled in
       from_slot n m new f.of f.live (slot_asked K n f.of.was.slot

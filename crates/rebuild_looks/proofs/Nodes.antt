@@ -21,7 +21,7 @@ use Rattle.flow_rules.specs.declared.items.ColumnItem.{ColumnItem}
 use Rattle.rebuild_model.specs.Members.{is_made_at, StandsAt}
 use Rattle.rebuild_looks.specs.Known.{Known, Offers}
 
-module _ {P Q : Plain} {F : Facts} {H : Hierarchy} {W : Plain} (K : Known P Q F H W) where
+module _ {P : Plain} {F : Facts} {H : Hierarchy} {W : Plain} (K : Known P F H W) where
   open K.rebuilt use {places as T}
 
   abbrev is_node : ℕ → Type 0
@@ -41,30 +41,30 @@ module _ {P Q : Plain} {F : Facts} {H : Hierarchy} {W : Plain} (K : Known P Q F 
       (λ h. subclass-below W K.new.acyclic (subclass_of a b h))
 
   -- a node at or below a class node with a member is a class
-  pub is_offered_at : (n : ℕ) (i : ColumnItem) (c : ℕ) → (numbers P Q).column i ≡ Some c → Offers K n i → is_offered H n c ≡ true
+  pub is_offered_at : (n : ℕ) (i : ColumnItem) (c : ℕ) → (numbers P).column i ≡ Some c → Offers K n i → is_offered H n c ≡ true
   is_offered_at n i c e o =
       let same : o.stands.number ≡ c = same_Some _ _ (sym o.stands.numbered ∙ e) in
       let at : place_of_column H c ≡ Some o.stands.place = subst (λ z. place_of_column H z ≡ Some o.stands.place) same o.stands.placed in
       rw at (subst (λ z. is_le H.order n z ≡ true) (sym o.stands.at) o.above)
 
-  pub offers_at : (n : ℕ) (i : ColumnItem) (c : ℕ) → (numbers P Q).column i ≡ Some c → is_offered H n c ≡ true → Offers K n i
+  pub offers_at : (n : ℕ) (i : ColumnItem) (c : ℕ) → (numbers P).column i ≡ Some c → is_offered H n c ≡ true → Offers K n i
   offers_at n i c e h = at (place_of_column H c) refl h
     where
       at : (o : Option NodeId) → place_of_column H c ≡ o → is_above H.order n o ≡ true → Offers K n i
       at None d k = absurd (false≢true k)
       at (Some p) d k = record { node = p.0; stands = record { number = c; numbered = e; place = p; placed = d; at = refl }; above = k }
 
-  pub stands_live : (n : ℕ) (i : ColumnItem) → StandsAt P Q F H W T i n → is_node n
+  pub stands_live : (n : ℕ) (i : ColumnItem) → StandsAt P F H W T i n → is_node n
   stands_live n i s = subst is_node s.at (K.placed s.number s.place s.placed)
 
-  pub offers_own : (n : ℕ) (i : ColumnItem) → StandsAt P Q F H W T i n → Offers K n i
+  pub offers_own : (n : ℕ) (i : ColumnItem) → StandsAt P F H W T i n → Offers K n i
   offers_own n i s = record { node = n; stands = s; above = K.order.reflexive n (stands_live n i s) }
 
   pub offers_below : (n m : ℕ) (i : ColumnItem) → is_le H.order n m ≡ true → Offers K m i → Offers K n i
   offers_below n m i h o = record { node = o.node; stands = o.stands; above = K.order.transitive n m o.node h o.above }
 
   -- an item stands at one node
-  pub stands_once : (n m : ℕ) (i : ColumnItem) → StandsAt P Q F H W T i n → StandsAt P Q F H W T i m → n ≡ m
+  pub stands_once : (n m : ℕ) (i : ColumnItem) → StandsAt P F H W T i n → StandsAt P F H W T i m → n ≡ m
   stands_once n m i a b =
       let same : a.number ≡ b.number = same_Some _ _ (sym a.numbered ∙ b.numbered) in
       let place : a.place ≡ b.place = same_Some _ _ (sym a.placed ∙ ap (place_of_column H) same ∙ b.placed) in

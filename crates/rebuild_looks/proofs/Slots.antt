@@ -42,7 +42,7 @@ pub data IsMethodItem : ColumnItem → ℕ → Type 0 where
   a_declaration : {m : ℕ} → IsMethodItem (column.Dcl m) m
   a_body : {m : ℕ} → IsMethodItem (column.Def m) m
 
-module _ {P Q : Plain} {F : Facts} {H : Hierarchy} {W : Plain} (K : Known P Q F H W) where
+module _ {P : Plain} {F : Facts} {H : Hierarchy} {W : Plain} (K : Known P F H W) where
   open sides K use {renaming as R}
 
   -- the new name of a method is that of each column of its slot
@@ -137,7 +137,7 @@ module _ {P Q : Plain} {F : Facts} {H : Hierarchy} {W : Plain} (K : Known P Q F 
       body i.0 c.0 i.1 (sym (ap is_def (K.columns.kind i.0 c.0 i.1)) ∙ outer.0)
       (sym (K.columns.slot i.0 c.0 i.1) ∙ slot_says (column_slot F c.0) s both.0) both.1
     where
-      body : (i : ColumnItem) (c : ℕ) → (numbers P Q).column i ≡ Some c → is_def (kind_of i) ≡ true → slot_in P i ≡ Some s
+      body : (i : ColumnItem) (c : ℕ) → (numbers P).column i ≡ Some c → is_def (kind_of i) ≡ true → slot_in P i ≡ Some s
           → is_offered H n c ≡ true → OffersBody n s
       body (column.Fld f) c e k x o = absurd (false≢true k)
       body (column.Dcl m) c e k x o = absurd (false≢true k)

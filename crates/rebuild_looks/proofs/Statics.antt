@@ -26,7 +26,7 @@ abbrev AreOnce : {A : Type 0} → (A → ℕ) → (A → List ℕ) → List A �
 AreOnce {A} owner_of name_of xs =
     (f g : ℕ) (x y : A) → slice_get xs f ≡ Some x → slice_get xs g ≡ Some y → owner_of x ≡ owner_of y → name_of x ≡ name_of y → f ≡ g
 
-module _ {P Q : Plain} {F : Facts} {H : Hierarchy} {W : Plain} (K : Known P Q F H W) where
+module _ {P : Plain} {F : Facts} {H : Hierarchy} {W : Plain} (K : Known P F H W) where
   open sides K use {places as T, renaming as R}
 
   holder_is : (c : ℕ) → R.holder_of c ≡ T.holder_of c
@@ -60,13 +60,13 @@ module _ {P Q : Plain} {F : Facts} {H : Hierarchy} {W : Plain} (K : Known P Q F 
           new g h a.new b.new a.new_stands b.new_stands (a.owner ∙ ap (λ z. R.holder_of (owner_of z)) one ∙ sym b.owner) (a.name ∙ ap name_of one ∙ sym b.name)
 
   -- fields
-  pub static_fields : AreCopies (IsStaticField P W R) (IsStaticFieldOf P Q F H W T)
+  pub static_fields : AreCopies (IsStaticField P W R) (IsStaticFieldOf P F H W T)
   static_fields = copies K.old.field_names K.new.field_names (field_holder P) K.rebuilt.statics.each_field (λ f g x. x.same)
 
   -- the new field has the type of the old one's row
-  pub static_field_type : (f g : ℕ) (x : IsStaticFieldOf P Q F H W T f g) → field_type W g ≡ Some (retyped (R.row_type (row.Field f)) x.same.old.ty)
+  pub static_field_type : (f g : ℕ) (x : IsStaticFieldOf P F H W T f g) → field_type W g ≡ Some (retyped (R.row_type (row.Field f)) x.same.old.ty)
   static_field_type f g x = ap (option_map (λ (k : PlainField). k.ty)) x.same.new_stands ∙ ap Some x.type
 
   -- methods
-  pub static_methods : AreCopies (IsStaticMethod P W R) (IsStaticMethodOf P Q F H W T)
+  pub static_methods : AreCopies (IsStaticMethod P W R) (IsStaticMethodOf P F H W T)
   static_methods = copies K.old.method_names K.new.method_names (method_holder P) K.rebuilt.statics.each_method (λ m g x. x.same)

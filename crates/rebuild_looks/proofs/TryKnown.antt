@@ -31,11 +31,11 @@ data IsColumn : ColumnItem → ℕ → Type 0 where
   of_declaration : IsColumn (column.Dcl 0) 1
   of_body : IsColumn (column.Def 0) 2
 
-no_mark : (c : _) → (numbers old old).column (column.Is c) ≡ None
+no_mark : (c : _) → (numbers old).column (column.Is c) ≡ None
 unfolding numbers columns_of column_number parts_of type_in field_of member_field declaration_of search_order
 no_mark c = refl
 
-column_is : (i : ColumnItem) (c : ℕ) → (numbers old old).column i ≡ Some c → IsColumn i c
+column_is : (i : ColumnItem) (c : ℕ) → (numbers old).column i ≡ Some c → IsColumn i c
 column_is (column.Fld zero) c e = subst (λ z. IsColumn (column.Fld 0) z) (same_Some _ _ (sym column_f ∙ e)) of_field
 column_is (column.Fld (suc f)) c e = absurd (cc (sym (no_field f) ∙ e))
 column_is (column.Dcl zero) c e = subst (λ z. IsColumn (column.Dcl 0) z) (same_Some _ _ (sym column_m ∙ e)) of_declaration
@@ -81,18 +81,18 @@ module _ (others : Facts) where
   slotted of_declaration h = (0, refl)
   slotted of_body h = (0, refl)
 
-  item : (c : ℕ) → c < 3 → (i : ColumnItem) × ((numbers old old).column i ≡ Some c)
+  item : (c : ℕ) → c < 3 → (i : ColumnItem) × ((numbers old).column i ≡ Some c)
   item zero lt = (column.Fld 0, column_f)
   item (suc zero) lt = (column.Dcl 0, column_m)
   item (suc (suc zero)) lt = (column.Def 0, column_body)
   item (suc (suc (suc c))) lt = absurd (omega (arith, lt))
 
-  declared : (m s : ℕ) → slot_of_method old m ≡ Some s → (c : ℕ) × ((numbers old old).column (column.Dcl m) ≡ Some c)
+  declared : (m s : ℕ) → slot_of_method old m ≡ Some s → (c : ℕ) × ((numbers old).column (column.Dcl m) ≡ Some c)
   declared zero s h = (1, column_m)
   declared (suc zero) s h = absurd (some_none s h)
   declared (suc (suc m)) s h = absurd (some_none s h)
 
-  columns : AreColumns old old F
+  columns : AreColumns old F
   columns = record {
     below = λ i c e. is_below (column_is i c e);
     kind = λ i c e. has_kind (column_is i c e);
@@ -188,7 +188,7 @@ module _ (others : Facts) where
   of_f (suc (suc zero)) e = absurd (cc e)
   of_f (suc (suc (suc c))) e = absurd (cc e)
 
-  pub worked_known : Known old old (facts others) hierarchy new
+  pub worked_known : Known old (facts others) hierarchy new
   worked_known = record {
     old = of_old.formed;
     new = of_new.formed;
@@ -208,7 +208,7 @@ module _ (others : Facts) where
   unfolding worked_known rebuilds
   offers_body = record { node = 1; stands = record { number = 2; numbered = column_body; place = record { 0 = 1 }; placed = refl; at = refl }; above = refl }
 
-  the_only : (k j : ℕ) → slot_of_method old k ≡ Some 0 → StandsAt old old (facts others) hierarchy new worked_known.rebuilt.places (column.Def k) j
+  the_only : (k j : ℕ) → slot_of_method old k ≡ Some 0 → StandsAt old (facts others) hierarchy new worked_known.rebuilt.places (column.Def k) j
       → is_le hierarchy.order 1 j ≡ true
       → is_le hierarchy.order j offers_body.node ≡ true → k ≡ 0
   the_only zero j e s h k = refl

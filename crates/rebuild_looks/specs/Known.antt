@@ -17,15 +17,15 @@ use Rattle.rebuild_model.specs.Renaming.{Places, Renaming, renaming_of}
 use Rattle.rebuild_model.specs.Rebuilds.{Rebuilds}
 
 -- the columns of the facts are those of the program's items, one for each
-pub record AreColumns (P Q : Plain) (F : Facts) : Type 0 where
-  pub below : (i : ColumnItem) (c : ℕ) → (numbers P Q).column i ≡ Some c → c < length F.columns.items
-  pub kind : (i : ColumnItem) (c : ℕ) → (numbers P Q).column i ≡ Some c → column_kind F c ≡ kind_of i
-  pub slot : (i : ColumnItem) (c : ℕ) → (numbers P Q).column i ≡ Some c → column_slot F c ≡ slot_in P i
-  pub one : (i j : ColumnItem) (c : ℕ) → (numbers P Q).column i ≡ Some c → (numbers P Q).column j ≡ Some c → i ≡ j
-  pub item : (c : ℕ) → c < length F.columns.items → (i : ColumnItem) × ((numbers P Q).column i ≡ Some c)
+pub record AreColumns (P : Plain) (F : Facts) : Type 0 where
+  pub below : (i : ColumnItem) (c : ℕ) → (numbers P).column i ≡ Some c → c < length F.columns.items
+  pub kind : (i : ColumnItem) (c : ℕ) → (numbers P).column i ≡ Some c → column_kind F c ≡ kind_of i
+  pub slot : (i : ColumnItem) (c : ℕ) → (numbers P).column i ≡ Some c → column_slot F c ≡ slot_in P i
+  pub one : (i j : ColumnItem) (c : ℕ) → (numbers P).column i ≡ Some c → (numbers P).column j ≡ Some c → i ≡ j
+  pub item : (c : ℕ) → c < length F.columns.items → (i : ColumnItem) × ((numbers P).column i ≡ Some c)
   -- what has a column as a method has a slot, and what has a slot a declaration's column
-  pub slotted : (i : ColumnItem) (c : ℕ) → (numbers P Q).column i ≡ Some c → is_method (kind_of i) ≡ true → (s : ℕ) × (slot_in P i ≡ Some s)
-  pub declared : (m s : ℕ) → slot_of_method P m ≡ Some s → (c : ℕ) × ((numbers P Q).column (column.Dcl m) ≡ Some c)
+  pub slotted : (i : ColumnItem) (c : ℕ) → (numbers P).column i ≡ Some c → is_method (kind_of i) ≡ true → (s : ℕ) × (slot_in P i ≡ Some s)
+  pub declared : (m s : ℕ) → slot_of_method P m ≡ Some s → (c : ℕ) × ((numbers P).column (column.Dcl m) ≡ Some c)
 
 -- no node offers two fields, or two slots, of one name
 pub record AreNamesApart (F : Facts) (H : Hierarchy) : Type 0 where
@@ -34,12 +34,12 @@ pub record AreNamesApart (F : Facts) (H : Hierarchy) : Type 0 where
   pub slots : (n c d x y : ℕ) → is_method (column_kind F c) ≡ true → is_method (column_kind F d) ≡ true → column_slot F c ≡ Some x → column_slot F d ≡ Some y
       → is_offered H n c ≡ true → is_offered H n d ≡ true → member_name H c ≡ member_name H d → x ≡ y
 
--- P is the old program, Q the same with the places of its forms, and W the new one
-pub record Known (P Q : Plain) (F : Facts) (H : Hierarchy) (W : Plain) : Type 0 where
+-- P is the old program, and W the new one
+pub record Known (P : Plain) (F : Facts) (H : Hierarchy) (W : Plain) : Type 0 where
   pub old : IsFormed P
   pub new : IsFormed W
-  pub rebuilt : Rebuilds P Q F H W
-  pub columns : AreColumns P Q F
+  pub rebuilt : Rebuilds P F H W
+  pub columns : AreColumns P F
   pub order : IsPartialOrder H.order
   pub placed : (c : ℕ) (p : NodeId) → place_of_column H c ≡ Some p → is_live H.order p.0 ≡ true
   pub names : SlotsHaveOneName F H
@@ -50,12 +50,12 @@ pub record Sides : Type 0 where
   pub places : Places
   pub renaming : Renaming
 
-module _ {P Q : Plain} {F : Facts} {H : Hierarchy} {W : Plain} (K : Known P Q F H W) where
+module _ {P : Plain} {F : Facts} {H : Hierarchy} {W : Plain} (K : Known P F H W) where
   -- a node offers the column of an item: it stands there or above
   pub record Offers (n : ℕ) (i : ColumnItem) : Type 0 where
     pub node : ℕ
-    pub stands : StandsAt P Q F H W K.rebuilt.places i node
+    pub stands : StandsAt P F H W K.rebuilt.places i node
     pub above : is_le H.order n node ≡ true
 
   abbrev pub sides : Sides
-  sides = record { places = K.rebuilt.places; renaming = renaming_of P Q H K.rebuilt.places }
+  sides = record { places = K.rebuilt.places; renaming = renaming_of P H K.rebuilt.places }

@@ -1,3 +1,4 @@
 pub mod Reclassed
 pub mod Worked
 pub mod WorkedRebuilds
+pub mod Retagging

@@ -26,15 +26,15 @@ use Rattle.rebuild_model.specs.Members.{HasTypes, new_types, is_headed, is_fille
 use Rattle.rebuild_model.specs.Rebuilds.{IsNodeType, IsHolderType, AreTypes, AreMembers, AreStatics, Rebuilds}
 use Rattle.rebuild_model.proofs.Worked.{place, an_int, class, object, the_field, method, main, slot, main_code, old, new, listed, the_columns, the_sites, hierarchy, places}
 
-pub column_f : (numbers old old).column (column.Fld 0) ≡ Some 0
+pub column_f : (numbers old).column (column.Fld 0) ≡ Some 0
 unfolding numbers columns_of column_number parts_of type_in field_of member_field declaration_of search_order
 column_f = refl
 
-pub column_m : (numbers old old).column (column.Dcl 0) ≡ Some 1
+pub column_m : (numbers old).column (column.Dcl 0) ≡ Some 1
 unfolding numbers columns_of column_number parts_of type_in field_of member_field declaration_of search_order
 column_m = refl
 
-pub column_body : (numbers old old).column (column.Def 0) ≡ Some 2
+pub column_body : (numbers old).column (column.Def 0) ≡ Some 2
 unfolding numbers columns_of column_number parts_of type_in field_of member_field declaration_of search_order
 column_body = refl
 
@@ -42,43 +42,43 @@ in_none : (p : ColumnItem → Bool) → p (column.Fld 0) ≡ false → p (column
     → position p (column.Fld 0 ∷ column.Dcl 0 ∷ column.Def 0 ∷ []) ≡ None
 in_none p a b c = rw a (rw b (rw c refl))
 
-pub no_field : (f : ℕ) → (numbers old old).column (column.Fld (suc f)) ≡ None
+pub no_field : (f : ℕ) → (numbers old).column (column.Fld (suc f)) ≡ None
 unfolding numbers columns_of column_number parts_of type_in field_of member_field declaration_of search_order
 no_field f = in_none (same_column (column.Fld (suc f))) (eqb-suc-zero f) refl refl
 
-pub no_declaration : (f : ℕ) → (numbers old old).column (column.Dcl (suc f)) ≡ None
+pub no_declaration : (f : ℕ) → (numbers old).column (column.Dcl (suc f)) ≡ None
 unfolding numbers columns_of column_number parts_of type_in field_of member_field declaration_of search_order
 no_declaration f = in_none (same_column (column.Dcl (suc f))) refl (eqb-suc-zero f) refl
 
-pub no_body : (f : ℕ) → (numbers old old).column (column.Def (suc f)) ≡ None
+pub no_body : (f : ℕ) → (numbers old).column (column.Def (suc f)) ≡ None
 unfolding numbers columns_of column_number parts_of type_in field_of member_field declaration_of search_order
 no_body f = in_none (same_column (column.Def (suc f))) refl refl (eqb-suc-zero f)
 
-made_row : (renaming_of old old hierarchy places).row_type (row.New 0) ≡ Some 2
+made_row : (renaming_of old hierarchy places).row_type (row.New 0) ≡ Some 2
 unfolding renaming_of numbers rows_of row_number parts_of type_in field_of member_field declaration_of search_order
 made_row = refl
 
-name_f : codes "f" ≡ (renaming_of old old hierarchy places).field_name 0
+name_f : codes "f" ≡ (renaming_of old hierarchy places).field_name 0
 unfolding renaming_of numbers rows_of row_number columns_of column_number parts_of type_in field_of member_field declaration_of search_order
 name_f = refl
 
-pub name_m : codes "m" ≡ (renaming_of old old hierarchy places).method_name 0
+pub name_m : codes "m" ≡ (renaming_of old hierarchy places).method_name 0
 unfolding renaming_of numbers rows_of row_number columns_of column_number parts_of type_in field_of member_field declaration_of search_order
 name_m = refl
 
-type_f : an_int ≡ retyped ((renaming_of old old hierarchy places).row_type (row.Field 0)) an_int
+type_f : an_int ≡ retyped ((renaming_of old hierarchy places).row_type (row.Field 0)) an_int
 unfolding renaming_of numbers rows_of row_number columns_of column_number parts_of type_in field_of member_field declaration_of search_order
 type_f = refl
 
-result_m : Some an_int ≡ retyped_if ((renaming_of old old hierarchy places).row_type (row.Return 0)) (Some an_int)
+result_m : Some an_int ≡ retyped_if ((renaming_of old hierarchy places).row_type (row.Return 0)) (Some an_int)
 unfolding renaming_of numbers rows_of row_number columns_of column_number parts_of type_in field_of member_field declaration_of search_order
 result_m = refl
 
-main_types : HasTypes (renaming_of old old hierarchy places) 1 (main 2 1 (main_code 1)) (main 3 1 (main_code 2))
+main_types : HasTypes (renaming_of old hierarchy places) 1 (main 2 1 (main_code 1)) (main 3 1 (main_code 2))
 unfolding renaming_of numbers rows_of row_number columns_of column_number parts_of type_in field_of member_field declaration_of search_order
 main_types = record { params = refl; result = refl }
 
-main_locals : types_of (main 3 1 (main_code 2)).locals ≡ new_types (renaming_of old old hierarchy places) 1 (main 2 1 (main_code 1)) 1
+main_locals : types_of (main 3 1 (main_code 2)).locals ≡ new_types (renaming_of old hierarchy places) 1 (main 2 1 (main_code 1)) 1
     (main 2 1 (main_code 1)).locals
 unfolding renaming_of numbers rows_of row_number columns_of column_number parts_of type_in field_of member_field declaration_of search_order
 main_locals = refl
@@ -128,24 +128,24 @@ ordered (suc zero) (suc (suc b)) la lb = absurd (cc lb)
 ordered (suc (suc a)) b la lb = absurd (cc la)
 
 -- a field and a call under their new names
-own_matches : {g : Env} {t u v : Tag} (x : List ℕ) → x ≡ (renaming_of old old hierarchy places).field_name 0
-    → Matches old new (renaming_of old old hierarchy places) g (own_field t 0) (field u (this v) x)
-own_matches {g} {t} {u} {v} x e = subst (λ y. Matches old new (renaming_of old old hierarchy places) g (own_field t 0) (field u (this v) y)) (sym e) m_own_field
+own_matches : {g : Env} {t u v : Tag} (x : List ℕ) → x ≡ (renaming_of old hierarchy places).field_name 0
+    → Matches old new (renaming_of old hierarchy places) g (own_field t 0) (field u (this v) x)
+own_matches {g} {t} {u} {v} x e = subst (λ y. Matches old new (renaming_of old hierarchy places) g (own_field t 0) (field u (this v) y)) (sym e) m_own_field
 
 abbrev main_env : Env
 main_env = env_of 1 (main 2 1 (main_code 1))
 
-call_matches : {t u : Tag} (x : List ℕ) → x ≡ (renaming_of old old hierarchy places).method_name 0
-    → Matches old new (renaming_of old old hierarchy places) main_env (call t (local t 1) (codes "m") no_ex) (call u (local u 1) x no_ex)
+call_matches : {t u : Tag} (x : List ℕ) → x ≡ (renaming_of old hierarchy places).method_name 0
+    → Matches old new (renaming_of old hierarchy places) main_env (call t (local t 1) (codes "m") no_ex) (call u (local u 1) x no_ex)
 call_matches {t} {u} x e =
-    subst (λ y. Matches old new (renaming_of old old hierarchy places) main_env (call t (local t 1) (codes "m") no_ex) (call u (local u 1) y no_ex)) (sym e)
+    subst (λ y. Matches old new (renaming_of old hierarchy places) main_env (call t (local t 1) (codes "m") no_ex) (call u (local u 1) y no_ex)) (sym e)
     (m_call {c = 1} m_local refl found_m m_no_ex)
 
 module _ (others : Facts) where
   abbrev pub facts : Facts
   facts = record others { columns = listed others.columns the_columns (lit≤ tt); sites = listed others.sites the_sites (lit≤ tt) }
 
-  node_types : (n : ℕ) → is_live hierarchy.order n ≡ true → IsNodeType old old facts hierarchy new places n
+  node_types : (n : ℕ) → is_live hierarchy.order n ≡ true → IsNodeType old facts hierarchy new places n
   node_types zero l = record {
     class = record { name = codes "A_0"; is_interface = true; is_abstract = false; parent = object; faces = []; tag = place 0 };
     stands = refl;
@@ -164,7 +164,7 @@ module _ (others : Facts) where
   }
   node_types (suc (suc n)) l = absurd (cc l)
 
-  main_holder : IsHolderType old old facts hierarchy new places 2
+  main_holder : IsHolderType old facts hierarchy new places 2
   main_holder = record {
     class = class (codes "Main") object 0;
     old = class (codes "Main") object 30;
@@ -189,10 +189,10 @@ module _ (others : Facts) where
   no_third (suc zero) l e = omega (arith, e)
   no_third (suc (suc n)) l e = cc l
 
-  pub types : AreTypes old old facts hierarchy new places
+  pub types : AreTypes old facts hierarchy new places
   types = record {
     nodes = node_types;
-    holders = λ c h. subst (λ x. IsHolderType old old facts hierarchy new places x) (is_second c h) main_holder;
+    holders = λ c h. subst (λ x. IsHolderType old facts hierarchy new places x) (is_second c h) main_holder;
     nodes_once = λ n m ln lm e. cc e;
     holders_once = λ c d hc hd e. sym (is_second c hc) ∙ is_second d hd;
     apart = λ n c l h. no_third n l;
@@ -200,7 +200,7 @@ module _ (others : Facts) where
   }
 
   abbrev Stands : ColumnItem → ℕ → Type 0
-  Stands i n = StandsAt old old facts hierarchy new places i n
+  Stands i n = StandsAt old facts hierarchy new places i n
 
   -- where the columns stand
   field_stands : Stands (column.Fld 0) 1
@@ -212,10 +212,10 @@ module _ (others : Facts) where
   body_stands : Stands (column.Def 0) 1
   body_stands = record { number = 2; numbered = column_body; place = node 1; placed = refl; at = refl }
 
-  stands_alone : (c k n : ℕ) → place_of_column hierarchy c ≡ Some (node k) → (i : ColumnItem) → (numbers old old).column i ≡ Some c → Stands i n → k ≡ n
+  stands_alone : (c k n : ℕ) → place_of_column hierarchy c ≡ Some (node k) → (i : ColumnItem) → (numbers old).column i ≡ Some c → Stands i n → k ≡ n
   stands_alone c k n at i is s = cc (sym at ∙ ap (place_of_column hierarchy) (cc (sym is ∙ s.numbered)) ∙ s.placed, s.at)
 
-  new_field : IsField old old facts hierarchy new places 0 (the_field 2)
+  new_field : IsField old facts hierarchy new places 0 (the_field 2)
   new_field = record {
     old = the_field 1;
     old_stands = refl;
@@ -224,7 +224,7 @@ module _ (others : Facts) where
     type = type_f;
   }
 
-  new_body : IsBody old old facts hierarchy new places 0
+  new_body : IsBody old facts hierarchy new places 0
       (method 2 (Some (st_then (return (place 0) (Some (field (place 0) (this (place 0)) (codes "f")))) no_st)))
   new_body = record {
     old = method 1 (Some (st_then (return (place 22) (Some (own_field (place 24) 0))) no_st));
@@ -242,7 +242,7 @@ module _ (others : Facts) where
     };
   }
 
-  new_of_slot : IsOfSlot old old facts hierarchy new places 0 0 (method 1 None)
+  new_of_slot : IsOfSlot old facts hierarchy new places 0 0 (method 1 None)
   new_of_slot = record {
     was = record {
       old = method 1 (Some (st_then (return (place 22) (Some (own_field (place 24) 0))) no_st));
@@ -258,10 +258,10 @@ module _ (others : Facts) where
     types = record { params = refl; result = result_m };
   }
 
-  new_head : IsHead old old facts hierarchy new places 0 0 (method 1 None)
+  new_head : IsHead old facts hierarchy new places 0 0 (method 1 None)
   new_head = record { of = new_of_slot; stands = declaration_stands; headed = refl; bodyless = refl }
 
-  pub main_same : IsStaticMethod old new (renaming_of old old hierarchy places) 1 2
+  pub main_same : IsStaticMethod old new (renaming_of old hierarchy places) 1 2
   unfolding renaming_of
   main_same = record {
     old = main 2 1 (main_code 1);
@@ -274,12 +274,12 @@ module _ (others : Facts) where
     name = refl;
   }
 
-  main_matches : MatchesSts old new (renaming_of old old hierarchy places) (env_of 1 (main 2 1 (main_code 1))) (main_code 1) (main_code 2)
+  main_matches : MatchesSts old new (renaming_of old hierarchy places) (env_of 1 (main 2 1 (main_code 1))) (main_code 1) (main_code 2)
   main_matches =
       pair_st_then (pair_declare (pair_some (m_create made_row m_no_ex)))
       (pair_st_then (pair_act (call_matches (codes "m") name_m)) pair_no_st)
 
-  new_main : IsStaticMethodOf old old facts hierarchy new places 1 2
+  new_main : IsStaticMethodOf old facts hierarchy new places 1 2
   unfolding main_same
   new_main = record {
     same = main_same;
@@ -289,8 +289,8 @@ module _ (others : Facts) where
 
   -- the members, one by one
   abbrev IsMember : PlainMethod → Type 0
-  IsMember k = ((m : ℕ) × IsBody old old facts hierarchy new places m k)
-      ⊎ ((n : ℕ) × (m : ℕ) × (IsHead old old facts hierarchy new places n m k ⊎ IsFiller old old facts hierarchy new places n m k))
+  IsMember k = ((m : ℕ) × IsBody old facts hierarchy new places m k)
+      ⊎ ((n : ℕ) × (m : ℕ) × (IsHead old facts hierarchy new places n m k ⊎ IsFiller old facts hierarchy new places n m k))
 
   each_instance : (g : ℕ) (k : PlainMethod) → slice_get new.methods g ≡ Some k → k.is_static ≡ false → IsMember k
   each_instance zero k e i = subst IsMember (cc e) (inr (0, 0, inl new_head))
@@ -298,28 +298,28 @@ module _ (others : Facts) where
   each_instance (suc (suc zero)) k e i = absurd (cc (ap (λ o. option_map_or (λ (m : PlainMethod). m.is_static) o false) e ∙ i))
   each_instance (suc (suc (suc g))) k e i = absurd (cc e)
 
-  fields_are : (g : ℕ) (k : PlainField) → slice_get new.fields g ≡ Some k → k.is_static ≡ false → (f : ℕ) × IsField old old facts hierarchy new places f k
-  fields_are zero k e i = (0, subst (λ x. IsField old old facts hierarchy new places 0 x) (cc e) new_field)
+  fields_are : (g : ℕ) (k : PlainField) → slice_get new.fields g ≡ Some k → k.is_static ≡ false → (f : ℕ) × IsField old facts hierarchy new places f k
+  fields_are zero k e i = (0, subst (λ x. IsField old facts hierarchy new places 0 x) (cc e) new_field)
   fields_are (suc g) k e i = absurd (cc e)
 
   field_is : (f n : ℕ) → Stands (column.Fld f) n → (g : ℕ) × (k : PlainField) × (slice_get new.fields g ≡ Some k)
-      × IsField old old facts hierarchy new places f k
+      × IsField old facts hierarchy new places f k
   field_is zero n s = (0, the_field 2, refl, new_field)
   field_is (suc f) n s = absurd (cc (sym (no_field f) ∙ s.numbered))
 
   body_is : (m n : ℕ) → Stands (column.Def m) n → (g : ℕ) × (k : PlainMethod) × (slice_get new.methods g ≡ Some k)
-      × IsBody old old facts hierarchy new places m k
+      × IsBody old facts hierarchy new places m k
   body_is zero n s = (1, _, refl, new_body)
   body_is (suc m) n s = absurd (cc (sym (no_body m) ∙ s.numbered))
 
   head_is : (m n s : ℕ) (k : PlainMethod) → Stands (column.Dcl m) n → slice_get old.methods m ≡ Some k → k.slot ≡ Some s → is_headed facts hierarchy n s ≡ true
-      → (g : ℕ) × (h : PlainMethod) × (slice_get new.methods g ≡ Some h) × (h.body ≡ None) × IsOfSlot old old facts hierarchy new places n m h
+      → (g : ℕ) × (h : PlainMethod) × (slice_get new.methods g ≡ Some h) × (h.body ≡ None) × IsOfSlot old facts hierarchy new places n m h
   head_is zero n s k at e slot headed = (
     0,
     method 1 None,
     refl,
     refl,
-    subst (λ x. IsOfSlot old old facts hierarchy new places x 0 (method 1 None))
+    subst (λ x. IsOfSlot old facts hierarchy new places x 0 (method 1 None))
         (stands_alone 1 0 n refl (column.Dcl 0) column_m at) new_of_slot,
   )
   head_is (suc m) n s k at e slot headed = absurd (cc (sym (no_declaration m) ∙ at.numbered))
@@ -334,7 +334,7 @@ module _ (others : Facts) where
       none false e = cc e
   no_filler (suc (suc n)) s l filled = cc l
 
-  pub members : AreMembers old old facts hierarchy new places
+  pub members : AreMembers old facts hierarchy new places
   members = record {
     fields = fields_are;
     each_field = field_is;
@@ -345,14 +345,14 @@ module _ (others : Facts) where
   }
 
   static_methods_are : (g : ℕ) (k : PlainMethod) → slice_get new.methods g ≡ Some k → k.is_static ≡ true
-      → (m : ℕ) × IsStaticMethodOf old old facts hierarchy new places m g
+      → (m : ℕ) × IsStaticMethodOf old facts hierarchy new places m g
   static_methods_are zero k e i = absurd (cc (ap (λ o. option_map_or (λ (m : PlainMethod). m.is_static) o false) e ∙ i))
   static_methods_are (suc zero) k e i = absurd (cc (ap (λ o. option_map_or (λ (m : PlainMethod). m.is_static) o false) e ∙ i))
   static_methods_are (suc (suc zero)) k e i = (1, new_main)
   static_methods_are (suc (suc (suc g))) k e i = absurd (cc e)
 
   static_method_is : (m : ℕ) (k : PlainMethod) → slice_get old.methods m ≡ Some k → k.is_static ≡ true
-      → (g : ℕ) × IsStaticMethodOf old old facts hierarchy new places m g
+      → (g : ℕ) × IsStaticMethodOf old facts hierarchy new places m g
   static_method_is zero k e i = absurd (cc (ap (λ o. option_map_or (λ (m : PlainMethod). m.is_static) o false) e ∙ i))
   static_method_is (suc zero) k e i = (2, new_main)
   static_method_is (suc (suc m)) k e i = absurd (cc e)
@@ -361,7 +361,7 @@ module _ (others : Facts) where
   no_static_field owner zero k e i = cc (ap (λ o. option_map_or (λ (m : PlainField). m.is_static) o false) e ∙ i)
   no_static_field owner (suc f) k e i = cc e
 
-  pub statics : AreStatics old old facts hierarchy new places
+  pub statics : AreStatics old facts hierarchy new places
   statics = record {
     fields = λ g k e i. absurd (no_static_field 2 g k e i);
     each_field = λ f k e i. absurd (no_static_field 1 f k e i);
@@ -370,5 +370,5 @@ module _ (others : Facts) where
   }
 
   -- the relation holds of them
-  unfoldable pub rebuilds : Rebuilds old old facts hierarchy new
+  unfoldable pub rebuilds : Rebuilds old facts hierarchy new
   rebuilds = record { places = places; types = types; order = ordered; members = members; statics = statics; main = main_same }

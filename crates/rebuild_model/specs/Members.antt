@@ -72,11 +72,11 @@ pub record HasOldSlot (P : Plain) (m : ℕ) : Type 0 where
   pub signature : PlainSlot
   pub slot_stands : slice_get P.slots slot ≡ Some signature
 
-module _ (P Q : Plain) (F : Facts) (H : Hierarchy) (W : Plain) (T : Places) where
+module _ (P : Plain) (F : Facts) (H : Hierarchy) (W : Plain) (T : Places) where
   -- an item has a column, which stands at the node n
   pub record StandsAt (i : ColumnItem) (n : ℕ) : Type 0 where
     pub number : ℕ
-    pub numbered : (numbers P Q).column i ≡ Some number
+    pub numbered : (numbers P).column i ≡ Some number
     pub place : NodeId
     pub placed : place_of_column H number ≡ Some place
     pub at : place.0 ≡ n
@@ -93,25 +93,25 @@ module _ (P Q : Plain) (F : Facts) (H : Hierarchy) (W : Plain) (T : Places) wher
     pub old : PlainField
     pub old_stands : slice_get P.fields f ≡ Some old
     pub at : IsInstanceAt (column.Fld f) new.is_static new.owner
-    pub name : new.name ≡ (renaming_of P Q H T).field_name f
-    pub type : new.ty ≡ retyped ((renaming_of P Q H T).row_type (row.Field f)) old.ty
+    pub name : new.name ≡ (renaming_of P H T).field_name f
+    pub type : new.ty ≡ retyped ((renaming_of P H T).row_type (row.Field f)) old.ty
 
   -- an instance method is an old one whose body stands at a node
   pub record IsBody (m : ℕ) (new : PlainMethod) : Type 0 where
     pub old : PlainMethod
     pub old_stands : slice_get P.methods m ≡ Some old
     pub at : IsInstanceAt (column.Def m) new.is_static new.owner
-    pub name : new.name ≡ (renaming_of P Q H T).method_name m
-    pub types : HasTypes (renaming_of P Q H T) m old new
-    pub code : HasCode P W (renaming_of P Q H T) m old new
+    pub name : new.name ≡ (renaming_of P H T).method_name m
+    pub types : HasTypes (renaming_of P H T) m old new
+    pub code : HasCode P W (renaming_of P H T) m old new
 
   -- an instance method of the type of a node, of the slot of the old method m
   pub record IsOfSlot (n m : ℕ) (new : PlainMethod) : Type 0 where
     pub was : HasOldSlot P m
     pub instance : new.is_static ≡ false
     pub owner : new.owner ≡ T.type_of n
-    pub name : new.name ≡ (renaming_of P Q H T).method_name m
-    pub types : HasSlotTypes (renaming_of P Q H T) was.slot was.signature new
+    pub name : new.name ≡ (renaming_of P H T).method_name m
+    pub types : HasSlotTypes (renaming_of P H T) was.slot was.signature new
 
   -- it is the head of a declaration that stands there
   pub record IsHead (n m : ℕ) (new : PlainMethod) : Type 0 where
@@ -129,10 +129,10 @@ module _ (P Q : Plain) (F : Facts) (H : Hierarchy) (W : Plain) (T : Places) wher
 
   -- a static field and a static method, in the holders
   pub record IsStaticFieldOf (f g : ℕ) : Type 0 where
-    pub same : IsStaticField P W (renaming_of P Q H T) f g
-    pub type : same.new.ty ≡ retyped ((renaming_of P Q H T).row_type (row.Field f)) same.old.ty
+    pub same : IsStaticField P W (renaming_of P H T) f g
+    pub type : same.new.ty ≡ retyped ((renaming_of P H T).row_type (row.Field f)) same.old.ty
 
   pub record IsStaticMethodOf (m g : ℕ) : Type 0 where
-    pub same : IsStaticMethod P W (renaming_of P Q H T) m g
-    pub types : HasTypes (renaming_of P Q H T) m same.old same.new
-    pub code : HasCode P W (renaming_of P Q H T) m same.old same.new
+    pub same : IsStaticMethod P W (renaming_of P H T) m g
+    pub types : HasTypes (renaming_of P H T) m same.old same.new
+    pub code : HasCode P W (renaming_of P H T) m same.old same.new

@@ -11,8 +11,8 @@ use Rattle.rebuild_model.specs.Renaming.{Places, renaming_of}
 use Rattle.rebuild_model.specs.Matches.{IsStaticMethod}
 use Rattle.rebuild_model.specs.Members.{is_made_at, is_headed, is_filled, StandsAt, IsField, IsBody, IsOfSlot, IsHead, IsFiller, IsStaticFieldOf, IsStaticMethodOf}
 
--- P is the old program, Q the same with the places of its forms, and W the new one
-module _ (P Q : Plain) (F : Facts) (H : Hierarchy) (W : Plain) where
+-- P is the old program, and W the new one
+module _ (P : Plain) (F : Facts) (H : Hierarchy) (W : Plain) where
   -- the type of a live node bears its name, is a class exactly where the node is a class node, and then abstract exactly where no object is created there
   pub record IsNodeType (T : Places) (n : ℕ) : Type 0 where
     pub class : PlainClass
@@ -45,26 +45,26 @@ module _ (P Q : Plain) (F : Facts) (H : Hierarchy) (W : Plain) where
 
   -- the instance members are the fields, bodies, heads and fillers of the nodes, and no others
   pub record AreMembers (T : Places) : Type 0 where
-    pub fields : (g : ℕ) (new : PlainField) → slice_get W.fields g ≡ Some new → new.is_static ≡ false → (f : ℕ) × IsField P Q F H W T f new
-    pub each_field : (f n : ℕ) → StandsAt P Q F H W T (column.Fld f) n → (g : ℕ) × (new : PlainField) × (slice_get W.fields g ≡ Some new)
-        × IsField P Q F H W T f new
+    pub fields : (g : ℕ) (new : PlainField) → slice_get W.fields g ≡ Some new → new.is_static ≡ false → (f : ℕ) × IsField P F H W T f new
+    pub each_field : (f n : ℕ) → StandsAt P F H W T (column.Fld f) n → (g : ℕ) × (new : PlainField) × (slice_get W.fields g ≡ Some new)
+        × IsField P F H W T f new
     pub methods : (g : ℕ) (new : PlainMethod) → slice_get W.methods g ≡ Some new → new.is_static ≡ false
-        → ((m : ℕ) × IsBody P Q F H W T m new) ⊎ ((n : ℕ) × (m : ℕ) × (IsHead P Q F H W T n m new ⊎ IsFiller P Q F H W T n m new))
-    pub each_body : (m n : ℕ) → StandsAt P Q F H W T (column.Def m) n → (g : ℕ) × (new : PlainMethod) × (slice_get W.methods g ≡ Some new)
-        × IsBody P Q F H W T m new
-    pub each_head : (m n s : ℕ) (old : PlainMethod) → StandsAt P Q F H W T (column.Dcl m) n → slice_get P.methods m ≡ Some old → old.slot ≡ Some s
+        → ((m : ℕ) × IsBody P F H W T m new) ⊎ ((n : ℕ) × (m : ℕ) × (IsHead P F H W T n m new ⊎ IsFiller P F H W T n m new))
+    pub each_body : (m n : ℕ) → StandsAt P F H W T (column.Def m) n → (g : ℕ) × (new : PlainMethod) × (slice_get W.methods g ≡ Some new)
+        × IsBody P F H W T m new
+    pub each_head : (m n s : ℕ) (old : PlainMethod) → StandsAt P F H W T (column.Dcl m) n → slice_get P.methods m ≡ Some old → old.slot ≡ Some s
         → is_headed F H n s ≡ true
-        → (g : ℕ) × (new : PlainMethod) × (slice_get W.methods g ≡ Some new) × (new.body ≡ None) × IsOfSlot P Q F H W T n m new
+        → (g : ℕ) × (new : PlainMethod) × (slice_get W.methods g ≡ Some new) × (new.body ≡ None) × IsOfSlot P F H W T n m new
     pub each_filler : (m n s : ℕ) (old : PlainMethod) → is_live H.order n ≡ true → slice_get P.methods m ≡ Some old → old.slot ≡ Some s
         → is_filled F H n s ≡ true
-        → (g : ℕ) × (new : PlainMethod) × (slice_get W.methods g ≡ Some new) × IsOfSlot P Q F H W T n m new
+        → (g : ℕ) × (new : PlainMethod) × (slice_get W.methods g ≡ Some new) × IsOfSlot P F H W T n m new
 
   -- the static members are the old ones, in the holders of their classes
   pub record AreStatics (T : Places) : Type 0 where
-    pub fields : (g : ℕ) (new : PlainField) → slice_get W.fields g ≡ Some new → new.is_static ≡ true → (f : ℕ) × IsStaticFieldOf P Q F H W T f g
-    pub each_field : (f : ℕ) (old : PlainField) → slice_get P.fields f ≡ Some old → old.is_static ≡ true → (g : ℕ) × IsStaticFieldOf P Q F H W T f g
-    pub methods : (g : ℕ) (new : PlainMethod) → slice_get W.methods g ≡ Some new → new.is_static ≡ true → (m : ℕ) × IsStaticMethodOf P Q F H W T m g
-    pub each_method : (m : ℕ) (old : PlainMethod) → slice_get P.methods m ≡ Some old → old.is_static ≡ true → (g : ℕ) × IsStaticMethodOf P Q F H W T m g
+    pub fields : (g : ℕ) (new : PlainField) → slice_get W.fields g ≡ Some new → new.is_static ≡ true → (f : ℕ) × IsStaticFieldOf P F H W T f g
+    pub each_field : (f : ℕ) (old : PlainField) → slice_get P.fields f ≡ Some old → old.is_static ≡ true → (g : ℕ) × IsStaticFieldOf P F H W T f g
+    pub methods : (g : ℕ) (new : PlainMethod) → slice_get W.methods g ≡ Some new → new.is_static ≡ true → (m : ℕ) × IsStaticMethodOf P F H W T m g
+    pub each_method : (m : ℕ) (old : PlainMethod) → slice_get P.methods m ≡ Some old → old.is_static ≡ true → (g : ℕ) × IsStaticMethodOf P F H W T m g
 
   pub record Rebuilds : Type 0 where
     pub places : Places
@@ -74,4 +74,4 @@ module _ (P Q : Plain) (F : Facts) (H : Hierarchy) (W : Plain) where
         (is_le H.order a b ≡ true)
     pub members : AreMembers places
     pub statics : AreStatics places
-    pub main : IsStaticMethod P W (renaming_of P Q H places) P.main W.main
+    pub main : IsStaticMethod P W (renaming_of P H places) P.main W.main

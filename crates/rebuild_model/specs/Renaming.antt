@@ -27,11 +27,11 @@ abbrev pub column_name : Hierarchy → Option ℕ → List ℕ
 column_name H c = option_map_or (member_name H) c []
 
 -- a row's type is the class of the node where the row stands; fields and methods have the names of their columns, of which those of one slot have one
-unfoldable pub renaming_of : Plain → Plain → Hierarchy → Places → Renaming
-renaming_of P Q H W = record {
-  row_type = λ i. option_map (λ r. W.type_of (place_of_row H r)) ((numbers P Q).row i);
-  field_name = λ f. column_name H ((numbers P Q).column (column.Fld f));
-  method_name = λ m. column_name H ((numbers P Q).column (column.Dcl m));
+unfoldable pub renaming_of : Plain → Hierarchy → Places → Renaming
+renaming_of P H W = record {
+  row_type = λ i. option_map (λ r. W.type_of (place_of_row H r)) ((numbers P).row i);
+  field_name = λ f. column_name H ((numbers P).column (column.Fld f));
+  method_name = λ m. column_name H ((numbers P).column (column.Dcl m));
   holder_of = W.holder_of;
 }
 

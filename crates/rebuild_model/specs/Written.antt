@@ -23,7 +23,7 @@ pub data IsFilling : Option Ty → Sts → Type 0 where
   fills_nothing : IsFilling None no_st
   fills : {t : Tag} {u : Ty} {e : Ex} → IsDefault u e → IsFilling (Some u) (st_then (return t (Some e)) no_st)
 
-module _ (P Q : Plain) (F : Facts) (H : Hierarchy) (W : Plain) (T : Places) where
+module _ (P : Plain) (F : Facts) (H : Hierarchy) (W : Plain) (T : Places) where
   pub record HasFilling (new : PlainMethod) : Type 0 where
     pub code : Sts
     pub is : new.body ≡ Some code
@@ -32,4 +32,4 @@ module _ (P Q : Plain) (F : Facts) (H : Hierarchy) (W : Plain) (T : Places) wher
   pub record IsWritten : Type 0 where
     pub public : (g : ℕ) (new : PlainMethod) → slice_get W.methods g ≡ Some new → new.is_static ≡ false → is_interface W new.owner ≡ false
         → new.is_public ≡ true
-    pub fillers : (g n m : ℕ) (new : PlainMethod) → slice_get W.methods g ≡ Some new → IsFiller P Q F H W T n m new → HasFilling new
+    pub fillers : (g n m : ℕ) (new : PlainMethod) → slice_get W.methods g ≡ Some new → IsFiller P F H W T n m new → HasFilling new

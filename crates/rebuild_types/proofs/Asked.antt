@@ -24,8 +24,8 @@ retypes p (t ∷ ts) = retyped (p 0) t ∷ retypes (λ i. p (suc i)) ts
 abbrev pub new_signature : (ℕ → Option ℕ) → Option ℕ → List Ty → Option Ty → Signature
 new_signature p r ts t = record { params = retypes p ts; result = retyped_if r t }
 
--- P is the old program and Q the same with its places, W the new one; k is the method m, and h what its new body sees
-module _ (P Q W : Plain) (R : Renaming) where
+-- P is the old program, W the new one; k is the method m, and h what its new body sees
+module _ (P W : Plain) (R : Renaming) where
   abbrev pub new_class : Option RowItem → Option ℕ
   new_class None = None
   new_class (Some i) = R.row_type i
@@ -60,7 +60,7 @@ module _ (P Q W : Plain) (R : Renaming) where
     pub number : ℕ
     pub found : super_method W c (R.method_name d) ≡ Some number
     pub bodied : has_body W number ≡ true
-    pub type : (k : PlainMethod) → slice_get Q.methods d ≡ Some k → signature_of_method W number ≡ Some (method_signature d k)
+    pub type : (k : PlainMethod) → slice_get P.methods d ≡ Some k → signature_of_method W number ≡ Some (method_signature d k)
 
   -- each argument's class is at or below that of its parameter
   abbrev pub ArgsFit : (ℕ → RowItem) → List Operand → Type 0
@@ -78,9 +78,9 @@ module _ (P Q W : Plain) (R : Renaming) where
     Serves (a_call p b (Some s) (Some d) es o) = HasSlot b s d × ArgsFit (row.Param s) es
     Serves (a_call p b (Some s) None es o) = Unit {0}
     Serves (a_call p b None d es o) = Unit {0}
-    Serves (a_static_call p d es o) = (f : PlainMethod) → slice_get Q.methods d ≡ Some f → ArgsFit (variable_row d f) es
-    Serves (a_super_call p (Some d) es o) = (k.is_static ≡ false → has_body P d ≡ true → (f : PlainMethod) → slice_get Q.methods d ≡ Some f
-        → f.is_static ≡ false → FindsSuper c d) × ((f : PlainMethod) → slice_get Q.methods d ≡ Some f → ArgsFit (variable_row d f) es)
+    Serves (a_static_call p d es o) = (f : PlainMethod) → slice_get P.methods d ≡ Some f → ArgsFit (variable_row d f) es
+    Serves (a_super_call p (Some d) es o) = (k.is_static ≡ false → has_body P d ≡ true → (f : PlainMethod) → slice_get P.methods d ≡ Some f
+        → f.is_static ≡ false → FindsSuper c d) × ((f : PlainMethod) → slice_get P.methods d ≡ Some f → ArgsFit (variable_row d f) es)
     Serves (a_super_call p None es o) = Unit {0}
     Serves (a_test p e o) = AreNearIf W e.ty o.ty (new_class e.row) (new_class o.row)
     Serves (a_pair o l r) = is_comparison o ≡ true → AreNearIf W l.ty r.ty (new_class l.row) (new_class r.row)
@@ -92,9 +92,9 @@ module _ (P Q W : Plain) (R : Renaming) where
 
   -- rows have classes, and static members are found with the types of theirs
   pub record AreRenewed : Type 0 where
-    pub numbered : (i : RowItem) (r : ℕ) → row_number P Q i ≡ Some r → (c : ℕ) × (R.row_type i ≡ Some c)
+    pub numbered : (i : RowItem) (r : ℕ) → row_number P i ≡ Some r → (c : ℕ) × (R.row_type i ≡ Some c)
     pub static_fields : (f g : ℕ) → IsStaticField P W R f g → field_type W g ≡ retyped_if (R.row_type (row.Field f)) (field_type P f)
-    pub static_methods : (d g : ℕ) → IsStaticMethod P W R d g → (k : PlainMethod) → slice_get Q.methods d ≡ Some k
+    pub static_methods : (d g : ℕ) → IsStaticMethod P W R d g → (k : PlainMethod) → slice_get P.methods d ≡ Some k
         → signature_of_method W g ≡ Some (method_signature d k)
 
   -- what a new body sees is what the old one does, in the classes of its rows

@@ -9,7 +9,6 @@ use Rattle.java_core.specs.Trees.{Sts}
 use Rattle.java_core.specs.Programs.{Plain, PlainLocal, PlainMethod}
 use Rattle.java_core.specs.Types.{Env, types_of, env_of}
 use Rattle.java_core.specs.Typing.{IsTyped, IsTypedMethod, TypedSts, t_number, t_truth, t_null, t_cast, t_return, t_no_st, t_st_then}
-use Rattle.java_core.specs.Untagged.{bare_sts, untag_body, untag_method, untagged}
 use Rattle.fact_model.specs.Items.{row_this}
 use Rattle.fact_model.specs.InRange.{InRange}
 use Rattle.fact_model.specs.InOrder.{InOrder}
@@ -26,10 +25,7 @@ use Rattle.flow_rules.specs.Ordered.{each}
 use Rattle.flow_rules.specs.Operands.{variable_row}
 use Rattle.flow_rules.specs.Facts.{numbers, this_of_row, IsFactsOf}
 use Rattle.run_cover.specs.Slotted.{HaveSlots}
-use Rattle.run_cover.proofs.Untagging.{same_env}
 use Rattle.run_cover.proofs.HasNumbers.{this_row}
-use Rattle.run_cover.proofs.HasRows.{method_of, of_method}
-use Rattle.facts_order.proofs.Pairs.{IsPlaced}
 use Rattle.facts_order.proofs.Owners.{row_there}
 use Rattle.rebuild_model.specs.Renaming.{retyped, retyped_if}
 use Rattle.rebuild_model.specs.Matches.{MatchesSts}
@@ -40,7 +36,7 @@ use Rattle.rebuild_types.proofs.Asked.{retypes, SeesNew}
 use Rattle.run_cover.proofs.TypedParts.{TypedBody}
 use Rattle.rebuild_types.proofs.Walk.{CopiedBody}
 use Rattle.rebuild_types.proofs.Statements.{again_body}
-use Rattle.rebuild_types.proofs.Served.{each_retypes, variables_after, same_variable, row_class_is, renewed, served}
+use Rattle.rebuild_types.proofs.Served.{each_retypes, variables_after, row_class_is, renewed, served}
 
 get_retyped : (p : ℕ → Option ℕ) (ts : List Ty) (i : ℕ) → slice_get (retypes p ts) i ≡ retyped_if (p i) (slice_get ts i)
 get_retyped p [] i = refl
@@ -69,10 +65,6 @@ each_join p n (x ∷ xs) ys =
 from_nothing : (n : ℕ) → n ≡ 0 + n
 from_nothing n = omega arith
 
-pub body_some : (b : Option Sts) (code : Sts) → untag_body b ≡ Some code → (xs : Sts) × (b ≡ Some xs) × (code ≡ bare_sts xs)
-body_some None code e = absurd (cc)
-body_some (Some xs) code e = (xs, refl, sym (same_Some (bare_sts xs) code e))
-
 -- what fills in for a body is typed
 filled_typed : (W : Plain) (g : Env) (r : Option Ty) (xs : Sts) → IsFilling r xs → g.result ≡ r → TypedSts W g xs
 filled_typed W g r xs fills_nothing e = t_no_st
@@ -81,13 +73,10 @@ filled_typed W g r xs (fills {e = d} no_truth) e = t_st_then (t_return t_truth e
 filled_typed W g r xs (fills {e = d} zero_char) e = t_st_then (t_return (t_cast t_number refl) e refl) t_no_st
 filled_typed W g r xs (fills {e = d} (no_object f)) e = t_st_then (t_return t_null e f) t_no_st
 
-module _ {Q : Plain} {F : Facts} {H : Hierarchy} {W : Plain} (K : Known (untagged Q) Q F H W) (placed : IsPlaced (untagged Q) Q)
-    (typed : IsTyped (untagged Q)) (facts : IsFactsOf (untagged Q) Q F) (pt : PointsTo) (t : Table)
+module _ {P : Plain} {F : Facts} {H : Hierarchy} {W : Plain} (K : Known P F H W)
+    (typed : IsTyped P) (facts : IsFactsOf P F) (pt : PointsTo) (t : Table)
     (A : InRange F) (O : InOrder F) (S : AreSets F pt) (B : IsTable F t) (table : H.table ≡ t.rows.items) (none : first_broken F pt H ≡ None)
     (hierarchy : IsHierarchyOf F H) where
-  abbrev P : Plain
-  P = untagged Q
-
   open sides K use {places as T, renaming as R}
 
   pub have_slots : HaveSlots P
@@ -95,55 +84,43 @@ module _ {Q : Plain} {F : Facts} {H : Hierarchy} {W : Plain} (K : Known (untagge
   have_slots m k e i = (K.old.methods m k e).slotted i
 
   -- the variables of a copy
-  pub copied_locals : (m : ℕ) (k new : PlainMethod) → HasTypes R m (untag_method k) new → (code : HasCode P W R m (untag_method k) new) → (i : ℕ)
+  pub copied_locals : (m : ℕ) (k new : PlainMethod) → HasTypes R m k new → (code : HasCode P W R m k new) → (i : ℕ)
       → slice_get (types_of (new.params ++ new.locals)) i ≡ retyped_if (R.row_type (variable_row m k i)) (slice_get (env_of m k).locals i)
   copied_locals m k new types code i =
-      let old : PlainMethod = untag_method k in
-      let p : ℕ → Option ℕ = λ i. R.row_type (variable_row m old i) in
+      let p : ℕ → Option ℕ = λ i. R.row_type (variable_row m k i) in
       ap (λ z. slice_get z i)
-      (types_join new.params new.locals ∙ ap (λ z. z ++ types_of new.locals) types.params ∙ ap (λ z. new_types R m old 0 old.params ++ z) code.locals
-      ∙ ap (λ z. new_types R m old 0 old.params ++ new_types R m old z old.locals) (from_nothing (length old.params)) ∙ each_join p 0 old.params old.locals
-      ∙ variables_after p 0 (old.params ++ old.locals) ∙ each_retypes p (types_of (old.params ++ old.locals)))
-      ∙ get_retyped p (types_of (old.params ++ old.locals)) i
-      ∙ ap (λ z. retyped_if (R.row_type z) (slice_get (types_of (old.params ++ old.locals)) i)) (same_variable m k i)
-      ∙ ap (λ z. retyped_if (R.row_type (variable_row m k i)) (slice_get z i)) (ap (λ g. g.locals) (same_env m k))
+      (types_join new.params new.locals ∙ ap (λ z. z ++ types_of new.locals) types.params ∙ ap (λ z. new_types R m k 0 k.params ++ z) code.locals
+      ∙ ap (λ z. new_types R m k 0 k.params ++ new_types R m k z k.locals) (from_nothing (length k.params)) ∙ each_join p 0 k.params k.locals
+      ∙ variables_after p 0 (k.params ++ k.locals) ∙ each_retypes p (types_of (k.params ++ k.locals)))
+      ∙ get_retyped p (types_of (k.params ++ k.locals)) i
 
   -- a copy of the body of an old method is typed
-  copy_typed : (m : ℕ) (k new : PlainMethod) (g : ℕ) → slice_get Q.methods m ≡ Some k → HasTypes R m (untag_method k) new
-      → HasCode P W R m (untag_method k) new → (k.is_static ≡ false → R.row_type (row.This m) ≡ Some new.owner)
+  copy_typed : (m : ℕ) (k new : PlainMethod) (g : ℕ) → slice_get P.methods m ≡ Some k → HasTypes R m k new
+      → HasCode P W R m k new → (k.is_static ≡ false → R.row_type (row.This m) ≡ Some new.owner)
       → (ys : Sts) → new.body ≡ Some ys → TypedSts W (env_of g new) ys
   unfolding IsTypedMethod
   copy_typed m k new g stands types code self ys e =
-      let xs = body_some k.body code.code code.old_code in
-      let at = method_of Q K.old m k stands in
       let written : code.written ≡ ys = same_Some code.written ys (sym code.new_code ∙ e) in
-      let sees : SeesNew P Q W R m k (env_of g new) = record { self = self; locals = copied_locals m k new types code; result = types.result } in
-      let there : is_some k.body ≡ true = ap is_some xs.1 in
+      let sees : SeesNew P W R m k (env_of g new) = record { self = self; locals = copied_locals m k new types code; result = types.result } in
+      let there : is_some k.body ≡ true = ap is_some code.old_code in
       let body : TypedBody =
-      record { program = Q; facts = F; formed = K.old; slots = have_slots; are_facts = facts; number = m; method = k; stands = stands; bodied = there } in
-      let serves = served K placed typed facts pt t A O S B table none hierarchy m k stands new.owner self in
+      record { program = P; facts = F; formed = K.old; slots = have_slots; are_facts = facts; number = m; method = k; stands = stands; bodied = there } in
+      let serves = served K typed facts pt t A O S B table none hierarchy m k stands new.owner self in
       let copied : CopiedBody = record { body = body; written = W; renaming = R; renewed = renewed K; env = env_of g new; sees = sees; serves = serves } in
-      again_body copied xs.0 ys xs.1
-      (subst (λ g. TypedSts P g (bare_sts xs.0)) (same_env m k) (typed.methods m (untag_method k) at (bare_sts xs.0) (ap untag_body xs.1)))
-      ((K.old.methods m (untag_method k) at).code (bare_sts xs.0) (ap untag_body xs.1))
-      (subst (λ z. MatchesSts P W R (env_of m k) z ys) xs.2
-      (subst (λ z. MatchesSts P W R (env_of m k) code.code z) written (subst (λ z. MatchesSts P W R z code.code code.written) (same_env m k) code.matches)))
+      again_body copied code.code ys code.old_code (typed.methods m k stands code.code code.old_code)
+      ((K.old.methods m k stands).code code.code code.old_code) (subst (λ z. MatchesSts P W R (env_of m k) code.code z) written code.matches)
 
   -- `this` has the class where the body stands
-  pub this_class : (m : ℕ) (k : PlainMethod) (n : ℕ) → slice_get Q.methods m ≡ Some k → is_some k.body ≡ true → k.is_static ≡ false
-      → StandsAt P Q F H W T (column.Def m) n → R.row_type (row.This m) ≡ Some (T.type_of n)
+  pub this_class : (m : ℕ) (k : PlainMethod) (n : ℕ) → slice_get P.methods m ≡ Some k → is_some k.body ≡ true → k.is_static ≡ false
+      → StandsAt P F H W T (column.Def m) n → R.row_type (row.This m) ≡ Some (T.type_of n)
   this_class m k n e b s st =
-      let r = this_row P Q m k e b s in
-      let x = row_there P Q placed K.old typed F facts (row.This m) r.0 r.1 in
-      let this : row_this F r.0 ≡ Some (record { 0 = st.number }) = ap (λ i. i.this_of) x.info ∙ ap (this_of_row (numbers P Q)) x.item
+      let r = this_row P m k e b s in
+      let x = row_there P K.old typed F facts (row.This m) r.0 r.1 in
+      let this : row_this F r.0 ≡ Some (record { 0 = st.number }) = ap (λ i. i.this_of) x.info ∙ ap (this_of_row (numbers P)) x.item
       ∙ ap (option_map (λ c. record { 0 = c })) st.numbered in
       let place = hierarchy.placed.these r.0 (record { 0 = st.number }) this in
       let same : node (place_of_row H r.0) ≡ st.place = same_Some (node (place_of_row H r.0)) st.place (sym place ∙ st.placed) in
       row_class_is K (row.This m) r.0 r.1 ∙ ap (λ z. Some (T.type_of z)) (ap (λ z. z.0) same ∙ st.at)
-
-  old_of : (m : ℕ) (old : PlainMethod) → slice_get P.methods m ≡ Some old
-      → (k : PlainMethod) × (slice_get Q.methods m ≡ Some k) × (untag_method k ≡ old)
-  old_of m old e = of_method Q K.old m old e
 
   static_typed : (g : ℕ) (new : PlainMethod) → slice_get W.methods g ≡ Some new → new.is_static ≡ true → IsTypedMethod W g new
   unfolding IsTypedMethod
@@ -151,25 +128,21 @@ module _ {Q : Plain} {F : Facts} {H : Hierarchy} {W : Plain} (K : Known (untagge
       let x = K.rebuilt.statics.methods g new e s in
       let y = x.1.same in
       let same : y.new ≡ new = same_Some y.new new (sym y.new_stands ∙ e) in
-      let k = old_of x.0 y.old y.old_stands in
-      copy_typed x.0 k.0 new g k.1 (subst (λ z. HasTypes R x.0 z new) (sym k.2) (subst (λ z. HasTypes R x.0 y.old z) same x.1.types))
-      (subst (λ z. HasCode P W R x.0 z new) (sym k.2) (subst (λ z. HasCode P W R x.0 y.old z) same x.1.code))
-      (λ i. absurd (false≢true (sym i ∙ ap (λ z. z.is_static) k.2 ∙ y.old_static))) ys body
+      copy_typed x.0 y.old new g y.old_stands (subst (λ z. HasTypes R x.0 y.old z) same x.1.types) (subst (λ z. HasCode P W R x.0 y.old z) same x.1.code)
+      (λ i. absurd (false≢true (sym i ∙ y.old_static))) ys body
 
-  body_typed : (g m : ℕ) (new : PlainMethod) → IsBody P Q F H W T m new → IsTypedMethod W g new
+  body_typed : (g m : ℕ) (new : PlainMethod) → IsBody P F H W T m new → IsTypedMethod W g new
   unfolding IsTypedMethod
   body_typed g m new b ys body =
-      let k = old_of m b.old b.old_stands in
-      let code = subst (λ z. HasCode P W R m z new) (sym k.2) b.code in
-      copy_typed m k.0 new g k.1 (subst (λ z. HasTypes R m z new) (sym k.2) b.types) code
-      (λ i. this_class m k.0 b.at.node k.1 (ap is_some (body_some k.0.body code.code code.old_code).1) i b.at.stands ∙ ap Some (sym b.at.owner_is)) ys body
+      copy_typed m b.old new g b.old_stands b.types b.code
+      (λ i. this_class m b.old b.at.node b.old_stands (ap is_some b.code.old_code) i b.at.stands ∙ ap Some (sym b.at.owner_is)) ys body
 
-  head_typed : (g n m : ℕ) (new : PlainMethod) → IsHead P Q F H W T n m new → IsTypedMethod W g new
+  head_typed : (g n m : ℕ) (new : PlainMethod) → IsHead P F H W T n m new → IsTypedMethod W g new
   unfolding IsTypedMethod
   head_typed g n m new b ys body = absurd (let z = sym b.bodyless ∙ body in cc)
 
-  module _ (written : IsWritten P Q F H W K.rebuilt.places) where
-    filler_typed : (g n m : ℕ) (new : PlainMethod) → slice_get W.methods g ≡ Some new → IsFiller P Q F H W T n m new → IsTypedMethod W g new
+  module _ (written : IsWritten P F H W K.rebuilt.places) where
+    filler_typed : (g n m : ℕ) (new : PlainMethod) → slice_get W.methods g ≡ Some new → IsFiller P F H W T n m new → IsTypedMethod W g new
     unfolding IsTypedMethod
     filler_typed g n m new e b ys body =
         let x = written.fillers g n m new e b in

@@ -26,24 +26,24 @@ use Rattle.rebuild_given.proofs.Rest.{half}
 use Rattle.rebuild_given.proofs.Needed as needed
 use Rattle.rebuild_types.specs.Rows.{OffersField, OffersMethod, OffersBody, OffersMark, OffersRows}
 
-module _ {P Q : Plain} {F : Facts} {H : Hierarchy} {W : Plain} (K : Known P Q F H W) (pt : PointsTo) (t : Table) (A : InRange F) (O : InOrder F)
+module _ {P : Plain} {F : Facts} {H : Hierarchy} {W : Plain} (K : Known P F H W) (pt : PointsTo) (t : Table) (A : InRange F) (O : InOrder F)
     (S : AreSets F pt) (B : IsTable F t) (table : H.table ≡ t.rows.items) (none : first_broken F pt H ≡ None) where
   open K.rebuilt use {places as T}
 
   abbrev Has : ℕ → ColumnItem → Type 0
-  Has r i = (c : ℕ) × ((numbers P Q).column i ≡ Some c) × (bit (row H.table r) c ≡ true)
+  Has r i = (c : ℕ) × ((numbers P).column i ≡ Some c) × (bit (row H.table r) c ≡ true)
 
   offered : (r : ℕ) (i : ColumnItem) → Has r i → Offers K (place_of_row H r) i
   offered r i h = needed.offers_item K (place_of_row H r) h.0 i h.1
       ((half F pt t A O S B H table none).offered r h.0 (sym (ap (λ z. bit (row z r) h.0) table) ∙ h.2))
 
-  field_offered : (r f : ℕ) → Has r (column.Fld f) → OffersField P Q F H W T r f
+  field_offered : (r f : ℕ) → Has r (column.Fld f) → OffersField P F H W T r f
   field_offered r f h =
       let o = offered r (column.Fld f) h in
       let x = new_field K f o.node o.stands in
       record { number = x.0; field = x.1.field; found = finds_field K f (place_of_row H r) o; stands = x.1.stands; is = x.1.is }
 
-  method_offered : (r m : ℕ) → Has r (column.Dcl m) → OffersMethod P Q F H W T r m
+  method_offered : (r m : ℕ) → Has r (column.Dcl m) → OffersMethod P F H W T r m
   method_offered r m h =
       let n = place_of_row H r in
       let o = offered r (column.Dcl m) h in
@@ -58,7 +58,7 @@ module _ {P Q : Plain} {F : Facts} {H : Hierarchy} {W : Plain} (K : Known P Q F 
         types = x.1.types;
       }
 
-  body_offered : (r m : ℕ) → Has r (column.Def m) → OffersBody P Q F H W T r m
+  body_offered : (r m : ℕ) → Has r (column.Def m) → OffersBody P F H W T r m
   body_offered r m h =
       let o = offered r (column.Def m) h in
       let x = new_body K m o.node o.stands in
@@ -71,10 +71,10 @@ module _ {P Q : Plain} {F : Facts} {H : Hierarchy} {W : Plain} (K : Known P Q F 
             subst (λ z. IsSubclass W (T.type_of (place_of_row H r)) z) (sym x.1.owner) (subclass_of K (place_of_row H r) o.node o.above);
       }
 
-  mark_offered : (r : ℕ) (k : ClassId) → Has r (column.Is k) → OffersMark P Q F H W T r k
+  mark_offered : (r : ℕ) (k : ClassId) → Has r (column.Is k) → OffersMark P F H W T r k
   mark_offered r k h =
       let o = offered r (column.Is k) h in
       record { node = o.node; stands = o.stands; above = subclass_of K (place_of_row H r) o.node o.above }
 
-  pub rows_offered : OffersRows P Q F H W T
+  pub rows_offered : OffersRows P F H W T
   rows_offered = record { fields = field_offered; declarations = method_offered; bodies = body_offered; marks = mark_offered }

@@ -10,7 +10,6 @@ use Rattle.java_core.specs.Programs.{Plain}
 use Rattle.java_core.specs.Types.{Static, or_nothing, element_of, is_numeric, is_boolean, is_printable, field_type, value_type, fits, fits_in, static, target_type}
 use Rattle.java_core.specs.Typing.{Typed, TypedTarget, TypedTest, TypedSt, TypedSts, TypedArms, t_this, t_to_local, t_to_static, t_to_field, t_to_element, t_always, t_test, t_declare, t_declare_as, t_block, t_assign, t_act, t_print_line, t_print, t_choose, t_loop, t_return_nothing, t_return, t_break, t_continue, t_no_st, t_st_then, t_no_other, t_otherwise, t_arm}
 use Rattle.java_core.specs.Formed.{FormedTarget, FormedOption, FormedSt, FormedSts, FormedArms, numbers_below, f_to_own, f_to_field, f_to_element, f_some, f_declare, f_block, f_assign, f_act, f_print, f_choose, f_loop, f_return, f_st_then, f_otherwise, f_arm}
-use Rattle.java_core.specs.Untagged.{bare_if, bare_target, bare_st, bare_sts, bare_arms, untag_method, untagged}
 use Rattle.java_meaning.specs.Paired.{pair_none, pair_some, pair_declare, pair_block, pair_assign, pair_act, pair_print, pair_choose, pair_loop, pair_return, pair_break, pair_continue, pair_no_st, pair_st_then, pair_no_other, pair_otherwise, pair_arm}
 use Rattle.flow_rules.specs.declared.items.RowItem.{RowItem}
 use Rattle.flow_rules.specs.declared.items.RowItem.TheVariants as row
@@ -19,10 +18,11 @@ use Rattle.flow_rules.specs.Labels.{label_sts}
 use Rattle.flow_rules.specs.Parts.{a_store, an_element_store, a_set, a_return, is_accessed, parts_assign, parts_st, parts_arms, parts_body, parts_of}
 use Rattle.std.proofs.lemmas.Option.{slice_get-map}
 use Rattle.flow_rules.proofs.TypeLemmas.{object_or}
-use Rattle.run_cover.proofs.Untagging.{unlabel_sts}
 use Rattle.run_cover.proofs.HasRows.{field_row_of, result_row_of, variable_row_of}
 use Rattle.run_cover.proofs.Types.{of_element}
 use Rattle.rebuild_model.specs.Renaming.{retyped, retyped_if}
+use Rattle.run_cover.proofs.Labelled.{sts_same, typed_sts_same, formed_sts_same}
+use Rattle.rebuild_model.proofs.Retagging.{matches_sts}
 use Rattle.rebuild_model.specs.Matches.{MatchesIf, MatchesTarget, MatchesSt, MatchesSts, MatchesArms, m_to_local, m_to_static, m_to_own, m_to_field, m_to_element}
 use Rattle.rebuild_types.proofs.Retyped.{retyped_static, HasClass, IsUnder, retyped_or, numeric_kept, boolean_kept, printable_kept, element_kept, some_kept, fits_kept, fits_in_kept}
 use Rattle.rebuild_types.proofs.Asked.{Serves}
@@ -46,12 +46,8 @@ four a b c d h =
 
 module _ (A : CopiedBody) where
   open A use {body as B, written as W, renaming as R, renewed as N, env as h, sees}
-  open B use {program as Q, formed, number as m, method as k, stands}
+  open B use {program as P, formed, number as m, method as k, stands}
   open copying B W R use {class_at as C, IsCopy}
-
-  abbrev P : Plain
-  P = untagged Q
-
   open walked P m k use {env as g, type, row_at, operand as O, tree, Stands, IsTyped, IsFormed as IsFormedEx, static as old}
   open walked P m k use {tree_if as if_there, tree_sts as sts}
 
@@ -60,32 +56,32 @@ module _ (A : CopiedBody) where
 
   -- rows of fields, variables and the result
   field_classed : (f : ℕ) → HasClass (object_static (or_nothing (field_type P f))) (R.row_type (row.Field f))
-  field_classed f t o = let r = field_row_of Q formed f t (sym (object_or (field_type P f)) ∙ o) in N.numbered (row.Field f) r.0 r.1
+  field_classed f t o = let r = field_row_of P formed f t (sym (object_or (field_type P f)) ∙ o) in N.numbered (row.Field f) r.0 r.1
 
   variable_classed : (i : ℕ) → HasClass (object_static (or_nothing (slice_get g.locals i))) (R.row_type (variable_row m k i))
   variable_classed i t o =
       let e = sym (ap object_if (slice_get-map (λ l. l.ty) (k.params ++ k.locals) i)) ∙ sym (object_or (slice_get g.locals i)) ∙ o in
-      let r = variable_row_of Q formed m k i t stands e in
+      let r = variable_row_of P formed m k i t stands e in
       N.numbered (variable_row m k i) r.0 r.1
 
   result_classed : (u : Ty) → k.result ≡ Some u → HasClass (object_of u) (R.row_type (result_in k.slot m))
-  result_classed u e t o = let r = result_row_of Q formed m k t stands (ap object_if e ∙ o) in N.numbered (result_in k.slot m) r.0 r.1
+  result_classed u e t o = let r = result_row_of P formed m k t stands (ap object_if e ∙ o) in N.numbered (result_in k.slot m) r.0 r.1
 
   -- what an assignment puts a value into
   record AgainTarget (b c : Target) (i : Option RowItem) : Type 0 where
     typed : TypedTarget W h c
-    type : target_type W h c ≡ retyped_static (C i) (target_type P g (bare_target b))
-    classed : HasClass (object_static (target_type P g (bare_target b))) (C i)
+    type : target_type W h c ≡ retyped_static (C i) (target_type P g b)
+    classed : HasClass (object_static (target_type P g b)) (C i)
 
   put : (sc : List ℕ) (u : Bool) (b c : Target) (i : Option RowItem) (e d : Ex) → AgainTarget b c i → IsTyped e → IsFormedEx sc e → Stands (tree u e)
       → IsCopy e d → IsUnder W (C (row_at e)) (C i)
-      → fits_in P (old e) (target_type P g (bare_target b)) ≡ true → (Typed W h d) × (fits_in W (static W h d) (target_type W h c) ≡ true)
+      → fits_in P (old e) (target_type P g b) ≡ true → (Typed W h d) × (fits_in W (static W h d) (target_type W h c) ≡ true)
   put sc u b c i e d t te fe st me under fit =
       let a = again A u sc e d te fe st me in (
         a.typed,
         subst (λ z. fits_in W z (target_type W h c) ≡ true) (sym a.type)
             (subst (λ z. fits_in W (retyped_static (C (row_at e)) (old e)) z ≡ true) (sym t.type)
-            (fits_in_kept P W (old e) (target_type P g (bare_target b)) (C (row_at e)) (C i) (classed u sc e te fe st) t.classed under fit)),
+            (fits_in_kept P W (old e) (target_type P g b) (C (row_at e)) (C i) (classed u sc e te fe st) t.classed under fit)),
       )
 
   local_target : (t s : Tag) (i : ℕ) → AgainTarget (to_local t i) (to_local s i) (Some (variable_row m k i))
@@ -96,10 +92,9 @@ module _ (A : CopiedBody) where
     classed = variable_classed i;
   }
 
-  assigned : (sc : List ℕ) (p : Place) (b c : Target) (e d : Ex) (s : Tag) → TypedTarget P g (bare_target b) → IsTyped e
-      → fits_in P (old e) (target_type P g (bare_target b)) ≡ true → FormedTarget P (untag_method k) sc (bare_target b)
-      → IsFormedEx sc e → Stands (parts_assign P (type_in P m k) m k p b e) → MatchesTarget P W R g (bare_target b) c
-      → IsCopy e d → TypedSt W h (assign s c d)
+  assigned : (sc : List ℕ) (p : Place) (b c : Target) (e d : Ex) (s : Tag) → TypedTarget P g b → IsTyped e
+      → fits_in P (old e) (target_type P g b) ≡ true → FormedTarget P k sc b
+      → IsFormedEx sc e → Stands (parts_assign P (type_in P m k) m k p b e) → MatchesTarget P W R g b c → IsCopy e d → TypedSt W h (assign s c d)
   assigned sc p (to_local t i) c e d s tb te fit fb fe st (m_to_local {u = v}) me =
       let x = local_target t v i in
       let y = put sc false (to_local t i) (to_local v i) (Some (variable_row m k i)) e d x te fe (left (tree false e) _ st) me
@@ -130,7 +125,7 @@ module _ (A : CopiedBody) where
       let cls = field_class P (old b) x f l in
       let base = walk.based A (is_accessed b) sc b b2 cls.0 tb fb inner a cls.1 in
       let seen = walk.field_seen A b x f l in
-      let has = subst (λ z. Serves P Q W R m k h.self (a_store p (O b) z (O e))) seen
+      let has = subst (λ z. Serves P W R m k h.self (a_store p (O b) z (O e))) seen
       (walk.asked A (a_store p (O b) (object_field P (type b) x) (O e)) [] (right (tree (is_accessed b) b ++ tree true e) _ st)) in
       let is : or_nothing (value_type P (old b) x) ≡ or_nothing (field_type P f) = ap (λ z. or_nothing (option_and_then (field_type P) z)) l in
       let some_type = fits_some P (old e) (field_type P f) (ap (fits_in P (old e)) (sym is) ∙ fit) in
@@ -162,15 +157,14 @@ module _ (A : CopiedBody) where
       t_assign x.typed y.0 y.1
   assigned sc p no_target c e d s tb te fit fb fe st mt me = elim tb [ ]
 
-  tested : (sc : List ℕ) (e d : Option Ex) → TypedTest P g (bare_if e) → FormedOption P (untag_method k) sc (bare_if e) → Stands (if_there e)
-      → MatchesIf P W R g (bare_if e) d → TypedTest W h d
+  tested : (sc : List ℕ) (e d : Option Ex) → TypedTest P g e → FormedOption P k sc e → Stands (if_there e) → MatchesIf P W R g e d → TypedTest W h d
   tested sc None d ty fo st pair_none = t_always
   tested sc (Some e) d (t_test te b) (f_some fe) st (pair_some {d = c} me) =
       let a = again A false sc e c te fe st me in t_test a.typed (ap is_boolean a.type ∙ boolean_kept (C (row_at e)) (old e) ∙ b)
 
   mutual
-    again_st : (l : Bool) (sc : List ℕ) (x y : St) → TypedSt P g (bare_st x) → FormedSt P (untag_method k) l sc (bare_st x)
-        → Stands (parts_st P (type_in P m k) m k x) → MatchesSt P W R g (bare_st x) y → TypedSt W h y
+    again_st : (l : Bool) (sc : List ℕ) (x y : St) → TypedSt P g x → FormedSt P k l sc x
+        → Stands (parts_st P (type_in P m k) m k x) → MatchesSt P W R g x y → TypedSt W h y
     again_st l sc (declare t i None) y ty fo st (pair_declare pair_none) = t_declare
     again_st l sc (declare t i (Some e)) y (t_declare_as te fit) (f_declare new (f_some fe)) st (pair_declare {u = u} (pair_some {d = d} me)) =
         let x = local_target t u i in
@@ -203,15 +197,15 @@ module _ (A : CopiedBody) where
     again_st l sc (break t) y ty fo st pair_break = t_break
     again_st l sc (continue t) y ty fo st pair_continue = t_continue
 
-    again_sts : (l : Bool) (sc : List ℕ) (xs ys : Sts) → TypedSts P g (bare_sts xs) → FormedSts P (untag_method k) l sc (bare_sts xs)
-        → Stands (sts xs) → MatchesSts P W R g (bare_sts xs) ys → TypedSts W h ys
+    again_sts : (l : Bool) (sc : List ℕ) (xs ys : Sts) → TypedSts P g xs → FormedSts P k l sc xs
+        → Stands (sts xs) → MatchesSts P W R g xs ys → TypedSts W h ys
     again_sts l sc no_st ys ty fo st pair_no_st = t_no_st
     again_sts l sc (st_then x xs) ys (t_st_then tx txs) (f_st_then fx fxs) st (pair_st_then {y = y} {ys = zs} mx mxs) =
         t_st_then (again_st l sc x y tx fx (left (parts_st P (type_in P m k) m k x) (sts xs) st) mx)
         (again_sts l _ xs zs txs fxs (right (parts_st P (type_in P m k) m k x) (sts xs) st) mxs)
 
-    again_arms : (l : Bool) (sc : List ℕ) (xs ys : Arms) → TypedArms P g (bare_arms xs) → FormedArms P (untag_method k) l sc (bare_arms xs)
-        → Stands (parts_arms P (type_in P m k) m k xs) → MatchesArms P W R g (bare_arms xs) ys → TypedArms W h ys
+    again_arms : (l : Bool) (sc : List ℕ) (xs ys : Arms) → TypedArms P g xs → FormedArms P k l sc xs
+        → Stands (parts_arms P (type_in P m k) m k xs) → MatchesArms P W R g xs ys → TypedArms W h ys
     again_arms l sc no_other ys ty fo st pair_no_other = t_no_other
     again_arms l sc (otherwise xs) ys (t_otherwise ty) (f_otherwise fo) st (pair_otherwise {ys = zs} mx) = t_otherwise (again_sts l sc xs zs ty fo st mx)
     again_arms l sc (arm e xs more) ys (t_arm te b txs tm) (f_arm fe fxs fm) st (pair_arm {d = d} {ys = zs} {b = rest} me mx mm) =
@@ -222,11 +216,10 @@ module _ (A : CopiedBody) where
         (again_arms l sc more rest tm fm (right (tree false e ++ sts xs) (parts_arms P (type_in P m k) m k more) st) mm)
 
   -- the copy of a typed body is typed
-  pub again_body : (xs ys : Sts) → k.body ≡ Some xs → TypedSts P g (bare_sts xs)
-      → FormedSts P (untag_method k) false (numbers_below (length (untag_method k).params)) (bare_sts xs) → MatchesSts P W R g (bare_sts xs) ys
-      → TypedSts W h ys
+  pub again_body : (xs ys : Sts) → k.body ≡ Some xs → TypedSts P g xs
+      → FormedSts P k false (numbers_below (length k.params)) xs → MatchesSts P W R g xs ys → TypedSts W h ys
   unfolding parts_of
   again_body xs ys e ty fo ms =
-      again_sts false (numbers_below (length (untag_method k).params)) (label_sts 0 xs) ys (subst (λ z. TypedSts P g z) (sym (unlabel_sts 0 xs)) ty)
-      (subst (λ z. FormedSts P (untag_method k) false (numbers_below (length (untag_method k).params)) z) (sym (unlabel_sts 0 xs)) fo)
-      (λ q d. subst (λ z. Contains (parts_body P (type_in P m k) m k z) q) (sym e) d) (subst (λ z. MatchesSts P W R g z ys) (sym (unlabel_sts 0 xs)) ms)
+      again_sts false (numbers_below (length k.params)) (label_sts 0 xs) ys (typed_sts_same P g (sts_same 0 xs) ty)
+      (formed_sts_same P k (sts_same 0 xs) fo)
+      (λ q d. subst (λ z. Contains (parts_body P (type_in P m k) m k z) q) (sym e) d) (matches_sts P W R g (sts_same 0 xs) ms)

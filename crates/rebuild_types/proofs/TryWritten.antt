@@ -18,7 +18,7 @@ module _ (others : Facts) where
   all_public (suc (suc zero)) k e = sym (ap (λ (m : PlainMethod). m.is_public) (same_Some _ k e))
   all_public (suc (suc (suc g))) k e = absurd (cc e)
 
-  pub worked : IsWritten old old (facts others) hierarchy new places
+  pub worked : IsWritten old (facts others) hierarchy new places
   worked = record { public = λ g k e i c. all_public g k e; fillers = λ g n m k e f. absurd (no_filler others n f.of.was.slot f.live f.filled) }
 
 pub no_empty : IsFilling (Some (plain_type Int)) no_st → ⊥

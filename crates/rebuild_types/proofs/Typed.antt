@@ -20,14 +20,12 @@ use Rattle.fact_model.proofs.ClassLemmas.{slot_says}
 use Rattle.hier_model.specs.Hierarchies.{Hierarchy, IsHierarchyOf}
 use Rattle.hier_rules.specs.First.{first_broken}
 use Rattle.flow_rules.specs.Facts.{IsFactsOf}
-use Rattle.java_core.specs.Untagged.{untagged}
-use Rattle.facts_order.proofs.Pairs.{IsPlaced}
 use Rattle.rebuild_model.specs.Written.{IsWritten}
 use Rattle.rebuild_looks.specs.Known.{Known}
 use Rattle.rebuild_looks.proofs.Concrete.{concrete_bodies}
 use Rattle.rebuild_types.proofs.Bodies.{methods_typed}
 
-module _ {Q : Plain} {F : Facts} {H : Hierarchy} {W : Plain} (K : Known (untagged Q) Q F H W) (written : IsWritten (untagged Q) Q F H W K.rebuilt.places) where
+module _ {P : Plain} {F : Facts} {H : Hierarchy} {W : Plain} (K : Known P F H W) (written : IsWritten P F H W K.rebuilt.places) where
   open_method : (d : ℕ) (k : PlainMethod) (s : ℕ) → slice_get W.methods d ≡ Some k → k.slot ≡ Some s → is_interface W k.owner ≡ false
       → is_public_method W (Some d) ≡ true
   open_method d k s e h c = rw e (written.public d k e (((K.new.methods d k e).slots s).0 h).instance c)
@@ -75,9 +73,9 @@ module _ {Q : Plain} {F : Facts} {H : Hierarchy} {W : Plain} (K : Known (untagge
           let p = and_parts (k.0.owner == n.0) (is_slot k.0.slot s) k.2 in
           open_method d k.0 s k.1 (slot_says k.0.slot s p.1) (ap (is_interface W) (eqb-true k.0.owner n.0 p.0) ∙ n.2)
 
-  pub written_typed : IsPlaced (untagged Q) Q → IsTyped (untagged Q) → IsFactsOf (untagged Q) Q F → (pt : PointsTo) (t : Table) → InRange F
+  pub written_typed : IsTyped P → IsFactsOf P F → (pt : PointsTo) (t : Table) → InRange F
       → InOrder F → AreSets F pt → IsTable F t → H.table ≡ t.rows.items → first_broken F pt H ≡ None → IsHierarchyOf F H → IsTyped W
-  written_typed placed typed facts pt t A O S B table none hierarchy = record {
+  written_typed typed facts pt t A O S B table none hierarchy = record {
     classes = λ c k e. record { bodies = λ concrete. concrete_bodies K c concrete; public_methods = λ i. public_methods c i };
-    methods = methods_typed K placed typed facts pt t A O S B table none hierarchy written;
+    methods = methods_typed K typed facts pt t A O S B table none hierarchy written;
   }

@@ -12,8 +12,6 @@ use Rattle.java_core.specs.Classes.{slot_of, slot_of_method, super_method, decla
 use Rattle.java_core.specs.Types.{Static, a_value, or_nothing, Env, env_of, types_of, class_type, class_of, element_of, is_numeric, is_string, field_type, value_type, field_in, access_type, fits, string_method, string_params, signature_of_string, call_signature, result_of, unary_type, binary_type, static}
 use Rattle.java_core.specs.Typing.{Typed, TypedArgs, t_number, t_character, t_text, t_truth, t_null, t_this, t_local, t_static_field, t_field, t_index, t_call, t_static_call, t_super_call, t_create, t_create_array, t_cast, t_instance_of, t_unary, t_binary, t_no_ex, t_ex_then, are_related, takes_one, takes_two, can_cast}
 use Rattle.java_core.specs.Formed.{FormedExs, f_this, f_own_field, f_field, f_index, f_call, f_static_call, f_super_call, f_create_array, f_cast, f_instance_of, f_unary, f_binary, f_ex_then}
-use Rattle.java_core.specs.Untagged.{bare, bare_all, untag_method, untagged}
-use Rattle.java_meaning.proofs.WatchedPrograms.{bare_static}
 use Rattle.flow_rules.specs.declared.items.ObjectType.{ObjectType}
 use Rattle.flow_rules.specs.declared.items.Operand.{Operand}
 use Rattle.flow_rules.specs.declared.items.RowItem.{RowItem}
@@ -24,8 +22,7 @@ use Rattle.flow_rules.specs.Parts.{Part, a_load, a_creation, a_call, a_static_ca
 use Rattle.flow_rules.specs.Lists.{is_comparison}
 use Rattle.run_cover.specs.Slotted.{HaveSlots}
 use Rattle.flow_rules.proofs.TypeLemmas.{class_is}
-use Rattle.run_cover.proofs.Untagging.{untyped_params}
-use Rattle.run_cover.proofs.HasRows.{method_of, of_method, in_slot, variable_row_of, of_lt}
+use Rattle.run_cover.proofs.HasRows.{in_slot, variable_row_of, of_lt}
 use Rattle.run_cover.proofs.Types.{class_apart, slot_called}
 use Rattle.run_cover.proofs.TypedParts as typed_parts
 use Rattle.run_cover.proofs.TypedParts.{TypedBody}
@@ -42,11 +39,11 @@ pub record CopiedBody : Type 0 where
   pub body : TypedBody
   pub written : Plain
   pub renaming : Renaming
-  pub renewed : AreRenewed (untagged body.program) body.program written renaming
+  pub renewed : AreRenewed body.program written renaming
   pub env : Env
-  pub sees : SeesNew (untagged body.program) body.program written renaming body.number body.method env
-  pub serves : (p : Part) → Contains (parts_of (untagged body.program) body.number body.method) p
-      → Serves (untagged body.program) body.program written renaming body.number body.method env.self p
+  pub sees : SeesNew body.program written renaming body.number body.method env
+  pub serves : (p : Part) → Contains (parts_of body.program body.number body.method) p
+      → Serves body.program written renaming body.number body.method env.self p
 
 -- the class of a row in the new program, and the copies of an expression
 pub record Copying : Type 1 where
@@ -55,22 +52,18 @@ pub record Copying : Type 1 where
 
 abbrev pub copying : TypedBody → Plain → Renaming → Copying
 copying B W R = record {
-  class_at = new_class (untagged B.program) B.program W R;
-  IsCopy = λ e d. Matches (untagged B.program) W R (env_of B.number B.method) (bare e) d;
+  class_at = new_class B.program W R;
+  IsCopy = λ e d. Matches B.program W R (env_of B.number B.method) e d;
 }
 
 module _ (A : CopiedBody) where
   open A use {body as B, written as W, renaming as R, renewed as N, env as h, sees, serves}
-  open B use {program as Q, formed, slots, number as m, method as k}
+  open B use {program as P, formed, slots, number as m, method as k}
   open copying B W R use {class_at as C, IsCopy}
-
-  abbrev pub P : Plain
-  P = untagged Q
-
   open walked P m k use {env as g, type, row_at, operand as O, tree, Stands, IsTyped, IsFormed as IsFormedEx, static as old, operands, tree_all}
 
   -- an expression of a type of a row has the class of its row
-  class_there : (i : Option RowItem) (r : ℕ) → number_if (row_number P Q) i ≡ Some r → (c : ℕ) × (C i ≡ Some c)
+  class_there : (i : Option RowItem) (r : ℕ) → number_if (row_number P) i ≡ Some r → (c : ℕ) × (C i ≡ Some c)
   class_there None r e = absurd (cc)
   class_there (Some i) r e = N.numbered i r e
 
@@ -79,7 +72,7 @@ module _ (A : CopiedBody) where
       let r = typed_parts.row_listed B u sc e ty fo st t (typed_parts.of_typed B e t h) in
       class_there (row_at e) r.0 r.1
 
-  pub asked : (p : Part) (qs : List Part) → Stands (p ∷ qs) → Serves P Q W R m k h.self p
+  pub asked : (p : Part) (qs : List Part) → Stands (p ∷ qs) → Serves P W R m k h.self p
   asked p qs st = serves p (here p qs st)
 
   -- the copy is typed, and gives the same in the class of the row
@@ -106,7 +99,7 @@ module _ (A : CopiedBody) where
     pub type : or_nothing (access_type W (static W h d) (R.field_name f)) ≡ retyped_static (R.row_type (row.Field f)) (or_nothing (field_type P f))
     pub value : or_nothing (value_type W (static W h d) (R.field_name f)) ≡ retyped_static (R.row_type (row.Field f)) (or_nothing (field_type P f))
 
-  pub read : (d : Ex) (c f : ℕ) → class_of (static W h d) ≡ Some c → FindsField P Q W R c f → is_some (field_type P f) ≡ true → IsRead d f
+  pub read : (d : Ex) (c f : ℕ) → class_of (static W h d) ≡ Some c → FindsField P W R c f → is_some (field_type P f) ≡ true → IsRead d f
   read d c f e x some =
       let found = field_at W (static W h d) c (R.field_name f) x.number e x.found in
       let is = access_found W (static W h d) (R.field_name f) x.number found ∙ x.type in
@@ -119,7 +112,7 @@ module _ (A : CopiedBody) where
       }
 
   pub field_seen : (e : Ex) (x : List ℕ) (f : ℕ) → field_in P (old e) x ≡ Some f → object_field P (type e) x ≡ Some f
-  field_seen e x f l = typed_parts.field_found B e x ∙ ap (λ z. field_in P z x) (sym (bare_static P g e)) ∙ l
+  field_seen e x f l = typed_parts.field_found B e x ∙ l
 
   slot_seen : (e : Ex) (x : List ℕ) (j : ℕ) → option_and_then (λ c. slot_of P c x) (class_of (old e)) ≡ Some j → call_slot P (type e) x ≡ Some j
   slot_seen e x j l = typed_parts.slot_found B e x ∙ l
@@ -128,17 +121,17 @@ module _ (A : CopiedBody) where
       → call_declaration P (type e) x ≡ Some d
   unfolding type_in
   declaration_seen e x c d l f =
-      ap (λ z. option_and_then (λ c. declaration_of P c x) z) (class_is (static P g e) ∙ ap class_of (sym (bare_static P g e)) ∙ l) ∙ f
+      ap (λ z. option_and_then (λ c. declaration_of P c x) z) (class_is (static P g e) ∙ l) ∙ f
 
   pub field_some : (f : ℕ) (w : PlainField) → slice_get P.fields f ≡ Some w → is_some (field_type P f) ≡ true
   field_some f w e = ap (λ z. is_some (option_map (λ (k : PlainField). k.ty) z)) e
 
   -- the rows of parameters
-  param_classed : (d : ℕ) (f : PlainMethod) → slice_get Q.methods d ≡ Some f → (i : ℕ) (u : Ty) → slice_get (types_of f.params) i ≡ Some u
+  param_classed : (d : ℕ) (f : PlainMethod) → slice_get P.methods d ≡ Some f → (i : ℕ) (u : Ty) → slice_get (types_of f.params) i ≡ Some u
       → HasClass (object_of u) (R.row_type (variable_row d f i))
   param_classed d f e i u a t o =
       let w = typed_parts.param_typed B f i u t a o in
-      let r = variable_row_of Q formed d f i w.0 e w.1 in
+      let r = variable_row_of P formed d f i w.0 e w.1 in
       N.numbered (variable_row d f i) r.0 r.1
 
   retyped_result : (i : Option RowItem) (k : Option ℕ) (t : Option Ty) → C i ≡ k → or_nothing (retyped_if k t) ≡ retyped_static (C i) (or_nothing t)
@@ -158,25 +151,23 @@ module _ (A : CopiedBody) where
       → HasClass (object_of u) (R.row_type (row.Param s i))
   slot_classed s slot e i u a t o =
       let f = formed.slots s slot e in
-      let q = of_method Q formed slot.first f.method f.stands in
-      let of : q.0.slot ≡ Some s = ap (λ z. z.slot) q.2 ∙ f.of in
-      let j = in_slot Q formed slot.first q.0 q.1 s of in
+      let j = in_slot P formed slot.first f.method f.stands s f.of in
       let same : j.slot ≡ slot = same_Some j.slot slot (sym j.stands ∙ e) in
-      let at = ap (λ z. slice_get z i) (sym (untyped_params q.0.params) ∙ j.params ∙ ap (λ z. z.params) same) ∙ a in
-      let within = of_lt i (length q.0.params) (typed_parts.param_typed B q.0 i u t at o).2 in
-      let r = param_classed slot.first q.0 q.1 i u at t o in (
+      let at = ap (λ z. slice_get z i) (j.params ∙ ap (λ z. z.params) same) ∙ a in
+      let within = of_lt i (length f.method.params) (typed_parts.param_typed B f.method i u t at o).2 in
+      let r = param_classed slot.first f.method f.stands i u at t o in (
         r.0,
         ap (λ z. R.row_type (variable_in (Some s) z slot.first i)) (sym within)
-            ∙ ap (λ z. R.row_type (variable_in z (nat_lt i (length q.0.params)) slot.first i)) (sym of) ∙ r.1,
+            ∙ ap (λ z. R.row_type (variable_in z (nat_lt i (length f.method.params)) slot.first i)) (sym f.of) ∙ r.1,
       )
 
-  super_row : (f : ℕ) (x : List ℕ) (q : PlainMethod) → slice_get Q.methods f ≡ Some q → super_method P k.owner x ≡ Some f
+  super_row : (f : ℕ) (x : List ℕ) (q : PlainMethod) → slice_get P.methods f ≡ Some q → super_method P k.owner x ≡ Some f
       → C (option_map row.Return (super_slot P k.owner x)) ≡ R.row_type (result_in q.slot f)
   unfolding HaveSlots
   super_row f x q e found =
-      let s = slots f (untag_method q) (method_of Q formed f q e) (typed_parts.super_instance B k.owner x f found q e) in
+      let s = slots f q e (typed_parts.super_instance B k.owner x f found q e) in
       ap (λ z. C (option_map row.Return (option_and_then (slot_of_method P) z))) found
-      ∙ ap (λ z. C (option_map row.Return (option_and_then (λ (k : PlainMethod). k.slot) z))) (method_of Q formed f q e)
+      ∙ ap (λ z. C (option_map row.Return (option_and_then (λ (k : PlainMethod). k.slot) z))) e
       ∙ ap (λ z. C (option_map row.Return z)) s.1 ∙ sym (ap (λ z. R.row_type (result_in z f)) s.1)
 
   create_typed : (t : Tag) (n c : ℕ) (es : Exs) → type (create t n c es) ≡ Some (record { class = record { 0 = c }; dim = 0 })
@@ -229,7 +220,7 @@ module _ (A : CopiedBody) where
         let c = field_class P (old e) x f l in
         let base = based (is_accessed e) sc e b c.0 te fe inner a c.1 in
         let seen = field_seen e x f l in
-        let has = subst (λ z. Serves P Q W R m k h.self (a_load t.place (O e) z (O (field t e x)))) seen
+        let has = subst (λ z. Serves P W R m k h.self (a_load t.place (O e) z (O (field t e x)))) seen
         (asked (a_load t.place (O e) (object_field P (type e) x) (O (field t e x))) [] (right (tree (is_accessed e) e) _ st)) in
         let is = access_found P (old e) x f l in
         let there = ap is_some (sym is) ∙ some in
@@ -264,18 +255,18 @@ module _ (A : CopiedBody) where
         let base = based true sc e b c te fe inner a cls in
         let s = slot_called P (old e) x sig called (class_apart (old e) c cls).1 in
         let slot = slot_seen e x s.number s.found in
-        let has = subst (λ z. Serves P Q W R m k h.self (a_call t.place (O e) z (Some f) (operands es) (O (call t e x es)))) slot
-        (subst (λ z. Serves P Q W R m k h.self (a_call t.place (O e) (call_slot P (type e) x) z (operands es) (O (call t e x es))))
+        let has = subst (λ z. Serves P W R m k h.self (a_call t.place (O e) z (Some f) (operands es) (O (call t e x es)))) slot
+        (subst (λ z. Serves P W R m k h.self (a_call t.place (O e) (call_slot P (type e) x) z (operands es) (O (call t e x es))))
         (declaration_seen e x c f cls dcl)
         (asked (a_call t.place (O e) (call_slot P (type e) x) (call_declaration P (type e) x) (operands es) (O (call t e x es))) _
         (right (tree true e) _ st))) in
         let w = has.0 (sym (ap (option_and_then (slot_of_method P)) dcl) ∙ sym (ap (option_and_then (λ c. slot_of P c x)) cls)
         ∙ s.found) base.class base.row_is in
-        let is = called_at W (static W h b) base.class (R.method_name f) w.number (slot_signature P Q W R s.number s.slot) base.new w.found
+        let is = called_at W (static W h b) base.class (R.method_name f) w.number (slot_signature P W R s.number s.slot) base.new w.found
         (w.type s.slot s.stands) in
         record {
           typed = t_call a.typed is (agains true sc es ds s.slot.params (λ i. R.row_type (row.Param s.number i))
-              (subst (λ z. TypedArgs P g (bare_all es) z) s.params args) fes (past _ _ (right (tree true e) _ st)) mes
+              (subst (λ z. TypedArgs P g es z) s.params args) fes (past _ _ (right (tree true e) _ st)) mes
               (slot_classed s.number s.slot s.stands) has.1);
           type = ap result_of is ∙ retyped_result (row_at (call t e x es)) (R.row_type (row.Return s.number)) s.slot.result
               (ap (λ z. C (option_map row.Return z)) slot)
@@ -292,7 +283,7 @@ module _ (A : CopiedBody) where
         record {
           typed = t_call a.typed is (subst (λ z. TypedArgs W h ds z) plain.0
               (agains true sc es ds (string_params f.0) (λ i. None)
-              (subst (λ z. TypedArgs P g (bare_all es) z) (ap (λ z. z.params) (sym f.2)) args) fes (past _ _ (right (tree true e) _ st)) mes
+              (subst (λ z. TypedArgs P g es z) (ap (λ z. z.params) (sym f.2)) args) fes (past _ _ (right (tree true e) _ st)) mes
               (λ i v q. string_classless f.0 i v q None) (λ i o q c l hc hl. absurd (cc))));
           type = ap result_of is ∙ retyped_string (C (row_at (call t e x es))) f.0
               ∙ ap (λ z. retyped_static (C (row_at (call t e x es))) (or_nothing z.result)) f.2
@@ -301,12 +292,11 @@ module _ (A : CopiedBody) where
     again u sc (static_call t f es) d (t_static_call {s = sig} called args) (f_static_call s fes) st (m_static_call {n = n} {ds = ds} same mes) =
         let o = typed_parts.method_sig B f sig called in
         let is = N.static_methods f n same o.0 o.1 in
-        let there = of_method Q formed f s.member s.stands in
-        let static_is = ap (λ z. z.is_static) (same_Some o.0 there.0 (sym o.1 ∙ there.1)) ∙ ap (λ z. z.is_static) there.2 ∙ s.kind in
+        let static_is = ap (λ z. z.is_static) (same_Some o.0 s.member (sym o.1 ∙ s.stands)) ∙ s.kind in
         let none = typed_parts.static_slot B f o.0 o.1 static_is in
         record {
           typed = t_static_call is (agains false sc es ds (types_of o.0.params) (λ i. R.row_type (variable_row f o.0 i))
-              (subst (λ z. TypedArgs P g (bare_all es) z) o.2 args) fes (past _ _ st) mes (param_classed f o.0 o.1)
+              (subst (λ z. TypedArgs P g es z) o.2 args) fes (past _ _ st) mes (param_classed f o.0 o.1)
               (asked (a_static_call t.place f (operands es) (O (static_call t f es))) _ st o.0 o.1));
           type = ap result_of is ∙ retyped_result (row_at (static_call t f es)) (R.row_type (result_in o.0.slot f)) o.0.result
               (sym (ap (λ z. R.row_type (result_in z f)) none))
@@ -316,7 +306,7 @@ module _ (A : CopiedBody) where
     again u sc (super_call t x es) d (t_super_call {m = found_method} {s = sig} found bodied called args) (f_super_call inst n fes) st
         (m_super_call {m = f} {ds = ds} found_here mes) =
         let o = typed_parts.method_sig B f sig (sym (super_called P k.owner x f found_here) ∙ called) in
-        let has = subst (λ z. Serves P Q W R m k h.self (a_super_call t.place z (operands es) (O (super_call t x es)))) found_here
+        let has = subst (λ z. Serves P W R m k h.self (a_super_call t.place z (operands es) (O (super_call t x es)))) found_here
         (asked (a_super_call t.place (super_method P k.owner x) (operands es) (O (super_call t x es))) _ st) in
         let w = has.0 inst (subst (λ z. has_body P z ≡ true) (same_Some found_method f (sym found ∙ found_here)) bodied) o.0 o.1
         (typed_parts.super_instance B k.owner x f found_here o.0 o.1) in
@@ -324,7 +314,7 @@ module _ (A : CopiedBody) where
         let row_is = super_row f x o.0 o.1 found_here in
         record {
           typed = t_super_call w.found w.bodied is (agains false sc es ds (types_of o.0.params) (λ i. R.row_type (variable_row f o.0 i))
-              (subst (λ z. TypedArgs P g (bare_all es) z) o.2 args) fes (past _ _ st) mes (param_classed f o.0 o.1) (has.1 o.0 o.1));
+              (subst (λ z. TypedArgs P g es z) o.2 args) fes (past _ _ st) mes (param_classed f o.0 o.1) (has.1 o.0 o.1));
           type = ap result_of is ∙ retyped_result (row_at (super_call t x es)) (R.row_type (result_in o.0.slot f)) o.0.result row_is
               ∙ ap (λ z. retyped_static (C (row_at (super_call t x es))) (or_nothing z)) (sym o.3)
               ∙ ap (λ z. retyped_static (C (row_at (super_call t x es))) (result_of z)) (sym called);
@@ -332,7 +322,7 @@ module _ (A : CopiedBody) where
     again u sc (create t n c es) d ty fo st (m_create {u = s} {j = j} {k = a} {ds = ds} at mes) =
         let made = asked (a_creation t.place u (O (create t n c es))) _ st n refl (record { class = record { 0 = c }; dim = 0 })
         (create_typed t n c es) refl a at in
-        record { typed = typed_create _ n c (bare_all es) ty s j a ds mes made; type = ap (λ z. retyped_static z (a_value (class_type c))) (sym at) }
+        record { typed = typed_create _ n c es ty s j a ds mes made; type = ap (λ z. retyped_static z (a_value (class_type c))) (sym at) }
     again u sc (create_array t n v e) d (t_create_array te num) (f_create_array ty dim fe) st (m_create_array {d = b} me) =
         let a = again false sc e b te fe (past _ _ st) me in
         record { typed = t_create_array a.typed (ap is_numeric a.type ∙ numeric_kept (C (row_at e)) (old e) ∙ num); type = refl }
@@ -381,8 +371,8 @@ module _ (A : CopiedBody) where
               ∙ binary_plain o (old e) (old d);
         }
 
-    agains : (u : Bool) (sc : List ℕ) (es ds : Exs) (us : List Ty) (p : ℕ → Option ℕ) → TypedArgs P g (bare_all es) us
-        → FormedExs P (untag_method k) sc (bare_all es) → Stands (tree_all u es) → MatchesAll P W R g (bare_all es) ds
+    agains : (u : Bool) (sc : List ℕ) (es ds : Exs) (us : List Ty) (p : ℕ → Option ℕ) → TypedArgs P g es us
+        → FormedExs P k sc es → Stands (tree_all u es) → MatchesAll P W R g es ds
         → ((i : ℕ) (v : Ty) → slice_get us i ≡ Some v → HasClass (object_of v) (p i))
         → ((i : ℕ) (o : Operand) → slice_get (operands es) i ≡ Some o → IsUnder W (C o.row) (p i)) → TypedArgs W h ds (retypes p us)
     agains u sc no_ex ds us p t_no_ex fo st m_no_ex has fit = t_no_ex

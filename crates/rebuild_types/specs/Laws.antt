@@ -1,8 +1,6 @@
 -- A program that rebuilds a typed one over a hierarchy that breaks no obligation is typed, and offers each row its columns.
 use Rattle.std.specs.Prelude.{◌≡◌, None}
-use Rattle.java_core.specs.declared.Program.{Program}
-use Rattle.java_core.specs.Trees.{at_place, no_place}
-use Rattle.java_core.specs.Programs.{Plain, program_of}
+use Rattle.java_core.specs.Programs.{Plain}
 use Rattle.java_core.specs.Typing.{IsTyped}
 use Rattle.java_core.specs.Formed.{IsFormed}
 use Rattle.fact_model.specs.InRange.{InRange}
@@ -20,10 +18,10 @@ use Rattle.rebuild_model.specs.Written.{IsWritten}
 use Rattle.rebuild_types.specs.Rows.{OffersRows}
 
 -- a typed program, its facts with their sets and closed table, and a hierarchy over them that breaks no obligation
-pub record IsReady (P Q : Plain) (F : Facts) (s : PointsTo) (t : Table) (H : Hierarchy) : Type 0 where
+pub record IsReady (P : Plain) (F : Facts) (s : PointsTo) (t : Table) (H : Hierarchy) : Type 0 where
   pub formed : IsFormed P
   pub typed : IsTyped P
-  pub facts : IsFactsOf P Q F
+  pub facts : IsFactsOf P F
   pub in_range : InRange F
   pub in_order : InOrder F
   pub sets : AreSets F s
@@ -33,13 +31,10 @@ pub record IsReady (P Q : Plain) (F : Facts) (s : PointsTo) (t : Table) (H : Hie
 
 -- any formed program that rebuilds it, and has what a written one has, is typed
 unfoldable pub WrittenIsTyped : Type 0
-WrittenIsTyped = (p : Program) (F : Facts) (s : PointsTo) (t : Table) (H : Hierarchy) (W : Plain)
-    → IsReady (program_of no_place p) (program_of at_place p) F s t H → IsFormed W
-    → (b : Rebuilds (program_of no_place p) (program_of at_place p) F H W) → IsWritten (program_of no_place p) (program_of at_place p) F H W b.places
-    → IsTyped W
+WrittenIsTyped = (P : Plain) (F : Facts) (s : PointsTo) (t : Table) (H : Hierarchy) (W : Plain) → IsReady P F s t H → IsFormed W
+    → (b : Rebuilds P F H W) → IsWritten P F H W b.places → IsTyped W
 
 -- and offers each row its columns
 unfoldable pub RowsAreOffered : Type 0
-RowsAreOffered = (p : Program) (F : Facts) (s : PointsTo) (t : Table) (H : Hierarchy) (W : Plain)
-    → IsReady (program_of no_place p) (program_of at_place p) F s t H → IsFormed W
-    → (b : Rebuilds (program_of no_place p) (program_of at_place p) F H W) → OffersRows (program_of no_place p) (program_of at_place p) F H W b.places
+RowsAreOffered = (P : Plain) (F : Facts) (s : PointsTo) (t : Table) (H : Hierarchy) (W : Plain) → IsReady P F s t H → IsFormed W
+    → (b : Rebuilds P F H W) → OffersRows P F H W b.places

@@ -36,9 +36,7 @@ use Rattle.flow_rules.specs.Parts.{a_creation, parts_of}
 use Rattle.flow_rules.specs.Numbered.{row_number, site_number, sites_of}
 use Rattle.flow_rules.specs.Facts.{numbers, site_info}
 use Rattle.run_cover.specs.Covers.{solved}
-use Rattle.java_core.specs.Untagged.{untagged, untag_field}
 use Rattle.run_cover.specs.Slotted.{HaveSlots}
-use Rattle.std.proofs.lemmas.Option.{slice_get-map}
 use Rattle.run_cover.proofs.Kinded.{site_type, IsCreation, IsKindedPart}
 use Rattle.run_cover.proofs.Covered.{method_parts}
 use Rattle.run_cover.proofs.Unique.{creation_type}
@@ -80,13 +78,9 @@ retyped_free (Some w) v e = go v.base v.dim e
     go Str d h = refl
     go (Class c) d h = absurd (cc)
 
-module _ {Q : Plain} {F : Facts} {H : Hierarchy} {W : Plain} (K : Known (untagged Q) Q F H W) (pt : PointsTo) (t : Table) (X : IsGiven Q F H pt t) where
-  open X use {placed, ready, table}
+module _ {P : Plain} {F : Facts} {H : Hierarchy} {W : Plain} (K : Known P F H W) (pt : PointsTo) (t : Table) (X : IsGiven P F H pt t) where
+  open X use {ready, table}
   open ready use {typed, facts, in_range as A, in_order as O, sets as S, table as B, unbroken as none, hierarchy}
-
-  abbrev P : Plain
-  P = untagged Q
-
   open sides K use {places as T, renaming as R}
 
   abbrev node : ℕ → ℕ
@@ -103,41 +97,35 @@ module _ {Q : Plain} {F : Facts} {H : Hierarchy} {W : Plain} (K : Known (untagge
       let same = K.old.field_names there.0 f other.0 k other.1 e (eqb-true other.0.owner k.owner parts.0) ((bytes_eq-Decides other.0.name k.name).0 parts.1) in
       rw (nearest-here P (λ c. own_field_of P c k.name) (length P.classes) k.owner f (there.1 ∙ ap (λ z. Some z) same), e, s) refl
 
-  field_stands : (i : ColumnItem) → Stands Q i → (f : ℕ) → i ≡ column.Fld f → (k : PlainField) × (slice_get Q.fields f ≡ Some k) × (k.is_static ≡ false)
-  field_stands _ (for_field g k e s) f h = let same : g ≡ f = cc in (k, ap (λ z. slice_get Q.fields z) (sym same) ∙ e, s)
+  field_stands : (i : ColumnItem) → Stands P i → (f : ℕ) → i ≡ column.Fld f → (k : PlainField) × (slice_get P.fields f ≡ Some k) × (k.is_static ≡ false)
+  field_stands _ (for_field g k e s) f h = let same : g ≡ f = cc in (k, ap (λ z. slice_get P.fields z) (sym same) ∙ e, s)
   field_stands _ (for_declaration m k e s) f h = absurd (cc)
   field_stands _ (for_body m k e s b) f h = absurd (cc)
   field_stands _ (for_mark c) f h = absurd (cc)
 
-  instance : (f : ℕ) (k : PlainField) (c : ℕ) → (numbers P Q).column (column.Fld f) ≡ Some c → slice_get P.fields f ≡ Some k → k.is_static ≡ false
+  instance : (f : ℕ) (k : PlainField) (c : ℕ) → (numbers P).column (column.Fld f) ≡ Some c → slice_get P.fields f ≡ Some k → k.is_static ≡ false
   unfolding numbers
   instance f k c e at =
-      let x = (numbered_columns P Q).at (column.Fld f) c e in
-      let y = field_stands x.0.item (column_stands P Q c x.0 x.1) f x.2 in
-      ap (λ z. z.is_static) (same_Some k (untag_field y.0) (sym at ∙ slice_get-map untag_field Q.fields f ∙ ap (option_map untag_field) y.1)) ∙ y.2
+      let x = (numbered_columns P).at (column.Fld f) c e in
+      let y = field_stands x.0.item (column_stands P c x.0 x.1) f x.2 in
+      ap (λ z. z.is_static) (same_Some k y.0 (sym at ∙ y.1)) ∙ y.2
 
   -- an object has each field that the row of its site has
   field_there : (s f : ℕ) → s < length F.sites.items → has_in K t s f ≡ true → (o : Offers K (node s) (column.Fld f))
       → is_some (index_of P (site_class F s) f) ≡ true
   unfolding numbers
   field_there s f ls h o =
-      let c = some_test ((numbers P Q).column (column.Fld f)) (λ c. bit (bits t.rows.items (site_row F s)) c) h in
+      let c = some_test ((numbers P).column (column.Fld f)) (λ c. bit (bits t.rows.items (site_row F s)) c) h in
       let x = fields.new_field K f o.node o.stands in
       let k = x.1.is.old in
-      let info = numbered_column P Q F facts (column.Fld f) c.0 c.1 in
+      let info = numbered_column P F facts (column.Fld f) c.0 c.1 in
       let above = column-above F A O (site_row F s) c.0 ((B.entries (site_row F s) c.0).0 c.2) in
-      let owner : column_class F c.0 ≡ k.owner = ap (λ z. z.class.0) info.1 ∙ owner_is f k x.1.is.old_stands in
-      let le = subclass-below P K.old.acyclic (below_subclass P Q placed F facts above) in
+      let owner : column_class F c.0 ≡ k.owner = ap (λ z. z.class.0) info.1
+      ∙ ap (λ z. option_map_or (λ (z : PlainField). z.owner) z 0) x.1.is.old_stands in
+      let le = subclass-below P K.old.acyclic (below_subclass P F facts above) in
       members P K.old (site_class F s) k.owner k.name f
-      (ap (λ z. below P z k.owner) (site_types P Q placed K.old typed F facts s ls) ∙ ap (λ z. below P (row_class F (site_row F s)) z) (sym owner) ∙ le)
+      (ap (λ z. below P z k.owner) (site_types P K.old typed F facts s ls) ∙ ap (λ z. below P (row_class F (site_row F s)) z) (sym owner) ∙ le)
       (own_member f k x.1.is.old_stands (instance f k c.0 c.1 x.1.is.old_stands))
-    where
-      owner_is : (f : ℕ) (k : PlainField) → slice_get P.fields f ≡ Some k → option_map_or (λ (z : PlainField). z.owner) (slice_get Q.fields f) 0 ≡ k.owner
-      owner_is f k e = go (slice_get Q.fields f) (sym (slice_get-map untag_field Q.fields f) ∙ e)
-        where
-          go : (z : Option PlainField) → option_map untag_field z ≡ Some k → option_map_or (λ (z : PlainField). z.owner) z 0 ≡ k.owner
-          go None q = absurd (cc)
-          go (Some y) q = ap (λ z. z.owner) (same_Some (untag_field y) k q)
 
   -- a new object has one value in each field that it keeps
   first_values : (s f : ℕ) → s < length F.sites.items → has_in K t s f ≡ true
@@ -160,19 +148,19 @@ module _ {Q : Plain} {F : Facts} {H : Hierarchy} {W : Plain} (K : Known (untagge
       ∙ sym (ap (λ z. value_at (language_of W) (T.type_of (node s)) z (fresh_of W (T.type_of (node s)))) (new_field_is K t f (node s) o)
       ∙ at_place (language_of W) (T.type_of (node s)) x.0 j.0 (fresh_of W (T.type_of (node s))) (default_of b.0) j.1 b.2)
 
-  module _ (new_static : ℕ → ℕ) (Pair : Body → Body → Type 0) (m : ℕ) (k : PlainMethod) (stands : slice_get Q.methods m ≡ Some k) (slots : HaveSlots P) where
+  module _ (new_static : ℕ → ℕ) (Pair : Body → Body → Type 0) (m : ℕ) (k : PlainMethod) (stands : slice_get P.methods m ≡ Some k) (slots : HaveSlots P) where
     abbrev Made : Option ℕ → Kind → Kind → Type 0
     Made o a b = MadeAs K t o a b
 
     pub created : (w : Place) (u : Bool) (o : Operand) → Contains (parts_of P m k) (a_creation w u o)
-        → CreationTied Q W F (solved pt) R (has K t) (new_field K t) new_static Made Pair o
+        → CreationTied P W F (solved pt) R (has K t) (new_field K t) new_static Made Pair o
     unfolding IsKindedPart numbers
     created w u o i =
-        let kind : IsCreation P Q F u o = method_parts Q F K.old typed slots facts m k stands (a_creation w u o) i in
-        let type : (n s : ℕ) → o.created ≡ Some n → site_number P Q n ≡ Some s
-        → o.ty ≡ Some (site_type F s) = λ n s ec es. creation_type Q F K.old facts m k stands w u o n s i ec es in
-        let row_is : (n r s : ℕ) → row_number P Q (row.New n) ≡ Some r → site_number P Q n ≡ Some s
-        → site_row F s ≡ r = λ n r s er es. created_row P Q placed K.old typed F facts n r (record { 0 = s }) er es in
+        let kind : IsCreation P F u o = method_parts P F K.old typed slots facts m k stands (a_creation w u o) i in
+        let type : (n s : ℕ) → o.created ≡ Some n → site_number P n ≡ Some s
+        → o.ty ≡ Some (site_type F s) = λ n s ec es. creation_type P F K.old facts m k stands w u o n s i ec es in
+        let row_is : (n r s : ℕ) → row_number P (row.New n) ≡ Some r → site_number P n ≡ Some s
+        → site_row F s ≡ r = λ n r s er es. created_row P K.old typed F facts n r (record { 0 = s }) er es in
         record {
           object = λ n c y ec ey dim hc.
               let s = kind.sited n y ec ey in
@@ -202,15 +190,15 @@ module _ {Q : Plain} {F : Facts} {H : Hierarchy} {W : Plain} (K : Known (untagge
           };
         }
       where
-        numbered_new : (n c : ℕ) (a : IsRowOf K (Some (row.New n)) c) → row_number P Q (row.New n) ≡ Some a.number
-        numbered_new n c a = ap (row_number P Q) (same_Some (row.New n) a.item a.is) ∙ a.numbered
+        numbered_new : (n c : ℕ) (a : IsRowOf K (Some (row.New n)) c) → row_number P (row.New n) ≡ Some a.number
+        numbered_new n c a = ap (row_number P) (same_Some (row.New n) a.item a.is) ∙ a.numbered
 
-        site_below : (n s : ℕ) → site_number P Q n ≡ Some s → s < length F.sites.items
+        site_below : (n s : ℕ) → site_number P n ≡ Some s → s < length F.sites.items
         site_below n s es =
-            let x = (numbered_sites P Q).at n s es in slice_get_within F.sites.items s (site_info x.0)
-            (subst (λ z. slice_get z s ≡ Some (site_info x.0)) (sym facts.sites) (at_map site_info (sites_of P Q) s x.0 x.1))
+            let x = (numbered_sites P).at n s es in slice_get_within F.sites.items s (site_info x.0)
+            (subst (λ z. slice_get z s ≡ Some (site_info x.0)) (sym facts.sites) (at_map site_info (sites_of P) s x.0 x.1))
 
-        values_of : (n : ℕ) (y : ObjectType) (c s : ℕ) → site_number P Q n ≡ Some s → y ≡ site_type F s → T.type_of (node s) ≡ c → (f : ℕ)
+        values_of : (n : ℕ) (y : ObjectType) (c s : ℕ) → site_number P n ≡ Some s → y ≡ site_type F s → T.type_of (node s) ≡ c → (f : ℕ)
             → has K t (Some n) f ≡ true
             → value_at (language_of P) y.class.0 f (fresh_of P y.class.0) ≡ value_at (language_of W) c (new_field K t f) (fresh_of W c)
         values_of n y c s es is at f h =
@@ -219,13 +207,13 @@ module _ {Q : Plain} {F : Facts} {H : Hierarchy} {W : Plain} (K : Known (untagge
             ap (λ z. value_at (language_of P) z.class.0 f (fresh_of P z.class.0)) is ∙ first_values s f ls hs
             ∙ ap (λ z. value_at (language_of W) z (new_field K t f) (fresh_of W z)) at
 
-        array_over : (n s : ℕ) (v : Ty) → v ≡ type_at (site_type F s) → site_number P Q n ≡ Some s
+        array_over : (n s : ℕ) (v : Ty) → v ≡ type_at (site_type F s) → site_number P n ≡ Some s
             → retyped (R.row_type (row.New n)) v ≡ type_over (T.type_of (node s)) (site_type F s)
         array_over n s v is es =
-            let x = (numbered_sites P Q).at n s es in
-            let p = site_part P Q placed K.old typed s x.0 x.1 in
-            let row_n : row_number P Q (row.New n) ≡ Some x.0.row = ap (λ z. row_number P Q (row.New z)) (sym x.2) ∙ p.row_number_is in
-            let at = created_row P Q placed K.old typed F facts n x.0.row (record { 0 = s }) row_n es in
+            let x = (numbered_sites P).at n s es in
+            let p = site_part P K.old typed s x.0 x.1 in
+            let row_n : row_number P (row.New n) ≡ Some x.0.row = ap (λ z. row_number P (row.New z)) (sym x.2) ∙ p.row_number_is in
+            let at = created_row P K.old typed F facts n x.0.row (record { 0 = s }) row_n es in
             ap (λ z. retyped z v) (row_class_is K (row.New n) x.0.row row_n) ∙ ap (λ z. retyped (Some (T.type_of (place_of_row H x.0.row))) z) is
             ∙ ap (λ z. type_over (T.type_of (place_of_row H z)) (site_type F s)) (sym at)
 

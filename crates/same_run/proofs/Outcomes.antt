@@ -41,7 +41,6 @@ use Rattle.flow_rules.specs.Parts.{Part, a_test, an_element_store, parts_of}
 use Rattle.flow_rules.specs.Lists.{both, these, point_at, row_at, site_in, stores_of, tests_of}
 use Rattle.flow_rules.specs.Facts.{numbers, gathered}
 use Rattle.run_cover.specs.Covers.{passes, point_sites, held_sites, held_in, or_itself, solved}
-use Rattle.java_core.specs.Untagged.{untagged}
 use Rattle.run_cover.proofs.Kinded.{site_type}
 use Rattle.flow_rules.proofs.Listed.{one, place_has, below_at, index_at, contains_at}
 use Rattle.facts_order.proofs.Classes.{subclass_below, below_subclass}
@@ -56,13 +55,9 @@ use Rattle.rebuild_types.proofs.Served.{row_of_class, row_in_is}
 use Rattle.same_run.proofs.Ties.{type_at, type_over}
 use Rattle.same_run.proofs.Sited.{IsGiven, MadeAs, node_of, free_apart, IsMet, met_at, met_passing}
 
-module _ {Q : Plain} {F : Facts} {H : Hierarchy} {W : Plain} (K : Known (untagged Q) Q F H W) (pt : PointsTo) (t : Table) (X : IsGiven Q F H pt t) where
-  open X use {placed, ready, table}
+module _ {P : Plain} {F : Facts} {H : Hierarchy} {W : Plain} (K : Known P F H W) (pt : PointsTo) (t : Table) (X : IsGiven P F H pt t) where
+  open X use {ready, table}
   open ready use {typed, facts, in_range as A, in_order as O, sets as S, table as B, unbroken as none, hierarchy}
-
-  abbrev P : Plain
-  P = untagged Q
-
   open K.rebuilt use {places as T}
 
   abbrev node : ℕ → ℕ
@@ -70,10 +65,10 @@ module _ {Q : Plain} {F : Facts} {H : Hierarchy} {W : Plain} (K : Known (untagge
 
   -- classes are below in the facts where they are in the program
   in_facts : (a b : ℕ) → below P a b ≡ true → facts_below F a b ≡ true
-  in_facts a b e = (below-exact F O.classes.acyclic a b).1 (subclass_below P Q placed F facts (below-subclass P a b e))
+  in_facts a b e = (below-exact F O.classes.acyclic a b).1 (subclass_below P F facts (below-subclass P a b e))
 
   in_program : (a b : ℕ) → facts_below F a b ≡ true → below P a b ≡ true
-  in_program a b e = subclass-below P K.old.acyclic (below_subclass P Q placed F facts ((below-exact F O.classes.acyclic a b).0 e))
+  in_program a b e = subclass-below P K.old.acyclic (below_subclass P F facts ((below-exact F O.classes.acyclic a b).0 e))
 
   -- a site and a target's row meet: the new types stand as the old ones do
   met_same : (s r c : ℕ) → s < length F.sites.items → r < length F.rows.items → any_below (places_of F) (λ p. meets F pt p r s) ≡ true → row_class F r ≡ c
@@ -102,25 +97,25 @@ module _ {Q : Plain} {F : Facts} {H : Hierarchy} {W : Plain} (K : Known (untagge
       go true q = h (eqb-true d e q)
       go false q = refl
 
-  module _ (m : ℕ) (k : PlainMethod) (stands : slice_get Q.methods m ≡ Some k) where
+  module _ (m : ℕ) (k : PlainMethod) (stands : slice_get P.methods m ≡ Some k) where
     abbrev InBody : Part → Type 0
     InBody p = Contains (parts_of P m k) p
 
-    test_of_part : (p : Part) → InBody p → (x : TestInfo) → Contains (tests_of (numbers P Q) p) x → Contains F.tests.items x
+    test_of_part : (p : Part) → InBody p → (x : TestInfo) → Contains (tests_of (numbers P) p) x → Contains F.tests.items x
     test_of_part p c x d = subst (λ z. Contains z x) (sym facts.tests)
-        (place_has (λ t. t.place.at) (gathered P Q (λ b. tests_of (numbers P Q))) x (gathered_has P Q (λ b. tests_of (numbers P Q)) x m k p stands c d))
+        (place_has (λ t. t.place.at) (gathered P (λ b. tests_of (numbers P))) x (gathered_has P (λ b. tests_of (numbers P)) x m k p stands c d))
 
-    store_of_part : (p : Part) → InBody p → (x : StoreInfo) → Contains (stores_of (numbers P Q) p) x → Contains F.stores.items x
-    store_of_part p c x d = (facts.stores x).1 (gathered_has P Q (λ b. stores_of (numbers P Q)) x m k p stands c d)
+    store_of_part : (p : Part) → InBody p → (x : StoreInfo) → Contains (stores_of (numbers P) p) x → Contains F.stores.items x
+    store_of_part p c x d = (facts.stores x).1 (gathered_has P (λ b. stores_of (numbers P)) x m k p stands c d)
 
     -- a site at the operand of a test meets its row
-    test_met : (w : Place) (e o : Operand) → InBody (a_test w e o) → (q r s : ℕ) (y : ObjectType) → point_at (numbers P Q) e ≡ Some q
-        → row_at (numbers P Q) o ≡ Some r → o.ty ≡ Some y → bit (bits pt.points.items q) s ≡ true
+    test_met : (w : Place) (e o : Operand) → InBody (a_test w e o) → (q r s : ℕ) (y : ObjectType) → point_at (numbers P) e ≡ Some q
+        → row_at (numbers P) o ≡ Some r → o.ty ≡ Some y → bit (bits pt.points.items q) s ≡ true
         → (any_below (places_of F) (λ p. meets F pt p r s) ≡ true) × (row_class F r ≡ y.class.0) × (r < length F.rows.items)
     test_met w e o i q r s y eq er ey held =
         let x : TestInfo = record { from = q; target = record { 0 = r }; class = y.class; place = w } in
         let listed = test_of_part (a_test w e o) i x
-        (subst (λ z. Contains (these z (row_at (numbers P Q) o) o.ty (λ a r t. record { from = a; target = record { 0 = r }; class = t.class; place = w })) x)
+        (subst (λ z. Contains (these z (row_at (numbers P) o) o.ty (λ a r t. record { from = a; target = record { 0 = r }; class = t.class; place = w })) x)
         (sym eq)
         (subst (λ z. Contains (these (Some q) z o.ty (λ a r t. record { from = a; target = record { 0 = r }; class = t.class; place = w })) x) (sym er)
         (subst (λ z. Contains (these (Some q) (Some r) z (λ a r t. record { from = a; target = record { 0 = r }; class = t.class; place = w })) x) (sym ey)
@@ -143,13 +138,13 @@ module _ {Q : Plain} {F : Facts} {H : Hierarchy} {W : Plain} (K : Known (untagge
         )
 
     -- and a site in the value of a store meets the row of an array at its base
-    store_met : (w : Place) (b o : Operand) → InBody (an_element_store w b o) → (q p a s : ℕ) → point_at (numbers P Q) b ≡ Some q
-        → point_at (numbers P Q) o ≡ Some p → bit (bits pt.points.items q) a ≡ true → bit (bits pt.points.items p) s ≡ true
+    store_met : (w : Place) (b o : Operand) → InBody (an_element_store w b o) → (q p a s : ℕ) → point_at (numbers P) b ≡ Some q
+        → point_at (numbers P) o ≡ Some p → bit (bits pt.points.items q) a ≡ true → bit (bits pt.points.items p) s ≡ true
         → 0 < (site_at F a).dim → any_below (places_of F) (λ p. meets F pt p (site_row F a) s) ≡ true
     store_met w b o i q p a s eq ep array held deep =
         let x : StoreInfo = record { base = q; column = None; value = p; place = w } in
         let listed = store_of_part (an_element_store w b o) i x
-        (subst (λ z. Contains (both z (point_at (numbers P Q) o) (λ a q. record { base = a; column = None; value = q; place = w })) x) (sym eq)
+        (subst (λ z. Contains (both z (point_at (numbers P) o) (λ a q. record { base = a; column = None; value = q; place = w })) x) (sym eq)
         (subst (λ z. Contains (both (Some q) z (λ a q. record { base = a; column = None; value = q; place = w })) x) (sym ep) (one x))) in
         let la = point_site F pt t A O S B q a array in
         let has : has_array F pt q (site_row F a) ≡ true = any_below_has (is_array_at F pt q (site_row F a)) (length F.sites.items) a la
@@ -172,11 +167,11 @@ module _ {Q : Plain} {F : Facts} {H : Hierarchy} {W : Plain} (K : Known (untagge
         (or_right (is_tested F pt w.at (site_row F a) s) (is_stored F pt w.at (site_row F a) s) stored)
 
     pub test_same : (w : Place) (e o : Operand) → InBody (a_test w e o) → (q : Option ℕ) (a b : Kind) (y : ObjectType) (c : ℕ) → Made q a b
-        → passes (point_sites P Q F (solved pt) e) (site_in (numbers P Q) q) ≡ true → o.ty ≡ Some y
-        → new_class P Q W (renaming_of P Q H T) o.row ≡ Some c → is_subtype P (own_type a) (type_at y) ≡ is_subtype W (own_type b) (type_over c y)
-    test_same w e o i q a b y c made may ey hc = go (site_in (numbers P Q) q) refl
+        → passes (point_sites P F (solved pt) e) (site_in (numbers P) q) ≡ true → o.ty ≡ Some y
+        → new_class P W (renaming_of P H T) o.row ≡ Some c → is_subtype P (own_type a) (type_at y) ≡ is_subtype W (own_type b) (type_over c y)
+    test_same w e o i q a b y c made may ey hc = go (site_in (numbers P) q) refl
       where
-        go : (z : Option ℕ) → site_in (numbers P Q) q ≡ z → is_subtype P (own_type a) (type_at y) ≡ is_subtype W (own_type b) (type_over c y)
+        go : (z : Option ℕ) → site_in (numbers P) q ≡ z → is_subtype P (own_type a) (type_at y) ≡ is_subtype W (own_type b) (type_over c y)
         go None h =
             let z = made.free h in
             free_apart P (own_type a) y z.0 ∙ sym (free_apart W (own_type a) (record { class = record { 0 = c }; dim = y.dim }) z.0)
@@ -193,20 +188,20 @@ module _ {Q : Plain} {F : Facts} {H : Hierarchy} {W : Plain} (K : Known (untagge
             ∙ ap (λ v. is_subtype W v (type_over c y)) (sym z.1)
 
     held_point : (b : Operand) (o : Option ℕ) (s : ℕ)
-        → ((n s : ℕ) → b.created ≡ Some n → (numbers P Q).site n ≡ Some s → (q : ℕ) × (point_at (numbers P Q) b ≡ Some q)) → site_in (numbers P Q) o ≡ Some s
-        → passes (held_sites P Q F (solved pt) b) (site_in (numbers P Q) o) ≡ true → IsMet K t pt A O S B table none b s
-    held_point b o s point e q = go b.created refl (subst (λ z. passes (held_sites P Q F (solved pt) b) z ≡ true) e q)
+        → ((n s : ℕ) → b.created ≡ Some n → (numbers P).site n ≡ Some s → (q : ℕ) × (point_at (numbers P) b ≡ Some q)) → site_in (numbers P) o ≡ Some s
+        → passes (held_sites P F (solved pt) b) (site_in (numbers P) o) ≡ true → IsMet K t pt A O S B table none b s
+    held_point b o s point e q = go b.created refl (subst (λ z. passes (held_sites P F (solved pt) b) z ≡ true) e q)
       where
         -- a creation that is no point is itself alone
-        itself : (n : ℕ) (z r : Option ℕ) → b.created ≡ Some n → point_at (numbers P Q) b ≡ z → (numbers P Q).site n ≡ r
-            → or_itself P Q F (solved pt) z r s ≡ true → IsMet K t pt A O S B table none b s
+        itself : (n : ℕ) (z r : Option ℕ) → b.created ≡ Some n → point_at (numbers P) b ≡ z → (numbers P).site n ≡ r
+            → or_itself P F (solved pt) z r s ≡ true → IsMet K t pt A O S B table none b s
         itself n (Some p) r c ep er h = record { point = p; point_is = ep; held = h }
         itself n None None c ep er h = absurd (false≢true h)
         itself n None (Some r) c ep er h = let p = point n r c er in absurd (let z = sym ep ∙ p.1 in cc)
 
-        go : (c : Option ℕ) → b.created ≡ c → held_in P Q F (solved pt) c b s ≡ true → IsMet K t pt A O S B table none b s
+        go : (c : Option ℕ) → b.created ≡ c → held_in P F (solved pt) c b s ≡ true → IsMet K t pt A O S B table none b s
         go None c h = met_at K t pt A O S B table none b s h
-        go (Some n) c h = itself n (point_at (numbers P Q) b) ((numbers P Q).site n) c refl refl h
+        go (Some n) c h = itself n (point_at (numbers P) b) ((numbers P).site n) c refl refl h
 
     -- an array and its elements
     record IsArray (x : Kind) (u : Ty) : Type 0 where
@@ -265,7 +260,7 @@ module _ {Q : Plain} {F : Facts} {H : Hierarchy} {W : Plain} (K : Known (untagge
         go Str (suc d) q n = ap object_of (sym (same_Some _ u q))
         go (Class c) (suc d) q n = absurd (cc)
 
-    free_store : (q : Option ℕ) (a c : Kind) (u v : Ty) → Made q a c → site_in (numbers P Q) q ≡ None → element_type a ≡ Some u → element_type c ≡ Some v
+    free_store : (q : Option ℕ) (a c : Kind) (u v : Ty) → Made q a c → site_in (numbers P) q ≡ None → element_type a ≡ Some u → element_type c ≡ Some v
         → (s j : Ty) (x : ObjectType) (n : ℕ) → s ≡ type_at x → j ≡ type_over n x
         → is_subtype P s u ≡ is_subtype W j v
     free_store q a c u v made e eu ev s j x n es ej =
@@ -281,16 +276,15 @@ module _ {Q : Plain} {F : Facts} {H : Hierarchy} {W : Plain} (K : Known (untagge
         (contains_at F.sites.items s z.0 z.1)
 
     pub store_same : (w : Place) (b o : Operand) → InBody (an_element_store w b o)
-        → ((n s : ℕ) → b.created ≡ Some n → (numbers P Q).site n ≡ Some s → (q : ℕ) × (point_at (numbers P Q) b ≡ Some q))
-        → ((n s : ℕ) → o.created ≡ Some n → (numbers P Q).site n ≡ Some s → (q : ℕ) × (point_at (numbers P Q) o ≡ Some q))
+        → ((n s : ℕ) → b.created ≡ Some n → (numbers P).site n ≡ Some s → (q : ℕ) × (point_at (numbers P) b ≡ Some q))
+        → ((n s : ℕ) → o.created ≡ Some n → (numbers P).site n ≡ Some s → (q : ℕ) × (point_at (numbers P) o ≡ Some q))
         → (q r : Option ℕ) (a c x y : Kind) (u v : Ty) → Made q a c → Made r x y → element_type a ≡ Some u
-        → element_type c ≡ Some v → passes (held_sites P Q F (solved pt) b) (site_in (numbers P Q) q) ≡ true
-        → passes (held_sites P Q F (solved pt) o) (site_in (numbers P Q) r) ≡ true
-        → is_subtype P (own_type x) u ≡ is_subtype W (own_type y) v
-    store_same w b o i pb po q r a c x y u v made held eu ev mq mr = go (site_in (numbers P Q) q) (site_in (numbers P Q) r) refl refl
+        → element_type c ≡ Some v → passes (held_sites P F (solved pt) b) (site_in (numbers P) q) ≡ true
+        → passes (held_sites P F (solved pt) o) (site_in (numbers P) r) ≡ true → is_subtype P (own_type x) u ≡ is_subtype W (own_type y) v
+    store_same w b o i pb po q r a c x y u v made held eu ev mq mr = go (site_in (numbers P) q) (site_in (numbers P) r) refl refl
       where
         -- the types of the elements, where the array has a site
-        elements : (s : ℕ) → site_in (numbers P Q) q ≡ Some s
+        elements : (s : ℕ) → site_in (numbers P) q ≡ Some s
             → ((d : ℕ) × ((site_type F s).dim ≡ suc d) × (u ≡ record { base = Class (site_type F s).class; dim = d }))
             × ((d : ℕ) × ((site_at F s).dim ≡ suc d) × (v ≡ record { base = Class (record { 0 = T.type_of (node s) }); dim = d }))
         elements s ez =
@@ -302,7 +296,7 @@ module _ {Q : Plain} {F : Facts} {H : Hierarchy} {W : Plain} (K : Known (untagge
                   (ap own_type (sym new.is) ∙ z.1),
             )
 
-        go : (z s : Option ℕ) → site_in (numbers P Q) q ≡ z → site_in (numbers P Q) r ≡ s → is_subtype P (own_type x) u ≡ is_subtype W (own_type y) v
+        go : (z s : Option ℕ) → site_in (numbers P) q ≡ z → site_in (numbers P) r ≡ s → is_subtype P (own_type x) u ≡ is_subtype W (own_type y) v
         go None None ez es = ap (λ k. is_subtype P (own_type x) k) (same_Some u v (sym eu ∙ ap element_type (sym (made.free ez).1) ∙ ev))
             ∙ both_free (own_type x) v ((held.free es).0) ∙ ap (λ k. is_subtype W (own_type k) v) (sym (held.free es).1)
         go None (Some s) ez es = free_store q a c u v made ez eu ev (own_type x) (own_type y) (site_type F s) (T.type_of (node s)) (held.sited s es).0
@@ -328,7 +322,7 @@ module _ {Q : Plain} {F : Facts} {H : Hierarchy} {W : Plain} (K : Known (untagge
             let m = store_met w b o i array.point value.point s j array.point_is value.point_is array.held value.held (positive (site_at F s).dim e.0 e.1) in
             ap (λ k. is_subtype P k u) g.0 ∙ ap (λ k. is_subtype P (type_at (site_type F j)) k) e.2
             ∙ by_classes (site_at F j).dim e.0 (site_class F j) (site_class F s) (T.type_of (node j)) (T.type_of (node s))
-            (λ d. met_same j (site_row F s) (site_class F s) lj lr m (sym (site_types P Q placed K.old typed F facts s la)))
+            (λ d. met_same j (site_row F s) (site_class F s) lj lr m (sym (site_types P K.old typed F facts s la)))
             ∙ ap (λ n. is_subtype W (type_over (T.type_of (node j)) (site_type F j)) (record { base = Class (record { 0 = T.type_of (node s) }); dim = n }))
             dims
             ∙ ap (λ k. is_subtype W (type_over (T.type_of (node j)) (site_type F j)) k) (sym f.2) ∙ ap (λ k. is_subtype W k v) (sym g.1)

@@ -8,12 +8,11 @@ use Rattle.java_core.specs.declared.Ty.{Ty}
 use Rattle.java_core.specs.Programs.{Plain, PlainField, PlainMethod, PlainLocal}
 use Rattle.java_core.specs.Classes.{is_static_field}
 use Rattle.java_core.specs.Types.{env_of, types_of, field_type}
-use Rattle.java_core.specs.Typing.{IsTypedMethod, TypedSts}
+use Rattle.java_core.specs.Typing.{IsTypedMethod}
 use Rattle.java_meaning.specs.Moment.{Value, Nothing, Object, Kind, Cell, bound, Body, Lang}
 use Rattle.java_meaning.specs.Values.{default_of}
 use Rattle.java_meaning.specs.Meaning.{run_in}
 use Rattle.java_meaning.specs.Languages.{body_with, language_of, statics_of}
-use Rattle.java_core.specs.Untagged.{bare_sts, untag_body, untag_method, untagged}
 use Rattle.java_meaning.proofs.Layouts.{places}
 use Rattle.java_meaning.proofs.Moves.{then_some}
 use Rattle.fact_model.specs.declared.facts.Facts.{Facts}
@@ -31,18 +30,16 @@ use Rattle.run_cover.specs.Covers.{Sets, solved, is_seen, are_seen, spot_set, la
 use Rattle.run_cover.specs.Families.{Set, ArePlain}
 use Rattle.run_cover.specs.Watched.{Of}
 use Rattle.run_cover.proofs.Covered.{method_parts}
-use Rattle.run_cover.proofs.HasRows.{method_of, of_method}
 use Rattle.run_cover.proofs.Held.{default_plain}
-use Rattle.run_cover.proofs.Untagging.{same_env, untyped_params}
 use Rattle.rebuild_model.specs.Renaming.{Renaming, retyped, retyped_if}
-use Rattle.rebuild_model.specs.Matches.{IsStaticField, IsStaticMethod, MatchesSts}
+use Rattle.rebuild_model.specs.Matches.{IsStaticField, IsStaticMethod}
 use Rattle.rebuild_model.specs.Members.{HasTypes, HasCode, new_types}
 use Rattle.rebuild_looks.specs.Known.{Known, Offers, sides}
 use Rattle.rebuild_looks.proofs.Fields as fields
 use Rattle.rebuild_looks.proofs.Fields.{one_old_field}
 use Rattle.rebuild_looks.proofs.Statics.{static_fields, static_methods}
 use Rattle.rebuild_types.proofs.Asked.{SeesNew}
-use Rattle.rebuild_types.proofs.Bodies.{have_slots, body_some, copied_locals, this_class}
+use Rattle.rebuild_types.proofs.Bodies.{have_slots, copied_locals, this_class}
 use Rattle.rebuild_types.proofs.Served.{renewed, served, has_slot}
 use Rattle.run_cover.proofs.TypedParts.{TypedBody}
 use Rattle.rebuild_types.proofs.Walk.{CopiedBody, again}
@@ -62,21 +59,21 @@ use Rattle.same_run.proofs.Walk.{TwinBody}
 use Rattle.same_run.proofs.Statements.{twin_body}
 
 -- what the watch of sets lets pass is of the sets
-seen_of : (P Q : Plain) (F : Facts) (S : Sets) (X : Set) (v : Value) (h : List Cell) → is_seen P Q F S X v h ≡ true → Of h v X
-seen_of P Q F S X (Object a) h e = let c = some_test (slice_get h a) (λ c. X c.site) e in record { cell = c.0; there = c.1; member = c.2 }
-seen_of P Q F S X v h e = tt
+seen_of : (P : Plain) (F : Facts) (S : Sets) (X : Set) (v : Value) (h : List Cell) → is_seen P F S X v h ≡ true → Of h v X
+seen_of P F S X (Object a) h e = let c = some_test (slice_get h a) (λ c. X c.site) e in record { cell = c.0; there = c.1; member = c.2 }
+seen_of P F S X v h e = tt
 
-all_of : (P Q : Plain) (F : Facts) (S : Sets) (b n : ℕ) (vs : List Value) (h : List Cell) → are_seen P Q F S b n vs h ≡ true → (i j : ℕ) → j ≡ n + i
-    → (v : Value) → slice_get vs i ≡ Some v → Of h v (spot_set P Q F S (bound b j))
-all_of P Q F S b n [] h e i j q v d = absurd (cc)
-all_of P Q F S b n (w ∷ vs) h e zero j q v d =
-    let z = and_parts (is_seen P Q F S (spot_set P Q F S (bound b n)) w h) (are_seen P Q F S b (suc n) vs h) e in
+all_of : (P : Plain) (F : Facts) (S : Sets) (b n : ℕ) (vs : List Value) (h : List Cell) → are_seen P F S b n vs h ≡ true → (i j : ℕ) → j ≡ n + i
+    → (v : Value) → slice_get vs i ≡ Some v → Of h v (spot_set P F S (bound b j))
+all_of P F S b n [] h e i j q v d = absurd (cc)
+all_of P F S b n (w ∷ vs) h e zero j q v d =
+    let z = and_parts (is_seen P F S (spot_set P F S (bound b n)) w h) (are_seen P F S b (suc n) vs h) e in
     let same : n ≡ j = omega (arith, q) in
-    subst (λ x. Of h x (spot_set P Q F S (bound b j))) (same_Some w v d)
-    (subst (λ x. Of h w (spot_set P Q F S (bound b x))) same (seen_of P Q F S (spot_set P Q F S (bound b n)) w h z.0))
-all_of P Q F S b n (w ∷ vs) h e (suc i) j q v d =
-    let z = and_parts (is_seen P Q F S (spot_set P Q F S (bound b n)) w h) (are_seen P Q F S b (suc n) vs h) e in
-    all_of P Q F S b (suc n) vs h z.1 i j (omega (arith, q)) v d
+    subst (λ x. Of h x (spot_set P F S (bound b j))) (same_Some w v d)
+    (subst (λ x. Of h w (spot_set P F S (bound b x))) same (seen_of P F S (spot_set P F S (bound b n)) w h z.0))
+all_of P F S b n (w ∷ vs) h e (suc i) j q v d =
+    let z = and_parts (is_seen P F S (spot_set P F S (bound b n)) w h) (are_seen P F S b (suc n) vs h) e in
+    all_of P F S b (suc n) vs h z.1 i j (omega (arith, q)) v d
 
 -- the shapes of new types are those of the old ones
 new_shapes : (R : Renaming) (m : ℕ) (k : PlainMethod) (n : ℕ) (vs : List PlainLocal) → map shape_of (new_types R m k n vs) ≡ map shape_of (types_of vs)
@@ -107,20 +104,16 @@ first_plain [] i a e = absurd (cc)
 first_plain (f ∷ fs) zero a e = default_plain f.ty.base f.ty.dim a (same_Some (default_of f.ty) (Object a) e)
 first_plain (f ∷ fs) (suc i) a e = first_plain fs i a e
 
-module _ {Q : Plain} {F : Facts} {H : Hierarchy} {W : Plain} (K : Known (untagged Q) Q F H W) (pt : PointsTo) (t : Table) (X : IsGiven Q F H pt t) where
-  open X use {placed, ready, table}
+module _ {P : Plain} {F : Facts} {H : Hierarchy} {W : Plain} (K : Known P F H W) (pt : PointsTo) (t : Table) (X : IsGiven P F H pt t) where
+  open X use {ready, table}
   open ready use {typed, facts, in_range as A, in_order as O, sets as S, table as B, unbroken as none, hierarchy}
-
-  abbrev P : Plain
-  P = untagged Q
-
   open sides K use {renaming as R}
 
   abbrev Made : Option ℕ → Kind → Kind → Type 0
   Made o a b = MadeAs K t o a b
 
   abbrev Pair : Body → Body → Type 0
-  Pair b c = IsCopyOf K placed facts pt t A O S B table none b c
+  Pair b c = IsCopyOf K facts pt t A O S B table none b c
 
   -- the new number of a static field
   static_by : (f : ℕ) (k : PlainField) → slice_get P.fields f ≡ Some k → (b : Bool) → k.is_static ≡ b → ℕ
@@ -154,24 +147,22 @@ module _ {Q : Plain} {F : Facts} {H : Hierarchy} {W : Plain} (K : Known (untagge
   static_old f g a = ap (λ z. option_map_or (λ (k : PlainField). k.is_static) z false) a.old_stands ∙ a.old_static
 
   abbrev L : Lang
-  L = watched P Q F (solved pt)
+  L = watched P F (solved pt)
 
   abbrev M : Lang
   M = language_of W
 
   abbrev link : Link
-  link = ties.link Q W F (solved pt) R (has K t) (new_field K t) new_static Made Pair
+  link = ties.link P W F (solved pt) R (has K t) (new_field K t) new_static Made Pair
 
   -- static members
   method_copied : (d n : ℕ) → IsStaticMethod P W R d n → BothPair L M link Made Pair (L.static_body d) (M.static_body n)
   unfolding labelled_body
   method_copied d n same b eb =
       let x = (static_methods K).is d n same in
-      let k = of_method Q K.old d x.same.old x.same.old_stands in
-      let body = then_some (labelled_with P Q F (solved pt) d) (slice_get Q.methods d) b eb in
-      let one : k.0 ≡ body.0 = same_Some k.0 body.0 (sym k.1 ∙ body.1) in
-      let old : x.same.old ≡ untag_method body.0 = sym k.2 ∙ ap untag_method one in
-      let is = body_is K placed facts pt t A O S B table none n x.same.new x.code.written x.same.new_stands x.code.new_code in
+      let body = then_some (labelled_with P F (solved pt) d) (slice_get P.methods d) b eb in
+      let old : x.same.old ≡ body.0 = same_Some x.same.old body.0 (sym x.same.old_stands ∙ body.1) in
+      let is = body_is K facts pt t A O S B table none n x.same.new x.code.written x.same.new_stands x.code.new_code in
       record {
         body = body_with n x.same.new x.code.written;
         found = is;
@@ -190,27 +181,27 @@ module _ {Q : Plain} {F : Facts} {H : Hierarchy} {W : Plain} (K : Known (untagge
         };
       }
 
-  statics : StaticsTied Q W F (solved pt) R (has K t) (new_field K t) new_static Made Pair
+  statics : StaticsTied P W F (solved pt) R (has K t) (new_field K t) new_static Made Pair
   statics = record {
     fields = λ f j a. record { static = static_old f j a; new = (static_fields K).one_new f j (new_static f) a (new_static_is f (static_old f j a)) };
     methods = method_copied;
   }
 
   -- what each part of a body gives
-  tied : (m : ℕ) (k : PlainMethod) (e : slice_get Q.methods m ≡ Some k) (c : ℕ) (p : Part) → Contains (parts_of P m k) p
-      → Ties Q W F (solved pt) R (has K t) (new_field K t) new_static Made Pair m c p
-  tied m k e c (a_load w b (Some f) o) i = field_tied K placed facts pt t A O S B table none new_static b f
-      (access_of K placed facts pt t A O S B table none new_static m k e (a_load w b (Some f) o) i)
+  tied : (m : ℕ) (k : PlainMethod) (e : slice_get P.methods m ≡ Some k) (c : ℕ) (p : Part) → Contains (parts_of P m k) p
+      → Ties P W F (solved pt) R (has K t) (new_field K t) new_static Made Pair m c p
+  tied m k e c (a_load w b (Some f) o) i = field_tied K facts pt t A O S B table none new_static b f
+      (access_of K facts pt t A O S B table none new_static m k e (a_load w b (Some f) o) i)
   tied m k e c (a_creation w u o) i = created K pt t X new_static Pair m k e
-      (have_slots K placed typed facts pt t A O S B table none hierarchy) w u o i
-  tied m k e c (a_call w b (Some s) (Some d) es o) i = call_tied K placed facts pt t A O S B table none new_static m k e w b s d es o i
-      (has_slot K placed typed facts pt t A O S B table none hierarchy b s d
-      (access_of K placed facts pt t A O S B table none new_static m k e (a_call w b (Some s) (Some d) es o) i))
+      (have_slots K typed facts pt t A O S B table none hierarchy) w u o i
+  tied m k e c (a_call w b (Some s) (Some d) es o) i = call_tied K facts pt t A O S B table none new_static m k e w b s d es o i
+      (has_slot K typed facts pt t A O S B table none hierarchy b s d
+      (access_of K facts pt t A O S B table none new_static m k e (a_call w b (Some s) (Some d) es o) i))
   tied m k e c (a_super_call w (Some d) es o) i = λ x self instance ex.
-      super_tied K placed facts pt t A O S B table none new_static m k e w d es o i c x self instance ex
+      super_tied K facts pt t A O S B table none new_static m k e w d es o i c x self instance ex
   tied m k e c (a_test w x o) i = record { same = test_same K pt t X m k e w x o i }
-  tied m k e c (a_store w b (Some f) o) i = field_tied K placed facts pt t A O S B table none new_static b f
-      (access_of K placed facts pt t A O S B table none new_static m k e (a_store w b (Some f) o) i)
+  tied m k e c (a_store w b (Some f) o) i = field_tied K facts pt t A O S B table none new_static b f
+      (access_of K facts pt t A O S B table none new_static m k e (a_store w b (Some f) o) i)
   tied m k e c (an_element_store w b o) i = λ pb po.
       record { same = store_same K pt t X m k e w b o i pb po }
   tied m k e c p i = tt
@@ -222,29 +213,27 @@ module _ {Q : Plain} {F : Facts} {H : Hierarchy} {W : Plain} (K : Known (untagge
       let m = p.number in
       let k = p.method in
       let code = p.code in
-      let xs = body_some k.body code.code code.old_code in
-      let at = method_of Q K.old m k p.stands in
-      let old : body_with m k (label_sts 0 xs.0) ≡ b = same_Some (body_with m k (label_sts 0 xs.0)) b
-      (sym (ap (option_map (λ xs. body_with m k (label_sts 0 xs))) xs.1) ∙ p.old_body) in
+      let old : body_with m k (label_sts 0 code.code) ≡ b = same_Some (body_with m k (label_sts 0 code.code)) b
+      (sym (ap (option_map (λ xs. body_with m k (label_sts 0 xs))) code.old_code) ∙ p.old_body) in
       let new : body_with p.copy p.new code.written ≡ c = same_Some (body_with p.copy p.new code.written) c
       (sym (ap (option_and_then (λ (z : PlainMethod). option_map (λ xs. body_with p.copy z xs) z.body)) p.new_stands
       ∙ ap (option_map (λ xs. body_with p.copy p.new xs)) code.new_code) ∙ p.new_body) in
       let self : k.is_static ≡ false → R.row_type (row.This m) ≡ Some p.new.owner = λ i.
-      let n = p.self i in this_class K placed typed facts pt t A O S B table none hierarchy m k n.0 p.stands (ap is_some xs.1) i n.1
+      let n = p.self i in this_class K typed facts pt t A O S B table none hierarchy m k n.0 p.stands (ap is_some code.old_code) i n.1
       ∙ ap (λ z. Some z) (sym n.2) in
-      let slots = have_slots K placed typed facts pt t A O S B table none hierarchy in
-      let sees : SeesNew P Q W R m k (env_of p.copy p.new) = record
-      { self = self; locals = copied_locals K placed typed facts pt t A O S B table none hierarchy m k p.new p.types code; result = p.types.result }
+      let slots = have_slots K typed facts pt t A O S B table none hierarchy in
+      let sees : SeesNew P W R m k (env_of p.copy p.new) = record
+      { self = self; locals = copied_locals K typed facts pt t A O S B table none hierarchy m k p.new p.types code; result = p.types.result }
       in
       let params : map shape_of (types_of k.params) ≡ map shape_of (types_of p.new.params) =
-      ap (map shape_of) (sym (untyped_params k.params)) ∙ sym (ap (map shape_of) p.types.params ∙ new_shapes R m (untag_method k) 0 (untag_method k).params) in
+      sym (ap (map shape_of) p.types.params ∙ new_shapes R m k 0 k.params) in
       let locals : map shape_of (types_of k.locals) ≡ map shape_of (types_of p.new.locals) =
-      ap (map shape_of) (sym (untyped_params k.locals)) ∙ sym (ap (map shape_of) code.locals ∙ new_shapes R m (untag_method k) _ (untag_method k).locals) in
+      sym (ap (map shape_of) code.locals ∙ new_shapes R m k _ k.locals) in
       let h = env_of p.copy p.new in
-      let there : is_some k.body ≡ true = ap is_some xs.1 in
+      let there : is_some k.body ≡ true = ap is_some code.old_code in
       let body : TypedBody =
-      record { program = Q; facts = F; formed = K.old; slots = slots; are_facts = facts; number = m; method = k; stands = p.stands; bodied = there } in
-      let serves = served K placed typed facts pt t A O S B table none hierarchy m k p.stands p.new.owner self in
+      record { program = P; facts = F; formed = K.old; slots = slots; are_facts = facts; number = m; method = k; stands = p.stands; bodied = there } in
+      let serves = served K typed facts pt t A O S B table none hierarchy m k p.stands p.new.owner self in
       let copied : CopiedBody = record { body = body; written = W; renaming = R; renewed = renewed K; env = h; sees = sees; serves = serves } in
       let twin : TwinBody = record {
         body = body;
@@ -262,13 +251,13 @@ module _ {Q : Plain} {F : Facts} {H : Hierarchy} {W : Plain} (K : Known (untagge
           statics = statics;
           self = self;
           copied = λ u sc e d te fe st me. (again copied u sc e d te fe st me).type;
-          at = at_operand P Q placed K.old typed F facts m k p.stands;
-          at_this = at_this P Q placed K.old typed F facts m k p.stands;
-          kinded = method_parts Q F K.old typed slots facts m k p.stands;
+          at = at_operand P K.old typed F facts m k p.stands;
+          at_this = at_this P K.old typed F facts m k p.stands;
+          kinded = method_parts P F K.old typed slots facts m k p.stands;
           ties = tied m k p.stands p.new.owner;
         };
       } in
-      subst (λ z. SameBody L M link Made Pair z c) old (subst (λ z. SameBody L M link Made Pair (body_with m k (label_sts 0 xs.0)) z) new (record {
+      subst (λ z. SameBody L M link Made Pair z c) old (subst (λ z. SameBody L M link Made Pair (body_with m k (label_sts 0 code.code)) z) new (record {
         env = record {
           locals = map_join k.params k.locals ∙ ap (λ z. z ++ map shape_of (types_of k.locals)) params
               ∙ ap (λ z. map shape_of (types_of p.new.params) ++ z) locals ∙ sym (map_join p.new.params p.new.locals);
@@ -278,11 +267,8 @@ module _ {Q : Plain} {F : Facts} {H : Hierarchy} {W : Plain} (K : Known (untagge
         rest = same_defaults (types_of k.locals) (types_of p.new.locals) locals;
         plain = defaults_plain (types_of k.locals);
         ends = result_ends (R.row_type (result_in k.slot m)) k.result ∙ ap (λ z. option_map_or default_of z Nothing) (sym p.types.result);
-        code = twin_body twin xs.0 code.written xs.1 (subst (λ g. TypedSts P g (bare_sts xs.0)) (same_env m k)
-            (typed.methods m (untag_method k) at (bare_sts xs.0) (ap untag_body xs.1)))
-            ((K.old.methods m (untag_method k) at).code (bare_sts xs.0) (ap untag_body xs.1))
-            (subst (λ z. MatchesSts P W R (env_of m k) z code.written) xs.2
-            (subst (λ z. MatchesSts P W R z code.code code.written) (same_env m k) code.matches));
+        code = twin_body twin code.code code.written code.old_code (typed.methods m k p.stands code.code code.old_code)
+            ((K.old.methods m k p.stands).code code.code code.old_code) code.matches;
       }))
 
   -- a field that objects of a creation keep is offered where they stand
@@ -291,7 +277,7 @@ module _ {Q : Plain} {F : Facts} {H : Hierarchy} {W : Plain} (K : Known (untagge
     offers : Offers K node (column.Fld f)
 
   kept : (o : Option ℕ) (f : ℕ) → has K t o f ≡ true → IsKept o f
-  kept o f h = let s = some_test (site_in (numbers P Q) o)
+  kept o f h = let s = some_test (site_in (numbers P) o)
       (λ s. has_in K t s f) h in record { node = node_of K t s.0; offers = has_offered K t pt A O S B table none s.0 f s.2 }
 
   kept_apart : (o : Option ℕ) (f g : ℕ) → has K t o f ≡ true → has K t o g ≡ true → new_field K t f ≡ new_field K t g → f ≡ g
@@ -334,8 +320,8 @@ module _ {Q : Plain} {F : Facts} {H : Hierarchy} {W : Plain} (K : Known (untagge
   -- the languages of the two programs are twins
   twins : AreTwins L M link Made Pair
   twins = record {
-    sees = λ p v h e. seen_of P Q F (solved pt) (spot_set P Q F (solved pt) p) v h e;
-    sees_all = λ b vs h e i v d. all_of P Q F (solved pt) b 0 vs h e i i (from_nothing i) v d;
+    sees = λ p v h e. seen_of P F (solved pt) (spot_set P F (solved pt) p) v h e;
+    sees_all = λ b vs h e i v d. all_of P F (solved pt) b 0 vs h e i i (from_nothing i) v d;
     passes = λ p v h. refl;
     passes_all = λ b vs h. refl;
     words = words_made K t;

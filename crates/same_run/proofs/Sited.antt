@@ -30,9 +30,7 @@ use Rattle.flow_rules.specs.declared.items.ColumnItem.TheVariants as column
 use Rattle.flow_rules.specs.Operands.{object_of, object_in}
 use Rattle.flow_rules.specs.Lists.{point_at, site_in}
 use Rattle.flow_rules.specs.Facts.{numbers}
-use Rattle.facts_order.proofs.Pairs.{IsPlaced}
 use Rattle.run_cover.specs.Covers.{point_sites, at_point, solved, passes}
-use Rattle.java_core.specs.Untagged.{untagged}
 use Rattle.run_cover.proofs.Kinded.{site_type}
 use Rattle.rebuild_looks.specs.Known.{Known, Offers, sides}
 use Rattle.rebuild_types.specs.Laws.{IsReady}
@@ -60,16 +58,12 @@ class_free P (Class c) d t e = absurd (cc)
 pub free_apart : (P : Plain) (s : Ty) (t : ObjectType) → object_of s ≡ None → is_subtype P s (type_at t) ≡ false
 free_apart P s t e = and_right (s.dim == t.dim) (is_sub_base P s.base (Class t.class)) (class_free P s.base s.dim t e)
 
--- what a program is rebuilt from: it is placed, it is ready with its facts, their sets and their table, and the hierarchy is that of the table
-pub record IsGiven (Q : Plain) (F : Facts) (H : Hierarchy) (pt : PointsTo) (t : Table) : Type 0 where
-  pub placed : IsPlaced (untagged Q) Q
-  pub ready : IsReady (untagged Q) Q F pt t H
+-- what a program is rebuilt from: it is ready with its facts, their sets and their table, and the hierarchy is that of the table
+pub record IsGiven (P : Plain) (F : Facts) (H : Hierarchy) (pt : PointsTo) (t : Table) : Type 0 where
+  pub ready : IsReady P F pt t H
   pub table : H.table ≡ t.rows.items
 
-module _ {Q : Plain} {F : Facts} {H : Hierarchy} {W : Plain} (K : Known (untagged Q) Q F H W) (t : Table) where
-  abbrev P : Plain
-  P = untagged Q
-
+module _ {P : Plain} {F : Facts} {H : Hierarchy} {W : Plain} (K : Known P F H W) (t : Table) where
   open sides K use {places as T, renaming as R}
 
   -- the node of a site
@@ -78,23 +72,23 @@ module _ {Q : Plain} {F : Facts} {H : Hierarchy} {W : Plain} (K : Known (untagge
 
   -- what a creation makes: of its site's type, over the class of the site's node; what has no class is the same
   pub record MadeAs (o : Option ℕ) (k l : Kind) : Type 0 where
-    pub sited : (s : ℕ) → site_in (numbers P Q) o ≡ Some s
+    pub sited : (s : ℕ) → site_in (numbers P) o ≡ Some s
         → (own_type k ≡ type_at (site_type F s)) × (own_type l ≡ type_over (T.type_of (node_of s)) (site_type F s))
-    pub free : site_in (numbers P Q) o ≡ None → (object_of (own_type k) ≡ None) × (l ≡ k)
+    pub free : site_in (numbers P) o ≡ None → (object_of (own_type k) ≡ None) × (l ≡ k)
 
   -- the fields that the row of a site has
   abbrev pub has_in : ℕ → ℕ → Bool
-  has_in s f = option_map_or (λ c. bit (bits t.rows.items (site_row F s)) c) ((numbers P Q).column (column.Fld f)) false
+  has_in s f = option_map_or (λ c. bit (bits t.rows.items (site_row F s)) c) ((numbers P).column (column.Fld f)) false
 
   abbrev pub has : Option ℕ → ℕ → Bool
-  has o f = option_map_or (λ s. has_in s f) (site_in (numbers P Q) o) false
+  has o f = option_map_or (λ s. has_in s f) (site_in (numbers P) o) false
 
   -- the new number of a field: found where it stands
   abbrev pub found_at : ℕ → ℕ → ℕ
   found_at n f = unwrap_or (member_field W (T.type_of n) (R.field_name f)) 0
 
   unfoldable pub new_field : ℕ → ℕ
-  new_field f = option_map_or (λ c. option_map_or (λ (p : NodeId). found_at p.0 f) (place_of_column H c) 0) ((numbers P Q).column (column.Fld f)) 0
+  new_field f = option_map_or (λ c. option_map_or (λ (p : NodeId). found_at p.0 f) (place_of_column H c) 0) ((numbers P).column (column.Fld f)) 0
 
   pub new_field_is : (f n : ℕ) (o : Offers K n (column.Fld f)) → new_field f ≡ (fields.new_field K f o.node o.stands).0
   unfolding new_field
@@ -115,25 +109,25 @@ module _ {Q : Plain} {F : Facts} {H : Hierarchy} {W : Plain} (K : Known (untagge
     -- a field that a site's row has is offered at the site's node
     pub has_offered : (s f : ℕ) → has_in s f ≡ true → Offers K (node_of s) (column.Fld f)
     has_offered s f e =
-        let c = some_test ((numbers P Q).column (column.Fld f)) (λ c. bit (bits t.rows.items (site_row F s)) c) e in
+        let c = some_test ((numbers P).column (column.Fld f)) (λ c. bit (bits t.rows.items (site_row F s)) c) e in
         needed.offers_item K (node_of s) c.0 (column.Fld f) c.1 ((half F pt t A O S B H table none).offered (site_row F s) c.0 c.2)
 
     -- a site that an operand meets is at a point of the operand's row
     pub record IsMet (b : Operand) (s : ℕ) : Type 0 where
       pub point : ℕ
-      pub point_is : point_at (numbers P Q) b ≡ Some point
+      pub point_is : point_at (numbers P) b ≡ Some point
       pub held : bit (bits pt.points.items point) s ≡ true
 
-    pub met_at : (b : Operand) (s : ℕ) → point_sites P Q F (solved pt) b s ≡ true → IsMet b s
-    met_at b s e = go (point_at (numbers P Q) b) refl e
+    pub met_at : (b : Operand) (s : ℕ) → point_sites P F (solved pt) b s ≡ true → IsMet b s
+    met_at b s e = go (point_at (numbers P) b) refl e
       where
-        go : (o : Option ℕ) → point_at (numbers P Q) b ≡ o → at_point P Q F (solved pt) o s ≡ true → IsMet b s
+        go : (o : Option ℕ) → point_at (numbers P) b ≡ o → at_point P F (solved pt) o s ≡ true → IsMet b s
         go None d e = absurd (false≢true e)
         go (Some q) d e = record { point = q; point_is = d; held = e }
 
-    pub met_passing : (b : Operand) (o : Option ℕ) (s : ℕ) → site_in (numbers P Q) o ≡ Some s
-        → passes (point_sites P Q F (solved pt) b) (site_in (numbers P Q) o) ≡ true → IsMet b s
-    met_passing b o s e q = met_at b s (subst (λ z. passes (point_sites P Q F (solved pt) b) z ≡ true) e q)
+    pub met_passing : (b : Operand) (o : Option ℕ) (s : ℕ) → site_in (numbers P) o ≡ Some s
+        → passes (point_sites P F (solved pt) b) (site_in (numbers P) o) ≡ true → IsMet b s
+    met_passing b o s e q = met_at b s (subst (λ z. passes (point_sites P F (solved pt) b) z ≡ true) e q)
 
     -- so it is in the set of the row
     pub in_row : (q s : ℕ) → q < length F.points.items → bit (bits pt.points.items q) s ≡ true → bit (bits pt.rows.items (point_row F q)) s ≡ true

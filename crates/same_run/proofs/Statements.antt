@@ -4,16 +4,15 @@ use Rattle.std.specs.Prelude.{Bool, true, false, Contains}
 use Rattle.std.proofs.lemmas.Option.{same_Some}
 use Rattle.kaba_base.specs.declared.Place.{Place}
 use Rattle.java_core.specs.Trees.{Ex, Target, to_local, to_static, to_own, to_field, to_element, no_target, St, Sts, Arms, declare, block, assign, act, print, choose, loop, return, break, continue, no_st, st_then, no_other, otherwise, arm}
-use Rattle.java_core.specs.Programs.{Plain}
 use Rattle.java_core.specs.Types.{field_type, fits_in, target_type}
 use Rattle.java_core.specs.Typing.{TypedTarget, TypedTest, TypedSt, TypedSts, TypedArms, t_to_field, t_to_element, t_test, t_declare_as, t_block, t_assign, t_act, t_print, t_choose, t_loop, t_return, t_st_then, t_otherwise, t_arm}
 use Rattle.java_core.specs.Formed.{FormedTarget, FormedOption, FormedSt, FormedSts, FormedArms, numbers_below, f_to_own, f_to_field, f_to_element, f_some, f_declare, f_block, f_assign, f_act, f_print, f_choose, f_loop, f_return, f_st_then, f_otherwise, f_arm}
-use Rattle.java_core.specs.Untagged.{bare_if, bare_target, bare_st, bare_sts, bare_arms, untag_method, untagged}
 use Rattle.java_meaning.specs.Paired.{pair_none, pair_some, pair_declare, pair_block, pair_assign, pair_act, pair_print, pair_choose, pair_loop, pair_return, pair_break, pair_continue, pair_no_st, pair_st_then, pair_no_other, pair_otherwise, pair_arm}
 use Rattle.flow_rules.specs.Labels.{label_sts}
 use Rattle.flow_rules.specs.Operands.{object_field, this_operand, type_in}
 use Rattle.flow_rules.specs.Parts.{a_store, an_element_store, is_accessed, parts_if, parts_assign, parts_st, parts_arms, parts_body, parts_of}
-use Rattle.run_cover.proofs.Untagging.{unlabel_sts}
+use Rattle.run_cover.proofs.Labelled.{sts_same, typed_sts_same, formed_sts_same}
+use Rattle.rebuild_model.proofs.Retagging.{matches_sts}
 use Rattle.rebuild_model.specs.Matches.{MatchesIf, MatchesTarget, MatchesSt, MatchesSts, MatchesArms, m_to_local, m_to_static, m_to_own, m_to_field, m_to_element}
 use Rattle.rebuild_types.proofs.Walk.{copying}
 use Rattle.twin_runs.specs.Twins.{SameIf, SameTarget, SameSt, SameSts, SameArms}
@@ -26,24 +25,19 @@ use Rattle.run_cover.proofs.Each.{left, right}
 
 module _ (A : TwinBody) where
   open A use {body as B, written as W, renaming as R, Made, Pair, env as h, tie}
-  open B use {program as Q, number as m, method as k}
+  open B use {program as P, number as m, method as k}
   open copying B W R use {IsCopy}
   open twin_words A use {lang as L, written as M, link as K, Twin}
-
-  abbrev P : Plain
-  P = untagged Q
-
   open walked P m k use {env as g, type, operand as O, tree, Stands, IsTyped, IsFormed as IsFormedEx, static as old, tree_if as if_there, tree_sts as sts}
 
-  twin_if : (sc : List ℕ) (e d : Option Ex) → ((x : Ex) → e ≡ Some x → IsTyped x) → FormedOption P (untag_method k) sc (bare_if e)
-      → Stands (parts_if P (type_in P m k) m k e) → MatchesIf P W R g (bare_if e) d → SameIf L M K Made Pair g h e d
+  twin_if : (sc : List ℕ) (e d : Option Ex) → ((x : Ex) → e ≡ Some x → IsTyped x) → FormedOption P k sc e
+      → Stands (parts_if P (type_in P m k) m k e) → MatchesIf P W R g e d → SameIf L M K Made Pair g h e d
   twin_if sc None d ty fo st pair_none = pair_none
   twin_if sc (Some e) d ty (f_some fe) st (pair_some {d = c} me) = pair_some (walk.twin A false sc e c (ty e refl) fe st me)
 
-  assigned : (sc : List ℕ) (p : Place) (b c : Target) (e d : Ex) → TypedTarget P g (bare_target b) → IsTyped e
-      → fits_in P (old e) (target_type P g (bare_target b)) ≡ true → FormedTarget P (untag_method k) sc (bare_target b) → IsFormedEx sc e
-      → Stands (parts_assign P (type_in P m k) m k p b e) → MatchesTarget P W R g (bare_target b) c → IsCopy e d
-      → SameTarget L M K Made Pair g h e b c × Twin e d
+  assigned : (sc : List ℕ) (p : Place) (b c : Target) (e d : Ex) → TypedTarget P g b → IsTyped e
+      → fits_in P (old e) (target_type P g b) ≡ true → FormedTarget P k sc b → IsFormedEx sc e
+      → Stands (parts_assign P (type_in P m k) m k p b e) → MatchesTarget P W R g b c → IsCopy e d → SameTarget L M K Made Pair g h e b c × Twin e d
   assigned sc p (to_local t i) c e d tb te fit fb fe st m_to_local me = (same_to_local, walk.twin A false sc e d te fe (left (tree false e) _ st) me)
   assigned sc p (to_static t f) c e d tb te fit fb fe st (m_to_static {h = n} s) me =
       (same_to_static (tie.statics.fields f n s), walk.twin A false sc e d te fe (left (tree false e) _ st) me)
@@ -75,14 +69,13 @@ module _ (A : TwinBody) where
       )
   assigned sc p no_target c e d tb te fit fb fe st mb me = elim tb [ ]
 
-  test_typed : (e : Option Ex) → TypedTest P g (bare_if e) → (x : Ex) → e ≡ Some x → IsTyped x
+  test_typed : (e : Option Ex) → TypedTest P g e → (x : Ex) → e ≡ Some x → IsTyped x
   test_typed None ty x q = absurd (cc)
   test_typed (Some e) (t_test te b) x q = subst (λ z. IsTyped z) (same_Some e x q) te
 
   mutual
-    twin_st : (l : Bool) (sc : List ℕ) (x y : St) → TypedSt P g (bare_st x) → FormedSt P (untag_method k) l sc (bare_st x)
-        → Stands (parts_st P (type_in P m k) m k x) → MatchesSt P W R g (bare_st x) y
-        → SameSt L M K Made Pair g h x y
+    twin_st : (l : Bool) (sc : List ℕ) (x y : St) → TypedSt P g x → FormedSt P k l sc x
+        → Stands (parts_st P (type_in P m k) m k x) → MatchesSt P W R g x y → SameSt L M K Made Pair g h x y
     twin_st l sc (declare t i None) y ty fo st (pair_declare pair_none) = pair_declare pair_none
     twin_st l sc (declare t i (Some e)) y (t_declare_as te fit) (f_declare new (f_some fe)) st (pair_declare (pair_some {d = d} me)) =
         pair_declare (pair_some (walk.twin A false (i ∷ sc) e d te fe (left (tree false e) _ st) me))
@@ -106,16 +99,15 @@ module _ (A : TwinBody) where
     twin_st l sc (break t) y ty fo st pair_break = pair_break
     twin_st l sc (continue t) y ty fo st pair_continue = pair_continue
 
-    twin_sts : (l : Bool) (sc : List ℕ) (xs ys : Sts) → TypedSts P g (bare_sts xs) → FormedSts P (untag_method k) l sc (bare_sts xs) → Stands (sts xs)
-        → MatchesSts P W R g (bare_sts xs) ys → SameSts L M K Made Pair g h xs ys
+    twin_sts : (l : Bool) (sc : List ℕ) (xs ys : Sts) → TypedSts P g xs → FormedSts P k l sc xs → Stands (sts xs)
+        → MatchesSts P W R g xs ys → SameSts L M K Made Pair g h xs ys
     twin_sts l sc no_st ys ty fo st pair_no_st = pair_no_st
     twin_sts l sc (st_then x xs) ys (t_st_then tx txs) (f_st_then fx fxs) st (pair_st_then {y = y} {ys = zs} mx mxs) =
         pair_st_then (twin_st l sc x y tx fx (left (parts_st P (type_in P m k) m k x) (sts xs) st) mx)
         (twin_sts l _ xs zs txs fxs (right (parts_st P (type_in P m k) m k x) (sts xs) st) mxs)
 
-    twin_arms : (l : Bool) (sc : List ℕ) (xs ys : Arms) → TypedArms P g (bare_arms xs) → FormedArms P (untag_method k) l sc (bare_arms xs)
-        → Stands (parts_arms P (type_in P m k) m k xs) → MatchesArms P W R g (bare_arms xs) ys
-        → SameArms L M K Made Pair g h xs ys
+    twin_arms : (l : Bool) (sc : List ℕ) (xs ys : Arms) → TypedArms P g xs → FormedArms P k l sc xs
+        → Stands (parts_arms P (type_in P m k) m k xs) → MatchesArms P W R g xs ys → SameArms L M K Made Pair g h xs ys
     twin_arms l sc no_other ys ty fo st pair_no_other = pair_no_other
     twin_arms l sc (otherwise xs) ys (t_otherwise ty) (f_otherwise fo) st (pair_otherwise {ys = zs} mx) = pair_otherwise (twin_sts l sc xs zs ty fo st mx)
     twin_arms l sc (arm e xs more) ys (t_arm te b txs tm) (f_arm fe fxs fm) st (pair_arm {d = d} {ys = zs} {b = rest} me mx mm) =
@@ -124,11 +116,10 @@ module _ (A : TwinBody) where
         (twin_arms l sc more rest tm fm (right (tree false e ++ sts xs) (parts_arms P (type_in P m k) m k more) st) mm)
 
   -- the copy of a typed body is its twin
-  pub twin_body : (xs ys : Sts) → k.body ≡ Some xs → TypedSts P g (bare_sts xs)
-      → FormedSts P (untag_method k) false (numbers_below (length (untag_method k).params)) (bare_sts xs) → MatchesSts P W R g (bare_sts xs) ys
-      → SameSts L M K Made Pair g h (label_sts 0 xs) ys
+  pub twin_body : (xs ys : Sts) → k.body ≡ Some xs → TypedSts P g xs
+      → FormedSts P k false (numbers_below (length k.params)) xs → MatchesSts P W R g xs ys → SameSts L M K Made Pair g h (label_sts 0 xs) ys
   unfolding parts_of
   twin_body xs ys e ty fo ms =
-      twin_sts false (numbers_below (length (untag_method k).params)) (label_sts 0 xs) ys (subst (λ z. TypedSts P g z) (sym (unlabel_sts 0 xs)) ty)
-      (subst (λ z. FormedSts P (untag_method k) false (numbers_below (length (untag_method k).params)) z) (sym (unlabel_sts 0 xs)) fo)
-      (λ q d. subst (λ z. Contains (parts_body P (type_in P m k) m k z) q) (sym e) d) (subst (λ z. MatchesSts P W R g z ys) (sym (unlabel_sts 0 xs)) ms)
+      twin_sts false (numbers_below (length k.params)) (label_sts 0 xs) ys (typed_sts_same P g (sts_same 0 xs) ty)
+      (formed_sts_same P k (sts_same 0 xs) fo)
+      (λ q d. subst (λ z. Contains (parts_body P (type_in P m k) m k z) q) (sym e) d) (matches_sts P W R g (sts_same 0 xs) ms)

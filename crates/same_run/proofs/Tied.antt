@@ -44,15 +44,12 @@ use Rattle.flow_rules.specs.Parts.{Part, a_call, a_super_call, parts_of}
 use Rattle.flow_rules.specs.Lists.{Placed, PlainCall, both, accessed, point_at, row_at, site_in, accesses_of, calls_of, supers_of}
 use Rattle.flow_rules.specs.Facts.{numbers, call_seen, gathered, IsFactsOf}
 use Rattle.run_cover.specs.Covers.{solved, labelled_with, labelled_body}
-use Rattle.java_core.specs.Untagged.{untag_method, untagged}
 use Rattle.run_cover.proofs.Bodies.{finds_some}
 use Rattle.run_cover.proofs.Found.{same_length}
-use Rattle.run_cover.proofs.HasRows.{method_of, of_field}
 use Rattle.run_cover.proofs.Kinded.{site_type}
 use Rattle.flow_rules.proofs.Listed.{one, map_has, map_from, place_has}
 use Rattle.run_cover.proofs.HasNumbers.{field_column}
 use Rattle.facts_order.proofs.Columns.{body_column}
-use Rattle.facts_order.proofs.Pairs.{IsPlaced}
 use Rattle.facts_order.proofs.Tests.{gathered_has}
 use Rattle.rebuild_model.specs.Members.{HasTypes, HasCode, StandsAt}
 use Rattle.rebuild_looks.specs.Known.{Known, Offers, sides}
@@ -74,16 +71,13 @@ class_number Boolean = 0
 class_number Char = 0
 class_number Str = 0
 
-module _ {Q : Plain} {F : Facts} {H : Hierarchy} {W : Plain} (K : Known (untagged Q) Q F H W) (placed : IsPlaced (untagged Q) Q)
-    (facts : IsFactsOf (untagged Q) Q F) (pt : PointsTo) (t : Table)
+module _ {P : Plain} {F : Facts} {H : Hierarchy} {W : Plain} (K : Known P F H W)
+    (facts : IsFactsOf P F) (pt : PointsTo) (t : Table)
     (A : InRange F) (O : InOrder F) (S : AreSets F pt) (B : IsTable F t) (table : H.table ≡ t.rows.items) (none : first_broken F pt H ≡ None) where
-  abbrev P : Plain
-  P = untagged Q
-
   open sides K use {places as T, renaming as R}
 
   abbrev C : Option RowItem → Option ℕ
-  C i = new_class P Q W R i
+  C i = new_class P W R i
 
   abbrev Made : Option ℕ → Kind → Kind → Type 0
   Made o k l = MadeAs K t o k l
@@ -92,25 +86,25 @@ module _ {Q : Plain} {F : Facts} {H : Hierarchy} {W : Plain} (K : Known (untagge
   pub record IsCopyOf (b c : Body) : Type 0 where
     pub number : ℕ
     pub method : PlainMethod
-    pub stands : slice_get Q.methods number ≡ Some method
-    pub old_body : labelled_with P Q F (solved pt) number method ≡ Some b
+    pub stands : slice_get P.methods number ≡ Some method
+    pub old_body : labelled_with P F (solved pt) number method ≡ Some b
     pub copy : ℕ
     pub new : PlainMethod
     pub new_stands : slice_get W.methods copy ≡ Some new
     pub new_body : body_of W copy ≡ Some c
-    pub types : HasTypes R number (untag_method method) new
-    pub code : HasCode P W R number (untag_method method) new
-    pub self : method.is_static ≡ false → (n : ℕ) × StandsAt P Q F H W T (column.Def number) n × (new.owner ≡ T.type_of n)
+    pub types : HasTypes R number method new
+    pub code : HasCode P W R number method new
+    pub self : method.is_static ≡ false → (n : ℕ) × StandsAt P F H W T (column.Def number) n × (new.owner ≡ T.type_of n)
 
   -- an object has a site, and its classes are those of the site
   record IsSited (o : Option ℕ) (c k : ℕ) : Type 0 where
     site : ℕ
-    is : site_in (numbers P Q) o ≡ Some site
+    is : site_in (numbers P) o ≡ Some site
     old : c ≡ site_class F site
     new : k ≡ T.type_of (node_of K t site)
 
   sited : (o : Option ℕ) (c k : ℕ) → Made o (an_object c) (an_object k) → IsSited o c k
-  sited o c k made = go (site_in (numbers P Q) o) refl
+  sited o c k made = go (site_in (numbers P) o) refl
     where
       class_is : (a b : ℕ) (x : ObjectType) → class_type a ≡ type_over b x → a ≡ b
       class_is a b x e = ap (λ z. class_number z.base) e
@@ -118,7 +112,7 @@ module _ {Q : Plain} {F : Facts} {H : Hierarchy} {W : Plain} (K : Known (untagge
       old_is : (a : ℕ) (x : ObjectType) → class_type a ≡ type_at x → a ≡ x.class.0
       old_is a x e = ap (λ z. class_number z.base) e
 
-      go : (z : Option ℕ) → site_in (numbers P Q) o ≡ z → IsSited o c k
+      go : (z : Option ℕ) → site_in (numbers P) o ≡ z → IsSited o c k
       go None e = absurd (let z = (made.free e).0 in cc)
       go (Some s) e =
           let z = made.sited s e in record
@@ -138,22 +132,21 @@ module _ {Q : Plain} {F : Facts} {H : Hierarchy} {W : Plain} (K : Known (untagge
     Pair b c = IsCopyOf b c
 
     abbrev HasField : Operand → ℕ → Type 0
-    HasField b f = FieldTied Q W F (solved pt) R (has K t) (new_field K t) new_static Made Pair b f
+    HasField b f = FieldTied P W F (solved pt) R (has K t) (new_field K t) new_static Made Pair b f
 
     abbrev At : Operand → Type 0
-    At b = ties.IsAt Q W F (solved pt) R (has K t) (new_field K t) new_static Made Pair b
+    At b = ties.IsAt P W F (solved pt) R (has K t) (new_field K t) new_static Made Pair b
 
     pub field_tied : (b : Operand) (f : ℕ)
-        → ((x : AccessInfo) → Contains (accessed (row_at (numbers P Q) b) ((numbers P Q).column (column.Fld f))) x → Contains F.accesses.items x) → At b
+        → ((x : AccessInfo) → Contains (accessed (row_at (numbers P) b) ((numbers P).column (column.Fld f))) x → Contains F.accesses.items x) → At b
         → (w : PlainField) → slice_get P.fields f ≡ Some w → w.is_static ≡ false
         → HasField b f
     unfolding numbers
     field_tied b f into here w stands instance =
-        let k = of_field Q K.old f w stands in
-        let l = field_column P Q f k.0 k.1 (ap (λ z. z.is_static) k.2 ∙ instance) in
-        let entry : (r : ℕ) → row_at (numbers P Q) b ≡ Some r → bit (bits t.rows.items r) l.0 ≡ true = λ r e.
+        let l = field_column P f w stands instance in
+        let entry : (r : ℕ) → row_at (numbers P) b ≡ Some r → bit (bits t.rows.items r) l.0 ≡ true = λ r e.
         let x : AccessInfo = record { row = record { 0 = r }; column = record { 0 = l.0 } } in
-        access_entry F t B x (into x (subst (λ z. Contains (accessed z ((numbers P Q).column (column.Fld f))) x) (sym e)
+        access_entry F t B x (into x (subst (λ z. Contains (accessed z ((numbers P).column (column.Fld f))) x) (sym e)
         (subst (λ z. Contains (accessed (Some r) z) x) (sym l.1) (one x)))) in
         record {
           new = λ c hc.
@@ -171,15 +164,15 @@ module _ {Q : Plain} {F : Facts} {H : Hierarchy} {W : Plain} (K : Known (untagge
         }
 
     abbrev HasCopy : Body → Option Body → Type 0
-    HasCopy b q = ties.Paired Q W F (solved pt) R (has K t) (new_field K t) new_static Made Pair b q
+    HasCopy b q = ties.Paired P W F (solved pt) R (has K t) (new_field K t) new_static Made Pair b q
 
     -- the copy of a body that stands at a node
-    copied : (d : ℕ) (method : PlainMethod) (n : ℕ) (st : StandsAt P Q F H W T (column.Def d) n) → slice_get Q.methods d ≡ Some method → (x : Body)
-        → labelled_with P Q F (solved pt) d method ≡ Some x → (q : Option Body) → q ≡ body_of W (new_body K d n st).0 → HasCopy x q
+    copied : (d : ℕ) (method : PlainMethod) (n : ℕ) (st : StandsAt P F H W T (column.Def d) n) → slice_get P.methods d ≡ Some method → (x : Body)
+        → labelled_with P F (solved pt) d method ≡ Some x → (q : Option Body) → q ≡ body_of W (new_body K d n st).0 → HasCopy x q
     copied d method n st e x ex q eq =
         let g = (new_body K d n st).1 in
         let is = body_is (new_body K d n st).0 g.method g.is.code.written g.stands g.is.code.new_code in
-        let same : g.is.old ≡ untag_method method = same_Some g.is.old (untag_method method) (sym g.is.old_stands ∙ method_of Q K.old d method e) in
+        let same : g.is.old ≡ method = same_Some g.is.old method (sym g.is.old_stands ∙ e) in
         record {
           body = body_with (new_body K d n st).0 g.method g.is.code.written;
           found = eq ∙ is;
@@ -198,32 +191,32 @@ module _ {Q : Plain} {F : Facts} {H : Hierarchy} {W : Plain} (K : Known (untagge
           };
         }
 
-    module _ (m : ℕ) (k : PlainMethod) (stands : slice_get Q.methods m ≡ Some k) where
+    module _ (m : ℕ) (k : PlainMethod) (stands : slice_get P.methods m ≡ Some k) where
       abbrev InBody : Part → Type 0
       InBody p = Contains (parts_of P m k) p
 
-      pub access_of : (p : Part) → InBody p → (x : AccessInfo) → Contains (accesses_of (numbers P Q) p) x → Contains F.accesses.items x
-      access_of p c x d = (facts.accesses x).1 (gathered_has P Q (λ b. accesses_of (numbers P Q)) x m k p stands c d)
+      pub access_of : (p : Part) → InBody p → (x : AccessInfo) → Contains (accesses_of (numbers P) p) x → Contains F.accesses.items x
+      access_of p c x d = (facts.accesses x).1 (gathered_has P (λ b. accesses_of (numbers P)) x m k p stands c d)
 
-      super_of_part : (p : Part) → InBody p → (x : SuperInfo) → Contains (supers_of (numbers P Q) m p) x → Contains F.supers.items x
-      super_of_part p c x d = (facts.supers x).1 (gathered_has P Q (λ b. supers_of (numbers P Q) b.number) x m k p stands c d)
+      super_of_part : (p : Part) → InBody p → (x : SuperInfo) → Contains (supers_of (numbers P) m p) x → Contains F.supers.items x
+      super_of_part p c x d = (facts.supers x).1 (gathered_has P (λ b. supers_of (numbers P) b.number) x m k p stands c d)
 
-      call_of : (p : Part) → InBody p → (x : Placed PlainCall) → Contains (calls_of (numbers P Q) p) x
+      call_of : (p : Part) → InBody p → (x : Placed PlainCall) → Contains (calls_of (numbers P) p) x
           → (c : CallInfo) × Contains F.calls.items c × (call_seen c ≡ x.item)
       call_of p c x d =
           map_from call_seen F.calls.items x.item (subst (λ z. Contains z x.item) (sym facts.calls)
-          (map_has (λ y. y.item) (by_place (λ y. y.place.at) (gathered P Q (λ b. calls_of (numbers P Q)))) x
-          (place_has (λ y. y.place.at) (gathered P Q (λ b. calls_of (numbers P Q))) x (gathered_has P Q (λ b. calls_of (numbers P Q)) x m k p stands c d))))
+          (map_has (λ y. y.item) (by_place (λ y. y.place.at) (gathered P (λ b. calls_of (numbers P)))) x
+          (place_has (λ y. y.place.at) (gathered P (λ b. calls_of (numbers P))) x (gathered_has P (λ b. calls_of (numbers P)) x m k p stands c d))))
 
       -- a site at the receiver of a call is called
       called_there : (w : Place) (b : Operand) (s : ℕ) (d : Option ℕ) (es : List Operand) (o : Operand) → InBody (a_call w b (Some s) d es o) → (q i : ℕ)
-          → point_at (numbers P Q) b ≡ Some q → bit (bits pt.points.items q) i ≡ true → is_called F pt i s ≡ true
+          → point_at (numbers P) b ≡ Some q → bit (bits pt.points.items q) i ≡ true → is_called F pt i s ≡ true
       called_there w b s d es o c q i e held =
           let x : Placed PlainCall = record
-          { place = w; item = record { receiver = q; slot = s; args = map (point_at (numbers P Q)) es; result = point_at (numbers P Q) o } } in
+          { place = w; item = record { receiver = q; slot = s; args = map (point_at (numbers P)) es; result = point_at (numbers P) o } } in
           let y = call_of (a_call w b (Some s) d es o) c x
           (subst (λ z. Contains (option_map_or
-          (λ r. record { place = w; item = record { receiver = r; slot = s; args = map (point_at (numbers P Q)) es; result = point_at (numbers P Q) o } } ∷
+          (λ r. record { place = w; item = record { receiver = r; slot = s; args = map (point_at (numbers P)) es; result = point_at (numbers P) o } } ∷
           []) z []) x) (sym e) (one x)) in
           list_any-from_Any (λ (z : CallInfo). bit (bits pt.points.items z.receiver) i && (z.slot == s)) F.calls.items (
             y.1.0,
@@ -235,7 +228,7 @@ module _ {Q : Plain} {F : Facts} {H : Hierarchy} {W : Plain} (K : Known (untagge
           )
 
       pub call_tied : (w : Place) (b : Operand) (s d : ℕ) (es : List Operand) (o : Operand) → InBody (a_call w b (Some s) (Some d) es o)
-          → HasSlot P Q W R b s d → At b → CallTied Q W F (solved pt) R (has K t) (new_field K t) new_static Made Pair b s d
+          → HasSlot P W R b s d → At b → CallTied P W F (solved pt) R (has K t) (new_field K t) new_static Made Pair b s d
       unfolding labelled_body lookup numbers
       call_tied w b s d es o c slot here = record {
         bodies = λ i v old new x of hv made ex may.
@@ -248,10 +241,10 @@ module _ {Q : Plain} {F : Facts} {H : Hierarchy} {W : Plain} (K : Known (untagge
             let number_is : point_row F m.point ≡ a.number = same_Some (point_row F m.point) a.number (sym row_is.0 ∙ row_in_is K b.row v a) in
             let le = subst (λ z. is_le H.order (node_of K t at.site) (place_of_row H z) ≡ true) number_is
             (below_row K t pt A O S B table none m.point at.site row_is.1 m.held) in
-            let found = then_some (labelled_body P Q F (solved pt)) (lookup P old s) x ex in
-            let body = then_some (labelled_with P Q F (solved pt) found.0) (slice_get Q.methods found.0) x found.2 in
-            let f = finds_some Q F K.old facts (length P.classes) (site_class F at.site) s found.0 (ap (λ z. lookup P z s) (sym at.old) ∙ found.1) in
-            let finds_it : finds F (site_class F at.site) s ≡ Some f.0 = ap (λ z. finds_within F z (site_class F at.site) s) (same_length Q F facts) ∙ f.1 in
+            let found = then_some (labelled_body P F (solved pt)) (lookup P old s) x ex in
+            let body = then_some (labelled_with P F (solved pt) found.0) (slice_get P.methods found.0) x found.2 in
+            let f = finds_some P F K.old facts (length P.classes) (site_class F at.site) s found.0 (ap (λ z. lookup P z s) (sym at.old) ∙ found.1) in
+            let finds_it : finds F (site_class F at.site) s ≡ Some f.0 = ap (λ z. finds_within F z (site_class F at.site) s) (same_length P F facts) ∙ f.1 in
             let need = and_from (is_called F pt at.site s) (is_slot (finds F (site_class F at.site) s) f.0)
             (called_there w b s (Some d) es o c m.point at.site m.point_is m.held) (ap (λ z. is_slot z f.0) finds_it ∙ eq-eqb f.0 f.0 refl) in
             let ran = needed_body K pt t A O S B table none at.site s f.0 found.0 need f.2 (place_of_row H a.number) d j le of
@@ -266,16 +259,16 @@ module _ {Q : Plain} {F : Facts} {H : Hierarchy} {W : Plain} (K : Known (untagge
       }
 
       pub super_tied : (w : Place) (d : ℕ) (es : List Operand) (o : Operand) → InBody (a_super_call w (Some d) es o) → (c : ℕ) (x : Body)
-          → R.row_type (row.This m) ≡ Some c → ((f : PlainMethod) → slice_get Q.methods d ≡ Some f → f.is_static ≡ false)
-          → labelled_body P Q F (solved pt) d ≡ Some x → HasCopy x (option_and_then (body_of W) (super_method W c (R.method_name d)))
+          → R.row_type (row.This m) ≡ Some c → ((f : PlainMethod) → slice_get P.methods d ≡ Some f → f.is_static ≡ false)
+          → labelled_body P F (solved pt) d ≡ Some x → HasCopy x (option_and_then (body_of W) (super_method W c (R.method_name d)))
       unfolding labelled_body numbers
       super_tied w d es o i c x self instance ex =
           let a = row_of_class K (Some (row.This m)) c self in
-          let body = then_some (labelled_with P Q F (solved pt) d) (slice_get Q.methods d) x ex in
+          let body = then_some (labelled_with P F (solved pt) d) (slice_get P.methods d) x ex in
           let code = mapped_some _ body.0.body x body.2 in
-          let l = body_column P Q d body.0 body.1 (instance body.0 body.1) (ap is_some code.1) in
+          let l = body_column P d body.0 body.1 (instance body.0 body.1) (ap is_some code.1) in
           let z : SuperInfo = record { row = record { 0 = a.number }; column = record { 0 = l.0 } } in
-          let is = subst (λ v. Contains (both v ((numbers P Q).column (column.Def d)) (λ a b. record { row = record { 0 = a }; column = record { 0 = b } })) z)
+          let is = subst (λ v. Contains (both v ((numbers P).column (column.Def d)) (λ a b. record { row = record { 0 = a }; column = record { 0 = b } })) z)
           (sym (row_in_is K (Some (row.This m)) c a))
           (subst (λ v. Contains (both (Some a.number) v (λ a b. record { row = record { 0 = a }; column = record { 0 = b } })) z) (sym l.1) (one z)) in
           let listed = super_of_part (a_super_call w (Some d) es o) i z is in

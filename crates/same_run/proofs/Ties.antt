@@ -8,7 +8,6 @@ use Rattle.java_core.specs.Trees.{Ex}
 use Rattle.java_core.specs.Types.{Env, env_of, is_subtype, static}
 use Rattle.java_core.specs.Typing.{Typed}
 use Rattle.java_core.specs.Formed.{FormedEx}
-use Rattle.java_core.specs.Untagged.{bare, untag_method, untagged}
 use Rattle.java_meaning.specs.Moment.{Kind, an_object, own_type, Body, Lang}
 use Rattle.java_meaning.specs.Meaning.{element_type}
 use Rattle.java_meaning.specs.Languages.{body_of, language_of}
@@ -39,33 +38,30 @@ abbrev pub type_over : ℕ → ObjectType → Ty
 type_over w t = record { base = Class (record { 0 = w }); dim = t.dim }
 
 -- what ties the old program, watched by sets of sites, and the new one
-module _ (Q W : Plain) (F : Facts) (S : Sets) (R : Renaming) (has : Option ℕ → ℕ → Bool) (new_field new_static : ℕ → ℕ) (Made : Option ℕ → Kind → Kind → Type 0)
+module _ (P W : Plain) (F : Facts) (S : Sets) (R : Renaming) (has : Option ℕ → ℕ → Bool) (new_field new_static : ℕ → ℕ) (Made : Option ℕ → Kind → Kind → Type 0)
     (Pair : Body → Body → Type 0) where
-  abbrev pub P : Plain
-  P = untagged Q
-
   abbrev pub L : Lang
-  L = watched P Q F S
+  L = watched P F S
 
   abbrev pub M : Lang
   M = language_of W
 
   abbrev pub link : Link
-  link = record { may = spot_set P Q F S; has = has; new_field = new_field; is_static = is_static_field P; new_static = new_static }
+  link = record { may = spot_set P F S; has = has; new_field = new_field; is_static = is_static_field P; new_static = new_static }
 
   -- whether an object of a creation may be where an operand is met, and where its value is held
   abbrev pub may_at : Operand → Option ℕ → Bool
-  may_at b o = passes (point_sites P Q F S b) (site_in (numbers P Q) o)
+  may_at b o = passes (point_sites P F S b) (site_in (numbers P) o)
 
   abbrev pub may_held : Operand → Option ℕ → Bool
-  may_held b o = passes (held_sites P Q F S b) (site_in (numbers P Q) o)
+  may_held b o = passes (held_sites P F S b) (site_in (numbers P) o)
 
   abbrev pub class_at : Operand → Option ℕ
-  class_at o = new_class P Q W R o.row
+  class_at o = new_class P W R o.row
 
   -- the row of an operand's point is that of the operand
   abbrev pub IsAt : Operand → Type 0
-  IsAt o = (q : ℕ) → point_at (numbers P Q) o ≡ Some q → (row_at (numbers P Q) o ≡ Some (point_row F q)) × (q < length F.points.items)
+  IsAt o = (q : ℕ) → point_at (numbers P) o ≡ Some q → (row_at (numbers P) o ≡ Some (point_row F q)) × (q < length F.points.items)
 
   -- a field that is read or written of an operand
   pub record FieldTied (b : Operand) (f : ℕ) : Type 0 where
@@ -108,7 +104,7 @@ module _ (Q W : Plain) (F : Facts) (S : Sets) (R : Renaming) (has : Option ℕ �
 
   -- a creation of a site is a point
   abbrev pub IsPointed : Operand → Type 0
-  IsPointed o = (n s : ℕ) → o.created ≡ Some n → (numbers P Q).site n ≡ Some s → (q : ℕ) × (point_at (numbers P Q) o ≡ Some q)
+  IsPointed o = (n s : ℕ) → o.created ≡ Some n → (numbers P).site n ≡ Some s → (q : ℕ) × (point_at (numbers P) o ≡ Some q)
 
   -- a store of an operand into an array
   pub record StoreTied (b o : Operand) : Type 0 where
@@ -122,7 +118,7 @@ module _ (Q W : Plain) (F : Facts) (S : Sets) (R : Renaming) (has : Option ℕ �
   Ties m c (a_creation p u o) = CreationTied o
   Ties m c (a_call p b (Some s) (Some d) es o) = IsAt b → CallTied b s d
   Ties m c (a_super_call p (Some d) es o) = (x : Body) → R.row_type (row.This m) ≡ Some c
-      → ((f : PlainMethod) → slice_get Q.methods d ≡ Some f → f.is_static ≡ false) → labelled_body P Q F S d ≡ Some x
+      → ((f : PlainMethod) → slice_get P.methods d ≡ Some f → f.is_static ≡ false) → labelled_body P F S d ≡ Some x
       → Paired x (option_and_then (body_of W) (super_method W c (R.method_name d)))
   Ties m c (a_test p e o) = TestTied e o
   Ties m c (a_store p b (Some f) o) = FieldTiedIf b f
@@ -136,15 +132,15 @@ module _ (Q W : Plain) (F : Facts) (S : Sets) (R : Renaming) (has : Option ℕ �
 
   -- what the twin of a body rests on: the body m, which is k, and what its copy sees
   pub record BodyTied (m : ℕ) (k : PlainMethod) (h : Env) : Type 0 where
-    pub numbered : (i : RowItem) (r : ℕ) → row_number P Q i ≡ Some r → (c : ℕ) × (R.row_type i ≡ Some c)
+    pub numbered : (i : RowItem) (r : ℕ) → row_number P i ≡ Some r → (c : ℕ) × (R.row_type i ≡ Some c)
     pub statics : StaticsTied
     pub self : k.is_static ≡ false → R.row_type (row.This m) ≡ Some h.self
     -- a copy of an expression has its type, over the class of its row
-    pub copied : (u : Bool) (sc : List ℕ) (e d : Ex) → Typed P (env_of m k) (bare e) → FormedEx P (untag_method k) sc (bare e)
-        → ((p : Part) → Contains (parts P (type_in P m k) m k u e) p → Contains (parts_of P m k) p) → Matches P W R (env_of m k) (bare e) d
-        → static W h d ≡ retyped_static (new_class P Q W R (row_of P (type_in P m k) m k e)) (static P (env_of m k) (bare e))
+    pub copied : (u : Bool) (sc : List ℕ) (e d : Ex) → Typed P (env_of m k) e → FormedEx P k sc e
+        → ((p : Part) → Contains (parts P (type_in P m k) m k u e) p → Contains (parts_of P m k) p) → Matches P W R (env_of m k) e d
+        → static W h d ≡ retyped_static (new_class P W R (row_of P (type_in P m k) m k e)) (static P (env_of m k) e)
     pub at : (u : Bool) (e : Ex) → ((p : Part) → Contains (parts P (type_in P m k) m k u e) p → Contains (parts_of P m k) p)
         → IsAt (operand_of P (type_in P m k) m k e)
     pub at_this : IsAt (this_operand m k)
-    pub kinded : (p : Part) → Contains (parts_of P m k) p → IsKindedPart P Q F m k p
+    pub kinded : (p : Part) → Contains (parts_of P m k) p → IsKindedPart P F m k p
     pub ties : (p : Part) → Contains (parts_of P m k) p → Ties m h.self p

@@ -17,10 +17,8 @@ use Rattle.java_core.specs.Formed.{FormedExs, f_own_field, f_field, f_index, f_c
 use Rattle.java_meaning.specs.Moment.{Kind, own_type, Body, Lang}
 use Rattle.java_meaning.specs.Languages.{language_of}
 use Rattle.java_meaning.specs.Meaning.{is_number_type, names_length, text_method}
-use Rattle.java_core.specs.Untagged.{bare_all, untag_method, untagged}
 use Rattle.java_meaning.proofs.Holds.{some_there}
 use Rattle.java_meaning.proofs.Moves.{then_some, element_class, string_class}
-use Rattle.java_meaning.proofs.WatchedPrograms.{bare_static}
 use Rattle.flow_rules.specs.declared.items.ObjectType.{ObjectType}
 use Rattle.flow_rules.specs.declared.items.Operand.{Operand}
 use Rattle.flow_rules.specs.declared.items.RowItem.{RowItem}
@@ -74,27 +72,23 @@ pub record TwinWords : Type 1 where
 
 module _ (A : TwinBody) where
   open A use {body as B, written as W, renaming as R, sets as S, has, new_field, new_static, Made, Pair, env as h}
-  open B use {program as Q, facts as F, number as m, method as k}
+  open B use {program as P, facts as F, number as m, method as k}
 
   abbrev pub twin_words : TwinWords
   twin_words = record {
-    lang = watched (untagged Q) Q F S;
+    lang = watched P F S;
     written = language_of W;
-    link = tied.link Q W F S R has new_field new_static Made Pair;
-    Twin = Same (watched (untagged Q) Q F S) (language_of W) (tied.link Q W F S R has new_field new_static Made Pair) Made Pair (env_of m k) h;
-    HasField = FieldTied Q W F S R has new_field new_static Made Pair;
-    IsTied = Ties Q W F S R has new_field new_static Made Pair m h.self;
+    link = tied.link P W F S R has new_field new_static Made Pair;
+    Twin = Same (watched P F S) (language_of W) (tied.link P W F S R has new_field new_static Made Pair) Made Pair (env_of m k) h;
+    HasField = FieldTied P W F S R has new_field new_static Made Pair;
+    IsTied = Ties P W F S R has new_field new_static Made Pair m h.self;
   }
 
 module _ (A : TwinBody) where
   open A use {body as B, written as W, renaming as R, sets as S, has, new_field, new_static, Made, Pair, env as h, tie}
-  open B use {program as Q, facts as F, number as m, method as k, stands}
+  open B use {program as P, facts as F, number as m, method as k, stands}
   open copying B W R use {class_at as C, IsCopy}
   open twin_words A use {lang as L, written as M, link as K, Twin, HasField as Field, IsTied as Tied}
-
-  abbrev P : Plain
-  P = untagged Q
-
   open walked P m k use {env as g, type, row_at, operand as O, operands, tree, tree_all, Stands, IsTyped, IsFormed as IsFormedEx, static as old}
 
   pub asked : (p : Part) (qs : List Part) → Stands (p ∷ qs) → Tied p
@@ -106,7 +100,7 @@ module _ (A : TwinBody) where
     pub row_is : C (row_at e) ≡ Some class
     pub new : class_of (static W h d) ≡ Some class
 
-  class_there : (i : Option RowItem) (r : ℕ) → number_if (row_number P Q) i ≡ Some r → (c : ℕ) × (C i ≡ Some c)
+  class_there : (i : Option RowItem) (r : ℕ) → number_if (row_number P) i ≡ Some r → (c : ℕ) × (C i ≡ Some c)
   class_there None r e = absurd (cc)
   class_there (Some i) r e = tie.numbered i r e
 
@@ -127,19 +121,19 @@ module _ (A : TwinBody) where
       }
 
   -- the spots of the watch, by operands
-  operand_is : (e : Ex) → operand_at P Q m e ≡ O e
+  operand_is : (e : Ex) → operand_at P m e ≡ O e
   unfolding operand_at
   operand_is e = ap (λ z. option_map_or (λ k. operand_of P (type_in P m k) m k e) z nothing) stands
 
-  at_operand : (e : Ex) (o : Option ℕ) → passes (point_sites P Q F S (operand_at P Q m e)) (site_in (numbers P Q) o) ≡ true
-      → passes (point_sites P Q F S (O e)) (site_in (numbers P Q) o) ≡ true
-  at_operand e o q = subst (λ z. passes (point_sites P Q F S z) (site_in (numbers P Q) o) ≡ true) (operand_is e) q
+  at_operand : (e : Ex) (o : Option ℕ) → passes (point_sites P F S (operand_at P m e)) (site_in (numbers P) o) ≡ true
+      → passes (point_sites P F S (O e)) (site_in (numbers P) o) ≡ true
+  at_operand e o q = subst (λ z. passes (point_sites P F S z) (site_in (numbers P) o) ≡ true) (operand_is e) q
 
-  held_operand : (e : Ex) (o : Option ℕ) → passes (held_sites P Q F S (operand_at P Q m e)) (site_in (numbers P Q) o) ≡ true
-      → passes (held_sites P Q F S (O e)) (site_in (numbers P Q) o) ≡ true
-  held_operand e o q = subst (λ z. passes (held_sites P Q F S z) (site_in (numbers P Q) o) ≡ true) (operand_is e) q
+  held_operand : (e : Ex) (o : Option ℕ) → passes (held_sites P F S (operand_at P m e)) (site_in (numbers P) o) ≡ true
+      → passes (held_sites P F S (O e)) (site_in (numbers P) o) ≡ true
+  held_operand e o q = subst (λ z. passes (held_sites P F S z) (site_in (numbers P) o) ≡ true) (operand_is e) q
 
-  pub at_spot : (e : Ex) (o : Option ℕ) → K.may (spot_of m e) o ≡ true → passes (held_sites P Q F S (O e)) (site_in (numbers P Q) o) ≡ true
+  pub at_spot : (e : Ex) (o : Option ℕ) → K.may (spot_of m e) o ≡ true → passes (held_sites P F S (O e)) (site_in (numbers P) o) ≡ true
   at_spot (local t i) o q = q
   at_spot (this t) o q = q
   at_spot (static_field t f) o q = q
@@ -155,7 +149,7 @@ module _ (A : TwinBody) where
   unfolding field_in
   field_twin e b x f c l r n tie =
       let same : (y : ℕ) → L.field g e x ≡ Some y
-      → f ≡ y = λ y ey. same_Some f y (sym l ∙ ap (λ z. option_and_then (λ c. member_field P c x) (class_of z)) (bare_static P g e) ∙ ey) in
+      → f ≡ y = λ y ey. same_Some f y (sym l ∙ ey) in
       record {
         new = λ y ey. ap (λ z. option_and_then (λ c. member_field W c (R.field_name f)) z) n ∙ tie.new c r ∙ ap (λ z. Some (new_field z)) (same y ey);
         had = λ y ey o c k made may. subst (λ z. has o z ≡ true) (same y ey) (tie.had o c k made (at_operand e o may));
@@ -175,12 +169,12 @@ module _ (A : TwinBody) where
     where
       none : (f : ℕ) → L.field g e x ≡ Some f → ⊥
       none f ef =
-          let c = typed_parts.field_class B (old e) x f (ap (λ z. field_in P z x) (bare_static P g e) ∙ ef) in
+          let c = typed_parts.field_class B (old e) x f ef in
           false≢true (sym (ap is_some (class_apart (old e) c.0 c.1).0) ∙ array)
 
   -- a field is no length, and the length of an array is one in both
   no_length : (e b : Ex) (x y : List ℕ) (f : ℕ) → field_in P (old e) x ≡ Some f → SameLength L M K Made Pair g h e b x y
-  no_length e b x y f l q = absurd (false≢true (sym (ap (λ z. names_length z x) (ap (λ z. field_in P z x) (sym (bare_static P g e)) ∙ l)) ∙ q))
+  no_length e b x y f l q = absurd (false≢true (sym (ap (λ z. names_length z x) l) ∙ q))
 
   new_classless : (u : Bool) (sc : List ℕ) (e b : Ex) → IsTyped e → IsFormedEx sc e → Stands (tree u e) → IsCopy e b → class_of (old e) ≡ None
       → class_of (static W h b) ≡ None
@@ -195,21 +189,21 @@ module _ (A : TwinBody) where
       named (Some f) q = absurd (false≢true q)
 
   field_tie : (p : Place) (e d : Ex) (x : List ℕ) (f : ℕ) → field_in P (old e) x ≡ Some f → is_some (field_type P f) ≡ true
-      → tied.IsAt Q W F S R has new_field new_static Made Pair (O e) → Tied (a_load p (O e) (object_field P (type e) x) (O d)) → Field (O e) f
+      → tied.IsAt P W F S R has new_field new_static Made Pair (O e) → Tied (a_load p (O e) (object_field P (type e) x) (O d)) → Field (O e) f
   field_tie p e d x f l there here q = let w = found_instance P (old e) x f l there in subst (λ z. Tied (a_load p (O e) z (O d)))
-      (typed_parts.field_found B e x ∙ ap (λ z. field_in P z x) (sym (bare_static P g e)) ∙ l) q here w.0 w.1 w.2
+      (typed_parts.field_found B e x ∙ l) q here w.0 w.1 w.2
 
   pub store_tie : (p : Place) (e d : Ex) (x : List ℕ) (f : ℕ) → field_in P (old e) x ≡ Some f → is_some (field_type P f) ≡ true
-      → tied.IsAt Q W F S R has new_field new_static Made Pair (O e) → Tied (a_store p (O e) (object_field P (type e) x) (O d)) → Field (O e) f
+      → tied.IsAt P W F S R has new_field new_static Made Pair (O e) → Tied (a_store p (O e) (object_field P (type e) x) (O d)) → Field (O e) f
   store_tie p e d x f l there here q = let w = found_instance P (old e) x f l there in subst (λ z. Tied (a_store p (O e) z (O d)))
-      (typed_parts.field_found B e x ∙ ap (λ z. field_in P z x) (sym (bare_static P g e)) ∙ l) q here w.0 w.1 w.2
+      (typed_parts.field_found B e x ∙ l) q here w.0 w.1 w.2
 
   pub value_is : (b : Ex) (x : List ℕ) (f : ℕ) → field_in P (old b) x ≡ Some f → or_nothing (value_type P (old b) x) ≡ or_nothing (field_type P f)
   value_is b x f l = ap (λ z. or_nothing (option_and_then (field_type P) z)) l
 
   -- a creation that is stored is a point
-  pub pointed : (e : Ex) → Stands (tree true e) → (n s : ℕ) → (O e).created ≡ Some n → (numbers P Q).site n ≡ Some s
-      → (q : ℕ) × (point_at (numbers P Q) (O e) ≡ Some q)
+  pub pointed : (e : Ex) → Stands (tree true e) → (n s : ℕ) → (O e).created ≡ Some n → (numbers P).site n ≡ Some s
+      → (q : ℕ) × (point_at (numbers P) (O e) ≡ Some q)
   unfolding IsKindedPart
   pointed (create t n c es) st i s e d =
       (tie.kinded (a_creation t.place true (O (create t n c es))) (here _ _ st)).point refl i s e d
@@ -219,17 +213,16 @@ module _ (A : TwinBody) where
 
   -- calls
   slot_seen : (e : Ex) (x : List ℕ) (i : ℕ) → L.slot g e x ≡ Some i → call_slot P (type e) x ≡ Some i
-  slot_seen e x i q = typed_parts.slot_found B e x ∙ ap (λ z. option_and_then (λ c. slot_of P c x) (class_of z)) (bare_static P g e) ∙ q
+  slot_seen e x i q = typed_parts.slot_found B e x ∙ q
 
   declaration_seen : (e : Ex) (x : List ℕ) (c d : ℕ) → class_of (old e) ≡ Some c → declaration_of P c x ≡ Some d → call_declaration P (type e) x ≡ Some d
   unfolding type_in
   declaration_seen e x c d l f = ap (λ z. option_and_then (λ c. declaration_of P c x) z)
-      (class_is (static P g e) ∙ ap class_of (sym (bare_static P g e)) ∙ l) ∙ f
+      (class_is (static P g e) ∙ l) ∙ f
 
   slot_is : (e : Ex) (x : List ℕ) (c f i : ℕ) → class_of (old e) ≡ Some c → declaration_of P c x ≡ Some f → L.slot g e x ≡ Some i → slot_of_method P f ≡ Some i
   slot_is e x c f i cls dcl q =
-      ap (λ z. option_and_then (slot_of_method P) z) (sym dcl) ∙ ap (λ z. option_and_then (λ c. slot_of P c x) z) (sym cls)
-      ∙ ap (λ z. option_and_then (λ c. slot_of P c x) (class_of z)) (bare_static P g e) ∙ q
+      ap (λ z. option_and_then (slot_of_method P) z) (sym dcl) ∙ ap (λ z. option_and_then (λ c. slot_of P c x) z) (sym cls) ∙ q
 
   -- a call that is typed on a class finds a slot
   called_slot : (e : Ex) (x : List ℕ) (c : ℕ) (sig : Signature) → class_of (old e) ≡ Some c → call_signature P (old e) x ≡ Some sig
@@ -239,14 +232,12 @@ module _ (A : TwinBody) where
       let a : object_signature P (class_of (old e)) x ≡ Some sig =
       sym (ap (λ b. if b then option_map signature_of_string (string_method x) else object_signature P (class_of (old e)) x)
       (class_apart (old e) c cls).1) ∙ q in
-      let j = then_some (signature_of_slot P) (slot_of P c x) sig (ap (λ z. object_signature P z x) (sym cls) ∙ a) in (
-        j.0,
-        ap (λ z. option_and_then (λ c. slot_of P c x) (class_of z)) (sym (bare_static P g e)) ∙ ap (λ z. option_and_then (λ c. slot_of P c x) z) cls ∙ j.1,
-      )
+      let j = then_some (signature_of_slot P) (slot_of P c x) sig (ap (λ z. object_signature P z x) (sym cls) ∙ a) in
+      (j.0, ap (λ z. option_and_then (λ c. slot_of P c x) z) cls ∙ j.1)
 
   call_twin : (t : Tag) (e b : Ex) (x : List ℕ) (es : Exs) (f v c : ℕ) → class_of (old e) ≡ Some c → declaration_of P c x ≡ Some f
       → (sig : Signature) → call_signature P (old e) x ≡ Some sig
-      → ((i : ℕ) → call_slot P (type e) x ≡ Some i → CallTied Q W F S R has new_field new_static Made Pair (O e) i f) → C (row_at e) ≡ Some v
+      → ((i : ℕ) → call_slot P (type e) x ≡ Some i → CallTied P W F S R has new_field new_static Made Pair (O e) i f) → C (row_at e) ≡ Some v
       → class_of (static W h b) ≡ Some v → SameCall L M K Made Pair g h (call t e x es) e b x (R.method_name f)
   call_twin t e b x es f v c0 cls dcl sig called tie r n = record {
     bodies = λ o c k i y made ei ey may.
@@ -258,7 +249,7 @@ module _ (A : TwinBody) where
   string_twin : (t : Tag) (e b : Ex) (x : List ℕ) (es : Exs) → is_string (old e) ≡ true → class_of (static W h b) ≡ None
       → SameCall L M K Made Pair g h (call t e x es) e b x x
   string_twin t e b x es str classless = record {
-    bodies = λ o c k i z made ei ez may. absurd (none i (ap (λ z. option_and_then (λ c. slot_of P c x) (class_of z)) (bare_static P g e) ∙ ei));
+    bodies = λ o c k i z made ei ez may. absurd (none i ei);
     texts = λ m q. ap (λ z. text_method (option_and_then (λ c. slot_of W c x) z) x) classless ∙ named (L.slot g e x) m q;
   }
     where
@@ -276,7 +267,7 @@ module _ (A : TwinBody) where
   -- casts
   cast_twin : (t : Tag) (n : ℕ) (v : Ty) (e : Ex) → can_cast P (old e) v ≡ true
       → ((o : ObjectType) → type (cast t n v e) ≡ Some o → (w : ℕ) × (R.row_type (row.Cast n) ≡ Some w))
-      → TestTied Q W F S R has new_field new_static Made Pair (O e) (O (cast t n v e)) → is_number_type v.base v.dim ≡ false
+      → TestTied P W F S R has new_field new_static Made Pair (O e) (O (cast t n v e)) → is_number_type v.base v.dim ≡ false
       → SameTest L M K Made Pair g h (cast t n v e) v (retyped (R.row_type (row.Cast n)) v)
   unfolding type_in
   cast_twin t n v e can there tie plain o a b made may =
@@ -298,14 +289,13 @@ module _ (A : TwinBody) where
       go Char d c e1 there same = absurd (cc)
       go Str d c e1 there same = absurd (cc)
 
-  object_made : (t : Tag) (n c : ℕ) (es : Exs) (a : ℕ) → CreationTied Q W F S R has new_field new_static Made Pair (O (create t n c es))
-      → R.row_type (row.New n) ≡ Some a
-      → tied.SameNewAt Q W F S R has new_field new_static Made Pair n c a
+  object_made : (t : Tag) (n c : ℕ) (es : Exs) (a : ℕ) → CreationTied P W F S R has new_field new_static Made Pair (O (create t n c es))
+      → R.row_type (row.New n) ≡ Some a → tied.SameNewAt P W F S R has new_field new_static Made Pair n c a
   unfolding type_in
   object_made t n c es a tie e = tie.object n a (record { class = record { 0 = c }; dim = 0 }) refl refl refl e
 
-  array_made : (t : Tag) (n : ℕ) (v : Ty) (e : Ex) → CreationTied Q W F S R has new_field new_static Made Pair (O (create_array t n v e)) → 0 < v.dim
-      → tied.SameArrayAt Q W F S R has new_field new_static Made Pair n v (retyped (R.row_type (row.New n)) v)
+  array_made : (t : Tag) (n : ℕ) (v : Ty) (e : Ex) → CreationTied P W F S R has new_field new_static Made Pair (O (create_array t n v e)) → 0 < v.dim
+      → tied.SameArrayAt P W F S R has new_field new_static Made Pair n v (retyped (R.row_type (row.New n)) v)
   unfolding type_in
   array_made t n v e tie deep = tie.array n v refl refl deep
 
@@ -358,7 +348,7 @@ module _ (A : TwinBody) where
         let q = subst (λ z. Tied (a_super_call t.place z (operands es) (O (super_call t x es)))) here
         (asked (a_super_call t.place (super_method P k.owner x) (operands es) (O (super_call t x es))) _ st) in
         same_super_call (twins false sc es ds _ args fes (past _ _ st) mes) (λ y ey. q y (tie.self inst) (typed_parts.super_instance B k.owner x f here)
-        (ap (λ z. option_and_then (labelled_body P Q F S) z) (sym here) ∙ ey))
+        (ap (λ z. option_and_then (labelled_body P F S) z) (sym here) ∙ ey))
     twin u sc (create t n c no_ex) d ty fo st (m_create {k = a} at m_no_ex) =
         same_create same_no_ex (object_made t n c no_ex a (asked (a_creation t.place u (O (create t n c no_ex))) [] st) at)
     twin u sc (create t n c (ex_then e es)) d ty fo st me = elim ty [ ]
@@ -379,9 +369,8 @@ module _ (A : TwinBody) where
         same_binary (twin false sc e b te fe (left (tree false e) (tree false d) both) me)
         (twin false sc d c td fd (right (tree false e) (tree false d) both) md)
 
-    twins : (u : Bool) (sc : List ℕ) (es ds : Exs) (us : List Ty) → TypedArgs P g (bare_all es) us → FormedExs P (untag_method k) sc (bare_all es)
-        → Stands (tree_all u es) → MatchesAll P W R g (bare_all es) ds
-        → SameAll L M K Made Pair g h es ds
+    twins : (u : Bool) (sc : List ℕ) (es ds : Exs) (us : List Ty) → TypedArgs P g es us → FormedExs P k sc es
+        → Stands (tree_all u es) → MatchesAll P W R g es ds → SameAll L M K Made Pair g h es ds
     twins u sc no_ex ds us ty fo st m_no_ex = same_no_ex
     twins u sc (ex_then e es) ds us (t_ex_then te fit tes) (f_ex_then fe fes) st (m_ex_then {d = b} {ds = bs} me mes) =
         same_ex_then (twin u sc e b te fe (left (tree u e) _ st) me) (twins u sc es bs _ tes fes (right (tree u e) _ st) mes)

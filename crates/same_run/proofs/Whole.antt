@@ -1,8 +1,7 @@
--- The law, of a program with its places.
-use Rattle.std.proofs.Common.{◌≡◌, ℕ, List, sym, ap, ◌∙◌, subst}
+-- The law.
+use Rattle.std.proofs.Common.{◌≡◌, ℕ, List, sym, ap, ◌∙◌}
 use Rattle.std.specs.Prelude.{◌≢◌}
-use Rattle.java_core.specs.Trees.{at_place}
-use Rattle.java_core.specs.Programs.{Plain, program_of}
+use Rattle.java_core.specs.Programs.{Plain}
 use Rattle.java_core.specs.Formed.{IsFormed}
 use Rattle.java_meaning.specs.Moment.{Outcome, unnoted, Wrong, Escaped}
 use Rattle.java_meaning.specs.Meaning.{run_in}
@@ -13,12 +12,9 @@ use Rattle.fact_model.specs.declared.sets.PointsTo.{PointsTo}
 use Rattle.fact_model.specs.declared.sets.Table.{Table}
 use Rattle.hier_model.specs.Hierarchies.{Hierarchy}
 use Rattle.run_cover.specs.Covers.{solved, watched, CoversProgram}
-use Rattle.java_core.specs.Untagged.{untagged}
 use Rattle.run_cover.specs.Slotted.{HaveSlots}
-use Rattle.java_core.proofs.Untagged.{same_program}
-use Rattle.run_cover.proofs.Programs.{untagged_covers}
+use Rattle.run_cover.proofs.Programs.{program_covers}
 use Rattle.run_cover.proofs.Solved.{solved_closed, solved_covers}
-use Rattle.facts_order.proofs.Pairs.{IsPlaced, placed}
 use Rattle.rebuild_model.specs.Rebuilds.{Rebuilds}
 use Rattle.rebuild_looks.specs.Known.{Known}
 use Rattle.rebuild_given.proofs.Given.{known}
@@ -33,27 +29,23 @@ use_alike : (o p : Outcome) → Alike o p → o.end ≢ Wrong → o.end ≢ Esca
 unfolding Alike
 use_alike o p h a b = h a b
 
-module _ (Q : Plain) (F : Facts) (s : PointsTo) (t : Table) (H : Hierarchy) (W : Plain) (pairs : IsPlaced (untagged Q) Q)
-    (ready : IsReady (untagged Q) Q F s t H)
-    (new : IsFormed W) (b : Rebuilds (untagged Q) Q F H W) where
-  abbrev P : Plain
-  P = untagged Q
+module _ (P : Plain) (F : Facts) (s : PointsTo) (t : Table) (H : Hierarchy) (W : Plain) (ready : IsReady P F s t H) (new : IsFormed W)
+    (b : Rebuilds P F H W) where
+  abbrev K : Known P F H W
+  K = known P ready.formed F ready.facts s H W new ready.hierarchy ready.unbroken b
 
-  abbrev K : Known P Q F H W
-  K = known P Q pairs ready.formed F ready.facts s H W new ready.hierarchy ready.unbroken b
-
-  given : IsGiven Q F H s t
-  given = record { placed = pairs; ready = ready; table = same_table F H t ready.hierarchy.table ready.table }
+  given : IsGiven P F H s t
+  given = record { ready = ready; table = same_table F H t ready.hierarchy.table ready.table }
 
   slots : HaveSlots P
   unfolding HaveSlots
   slots m k e i = (ready.formed.methods m k e).slotted i
 
-  covers : CoversProgram P Q F
-  covers = untagged_covers Q F ready.formed ready.typed slots ready.facts
+  covers : CoversProgram P F
+  covers = program_covers P F ready.formed ready.typed slots ready.facts
 
   abbrev watched_run : List (List ℕ) → ℕ → Outcome
-  watched_run words n = run_in (watched P Q F (solved s)) P.main words n
+  watched_run words n = run_in (watched P F (solved s)) P.main words n
 
   is_run : (words : List (List ℕ)) (n : ℕ) → unnoted (watched_run words n) ≡ run P words n
   is_run words n = covers.same (solved s) (solved_closed F s ready.sets) words n
@@ -62,10 +54,10 @@ module _ (Q : Plain) (F : Facts) (s : PointsTo) (t : Table) (H : Hierarchy) (W :
   runs_alike words n =
       use_alike (watched_run words n) (run W words n) (watched_same K s t given words n)
       (λ e. never_wrong P ready.formed ready.typed words n (sym (ap (λ o. o.end) (is_run words n)) ∙ e))
-      (solved_covers F s ready.sets P Q covers.covers words n)
+      (solved_covers F s ready.sets P covers.covers words n)
 
-  untagged_same : HasSameRun P W
-  untagged_same = record {
+  runs_same : HasSameRun P W
+  runs_same = record {
     end = λ words n. ap (λ o. o.end) (sym (is_run words n) ∙ runs_alike words n);
     out = λ words n. ap (λ o. o.out) (sym (is_run words n) ∙ runs_alike words n);
     left = λ words n. ap (λ o. o.left) (sym (is_run words n) ∙ runs_alike words n);
@@ -73,7 +65,4 @@ module _ (Q : Plain) (F : Facts) (s : PointsTo) (t : Table) (H : Hierarchy) (W :
 
 pub rebuilt_runs_the_same : RebuiltRunsTheSame
 unfolding RebuiltRunsTheSame
-rebuilt_runs_the_same p F s t H W =
-    let Q : Plain = program_of at_place p in
-    subst (λ Z. IsPlaced Z Q → IsReady Z Q F s t H → IsFormed W → Rebuilds Z Q F H W → HasSameRun Z W) (same_program p) (untagged_same Q F s t H W)
-    (placed p)
+rebuilt_runs_the_same = runs_same

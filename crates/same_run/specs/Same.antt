@@ -1,8 +1,6 @@
 -- When two programs have the same run, and the law that a program has the run of each that it rebuilds.
 use Rattle.std.specs.Prelude.{◌≡◌, ℕ, List}
-use Rattle.java_core.specs.declared.Program.{Program}
-use Rattle.java_core.specs.Trees.{at_place, no_place}
-use Rattle.java_core.specs.Programs.{Plain, program_of}
+use Rattle.java_core.specs.Programs.{Plain}
 use Rattle.java_core.specs.Formed.{IsFormed}
 use Rattle.java_meaning.specs.Languages.{run}
 use Rattle.fact_model.specs.declared.facts.Facts.{Facts}
@@ -20,6 +18,5 @@ pub record HasSameRun (P W : Plain) : Type 0 where
 
 -- any formed program that rebuilds a typed one over a hierarchy that breaks no obligation has its run; that it is typed is not asked
 unfoldable pub RebuiltRunsTheSame : Type 0
-RebuiltRunsTheSame = (p : Program) (F : Facts) (s : PointsTo) (t : Table) (H : Hierarchy) (W : Plain)
-    → IsReady (program_of no_place p) (program_of at_place p) F s t H → IsFormed W
-    → Rebuilds (program_of no_place p) (program_of at_place p) F H W → HasSameRun (program_of no_place p) W
+RebuiltRunsTheSame = (P : Plain) (F : Facts) (s : PointsTo) (t : Table) (H : Hierarchy) (W : Plain) → IsReady P F s t H → IsFormed W
+    → Rebuilds P F H W → HasSameRun P W
