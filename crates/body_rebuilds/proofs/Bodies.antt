@@ -1,5 +1,5 @@
 -- What the written body of a method resolves to matches the old body, and its locals have the types of their rows.
-use Rattle.std.proofs.Common.{◌≡◌, ℕ, suc, ◌+◌, List, [], ◌∷◌, Option, Some, None, length, refl, sym, ap, ◌∙◌, subst, arith}
+use Rattle.std.proofs.Common.{◌≡◌, ℕ, suc, ◌+◌, List, [], ◌∷◌, Option, Some, length, refl, sym, ap, ◌∙◌, subst, arith}
 use Rattle.std.specs.Prelude.{true, false, map, slice_get, Contains}
 use Rattle.std.proofs.lemmas.Option.{same_Some, slice_get_within}
 use Rattle.std.proofs.lemmas.List.{length-map, length-append}
@@ -8,15 +8,12 @@ use Rattle.java_core.specs.Trees.{Sts}
 use Rattle.java_core.specs.Programs.{Plain, PlainLocal, PlainMethod}
 use Rattle.java_core.specs.Types.{types_of, env_of}
 use Rattle.java_core.specs.Typing.{IsTyped, IsTypedMethod, TypedSts}
-use Rattle.java_core.specs.Formed.{IsFormed, HasNoTwice, FormedSts, variables_of, numbers_below}
-use Rattle.java_core.specs.Untagged.{bare_sts, untag_body, untag_method, untagged}
+use Rattle.java_core.specs.Formed.{IsFormed, HasNoTwice, variables_of, numbers_below}
 use Rattle.hier_model.specs.Hierarchies.{Hierarchy}
 use Rattle.flow_rules.specs.Labels.{label_sts}
 use Rattle.flow_rules.specs.Operands.{variable_row, type_in}
 use Rattle.flow_rules.specs.Ordered.{each}
 use Rattle.flow_rules.specs.Parts.{Part, parts_sts, parts_body, parts_of}
-use Rattle.run_cover.proofs.Untagging.{unlabel_sts}
-use Rattle.run_cover.proofs.HasRows.{method_of, of_method}
 use Rattle.name_rules.specs.declared.parts.Here.{Here}
 use Rattle.name_rules.specs.Resolves.{Counts, declares_all, StsResolve, params_from}
 use Rattle.written_tree.specs.Names.{by_number}
@@ -28,10 +25,6 @@ use Rattle.rebuild_model.specs.Members.{new_types}
 use Rattle.body_rebuilds.specs.Known.{HasLocalsInOrder, KnowsNames}
 use Rattle.body_rebuilds.proofs.Scopes.{scoped_params}
 use Rattle.body_rebuilds.proofs.Statements as walk
-
-pub body_some : (b : Option Sts) (xs : Sts) → untag_body b ≡ Some xs → (zs : Sts) × (b ≡ Some zs) × (bare_sts zs ≡ xs)
-body_some None xs e = absurd (cc)
-body_some (Some zs) xs e = (zs, refl, same_Some (bare_sts zs) xs e)
 
 -- types of locals, one by one
 all_types : (f : ℕ → Option ℕ) (n : ℕ) (vs ws : List PlainLocal) → length vs ≡ length ws
@@ -47,102 +40,74 @@ all_types f n (v ∷ vs) (w ∷ ws) e h =
     ∙ ap (λ ts. retyped (f n) v.ty ∷ ts) (all_types f (n + 1) vs ws (omega (arith, e)) (λ i u eu.
     let y = h (suc i) u eu in (y.0, y.1, y.2 ∙ ap (λ i. retyped (f i) u.ty) (let d : n + suc i ≡ n + 1 + i = omega arith in d))))
 
-module _ (P Q : Plain) (H : Hierarchy) (U O : Plain) (T : Places) where
+module _ (P : Plain) (H : Hierarchy) (U O : Plain) (T : Places) where
   -- where a body stands, and what it resolves to
   pub record IsNewBody (m : ℕ) (k new : PlainMethod) (here : Here) (xs ys : Sts) : Type 0 where
     pub body : k.body ≡ Some xs
     pub names : map (λ v. v.name) new.params ≡ map (λ v. v.name) k.params
     pub static : here.is_static ≡ k.is_static
     pub owner : k.is_static ≡ true → here.owner ≡ T.holder_of k.owner
-    pub resolves : StsResolve O here new false (params_from 0 new.params) (written_sts P (renaming_of P Q H by_number) H m k (parameters 0 k.params) xs) ys
+    pub resolves : StsResolve O here new false (params_from 0 new.params) (written_sts P (renaming_of P H by_number) H m k (parameters 0 k.params) xs) ys
     pub counts : Counts (length new.params) (declares_all ys) (length (variables_of new))
 
   pub record IsMatched (m : ℕ) (k new : PlainMethod) (xs ys : Sts) : Type 0 where
-    pub matches : MatchesSts P U (renaming_of P Q H T) (env_of m k) xs (bare_sts ys)
-    pub locals : types_of new.locals ≡ new_types (renaming_of P Q H T) m k (length k.params) k.locals
+    pub matches : MatchesSts P U (renaming_of P H T) (env_of m k) xs ys
+    pub locals : types_of new.locals ≡ new_types (renaming_of P H T) m k (length k.params) k.locals
 
-module _ (Q : Plain) (H : Hierarchy) (U O : Plain) (T : Places) (K : KnowsNames (untagged Q) Q H U O T) (formed : IsFormed (untagged Q))
-    (typed : IsTyped (untagged Q))
-    (in_order : HasLocalsInOrder (untagged Q)) where
-  abbrev P : Plain
-  P = untagged Q
-
-  abbrev by_node : Renaming
-  by_node = renaming_of (untagged Q) Q H by_number
-
+module _ (P : Plain) (H : Hierarchy) (U O : Plain) (T : Places) (K : KnowsNames P H U O T) (formed : IsFormed P)
+    (typed : IsTyped P)
+    (in_order : HasLocalsInOrder P) where
   abbrev R : Renaming
-  R = renaming_of (untagged Q) Q H T
+  R = renaming_of P H T
 
-  module _ (m : ℕ) (k : PlainMethod) (stands : slice_get Q.methods m ≡ Some k) (new : PlainMethod) (here : Here) (xs ys : Sts)
-      (b : IsNewBody (untagged Q) Q H U O T m (untag_method k) new here xs ys) where
-    abbrev old : PlainMethod
-    old = untag_method k
+  module _ (m : ℕ) (k new : PlainMethod) (here : Here) (xs ys : Sts) (stands : slice_get P.methods m ≡ Some k)
+      (b : IsNewBody P H U O T m k new here xs ys) where
+    same_length : length new.params ≡ length k.params
+    same_length = sym (length-map new.params (λ v. v.name)) ∙ ap (λ z. length z) b.names ∙ length-map k.params (λ v. v.name)
 
-    same_length : length new.params ≡ length old.params
-    same_length = sym (length-map new.params (λ v. v.name)) ∙ ap (λ z. length z) b.names ∙ length-map old.params (λ v. v.name)
-
-    once : (i j : ℕ) (x : List ℕ) → slice_get (map (λ (v : PlainLocal). v.name) old.params) i ≡ Some x
-        → slice_get (map (λ (v : PlainLocal). v.name) old.params) j ≡ Some x → i ≡ j
+    once : (i j : ℕ) (x : List ℕ) → slice_get (map (λ (v : PlainLocal). v.name) k.params) i ≡ Some x
+        → slice_get (map (λ (v : PlainLocal). v.name) k.params) j ≡ Some x → i ≡ j
     unfolding HasNoTwice
-    once = (formed.methods m old (method_of Q formed m k stands)).params
+    once = (formed.methods m k stands).params
 
-    typed_body : TypedSts P (env_of m old) xs
+    typed_body : TypedSts P (env_of m k) xs
     unfolding IsTypedMethod
-    typed_body = typed.methods m old (method_of Q formed m k stands) xs b.body
+    typed_body = typed.methods m k stands xs b.body
 
-    ordered : Counts (length old.params) (declares_all xs) (length (variables_of old))
+    ordered : Counts (length k.params) (declares_all xs) (length (variables_of k))
     unfolding HasLocalsInOrder
-    ordered = in_order m old xs (method_of Q formed m k stands) b.body
+    ordered = in_order m k xs stands b.body
 
-    inside : (zs : Sts) → k.body ≡ Some zs → (p : Part) → Contains (parts_sts P (type_in P m k) m k (label_sts 0 zs)) p → Contains (parts_of P m k) p
+    inside : (p : Part) → Contains (parts_sts P (type_in P m k) m k (label_sts 0 xs)) p → Contains (parts_of P m k) p
     unfolding parts_of
-    inside zs e p d = subst (λ z. Contains (parts_body P (type_in P m k) m k z) p) (sym e) d
+    inside p d = subst (λ z. Contains (parts_body P (type_in P m k) m k z) p) (sym b.body) d
 
-    abbrev Ended : ℕ → ℕ → ℕ → Type 0
-    Ended i j n = walk.Ended Q H U O T K formed m k stands here b.static b.owner new i j n
+    walked : MatchesSts P U R (env_of m k) xs ys
+        × walk.Ended P H U O T K formed m k stands here b.static b.owner new (length k.params) (length (variables_of k)) (length (variables_of new))
+    walked = walk.sts P H U O T K formed m k stands here b.static b.owner new 0 false false (numbers_below (length k.params))
+        (parameters 0 k.params) (params_from 0 new.params) xs ys (length k.params) (length (variables_of k)) (length (variables_of new)) typed_body
+        ((formed.methods m k stands).code xs b.body) inside (scoped_params k new.params b.names once) ordered
+        (subst (λ z. Counts z (declares_all ys) (length (variables_of new))) same_length b.counts) b.resolves
 
-    walked : MatchesSts P U R (env_of m old) xs (bare_sts ys) × Ended (length old.params) (length (variables_of old)) (length (variables_of new))
-    walked =
-        let z = body_some k.body xs b.body in
-        let ws : Sts = label_sts 0 z.0 in
-        let same : bare_sts ws ≡ xs = unlabel_sts 0 z.0 ∙ z.2 in
-        let w = walk.sts Q H U O T K formed m k stands here b.static b.owner new false false (numbers_below (length old.params))
-        (parameters 0 old.params) (params_from 0 new.params) ws ys
-        (length old.params) (length (variables_of old)) (length (variables_of new)) (subst (λ z. TypedSts P (env_of m old) z) (sym same) typed_body)
-        (subst (λ z. FormedSts P old false (numbers_below (length old.params)) z) (sym same)
-        ((formed.methods m old (method_of Q formed m k stands)).code xs b.body)) (inside z.0 z.1)
-        (scoped_params old new.params b.names once) (subst (λ z. Counts (length old.params) (declares_all z) (length (variables_of old))) (sym same) ordered)
-        (subst (λ z. Counts z (declares_all ys) (length (variables_of new))) same_length b.counts)
-        (subst (λ z. StsResolve O here new false (params_from 0 new.params) (written_sts P by_node H m old (parameters 0 old.params) z) ys)
-        (sym same) b.resolves) in
-        (subst (λ z. MatchesSts P U R (env_of m old) z (bare_sts ys)) same w.0, w.1)
-
-    same_locals : length old.locals ≡ length new.locals
+    same_locals : length k.locals ≡ length new.locals
     same_locals =
-        let a = length-append old.params old.locals in
+        let a = length-append k.params k.locals in
         let c = length-append new.params new.locals in
         let d = same_length in
         let e = walked.1.same in
         omega (arith, a, c, d, e)
 
-    local_type : (i : ℕ) (v : PlainLocal) → slice_get old.locals i ≡ Some v
-        → (w : PlainLocal) × (slice_get new.locals i ≡ Some w) × (w.ty ≡ retyped (R.row_type (variable_row m old (length old.params + i))) v.ty)
+    local_type : (i : ℕ) (v : PlainLocal) → slice_get k.locals i ≡ Some v
+        → (w : PlainLocal) × (slice_get new.locals i ≡ Some w) × (w.ty ≡ retyped (R.row_type (variable_row m k (length k.params + i))) v.ty)
     local_type i v e =
-        let there = behind old.params old.locals i ∙ e in
-        let lt = slice_get_within (variables_of old) (length old.params + i) v there in
-        let w = (walked.1.all (length old.params + i) (omega arith) lt).kept v there in
+        let there = behind k.params k.locals i ∙ e in
+        let lt = slice_get_within (variables_of k) (length k.params + i) v there in
+        let w = (walked.1.all (length k.params + i) (omega arith) lt).kept v there in
         (w.0, sym (behind new.params new.locals i) ∙ ap (λ z. slice_get (variables_of new) (z + i)) same_length ∙ w.1, w.2)
 
-    matched_there : IsMatched P Q H U O T m (untag_method k) new xs ys
-    matched_there = record {
+    -- the body of a method of the program
+    pub body_matched : IsMatched P H U O T m k new xs ys
+    body_matched = record {
       matches = walked.0;
-      locals = all_types (λ i. R.row_type (variable_row m old i))
-          (length old.params) old.locals new.locals same_locals local_type;
+      locals = all_types (λ i. R.row_type (variable_row m k i)) (length k.params) k.locals new.locals same_locals local_type;
     }
-
-  -- the body of a method of the program
-  pub body_matched : (m : ℕ) (k new : PlainMethod) (here : Here) (xs ys : Sts) → slice_get P.methods m ≡ Some k
-      → IsNewBody P Q H U O T m k new here xs ys → IsMatched P Q H U O T m k new xs ys
-  body_matched m k new here xs ys e b =
-      let q = of_method Q formed m k e in
-      subst (λ z. IsNewBody P Q H U O T m z new here xs ys → IsMatched P Q H U O T m z new xs ys) q.2 (λ b. matched_there m q.0 q.1 new here xs ys b) b

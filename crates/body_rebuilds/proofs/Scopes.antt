@@ -1,6 +1,6 @@
 -- The parameters and locals in scope, by their numbers in the old body and by their names in the new one.
 use Rattle.std.proofs.Common.{◌≡◌, ℕ, zero, suc, ◌+◌, List, [], ◌∷◌, ◌++◌, Option, Some, None, length, refl, sym, ap, ◌∙◌, subst, arith, ⊎_elim}
-use Rattle.std.specs.Prelude.{◌⊎◌, ◌||◌, Bool, true, false, if◌then◌else◌, map, slice_get, Contains}
+use Rattle.std.specs.Prelude.{◌||◌, Bool, true, false, if◌then◌else◌, map, slice_get, Contains}
 use Rattle.std.specs.Option.{option_map_or, is_some}
 use Rattle.std.specs.List.{list_any}
 use Rattle.std.specs.Str.{bytes_eq}

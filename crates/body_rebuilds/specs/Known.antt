@@ -20,10 +20,10 @@ unfoldable pub HasLocalsInOrder : Plain → Type 0
 HasLocalsInOrder P = (m : ℕ) (k : PlainMethod) (xs : Sts) → slice_get P.methods m ≡ Some k → k.body ≡ Some xs
     → Counts (length k.params) (declares_all xs) (length (variables_of k))
 
--- P is the old program, Q the same with the places of its forms, U the new one, and O its outline
-pub record KnowsNames (P Q : Plain) (H : Hierarchy) (U O : Plain) (T : Places) : Type 0 where
+-- P is the old program, U the new one, and O its outline
+pub record KnowsNames (P : Plain) (H : Hierarchy) (U O : Plain) (T : Places) : Type 0 where
   -- rows stand at live nodes, whose names name their types
-  pub row_live : (i : RowItem) (r : ℕ) → (numbers P Q).row i ≡ Some r → is_live H.order (place_of_row H r) ≡ true
+  pub row_live : (i : RowItem) (r : ℕ) → (numbers P).row i ≡ Some r → is_live H.order (place_of_row H r) ≡ true
   pub type : (n : ℕ) → is_live H.order n ≡ true → class_named O (type_name H n) ≡ Some (T.type_of n)
   pub no_text : (n : ℕ) → is_live H.order n ≡ true → is_text_type (type_name H n) ≡ false
   -- the name of a holder names it, and no field has that name
@@ -31,7 +31,7 @@ pub record KnowsNames (P Q : Plain) (H : Hierarchy) (U O : Plain) (T : Places) :
   pub no_field : (c f : ℕ) (k : PlainField) → is_holder P c ≡ true → slice_get O.fields f ≡ Some k → k.name ≢ class_name P c
   -- a static field is found in its holder, and so is a static method
   pub static_field : (f : ℕ) (old : PlainField) → slice_get P.fields f ≡ Some old → old.is_static ≡ true
-      → (g : ℕ) × (own_field_of O (T.holder_of old.owner) old.name ≡ Some g) × IsStaticField P U (renaming_of P Q H T) f g
+      → (g : ℕ) × (own_field_of O (T.holder_of old.owner) old.name ≡ Some g) × IsStaticField P U (renaming_of P H T) f g
   pub static_method : (m g : ℕ) (old new : PlainMethod) → slice_get P.methods m ≡ Some old → old.is_static ≡ true
       → slice_get O.methods g ≡ Some new → new.is_static ≡ true → new.owner ≡ T.holder_of old.owner → new.name ≡ old.name
-      → IsStaticMethod P U (renaming_of P Q H T) m g
+      → IsStaticMethod P U (renaming_of P H T) m g

@@ -1,10 +1,9 @@
 -- The numbers of a program fit each hierarchy of its facts, and rename as the written tree does.
-use Rattle.std.proofs.Common.{◌≡◌, ◌∙◌, ap, sym, subst, ℕ, ◌<◌, Bool, true, List, Option, Some, length, map, arith}
+use Rattle.std.proofs.Common.{◌≡◌, ◌∙◌, ap, sym, subst, ℕ, ◌<◌, Bool, List, Option, Some, length, map, arith}
 use Rattle.std.specs.Option.{option_map}
 use Rattle.std.proofs.lemmas.List.{length-map}
 use Rattle.std.proofs.lemmas.List.Quantifiers.{position-Some}
 use Rattle.java_core.specs.declared.Program.{Program}
-use Rattle.java_core.specs.Trees.{at_place, no_place}
 use Rattle.java_core.specs.Programs.{Plain, program_of}
 use Rattle.fact_model.specs.declared.facts.Facts.{Facts}
 use Rattle.kaba_bits.proofs.SetLemmas.{bit-below}
@@ -26,31 +25,29 @@ use Rattle.java_write.specs.Written.{tree_of_hierarchy}
 number_below : {K : Type 0} (eq : K → K → Bool) (keys : List K) (i : K) (n : ℕ) → number_among eq keys i ≡ Some n → n < length keys
 number_below eq keys i n e = (position-Some (eq i) keys n i e).0
 
-row_below : (P Q : Plain) (F : Facts) → IsFactsOf P Q F → (i : RowItem) (r : ℕ) → (numbers P Q).row i ≡ Some r → r < length F.rows.items
+row_below : (P : Plain) (F : Facts) → IsFactsOf P F → (i : RowItem) (r : ℕ) → (numbers P).row i ≡ Some r → r < length F.rows.items
 unfolding numbers row_number
-row_below P Q F facts i r e =
-    let few = number_below same_row (map (λ k. k.item) (rows_of P Q)) i r e in
-    let counted = length-map (rows_of P Q) (λ k. k.item) in
-    let listed = ap length facts.rows ∙ length-map (rows_of P Q) (row_info (numbers P Q) Q) in
+row_below P F facts i r e =
+    let few = number_below same_row (map (λ k. k.item) (rows_of P)) i r e in
+    let counted = length-map (rows_of P) (λ k. k.item) in
+    let listed = ap length facts.rows ∙ length-map (rows_of P) (row_info (numbers P) P) in
     omega (arith, few, counted, listed)
 
-column_below : (P Q : Plain) (F : Facts) → IsFactsOf P Q F → (i : ColumnItem) (c : ℕ) → (numbers P Q).column i ≡ Some c → c < length F.columns.items
+column_below : (P : Plain) (F : Facts) → IsFactsOf P F → (i : ColumnItem) (c : ℕ) → (numbers P).column i ≡ Some c → c < length F.columns.items
 unfolding numbers column_number
-column_below P Q F facts i c e =
-    let few = number_below same_column (map (λ k. k.item) (columns_of P Q)) i c e in
-    let counted = length-map (columns_of P Q) (λ k. k.item) in
-    let listed = ap length facts.columns ∙ length-map (columns_of P Q) (λ k. column_info Q k.item) in
+column_below P F facts i c e =
+    let few = number_below same_column (map (λ k. k.item) (columns_of P)) i c e in
+    let counted = length-map (columns_of P) (λ k. k.item) in
+    let listed = ap length facts.columns ∙ length-map (columns_of P) (λ k. column_info P k.item) in
     omega (arith, few, counted, listed)
 
 -- rows and columns of the program are those of the hierarchy, and rows stand at its nodes
 pub fitting : (p : Program) (n : Numbering) (F : Facts) (H : Hierarchy) → AreNumbersOf p n
-    → IsFactsOf (program_of no_place p) (program_of at_place p) F → IsHierarchyOf F H → IsFitting n H
+    → IsFactsOf (program_of p) F → IsHierarchyOf F H → IsFitting n H
 fitting p n F H are facts is =
-    let P = program_of no_place p in
-    let Q = program_of at_place p in
     record {
-      rows = λ i r e. subst (λ k. r < k) (sym is.sized.rows) (row_below P Q F facts i r (sym (ap (λ f. f i) are.rows) ∙ e));
-      columns = λ i c e. subst (λ k. c < k) (sym is.sized.members) (column_below P Q F facts i c (sym (ap (λ f. f i) are.columns) ∙ e));
+      rows = λ i r e. subst (λ k. r < k) (sym is.sized.rows) (row_below (program_of p) F facts i r (sym (ap (λ f. f i) are.rows) ∙ e));
+      columns = λ i c e. subst (λ k. c < k) (sym is.sized.members) (column_below (program_of p) F facts i c (sym (ap (λ f. f i) are.columns) ∙ e));
       placed = λ r below. subst (λ k. place_of_row H r < k) (sym is.sized.types)
           (bit-below H.order.live (place_of_row H r) (is.placed.rows r (subst (λ k. r < k) is.sized.rows below)));
     }
@@ -64,17 +61,16 @@ renamed_by H row column = record {
   holder_of = λ c. c;
 }
 
-same_renaming : (p : Program) (n : Numbering) (H : Hierarchy) → AreNumbersOf p n → renamed n H ≡ renaming_of (program_of no_place p)
-    (program_of at_place p) H by_number
+same_renaming : (p : Program) (n : Numbering) (H : Hierarchy) → AreNumbersOf p n → renamed n H ≡ renaming_of (program_of p) H by_number
 unfolding renaming_of
 same_renaming p n H are =
     ap (λ row. renamed_by H row (number_among same_column n.columns.keys)) are.rows
-    ∙ ap (renamed_by H (numbers (program_of no_place p) (program_of at_place p)).row) are.columns
+    ∙ ap (renamed_by H (numbers (program_of p)).row) are.columns
 
 -- the tree by the numbering is the hierarchy's
 pub same_tree : (p : Program) (n : Numbering) (F : Facts) (H : Hierarchy) → AreNumbersOf p n
-    → written_by (program_of no_place p) (renamed n H) F H n.columns.keys ≡ tree_of_hierarchy p F H
+    → written_by (program_of p) (renamed n H) F H n.columns.keys ≡ tree_of_hierarchy p F H
 unfolding java_tree
 same_tree p n F H are =
-    ap (λ R. written_by (program_of no_place p) R F H n.columns.keys) (same_renaming p n H are)
-    ∙ ap (written_by (program_of no_place p) (renaming_of (program_of no_place p) (program_of at_place p) H by_number) F H) are.items
+    ap (λ R. written_by (program_of p) R F H n.columns.keys) (same_renaming p n H are)
+    ∙ ap (written_by (program_of p) (renaming_of (program_of p) H by_number) F H) are.items

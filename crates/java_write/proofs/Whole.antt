@@ -5,7 +5,6 @@ use Rattle.java_tree.specs.Syntax.{DeclTree}
 use Rattle.java_tree.specs.Formed.{IsFormedTree, IsGiven, IsReadAs}
 use Rattle.java_print.specs.Layout.{tree_text}
 use Rattle.java_core.specs.declared.Program.{Program}
-use Rattle.java_core.specs.Trees.{at_place, no_place}
 use Rattle.java_core.specs.Programs.{program_of}
 use Rattle.java_core.specs.Formed.{IsFormed}
 use Rattle.java_core.specs.Typing.{IsTyped}
@@ -43,10 +42,10 @@ on_both (Ok a) X Y Z f x y = f x y
 on_both (Err e) X Y Z f x y = tt
 
 module _ (p : Program) (F : Facts) (H : Hierarchy)
-    (formed : IsFormed (program_of no_place p)) (typed : IsTyped (program_of no_place p))
-    (facts : AreProgramFacts (program_of no_place p) (program_of at_place p) F) (unbroken : IsUnbroken F H)
+    (formed : IsFormed (program_of p)) (typed : IsTyped (program_of p))
+    (facts : AreProgramFacts (program_of p) F) (unbroken : IsUnbroken F H)
   where
-    ready : IsReady (program_of no_place p) (program_of at_place p) F unbroken.sets unbroken.table H
+    ready : IsReady (program_of p) F unbroken.sets unbroken.table H
     ready = record {
       formed = formed;
       typed = typed;
@@ -61,20 +60,20 @@ module _ (p : Program) (F : Facts) (H : Hierarchy)
 
     pub hierarchy_formed : IsFormedTree (tree_of_hierarchy p F H)
     unfolding TreeIsFormed
-    hierarchy_formed = tree_is_formed p F unbroken.sets unbroken.table H ready
+    hierarchy_formed = tree_is_formed (program_of p) F unbroken.sets unbroken.table H ready
 
     pub hierarchy_given : IsGiven (tree_of_hierarchy p F H)
     unfolding TreeIsGiven
-    hierarchy_given = tree_is_given p F unbroken.sets unbroken.table H ready
+    hierarchy_given = tree_is_given (program_of p) F unbroken.sets unbroken.table H ready
 
     pub hierarchy_named : HasNoCondition (tree_of_hierarchy p F H)
     unfolding TreeResolves
     hierarchy_named =
-        tree_resolves p F unbroken.sets H
+        tree_resolves (program_of p) F unbroken.sets H
         (record { formed = formed; facts = facts.is; words = facts.names; hierarchy = unbroken.hierarchy; unbroken = unbroken.unbroken })
 
     -- the text of the tree, where it is read as the tree and the tree resolves to a program
-    pub is_written : (text : HasText p) (new : Program) → Resolves (tree_of_hierarchy p F H) (program_of at_place new) → IsFormed (program_of no_place new)
+    pub is_written : (text : HasText p) (new : Program) → Resolves (tree_of_hierarchy p F H) (program_of new) → IsFormed (program_of new)
         → IsReadAs (encode_utf8_all (tree_text (tree_of_hierarchy p F H))) (tree_of_hierarchy p F H)
         → IsWrittenText p F H (encode_utf8_all (tree_text (tree_of_hierarchy p F H)))
     unfolding WrittenRuns
@@ -85,18 +84,18 @@ module _ (p : Program) (F : Facts) (H : Hierarchy)
       new = new;
       resolves = resolves;
       formed = formed_new;
-      keeps = written_runs text.declarations p new F unbroken.sets unbroken.table H text.resolves ready resolves formed_new;
+      keeps = written_runs text.declarations (program_of p) (program_of new) F unbroken.sets unbroken.table H text.resolves ready resolves formed_new;
     }
 
     -- appended
     pub appends : (text : HasText p) (new : Program) (tree : List DeclTree) (before now : List ℕ) → tree ≡ tree_of_hierarchy p F H
-        → Resolves tree (program_of at_place new) → IsFormed (program_of no_place new)
+        → Resolves tree (program_of new) → IsFormed (program_of new)
         → now ≡ before ++ encode_utf8_all (tree_text tree) → IsReadAs (encode_utf8_all (tree_text tree)) tree → Appends p F H before now
     appends text new tree before now same resolves formed_new made read =
         let t = tree_of_hierarchy p F H in
         record {
           text = encode_utf8_all (tree_text t);
           appended = subst (λ d. now ≡ before ++ encode_utf8_all (tree_text d)) same made;
-          is = is_written text new (subst (λ d. Resolves d (program_of at_place new)) same resolves) formed_new
+          is = is_written text new (subst (λ d. Resolves d (program_of new)) same resolves) formed_new
               (subst (λ d. IsReadAs (encode_utf8_all (tree_text d)) d) same read);
         }

@@ -5,7 +5,6 @@ use Rattle.java_tree.specs.Syntax.{DeclTree}
 use Rattle.java_tree.specs.Formed.{IsReadAs}
 use Rattle.java_print.specs.Layout.{tree_text}
 use Rattle.java_core.specs.declared.Program.{Program}
-use Rattle.java_core.specs.Trees.{at_place, no_place}
 use Rattle.java_core.specs.Programs.{program_of}
 use Rattle.java_core.specs.Formed.{IsFormed}
 use Rattle.name_rules.specs.Causes.{HasNoCondition}
@@ -23,7 +22,7 @@ use Rattle.written_runs.specs.Laws.{Keeps}
 -- a text's tree resolves to the program
 pub record HasText (program : Program) : Type 0 where
   pub declarations : List DeclTree
-  pub resolves : Resolves declarations (program_of at_place program)
+  pub resolves : Resolves declarations (program_of program)
 
 -- a hierarchy of the facts that breaks no obligation, by their sets, over their closed table
 pub record IsUnbroken (F : Facts) (H : Hierarchy) : Type 0 where
@@ -36,7 +35,7 @@ pub record IsUnbroken (F : Facts) (H : Hierarchy) : Type 0 where
 
 -- the tree that a hierarchy is written as
 abbrev pub tree_of_hierarchy : Program → Facts → Hierarchy → List DeclTree
-tree_of_hierarchy program F H = java_tree (program_of no_place program) (program_of at_place program) F H
+tree_of_hierarchy program F H = java_tree (program_of program) F H
 
 -- the text is that of the hierarchy's tree and is read as it; the tree resolves to a program that keeps all that the old one is
 pub record IsWrittenText (old : Program) (F : Facts) (H : Hierarchy) (text : List ℕ) : Type 0 where
@@ -44,9 +43,9 @@ pub record IsWrittenText (old : Program) (F : Facts) (H : Hierarchy) (text : Lis
   pub read : IsReadAs text (tree_of_hierarchy old F H)
   pub none : HasNoCondition (tree_of_hierarchy old F H)
   pub new : Program
-  pub resolves : Resolves (tree_of_hierarchy old F H) (program_of at_place new)
-  pub formed : IsFormed (program_of no_place new)
-  pub keeps : Keeps (program_of no_place old) (program_of at_place old) F H (program_of no_place new)
+  pub resolves : Resolves (tree_of_hierarchy old F H) (program_of new)
+  pub formed : IsFormed (program_of new)
+  pub keeps : Keeps (program_of old) F H (program_of new)
 
 -- such a text stands behind what stood before
 pub record Appends (old : Program) (F : Facts) (H : Hierarchy) (before now : List ℕ) : Type 0 where

@@ -4,7 +4,6 @@
 #![tactic(auto)]
 
 ghost use Rattle.std.specs.Prelude.{◌≡◌, IfOk, OnErr, OnOk};
-ghost use Rattle.java_core.specs.Trees.{at_place, no_place};
 ghost use Rattle.java_core.specs.Programs.{program_of};
 ghost use Rattle.java_core.specs.Formed.{IsFormed};
 ghost use Rattle.java_core.specs.Typing.{IsTyped};
@@ -28,8 +27,8 @@ use tree_forms::Numbering;
 
 /// The numbers of the rows and columns of a program that has facts.
 fn numbers_of(alloc: Global, program: &Program) -> Result<Numbering, AllocError>
-    requires formed { IsFormed (program_of no_place program.now) }
-    requires within { IsWithin (program_of no_place program.now) (program_of at_place program.now) }
+    requires formed { IsFormed (program_of program.now) }
+    requires within { IsWithin (program_of program.now) }
     ensures numbers { IfOk result (AreNumbersOf program.now) }
 {
     match numbering_of(alloc, program) {
@@ -50,11 +49,11 @@ fn tree_of_hierarchy(
     facts: &Facts,
     hier: &Hier,
 ) -> Result<Tree, AllocError>
-    requires facts { AreProgramFacts (program_of no_place program.now) (program_of at_place program.now) facts.now }
+    requires facts { AreProgramFacts (program_of program.now) facts.now }
     requires unbroken { IsUnbroken facts.now hier.now }
     ensures tree { IfOk result (λ t. tree_of t ≡ tree_of_hierarchy program.now facts.now hier.now) }
-    ensures formed { IsFormed (program_of no_place program.now) }
-    ensures typed { IsTyped (program_of no_place program.now) }
+    ensures formed { IsFormed (program_of program.now) }
+    ensures typed { IsTyped (program_of program.now) }
 {
     let plain = program.program();
     let numbering = numbers_of(alloc, plain)?;
@@ -87,7 +86,7 @@ pub fn write_java(
     into: &mut Vec<u8>,
 ) -> Result<(), AllocError>
     requires text { HasText program.now }
-    requires facts { AreProgramFacts (program_of no_place program.now) (program_of at_place program.now) facts.now }
+    requires facts { AreProgramFacts (program_of program.now) facts.now }
     requires unbroken { IsUnbroken facts.now hier.now }
     ensures written { OnOk result (Appends program.now facts.now hier.now into.old.items into.new.items) }
     ensures kept { OnErr result (into.new.items ≡ into.old.items) }

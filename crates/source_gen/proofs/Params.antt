@@ -18,7 +18,7 @@ of_parts ty name place = record { is_final = false; ty = ty; name = name; place 
 pub param_is : (P : Plain) (R : Renaming) (H : Hierarchy) (m : ℕ) (k : PlainMethod) (number : ℕ) (v : PlainLocal) (item : RowItem) (ty : TypeName)
     (name : List ℕ) (place : Place) → item ≡ variable_row m k number → ty ≡ written_type P H (R.row_type item) v.ty → name ≡ v.name → place ≡ nowhere
     → of_parts ty name place ≡ param P R H m k number v
-param_is P R H m k number v item ty name place row type named no_place =
+param_is P R H m k number v item ty name place row type named placeless =
     ap (λ (t : TypeName). of_parts t name place) (type ∙ ap (λ (i : RowItem). written_type P H (R.row_type i) v.ty) row)
     ∙ ap (λ (n : List ℕ). of_parts (written_type P H (R.row_type (variable_row m k number)) v.ty) n place) named
-    ∙ ap (λ (p : Place). of_parts (written_type P H (R.row_type (variable_row m k number)) v.ty) v.name p) no_place
+    ∙ ap (λ (p : Place). of_parts (written_type P H (R.row_type (variable_row m k number)) v.ty) v.name p) placeless

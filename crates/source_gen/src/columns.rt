@@ -1,7 +1,7 @@
 //! What the columns at a node and the slots that it offers give to its type.
 
 ghost use Rattle.std.specs.Prelude.{◌≡◌, ◌++◌, [], ◌<◌, true, length, IfOk, OnOk, Option};
-ghost use Rattle.source_gen.specs.Words.{is_live, no_place, slot_seen, each, when, head_if, old_program, renaming, AreNodes, hierarchy_of};
+ghost use Rattle.source_gen.specs.Words.{is_live, slot_seen, each, when, head_if, old_program, renaming, AreNodes, hierarchy_of};
 ghost use Rattle.java_tree.specs.Syntax as tree;
 ghost use Rattle.fact_model.specs.Items.{column_at};
 ghost use Rattle.hier_model.specs.Hierarchies.{stands_at};
@@ -171,7 +171,7 @@ fn add_filler(
     requires made { is_made ≡ is_made_at nodes.now.facts.now (hierarchy_of nodes.now) n.0 }
     requires node { is_live nodes.now.source.hier.now.order n.0 ≡ true }
     ensures { OnOk result (tree.members into.new.items ≡ tree.members into.old.items ++ written.filler (old_program nodes.now.source)
-        (renaming nodes.now.source) nodes.now.facts.now (hierarchy_of nodes.now) n.0 x (slot_seen no_place slot.now)) }
+        (renaming nodes.now.source) nodes.now.facts.now (hierarchy_of nodes.now) n.0 x (slot_seen slot.now)) }
 {
     if !is_filled(nodes, is_made, n, x) {
         return Ok(());

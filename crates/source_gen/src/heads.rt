@@ -1,7 +1,7 @@
 //! The heads of methods.
 
 ghost use Rattle.std.specs.Prelude.{◌≡◌, ◌∷◌, [], ◌<◌, IfOk};
-ghost use Rattle.source_gen.specs.Words.{option_map, no_place, method_seen, local_seen, slot_seen, each, head_if, IsSource, old_program, renaming};
+ghost use Rattle.source_gen.specs.Words.{option_map, method_seen, local_seen, slot_seen, each, head_if, IsSource, old_program, renaming};
 ghost use Rattle.kaba_base.specs.declared.words.Keyword.TheVariants as keyword;
 ghost use Rattle.java_tree.specs.Syntax.{head_of};
 ghost use Rattle.flow_rules.specs.Operands.{result_in};
@@ -44,7 +44,7 @@ fn param(
 ) -> Result<Param, AllocError>
     requires { IsSource source.now }
     ensures { IfOk result (λ p. p ≡ members.param (old_program source.now) (renaming source.now)
-        source.now.hier.now m (method_seen no_place method.now) number (local_seen no_place local.now)) }
+        source.now.hier.now m (method_seen method.now) number (local_seen local.now)) }
 {
     let row = variable_row(m, method, number);
     let ty = row_type(source, row, local.ty)?;
@@ -60,8 +60,8 @@ fn param(
 /// The parameters.
 fn params(source: &Source, m: u64, method: &Method) -> Result<Vec<Param>, AllocError>
     requires { IsSource source.now }
-    ensures { IfOk result (λ v. v.items ≡ each (λ i k. members.param (old_program source.now) (renaming source.now) source.now.hier.now m (method_seen
-        no_place method.now) i k ∷ []) 0 (method_seen no_place method.now).params) }
+    ensures { IfOk result (λ v. v.items ≡ each (λ i k. members.param (old_program source.now) (renaming source.now) source.now.hier.now m
+        (method_seen method.now) i k ∷ []) 0 (method_seen method.now).params) }
 {
     let mut list = Vec::new(source.alloc);
     for (i, local) in method.params.iter().enumerate() {
@@ -75,7 +75,7 @@ fn params(source: &Source, m: u64, method: &Method) -> Result<Vec<Param>, AllocE
 fn result_type(source: &Source, m: u64, method: &Method) -> Result<Option<TypeName>, AllocError>
     requires { IsSource source.now }
     ensures { IfOk result (λ t. t ≡ option_map (names.written_type (old_program source.now) source.now.hier.now ((renaming source.now).row_type
-        (result_in (method_seen no_place method.now).slot m))) (method_seen no_place method.now).result) }
+        (result_in (method_seen method.now).slot m))) (method_seen method.now).result) }
 {
     let Some(ty) = method.result else {
         return Ok(None);
@@ -94,7 +94,7 @@ pub fn head(
 ) -> Result<Head, AllocError>
     requires { IsSource source.now }
     ensures { IfOk result (λ h. head_of h ≡ members.head (old_program source.now) (renaming source.now) source.now.hier.now mods.items name m
-        (method_seen no_place method.now)) }
+        (method_seen method.now)) }
 {
     let result = result_type(source, m, method)?;
     let params = params(source, m, method)?;
@@ -115,7 +115,7 @@ pub fn first_head(
 ) -> Result<Option<Head>, AllocError>
     requires { IsSource source.now }
     ensures { IfOk result (λ h. head_if h ≡ members.first_head (old_program source.now) (renaming source.now) source.now.hier.now mods.items
-        (slot_seen no_place slot.now)) }
+        (slot_seen slot.now)) }
 {
     let m = slot.first.0 as u64;
     let Some(method) = method_at(source.program, m) else {

@@ -1,7 +1,7 @@
 //! The holders: the classes in which the static members of the old classes stand.
 
 ghost use Rattle.std.specs.Prelude.{◌≡◌, ◌++◌, ◌∷◌, [], ◌==◌, ◌&&◌, IfOk, OnOk};
-ghost use Rattle.source_gen.specs.Words.{no_place, program_of, class_seen, method_seen, field_seen, each, when, IsSource, old_program, renaming};
+ghost use Rattle.source_gen.specs.Words.{program_of, class_seen, method_seen, field_seen, each, when, IsSource, old_program, renaming};
 ghost use Rattle.std.specs.List.{list_any};
 ghost use Rattle.java_tree.specs.Syntax as tree;
 ghost use Rattle.flow_rules.specs.Facts.{is_holder};
@@ -64,23 +64,21 @@ fn is_of(is_static: bool, owner: ClassId, c: usize) -> bool
 
 /// Whether a class has a static field.
 fn has_static_field(program: &Program, c: usize) -> bool
-    ensures { result ≡ list_any (λ f. f.is_static && (f.owner == c)) (program_of no_place
-        program.now).fields }
+    ensures { result ≡ list_any (λ f. f.is_static && (f.owner == c)) (program_of program.now).fields }
 {
     any_static!(field in program.fields, c)
 }
 
 /// Whether a class has a static method.
 fn has_static_method(program: &Program, c: usize) -> bool
-    ensures { result ≡ list_any (λ m. m.is_static && (m.owner == c)) (program_of no_place
-        program.now).methods }
+    ensures { result ≡ list_any (λ m. m.is_static && (m.owner == c)) (program_of program.now).methods }
 {
     any_static!(method in program.methods, c)
 }
 
 /// Whether a class has static members.
 fn is_holder(program: &Program, c: usize) -> bool
-    ensures { result ≡ is_holder (program_of no_place program.now) c }
+    ensures { result ≡ is_holder (program_of program.now) c }
 {
     has_static_field(program, c) || has_static_method(program, c)
 }
@@ -89,7 +87,7 @@ fn is_holder(program: &Program, c: usize) -> bool
 fn add_field(old: &Old, f: u64, field: &Field, into: &mut Vec<Member>) -> Result<(), AllocError>
     requires { IsSource old.now.source.now }
     ensures { OnOk result (tree.members into.new.items ≡ tree.members into.old.items ++ written.static_field_member (old_program old.now.source.now)
-        (renaming old.now.source.now) old.now.source.now.hier.now old.now.class f (field_seen no_place field.now)) }
+        (renaming old.now.source.now) old.now.source.now.hier.now old.now.class f (field_seen field.now)) }
 {
     add_static!(static_field, (f, field), old, into)
 }
@@ -98,7 +96,7 @@ fn add_field(old: &Old, f: u64, field: &Field, into: &mut Vec<Member>) -> Result
 fn add_method(old: &Old, m: u64, method: &Method, into: &mut Vec<Member>) -> Result<(), AllocError>
     requires { IsSource old.now.source.now }
     ensures { OnOk result (tree.members into.new.items ≡ tree.members into.old.items ++ written.static_method_member (old_program old.now.source.now)
-        (renaming old.now.source.now) old.now.source.now.hier.now old.now.class m (method_seen no_place method.now)) }
+        (renaming old.now.source.now) old.now.source.now.hier.now old.now.class m (method_seen method.now)) }
 {
     add_static!(static_method, (m, method), old, into)
 }
@@ -125,7 +123,7 @@ fn add_methods(old: &Old, into: &mut Vec<Member>) -> Result<(), AllocError>
 fn holder(old: &Old, class: &Class) -> Result<Decl, AllocError>
     requires { IsSource old.now.source.now }
     ensures { IfOk result (λ d. tree.decl_of d ≡ types.holder_tree (old_program old.now.source.now) (renaming old.now.source.now)
-        old.now.source.now.hier.now old.now.class (class_seen no_place class.now)) }
+        old.now.source.now.hier.now old.now.class (class_seen class.now)) }
 {
     let name = class.name.copy(old.source.alloc)?;
     let mut members = Vec::new(old.source.alloc);
@@ -146,7 +144,7 @@ fn add_holder(old: &Old, class: &Class, into: &mut Vec<Decl>) -> Result<(), Allo
     requires { IsSource old.now.source.now }
     ensures { OnOk result (tree.decls into.new.items ≡ tree.decls into.old.items ++ when (is_holder (old_program old.now.source.now) old.now.class)
         (types.holder_tree (old_program old.now.source.now) (renaming old.now.source.now) old.now.source.now.hier.now old.now.class
-        (class_seen no_place class.now) ∷ [])) }
+        (class_seen class.now) ∷ [])) }
 {
     if !is_holder(old.source.program, old.class) {
         return Ok(());

@@ -3,7 +3,7 @@
 #![tactic(auto)]
 
 ghost use Rattle.std.specs.Prelude.{◌≡◌, IfOk};
-ghost use Rattle.source_gen.specs.Words.{no_place, program_of, IsFormed, InRange, IsHierarchyOf};
+ghost use Rattle.source_gen.specs.Words.{program_of, IsFormed, InRange, IsHierarchyOf};
 ghost use Rattle.java_tree.specs.Syntax.{tree_of};
 ghost use Rattle.written_tree.specs.Written.{written_by};
 ghost use Rattle.tree_forms.specs.Renamed.{renamed, IsFitting};
@@ -40,11 +40,11 @@ pub fn generate(
     facts: &Facts,
     hier: &Hier,
 ) -> Result<Tree, AllocError>
-    requires formed { IsFormed (program_of no_place program.now) }
+    requires formed { IsFormed (program_of program.now) }
     requires range { InRange facts.now }
     requires hierarchy { IsHierarchyOf facts.now hier.now }
     requires fits { IsFitting numbering.now hier.now }
-    ensures tree { IfOk result (λ t. tree_of t ≡ written_by (program_of no_place program.now)
+    ensures tree { IfOk result (λ t. tree_of t ≡ written_by (program_of program.now)
         (renamed numbering.now hier.now) facts.now hier.now numbering.now.columns.keys) }
 {
     let classes = class_nodes(alloc, facts, hier)?;

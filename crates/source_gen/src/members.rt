@@ -1,7 +1,7 @@
 //! The fields and methods that the types of nodes and the holders have.
 
 ghost use Rattle.std.specs.Prelude.{◌≡◌, ◌++◌, ◌∷◌, [], IfOk, OnOk, map};
-ghost use Rattle.source_gen.specs.Words.{no_place, method_seen, field_seen, head_if, IsSource, old_program, renaming};
+ghost use Rattle.source_gen.specs.Words.{method_seen, field_seen, head_if, IsSource, old_program, renaming};
 ghost use Rattle.kaba_base.specs.declared.words.Keyword.TheVariants as keyword;
 ghost use Rattle.java_tree.specs.Syntax as tree;
 ghost use Rattle.flow_rules.specs.declared.items.RowItem.TheVariants as row;
@@ -69,8 +69,7 @@ pub fn push_bodyless(into: &mut Vec<Member>, one: Option<Head>) -> Result<(), Al
 
 /// The parameters of a method when its body begins, by their numbers.
 fn parameters(alloc: Global, method: &Method) -> Result<Vec<u32>, AllocError>
-    ensures { IfOk result (λ v. v.items ≡ written.parameters 0 (method_seen no_place
-        method.now).params) }
+    ensures { IfOk result (λ v. v.items ≡ written.parameters 0 (method_seen method.now).params) }
 {
     let mut list = Vec::new(alloc);
     for (i, _local) in method.params.iter().enumerate() {
@@ -85,8 +84,8 @@ fn parameters(alloc: Global, method: &Method) -> Result<Vec<u32>, AllocError>
 /// The statements of a method, as they are written.
 fn code(source: &Source, m: u64, method: &Method) -> Result<Option<Vec<Stmt>>, AllocError>
     requires { IsSource source.now }
-    ensures { IfOk result (λ b. tree.body_seen b ≡ written.body (old_program source.now) (renaming source.now) source.now.hier.now m (method_seen
-        no_place method.now)) }
+    ensures { IfOk result (λ b. tree.body_seen b ≡ written.body (old_program source.now) (renaming source.now) source.now.hier.now m
+        (method_seen method.now)) }
 {
     let Some(list) = &method.body else {
         return Ok(None);
@@ -132,8 +131,8 @@ fn method(
 ) -> Result<Member, AllocError>
     requires { IsSource source.now }
     ensures { IfOk result (λ d. tree.member_of d ≡ tree.MethodTree (written.head (old_program source.now) (renaming source.now) source.now.hier.now
-        mods.items name m (method_seen no_place old.now)) (written.body (old_program source.now) (renaming source.now) source.now.hier.now m
-        (method_seen no_place old.now)) names.nowhere) }
+        mods.items name m (method_seen old.now)) (written.body (old_program source.now) (renaming source.now) source.now.hier.now m
+        (method_seen old.now)) names.nowhere) }
 {
     let head = head(source, mods, name, m, old)?;
     let body = code(source, m, old)?;
@@ -148,7 +147,7 @@ fn method(
 pub fn field_member(source: &Source, f: u64, old: &Field) -> Result<Member, AllocError>
     requires { IsSource source.now }
     ensures { IfOk result (λ d. tree.member_of d ≡ written.field_member (old_program source.now) (renaming source.now) source.now.hier.now f
-        (field_seen no_place old.now)) }
+        (field_seen old.now)) }
 {
     let name = field_name(source, f)?;
     let mods = Vec::new(source.alloc);
@@ -159,7 +158,7 @@ pub fn field_member(source: &Source, f: u64, old: &Field) -> Result<Member, Allo
 pub fn body_member(source: &Source, m: u64, old: &Method) -> Result<Member, AllocError>
     requires { IsSource source.now }
     ensures { IfOk result (λ d. tree.member_of d ≡ written.body_member (old_program source.now) (renaming source.now) source.now.hier.now m
-        (method_seen no_place old.now)) }
+        (method_seen old.now)) }
 {
     let name = method_name(source, m)?;
     let mods = one_modifier(source.alloc, Keyword::Public)?;
@@ -182,8 +181,8 @@ pub fn static_field(source: &Source, f: u64, old: &Field) -> Result<Member, Allo
 pub fn static_method(source: &Source, m: u64, old: &Method) -> Result<Member, AllocError>
     requires { IsSource source.now }
     ensures { IfOk result (λ d. tree.member_of d ≡ tree.MethodTree (written.head (old_program source.now) (renaming source.now) source.now.hier.now
-        (names.modifier keyword.Public ∷ names.modifier keyword.Static ∷ []) old.now.name m (method_seen no_place old.now)) (written.body (old_program
-        source.now) (renaming source.now) source.now.hier.now m (method_seen no_place old.now)) names.nowhere) }
+        (names.modifier keyword.Public ∷ names.modifier keyword.Static ∷ []) old.now.name m (method_seen old.now)) (written.body (old_program
+        source.now) (renaming source.now) source.now.hier.now m (method_seen old.now)) names.nowhere) }
 {
     let name = old.name.copy(source.alloc)?;
     let mods = public_and(source.alloc, Keyword::Static)?;

@@ -3,7 +3,6 @@ use Rattle.std.specs.Prelude.{ℕ, List, Option, option_and_then}
 use Rattle.std.specs.Option.{option_map_or}
 use Rattle.java_tree.specs.declared.TypeName.{TypeName}
 use Rattle.java_core.specs.declared.Ty.{Ty}
-use Rattle.java_core.specs.Trees.{no_place}
 use Rattle.java_core.specs.Programs.{Plain, program_of}
 use Rattle.java_core.specs.Formed.{IsFormed}
 use Rattle.java_core.specs.Classes.{declaration_of, super_method}
@@ -16,7 +15,7 @@ use Rattle.tree_forms.specs.Renamed.{renamed, IsFitting}
 
 -- the old program
 abbrev pub old_program : Source → Plain
-old_program source = program_of no_place source.program.now
+old_program source = program_of source.program.now
 
 -- what its rows and columns become
 abbrev pub renaming : Source → Renaming

@@ -2,7 +2,6 @@
 
 ghost use Rattle.std.specs.Prelude.{◌≡◌, IfOk};
 ghost use Rattle.java_tree.specs.Syntax.{expr_of, exprs};
-ghost use Rattle.java_core.specs.Trees.{no_place};
 ghost use Rattle.java_core.specs.Programs.{method_seen};
 ghost use Rattle.written_tree.specs.Bodies as written;
 ghost use Rattle.tree_forms.specs.Sources.{old_program};
@@ -18,8 +17,7 @@ use std::alloc::{AllocError, Global};
 
 /// The name of a parameter or a local of a method.
 pub fn variable_name(alloc: Global, method: &Method, number: u32) -> Result<Name, AllocError>
-    ensures { IfOk result (λ n. n ≡ written.variable_name (method_seen no_place method.now)
-        number) }
+    ensures { IfOk result (λ n. n ≡ written.variable_name (method_seen method.now) number) }
 {
     match variable_at(method, number as u64) {
         Some(variable) => variable.name.copy(alloc),
@@ -29,7 +27,7 @@ pub fn variable_name(alloc: Global, method: &Method, number: u32) -> Result<Name
 
 /// Whether a parameter or local has the name.
 fn is_named(method: &Method, number: u32, name: &Name) -> bool
-    ensures { result ≡ written.is_named (method_seen no_place method.now) name.now number }
+    ensures { result ≡ written.is_named (method_seen method.now) name.now number }
 {
     match variable_at(method, number as u64) {
         Some(variable) => is_same(&variable.name, name),
@@ -39,8 +37,7 @@ fn is_named(method: &Method, number: u32, name: &Name) -> bool
 
 /// Whether one of the parameters and locals in scope has the name.
 fn is_in_scope(method: &Method, scope: &Vec<u32>, name: &Name) -> bool
-    ensures { result ≡ written.is_in_scope (method_seen no_place method.now) scope.now.items
-        name.now }
+    ensures { result ≡ written.is_in_scope (method_seen method.now) scope.now.items name.now }
 {
     for number in scope {
         if is_named(method, *number, name) {
@@ -53,8 +50,7 @@ fn is_in_scope(method: &Method, scope: &Vec<u32>, name: &Name) -> bool
 /// Whether a static member is written by its simple name: inside its own holder, where no parameter
 /// or local in scope has that name.
 fn is_simple(method: &Method, scope: &Vec<u32>, owner: ClassId, name: &Name) -> bool
-    ensures { result ≡ written.is_simple (method_seen no_place method.now) scope.now.items owner.0
-        name.now }
+    ensures { result ≡ written.is_simple (method_seen method.now) scope.now.items owner.0 name.now }
 {
     method.is_static && method.owner == owner && !is_in_scope(method, scope, name)
 }
@@ -66,7 +62,7 @@ pub fn static_field(
     scope: &Vec<u32>,
     field: MemberId,
 ) -> Result<Expr, AllocError>
-    ensures { IfOk result (λ e. expr_of e ≡ written.static_field_name (old_program source.now) (method_seen no_place method.now) scope.now.items field.0) }
+    ensures { IfOk result (λ e. expr_of e ≡ written.static_field_name (old_program source.now) (method_seen method.now) scope.now.items field.0) }
 {
     let Some(field) = source.program.fields.get(field.0 as usize) else {
         return Ok(Expr::Null { place: nowhere() });
@@ -94,7 +90,7 @@ pub fn static_call(
     called: MemberId,
     args: Vec<Expr>,
 ) -> Result<Expr, AllocError>
-    ensures { IfOk result (λ e. expr_of e ≡ written.static_call_name (old_program source.now) (method_seen no_place method.now) scope.now.items called.0
+    ensures { IfOk result (λ e. expr_of e ≡ written.static_call_name (old_program source.now) (method_seen method.now) scope.now.items called.0
         (exprs args.items)) }
 {
     let Some(called) = source.program.methods.get(called.0 as usize) else {

@@ -2,7 +2,6 @@
 
 ghost use Rattle.std.specs.Prelude.{◌≡◌, ◌<◌, length, slice_get};
 ghost use Rattle.flow_rules.specs.Operands.{variable_row, result_in};
-ghost use Rattle.java_core.specs.Trees.{no_place};
 ghost use Rattle.java_core.specs.Programs.{method_seen};
 
 use flow_rules::{ColumnItem, RowItem};
@@ -34,7 +33,7 @@ impl Numbering {
 
 /// The row of a parameter or a local: a parameter of an instance method is one of its slot.
 pub fn variable_row(m: u64, method: &Method, number: u64) -> RowItem
-    ensures value { result ≡ variable_row m (method_seen no_place method.now) number }
+    ensures value { result ≡ variable_row m (method_seen method.now) number }
 {
     match method.slot {
         Some(slot) if number < method.params.len() as u64 => RowItem::Param(slot as u64, number),
@@ -44,7 +43,7 @@ pub fn variable_row(m: u64, method: &Method, number: u64) -> RowItem
 
 /// The row of what a method gives back: that of an instance method is its slot's.
 pub fn result_row(m: u64, method: &Method) -> RowItem
-    ensures value { result ≡ result_in (method_seen no_place method.now).slot m }
+    ensures value { result ≡ result_in (method_seen method.now).slot m }
 {
     match method.slot {
         Some(slot) => RowItem::Return(slot as u64),

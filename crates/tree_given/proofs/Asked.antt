@@ -26,7 +26,6 @@ use Rattle.flow_rules.specs.declared.items.RowItem.TheVariants as row
 use Rattle.flow_rules.specs.Parts.{Part, a_super_call, parts_of}
 use Rattle.flow_rules.specs.Lists.{both, accessed, row_at, accesses_of, supers_of}
 use Rattle.flow_rules.specs.Facts.{numbers}
-use Rattle.run_cover.proofs.HasRows.{of_field}
 use Rattle.flow_rules.proofs.Listed.{first}
 use Rattle.run_cover.proofs.HasNumbers.{field_column}
 use Rattle.facts_order.proofs.Columns.{body_column}
@@ -37,8 +36,8 @@ use Rattle.tree_given.proofs.Given.{Given, words}
 use Rattle.tree_given.proofs.Names.{columns, method_member, offered_named, field_name_is, method_name_is}
 
 module _ (C : Given) where
-  open C use {program as Q, facts as F, hierarchy as H}
-  open words C use {plain as P, renaming as R, numbers as N}
+  open C use {program as P, facts as F, hierarchy as H}
+  open words C use {renaming as R, numbers as N}
 
   kept : Half (given F C.sets C.table) (shape H)
   kept =
@@ -58,8 +57,7 @@ module _ (C : Given) where
       → ((x : AccessInfo) → Contains (accessed (row_at N b) (N.column (column.Fld f))) x → Contains F.accesses.items x) → IsName (R.field_name f)
   unfolding numbers
   field_asked b f r w stands instance a into =
-      let k = of_field Q C.ready.formed f w stands in
-      let l = field_column P Q f k.0 k.1 (ap (λ z. z.is_static) k.2 ∙ instance) in
+      let l = field_column P f w stands instance in
       subst IsName (sym (field_name_is C f l.0 l.1))
       (offered_named C (place_of_row H r) l.0 (asked (row_at N b) (column.Fld f) r l.0 a l.1 into)
       (ap is_member ((columns C).kind (column.Fld f) l.0 l.1)))
@@ -74,20 +72,20 @@ module _ (C : Given) where
       (offered_named C (place_of_row H r) l.0 (asked (row_at N b) (column.Dcl d) r l.0 a l.1 into)
       (method_member (column_kind F l.0) kind))
 
-  module _ (m : ℕ) (k : PlainMethod) (stands : slice_get Q.methods m ≡ Some k) where
+  module _ (m : ℕ) (k : PlainMethod) (stands : slice_get P.methods m ≡ Some k) where
     pub access_of : (p : Part) → Contains (parts_of P m k) p → (x : AccessInfo) → Contains (accesses_of N p) x → Contains F.accesses.items x
-    access_of p c x d = (C.ready.facts.accesses x).1 (gathered_has P Q (λ b. accesses_of N) x m k p stands c d)
+    access_of p c x d = (C.ready.facts.accesses x).1 (gathered_has P (λ b. accesses_of N) x m k p stands c d)
 
     super_of : (p : Part) → Contains (parts_of P m k) p → (x : SuperInfo) → Contains (supers_of N m p) x → Contains F.supers.items x
-    super_of p c x d = (C.ready.facts.supers x).1 (gathered_has P Q (λ b. supers_of N b.number) x m k p stands c d)
+    super_of p c x d = (C.ready.facts.supers x).1 (gathered_has P (λ b. supers_of N b.number) x m k p stands c d)
 
     -- the body that a super call runs
     pub super_asked : (w : Place) (d : ℕ) (es : List Operand) (o : Operand) → Contains (parts_of P m k) (a_super_call w (Some d) es o)
-        → (r : ℕ) → N.row (row.This m) ≡ Some r → (f : PlainMethod) → slice_get Q.methods d ≡ Some f → f.is_static ≡ false
+        → (r : ℕ) → N.row (row.This m) ≡ Some r → (f : PlainMethod) → slice_get P.methods d ≡ Some f → f.is_static ≡ false
         → is_some f.body ≡ true → IsName (R.method_name d)
     unfolding numbers
     super_asked w d es o i r a f e instance body =
-        let l = body_column P Q d f e instance body in
+        let l = body_column P d f e instance body in
         let x : SuperInfo = record { row = record { 0 = r }; column = record { 0 = l.0 } } in
         let made : ℕ → ℕ → SuperInfo = λ a b. record { row = record { 0 = a }; column = record { 0 = b } } in
         let is = subst (λ z. Contains (both z (N.column (column.Def d)) made) x) (sym a)

@@ -8,17 +8,16 @@ use Rattle.java_tree.specs.Syntax.{NullLit, Expressions}
 use Rattle.java_tree.specs.Formed as printed
 use Rattle.java_tree.specs.Formed.{is_target, IsFormed, AreFormed, IsFormedBase}
 use Rattle.java_core.specs.declared.Ty.{Ty}
-use Rattle.java_core.specs.Trees.{Tag, Ex, Exs, call, super_call, Sts}
+use Rattle.java_core.specs.Trees.{Tag, Ex, Exs, call, super_call}
 use Rattle.java_core.specs.Programs.{PlainLocal, PlainField, PlainMethod}
 use Rattle.java_core.specs.Classes.{slot_of, slot_of_method, declaration_of, super_method, has_body}
-use Rattle.java_core.specs.Types.{Static, env_of, class_of, field_in, field_type, access_type, Signature, call_signature, super_signature, static}
+use Rattle.java_core.specs.Types.{Static, class_of, field_in, field_type, access_type, Signature, call_signature, super_signature, static}
 use Rattle.java_core.specs.Formed.{IsClass, IsType, IsOwnField, IsFormedMethod, IsStaticField, IsStaticMethod, variables_of}
-use Rattle.java_core.specs.Untagged.{bare, untag_body, untag_method}
-use Rattle.java_meaning.proofs.WatchedPrograms.{bare_static}
 use Rattle.fact_model.specs.declared.facts.AccessInfo.{AccessInfo}
 use Rattle.flow_rules.specs.declared.items.ColumnItem.TheVariants as column
 use Rattle.flow_rules.specs.declared.items.RowItem.{RowItem}
 use Rattle.flow_rules.specs.declared.items.RowItem.TheVariants as row
+use Rattle.flow_rules.specs.Labels.{label}
 use Rattle.flow_rules.specs.Operands.{object_field, call_slot, call_declaration, row_of, this_operand, type_in}
 use Rattle.flow_rules.specs.Parts.{Part, a_call, a_super_call, parts_of}
 use Rattle.flow_rules.specs.Numbered.{row_number, number_if}
@@ -26,9 +25,9 @@ use Rattle.flow_rules.specs.Lists.{accessed, row_in, row_at, accesses_of}
 use Rattle.flow_rules.specs.Facts.{numbers}
 use Rattle.run_cover.specs.Slotted.{HaveSlots}
 use Rattle.flow_rules.proofs.TypeLemmas.{class_is}
-use Rattle.run_cover.proofs.Untagging.{same_env}
+use Rattle.java_core.proofs.Retagging.{static_same}
+use Rattle.run_cover.proofs.Labelled.{ex_same, typed_same, formed_same}
 use Rattle.run_cover.proofs.HasNumbers.{this_row}
-use Rattle.run_cover.proofs.HasRows.{method_of}
 use Rattle.run_cover.proofs.Types.{class_apart, slot_called}
 use Rattle.run_cover.proofs.TypedParts as typed_parts
 use Rattle.run_cover.proofs.TypedParts.{TypedBody}
@@ -44,18 +43,13 @@ use Rattle.tree_given.proofs.Forms.{field_tree, call_tree}
 use Rattle.run_cover.proofs.Walked.{walked}
 
 module _ (C : Given) (B : Bodied C) where
-  open C use {program as Q, facts as F, hierarchy as H}
-  open words C use {plain as P, renaming as R, numbers as N}
+  open C use {program as P, facts as F, hierarchy as H}
+  open words C use {renaming as R, numbers as N}
   open B use {number as m, method as k}
-
-  -- the method without its places
-  abbrev h : PlainMethod
-  h = untag_method k
-
   open walked P m k use {env as g, type, operand as O, tree, Stands, IsTyped, IsFormed as IsFormedEx, static as old, operands}
 
-  pub plain_method : IsFormedMethod P h
-  plain_method = C.ready.formed.methods m h (method_of Q C.ready.formed m k B.stands)
+  pub method_formed : IsFormedMethod P k
+  method_formed = C.ready.formed.methods m k B.stands
 
   pub slots : HaveSlots P
   unfolding HaveSlots
@@ -63,81 +57,85 @@ module _ (C : Given) (B : Bodied C) where
 
   abbrev T : TypedBody
   T = let r = C.ready in
-      record { program = Q; facts = F; formed = r.formed; slots = slots; are_facts = r.facts; number = m; method = k; stands = B.stands; bodied = B.bodied }
+      record { program = P; facts = F; formed = r.formed; slots = slots; are_facts = r.facts; number = m; method = k; stands = B.stands; bodied = B.bodied }
 
   -- ---- names
 
-  pub variable_named : (i : ℕ) → i < length (variables_of h) → IsName (variable_name h i)
+  pub variable_named : (i : ℕ) → i < length (variables_of k) → IsName (variable_name k i)
   variable_named i lt =
-      let v = below_at (variables_of h) i lt in
+      let v = below_at (variables_of k) i lt in
       subst IsName (sym (ap (λ o. option_map_or (λ (v : PlainLocal). v.name) o []) v.1))
-      ((plain_method.variables v.0 (contains_at (variables_of h) i v.0 v.1)).name.name)
+      ((method_formed.variables v.0 (contains_at (variables_of k) i v.0 v.1)).name.name)
 
   pub static_field_formed : (wr : List ℕ) (f : ℕ) → IsStaticField P f
-      → IsFormed (static_field_name P h wr f) × (is_target (static_field_name P h wr f) ≡ true)
+      → IsFormed (static_field_name P k wr f) × (is_target (static_field_name P k wr f) ≡ true)
   static_field_formed wr f s =
       let w = C.ready.formed.fields f s.member s.stands in
       let x = s.member.name in
       let c = s.member.owner in
       subst
-      (λ o. let e = option_map_or (λ (g : PlainField). static_field_tree (is_simple h wr g.owner g.name) (class_name P g.owner) g.name) o (NullLit nowhere) in
+      (λ o. let e = option_map_or (λ (g : PlainField). static_field_tree (is_simple k wr g.owner g.name) (class_name P g.owner) g.name) o (NullLit nowhere) in
       IsFormed e × (is_target e ≡ true)) (sym s.stands)
-      (field_tree (is_simple h wr c x) (class_name P c) x (known_class_named C c (slice_get_within P.classes c w.holder w.stands)) w.name.name)
+      (field_tree (is_simple k wr c x) (class_name P c) x (known_class_named C c (slice_get_within P.classes c w.holder w.stands)) w.name.name)
 
   pub static_call_formed : (wr : List ℕ) (d : ℕ) (es : Expressions) → IsStaticMethod P d
-      → (AreFormed es → IsFormed (static_call_name P h wr d es)) × (printed.is_call (static_call_name P h wr d es) ≡ true)
+      → (AreFormed es → IsFormed (static_call_name P k wr d es)) × (printed.is_call (static_call_name P k wr d es) ≡ true)
   static_call_formed wr d es s =
       let w = C.ready.formed.methods d s.member s.stands in
       let x = s.member.name in
       let c = s.member.owner in
       subst
-      (λ o. let e = option_map_or (λ (g : PlainMethod). static_call_tree (is_simple h wr g.owner g.name) (class_name P g.owner) g.name es) o
+      (λ o. let e = option_map_or (λ (g : PlainMethod). static_call_tree (is_simple k wr g.owner g.name) (class_name P g.owner) g.name es) o
       (NullLit nowhere) in (AreFormed es → IsFormed e) × (printed.is_call e ≡ true)) (sym s.stands)
-      (call_tree (is_simple h wr c x) (class_name P c) x es (known_class_named C c (slice_get_within P.classes c w.holder w.stands)) w.name)
+      (call_tree (is_simple k wr c x) (class_name P c) x es (known_class_named C c (slice_get_within P.classes c w.holder w.stands)) w.name)
 
-  same_number : (i : Option RowItem) → row_in N i ≡ number_if (row_number P Q) i
+  same_number : (i : Option RowItem) → row_in N i ≡ number_if (row_number P) i
   unfolding numbers
   same_number None = refl
   same_number (Some i) = refl
 
+  same_static : (at : ℕ) (e : Ex) → static P g (label at e) ≡ static P g e
+  same_static at e = static_same P g (ex_same at e)
+
   -- the row of a receiver or a base
-  base_row : (u : Bool) (sc : List ℕ) (e : Ex) (c : ℕ) → IsTyped e → IsFormedEx sc e → Stands (tree u e) → class_of (old e) ≡ Some c
-      → (r : ℕ) × (row_at N (O e) ≡ Some r)
-  base_row u sc e c ty fo st s =
-      let r = typed_parts.row_listed T u sc e ty fo st (record { class = record { 0 = c }; dim = 0 })
-      (typed_parts.of_typed T e (record { class = record { 0 = c }; dim = 0 }) (class_typed (old e) c s)) in
-      (r.0, same_number (row_of P (type_in P m k) m k e) ∙ r.1)
+  base_row : (u : Bool) (sc : List ℕ) (at : ℕ) (e : Ex) (c : ℕ) → IsTyped e → IsFormedEx sc e → Stands (tree u (label at e)) → class_of (old e) ≡ Some c
+      → (r : ℕ) × (row_at N (O (label at e)) ≡ Some r)
+  base_row u sc at e c ty fo st s =
+      let l = label at e in
+      let r = typed_parts.row_listed T u sc l (typed_same P g (ex_same at e) ty) (formed_same P k (ex_same at e) fo) st
+      (record { class = record { 0 = c }; dim = 0 })
+      (typed_parts.of_typed T l (record { class = record { 0 = c }; dim = 0 }) (class_typed (old l) c (ap class_of (same_static at e) ∙ s))) in
+      (r.0, same_number (row_of P (type_in P m k) m k l) ∙ r.1)
 
   self_row : k.is_static ≡ false → (r : ℕ) × (row_at N (this_operand m k) ≡ Some r)
-  self_row s = let r = this_row P Q m k B.stands B.bodied s in (r.0, same_number (Some (row.This m)) ∙ r.1)
+  self_row s = let r = this_row P m k B.stands B.bodied s in (r.0, same_number (Some (row.This m)) ∙ r.1)
 
-  field_seen : (e : Ex) (x : List ℕ) (f : ℕ) → field_in P (old e) x ≡ Some f → object_field P (type e) x ≡ Some f
-  field_seen e x f l =
-      typed_parts.field_found T e x ∙ ap (λ z. field_in P z x) (sym (bare_static P g e)) ∙ l
+  field_seen : (at : ℕ) (e : Ex) (x : List ℕ) (f : ℕ) → field_in P (old e) x ≡ Some f → object_field P (type (label at e)) x ≡ Some f
+  field_seen at e x f l = typed_parts.field_found T (label at e) x ∙ ap (λ z. field_in P z x) (same_static at e) ∙ l
 
-  declaration_seen : (e : Ex) (x : List ℕ) (c d : ℕ) → class_of (old e) ≡ Some c → declaration_of P c x ≡ Some d
-      → call_declaration P (type e) x ≡ Some d
+  declaration_seen : (at : ℕ) (e : Ex) (x : List ℕ) (c d : ℕ) → class_of (old e) ≡ Some c → declaration_of P c x ≡ Some d
+      → call_declaration P (type (label at e)) x ≡ Some d
   unfolding type_in
-  declaration_seen e x c d l f =
-      ap (λ z. option_and_then (λ c. declaration_of P c x) z) (class_is (static P g e) ∙ ap class_of (sym (bare_static P g e)) ∙ l) ∙ f
+  declaration_seen at e x c d l f =
+      ap (λ z. option_and_then (λ c. declaration_of P c x) z) (class_is (static P g (label at e)) ∙ ap class_of (same_static at e) ∙ l) ∙ f
 
   -- the field that a part asks for; where an access finds none, as for the length of an array, the name stays
-  pub field_named : (u : Bool) (sc : List ℕ) (e : Ex) (x : List ℕ) (part : Option ℕ → Part) → IsTyped e → IsFormedEx sc e
-      → Stands (tree u e) → IsName x → ((f : ℕ) → field_in P (old e) x ≡ Some f → is_some (field_type P f) ≡ true)
-      → ((f : ℕ) (a : AccessInfo) → Contains (accessed (row_at N (O e)) (N.column (column.Fld f))) a → Contains (accesses_of N (part (Some f))) a)
-      → Contains (parts_of P m k) (part (object_field P (type e) x))
-      → IsName (option_map_or R.field_name (field_in P (static P (env_of m h) (bare e)) x) x)
-  field_named u sc e x part ty fo st n some asks there =
-      subst (λ g. IsName (option_map_or R.field_name (field_in P (static P g (bare e)) x) x)) (sym (same_env m k)) (go (field_in P (old e) x) refl)
+  pub field_named : (u : Bool) (sc : List ℕ) (at : ℕ) (e : Ex) (x : List ℕ) (part : Option ℕ → Part) → IsTyped e → IsFormedEx sc e
+      → Stands (tree u (label at e)) → IsName x → ((f : ℕ) → field_in P (old e) x ≡ Some f → is_some (field_type P f) ≡ true)
+      → ((f : ℕ) (a : AccessInfo) → Contains (accessed (row_at N (O (label at e))) (N.column (column.Fld f))) a
+      → Contains (accesses_of N (part (Some f))) a)
+      → Contains (parts_of P m k) (part (object_field P (type (label at e)) x))
+      → IsName (option_map_or R.field_name (field_in P (old e) x) x)
+  field_named u sc at e x part ty fo st n some asks there = go (field_in P (old e) x) refl
     where
       go : (o : Option ℕ) → field_in P (old e) x ≡ o → IsName (option_map_or R.field_name o x)
       go None l = n
       go (Some f) l =
           let c = typed_parts.field_class T (old e) x f l in
-          let r = base_row u sc e c.0 ty fo st c.1 in
+          let r = base_row u sc at e c.0 ty fo st c.1 in
           let w = found_instance P (old e) x f l (some f l) in
-          let in_body = subst (λ z. Contains (parts_of P m k) (part z)) (field_seen e x f l) there in
-          field_asked C (O e) f r.0 w.0 w.1 w.2 r.1
+          let in_body = subst (λ z. Contains (parts_of P m k) (part z)) (field_seen at e x f l) there in
+          field_asked C (O (label at e)) f r.0 w.0 w.1 w.2 r.1
           (λ a c. access_of C m k B.stands (part (Some f)) in_body a (asks f a c))
 
   -- a field of the method's own object
@@ -150,23 +148,24 @@ module _ (C : Given) (B : Bodied C) where
       (λ a c. access_of C m k B.stands part there a (asks a c))
 
   -- the method that a call finds; those of a String keep their names
-  pub call_named : (sc : List ℕ) (t : Tag) (e : Ex) (x : List ℕ) (es : Exs) (sig : Signature) → IsTyped e → call_signature P (old e) x ≡ Some sig
-      → IsFormedEx sc e → Stands (tree true e) → IsName x
-      → Contains (parts_of P m k) (a_call t.place (O e) (call_slot P (type e) x) (call_declaration P (type e) x) (operands es) (O (call t e x es)))
-      → IsName (option_map_or R.method_name (option_and_then (λ c. declaration_of P c x) (class_of (static P (env_of m h) (bare e)))) x)
-  call_named sc t e x es sig ty called fo st n there =
-      subst (λ g. IsName (option_map_or R.method_name (option_and_then (λ c. declaration_of P c x) (class_of (static P g (bare e)))) x)) (sym (same_env m k))
-      (of_class (class_of (old e)) refl)
+  pub call_named : (sc : List ℕ) (t : Tag) (at : ℕ) (e : Ex) (x : List ℕ) (es : Exs) (sig : Signature) → IsTyped e
+      → call_signature P (old e) x ≡ Some sig → IsFormedEx sc e → Stands (tree true (label at e)) → IsName x
+      → Contains (parts_of P m k) (a_call t.place (O (label at e)) (call_slot P (type (label at e)) x) (call_declaration P (type (label at e)) x)
+      (operands es) (O (call t (label at e) x es)))
+      → IsName (option_map_or R.method_name (option_and_then (λ c. declaration_of P c x) (class_of (old e))) x)
+  call_named sc t at e x es sig ty called fo st n there = of_class (class_of (old e)) refl
     where
+      part : Option ℕ → Part
+      part z = a_call t.place (O (label at e)) (call_slot P (type (label at e)) x) z (operands es) (O (call t (label at e) x es))
+
       found : (c d : ℕ) → class_of (old e) ≡ Some c → declaration_of P c x ≡ Some d → IsName (R.method_name d)
       found c d cls dcl =
           let s = slot_called P (old e) x sig called (class_apart (old e) c cls).1 in
           let of = sym (ap (option_and_then (slot_of_method P)) dcl) ∙ sym (ap (option_and_then (λ c. slot_of P c x)) cls) ∙ s.found in
-          let r = base_row true sc e c ty fo st cls in
-          call_asked C (O e) d s.number r.0 of r.1
-          (access_of C m k B.stands (a_call t.place (O e) (call_slot P (type e) x) (Some d) (operands es) (O (call t e x es)))
-          (subst (λ z. Contains (parts_of P m k) (a_call t.place (O e) (call_slot P (type e) x) z (operands es) (O (call t e x es))))
-          (declaration_seen e x c d cls dcl) there))
+          let r = base_row true sc at e c ty fo st cls in
+          call_asked C (O (label at e)) d s.number r.0 of r.1
+          (access_of C m k B.stands (part (Some d))
+          (subst (λ z. Contains (parts_of P m k) (part z)) (declaration_seen at e x c d cls dcl) there))
 
       of_declaration : (c : ℕ) → class_of (old e) ≡ Some c → (o : Option ℕ) → declaration_of P c x ≡ o
           → IsName (option_map_or R.method_name o x)
@@ -190,11 +189,7 @@ module _ (C : Given) (B : Bodied C) where
       (super_asked C m k B.stands t.place d (operands es) (O (super_call t x es))
       (subst (λ z. Contains (parts_of P m k) (a_super_call t.place z (operands es) (O (super_call t x es)))) found there) r.0 r.1 o.0 o.1
       (typed_parts.super_instance T k.owner x d found o.0 o.1)
-      (same_some o.0.body ∙ sym (ap (λ z. option_map_or (λ (k : PlainMethod). is_some k.body) z false) (method_of Q C.ready.formed d o.0 o.1)) ∙ bodied))
-    where
-      same_some : (o : Option Sts) → is_some o ≡ is_some (untag_body o)
-      same_some None = refl
-      same_some (Some x) = refl
+      (sym (ap (λ z. option_map_or (λ (k : PlainMethod). is_some k.body) z false) o.1) ∙ bodied))
 
   pub read_type : (s : Static) (x : List ℕ) → is_some (access_type P s x) ≡ true → (f : ℕ) → field_in P s x ≡ Some f
       → is_some (field_type P f) ≡ true

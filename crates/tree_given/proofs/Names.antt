@@ -42,8 +42,8 @@ method_member Def h = refl
 method_member Is h = h
 
 module _ (C : Given) where
-  open C use {program as Q, facts as F, hierarchy as H}
-  open words C use {plain as P, renaming as R}
+  open C use {program as P, facts as F, hierarchy as H}
+  open words C use {renaming as R}
 
   at_node : (n : ℕ) → is_live H.order n ≡ true
       → (unwritable_type F H n ≡ None) × (first_below (length F.columns.items) (unwritable F H n) ≡ None)
@@ -79,11 +79,11 @@ module _ (C : Given) where
   offered_named n c o kind =
       member_named o.at c (ap (is_at o.at) (placed H c o.at o.stands) ∙ eq-eqb o.at o.at refl) kind
 
-  pub columns : AreColumns P Q F
-  columns = columns_are P Q C.pairs C.ready.formed F C.ready.facts
+  pub columns : AreColumns P F
+  columns = columns_are P C.ready.formed F C.ready.facts
 
   -- a field has the name of its column
-  pub field_name_is : (f c : ℕ) → (numbers P Q).column (column.Fld f) ≡ Some c → R.field_name f ≡ member_name H c
+  pub field_name_is : (f c : ℕ) → (numbers P).column (column.Fld f) ≡ Some c → R.field_name f ≡ member_name H c
   unfolding renaming_of
   field_name_is f c e = ap (λ o. option_map_or (member_name H) o []) e
 

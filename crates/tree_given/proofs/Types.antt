@@ -23,8 +23,8 @@ use Rattle.tree_given.proofs.Names.{type_named}
 use Rattle.java_meaning.proofs.Small.{named}
 
 module _ (C : Given) where
-  open C use {program as Q, facts as F, hierarchy as H}
-  open words C use {plain as P, renaming as R}
+  open C use {program as P, facts as F, hierarchy as H}
+  open words C use {renaming as R}
 
   -- a class of the program
   pub class_named : (c : ℕ) (k : PlainClass) → slice_get P.classes c ≡ Some k → IsName k.name
@@ -41,11 +41,11 @@ module _ (C : Given) where
   -- the name by which the class of an item is written
   pub row_named : (i : RowItem) (c : ℕ) → IsClass P c → IsName (row_name P H (R.row_type i) c)
   unfolding renaming_of numbers
-  row_named i c lt = go (row_number P Q i) refl
+  row_named i c lt = go (row_number P i) refl
     where
-      go : (o : Option ℕ) → row_number P Q i ≡ o → IsName (row_name P H (option_map (place_of_row H) o) c)
+      go : (o : Option ℕ) → row_number P i ≡ o → IsName (row_name P H (option_map (place_of_row H) o) c)
       go None e = known_class_named c lt
-      go (Some r) e = type_named C (place_of_row H r) (row_live P Q F C.ready.facts H C.ready.hierarchy i r e)
+      go (Some r) e = type_named C (place_of_row H r) (row_live P F C.ready.facts H C.ready.hierarchy i r e)
 
   pub base_formed : (i : RowItem) (b : TyBase) → IsKnownBase P b → IsFormedBase (written_base P H (R.row_type i) b)
   base_formed i Int h = tt

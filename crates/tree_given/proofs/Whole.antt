@@ -20,7 +20,6 @@ use Rattle.java_core.specs.Classes.{slot_of_method}
 use Rattle.java_core.specs.Types.{env_of}
 use Rattle.java_core.specs.Typing.{IsTypedMethod, TypedSts}
 use Rattle.java_core.specs.Formed.{IsKnownResult}
-use Rattle.java_core.specs.Untagged.{bare_sts, untag_body, untag_method}
 use Rattle.fact_model.specs.Items.{column_kind, column_slot}
 use Rattle.fact_model.specs.Classes.{is_slot}
 use Rattle.fact_model.specs.declared.facts.ColumnInfo.{ColumnInfo}
@@ -37,8 +36,6 @@ use Rattle.flow_rules.specs.Ordered.{each}
 use Rattle.flow_rules.specs.Operands.{variable_row, result_in}
 use Rattle.flow_rules.specs.Numbered.{columns_of}
 use Rattle.flow_rules.specs.Facts.{numbers, kind_of, slot_in}
-use Rattle.run_cover.proofs.Untagging.{same_env}
-use Rattle.run_cover.proofs.HasRows.{method_of, of_method}
 use Rattle.flow_rules.proofs.Listed.{first, more, at_contains, contains_at, index_at, map_at, map_from, each_from_zero, when_from, one_from}
 use Rattle.flow_rules.proofs.NumberedItems.{numbered_columns}
 use Rattle.rebuild_model.specs.Members.{is_made_at, offers_body, is_filled}
@@ -95,8 +92,8 @@ offered_at H n c h = go (place_of_column H c) h
     go (Some p) e = (p.0, eq-eqb p.0 p.0 refl)
 
 module _ (C : Given) where
-  open C use {program as Q, facts as F, hierarchy as H}
-  open words C use {plain as P, renaming as R}
+  open C use {program as P, facts as F, hierarchy as H}
+  open words C use {renaming as R}
 
   abbrev order : IsPartialOrder H.order
   order = C.ready.hierarchy.sized.order
@@ -108,21 +105,13 @@ module _ (C : Given) where
   -- ---- bodies and heads
 
   method_body : (m : ℕ) (k : PlainMethod) → slice_get P.methods m ≡ Some k → IsFormedBody (body P R H m k)
-  method_body m k e =
-      let q = of_method Q C.ready.formed m k e in
-      subst (λ z. IsFormedBody (body P R H m z)) q.2 (go q.0 q.1 q.0.body refl)
+  method_body m k e = go k.body refl
     where
-      go : (q : PlainMethod) → slice_get Q.methods m ≡ Some q → (o : Option Sts) → q.body ≡ o
-          → IsFormedBody (option_map (written_sts P R H m (untag_method q) (parameters 0 (untag_method q).params)) (untag_body q.body))
-      go q d None b =
-          subst (λ z. IsFormedBody (option_map (written_sts P R H m (untag_method q) (parameters 0 (untag_method q).params)) (untag_body z))) (sym b) tt
-      go q d (Some xs) b =
-          let at = method_of Q C.ready.formed m q d in
-          let code = ap untag_body b in
-          subst (λ z. IsFormedBody (option_map (written_sts P R H m (untag_method q) (parameters 0 (untag_method q).params)) (untag_body z))) (sym b)
-          (body_formed C (record { number = m; method = q; stands = d; bodied = ap is_some b }) xs (parameters 0 (untag_method q).params) b
-          (subst (λ g. TypedSts P g (bare_sts xs)) (same_env m q) (typed_body m (untag_method q) at (bare_sts xs) code))
-          ((C.ready.formed.methods m (untag_method q) at).code (bare_sts xs) code))
+      go : (o : Option Sts) → k.body ≡ o → IsFormedBody (option_map (written_sts P R H m k (parameters 0 k.params)) o)
+      go None b = tt
+      go (Some xs) b =
+          body_formed C (record { number = m; method = k; stands = e; bodied = ap is_some b }) xs (parameters 0 k.params) b
+          (typed_body m k e xs b) ((C.ready.formed.methods m k e).code xs b)
 
   params_formed : (m : ℕ) (k : PlainMethod) → slice_get P.methods m ≡ Some k
       → Each IsFormedParam (each (λ i v. param P R H m k i v ∷ []) 0 k.params)
@@ -163,11 +152,11 @@ module _ (C : Given) where
 
   -- ---- members
 
-  item_number : (c : ℕ) (i : ColumnItem) → slice_get (items P Q F H) c ≡ Some i → (numbers P Q).column i ≡ Some c
+  item_number : (c : ℕ) (i : ColumnItem) → slice_get (items P F H) c ≡ Some i → (numbers P).column i ≡ Some c
   unfolding numbers
   item_number c i e =
-      let z = map_at (λ c. c.item) (columns_of P Q) c i e in
-      ap (λ j. (numbers P Q).column j) (sym z.2) ∙ (numbered_columns P Q).back c z.0 z.1
+      let z = map_at (λ c. c.item) (columns_of P) c i e in
+      ap (λ j. (numbers P).column j) (sym z.2) ∙ (numbered_columns P).back c z.0 z.1
 
   filled_head : (n s : ℕ) (mods : List Modifier) (d : HeadTree) → is_filled F H n s ≡ true → Each IsFormedMod mods → IsHeadTree P R F H mods s d
       → IsFormedHead d
@@ -182,7 +171,7 @@ module _ (C : Given) where
       let p = offered_at H n c.0 u.1 in
       slot_named mods p.0 c.0 s d p.1 method slot a t
 
-  member_formed : (n : ℕ) (x : MemberTree) → IsMember P R F H (items P Q F H) n x → IsFormedMember x
+  member_formed : (n : ℕ) (x : MemberTree) → IsMember P R F H (items P F H) n x → IsFormedMember x
   member_formed n _ (a_field c f k d at o) =
       let number = item_number c (column.Fld f) d in (
         tt,
@@ -232,14 +221,14 @@ module _ (C : Given) where
       (covers z.0 (among_from F H order C.sets C.ready.unbroken p z.0 z.1)) in
       subst IsFormedId z.2 (type_named C z.0 (order.upper_lives n z.0 up.above)))
 
-  type_formed : (b : Bool) (n : ℕ) → is_live H.order n ≡ true → IsFormedDecl (type_tree P R F H (items P Q F H) b n)
+  type_formed : (b : Bool) (n : ℕ) → is_live H.order n ≡ true → IsFormedDecl (type_tree P R F H (items P F H) b n)
   type_formed true n live = (
     made_modifiers (is_made_at F H n),
     type_named C n live,
     parent_formed n,
     among_formed n (λ a. is_cover H.order n a && not (is_class_node F H a))
         (λ a h. (and_parts (is_cover H.order n a) (not (is_class_node F H a)) h).0),
-    each_of IsFormedMember (class_members P R F H (items P Q F H) n) (λ x c. member_formed n x (class_from P R F H (items P Q F H) n x c)),
+    each_of IsFormedMember (class_members P R F H (items P F H) n) (λ x c. member_formed n x (class_from P R F H (items P F H) n x c)),
   )
   type_formed false n live = (
     tt,
@@ -248,7 +237,7 @@ module _ (C : Given) where
     each_of IsFormedHead (interface_heads P R F H n) (λ x c. head_at [] n x tt (interface_from P R F H n x c)),
   )
 
-  declared_formed : (d : DeclTree) → Declares P Q F H d → IsFormedDecl d
+  declared_formed : (d : DeclTree) → Declares P F H d → IsFormedDecl d
   declared_formed _ (a_node n live) = type_formed (is_class_node F H n) n live
   declared_formed _ (a_holder c k e h) = (
     tt,
@@ -258,5 +247,5 @@ module _ (C : Given) where
     each_of IsFormedMember (holder_members P R H c) (λ x d. static_formed c x (holder_from P R H c x d)),
   )
 
-  pub tree_formed : IsFormedTree (tree P Q F H)
-  tree_formed = each_of IsFormedDecl (tree P Q F H) (λ d c. let z = at_contains (tree P Q F H) d c in declared_formed d (declares P Q F H z.0 d z.1))
+  pub tree_formed : IsFormedTree (tree P F H)
+  tree_formed = each_of IsFormedDecl (tree P F H) (λ d c. let z = at_contains (tree P F H) d c in declared_formed d (declares P F H z.0 d z.1))

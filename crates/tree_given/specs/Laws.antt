@@ -1,8 +1,6 @@
 -- The tree that is written of a program and a hierarchy is one that the grammar gives.
 use Rattle.java_tree.specs.Formed.{IsFormedTree, IsGiven}
-use Rattle.java_core.specs.declared.Program.{Program}
-use Rattle.java_core.specs.Trees.{at_place, no_place}
-use Rattle.java_core.specs.Programs.{program_of}
+use Rattle.java_core.specs.Programs.{Plain}
 use Rattle.fact_model.specs.declared.facts.Facts.{Facts}
 use Rattle.fact_model.specs.declared.sets.PointsTo.{PointsTo}
 use Rattle.fact_model.specs.declared.sets.Table.{Table}
@@ -12,10 +10,8 @@ use Rattle.written_tree.specs.Written.{java_tree}
 
 -- its parts are such as the grammar gives
 unfoldable pub TreeIsFormed : Type 0
-TreeIsFormed = (p : Program) (F : Facts) (s : PointsTo) (t : Table) (H : Hierarchy)
-    → IsReady (program_of no_place p) (program_of at_place p) F s t H → IsFormedTree (java_tree (program_of no_place p) (program_of at_place p) F H)
+TreeIsFormed = (P : Plain) (F : Facts) (s : PointsTo) (t : Table) (H : Hierarchy) → IsReady P F s t H → IsFormedTree (java_tree P F H)
 
 -- and the tokens of some text derive it
 unfoldable pub TreeIsGiven : Type 0
-TreeIsGiven = (p : Program) (F : Facts) (s : PointsTo) (t : Table) (H : Hierarchy)
-    → IsReady (program_of no_place p) (program_of at_place p) F s t H → IsGiven (java_tree (program_of no_place p) (program_of at_place p) F H)
+TreeIsGiven = (P : Plain) (F : Facts) (s : PointsTo) (t : Table) (H : Hierarchy) → IsReady P F s t H → IsGiven (java_tree P F H)

@@ -9,7 +9,7 @@ use Rattle.java_tree.specs.declared.TypeName.{TypeName}
 use Rattle.java_tree.specs.Syntax.{Expression, Statements, OptionalStatement, LocalOf, BlockOf, ForOf, no_statements, and_arm}
 use Rattle.java_core.specs.declared.RStmt.{RStmt}
 use Rattle.java_core.specs.declared.RArm.{RArm}
-use Rattle.java_core.specs.Trees.{Tag, Ex, Sts, Arms, no_other, no_place, loop, expr_of, stmts, arms_seen, else_seen}
+use Rattle.java_core.specs.Trees.{Tag, Ex, Sts, Arms, no_other, loop, expr_of, stmts, arms_seen, else_seen}
 use Rattle.java_core.specs.Programs.{PlainLocal}
 use Rattle.java_core.specs.Formed.{variables_of}
 use Rattle.flow_rules.specs.declared.items.RowItem.{RowItem}
@@ -22,14 +22,14 @@ use Rattle.tree_parts.specs.Written as written
 
 module _ (w : Within) where
   pub arms_alike : (scope : List ℕ) (xs : List RArm) (o : Option (Vec RStmt Global))
-      → written.arms w scope (arms_seen no_place xs (else_seen no_place o))
-      ≡ written.arms w scope (arms_seen no_place xs no_other)
+      → written.arms w scope (arms_seen xs (else_seen o))
+      ≡ written.arms w scope (arms_seen xs no_other)
   arms_alike scope [] None = refl
   arms_alike scope [] (Some v) = refl
-  arms_alike scope (x ∷ xs) o = ap (and_arm (written.expression w scope (expr_of no_place x.test)) (written.statements w scope (stmts no_place
+  arms_alike scope (x ∷ xs) o = ap (and_arm (written.expression w scope (expr_of x.test)) (written.statements w scope (stmts
       x.body.items))) (arms_alike scope xs o)
 
-  pub else_alike : (scope : List ℕ) (xs : List RArm) (o : Arms) → written.otherwise w scope (arms_seen no_place xs o)
+  pub else_alike : (scope : List ℕ) (xs : List RArm) (o : Arms) → written.otherwise w scope (arms_seen xs o)
       ≡ written.otherwise w scope o
   else_alike scope [] o = refl
   else_alike scope (x ∷ xs) o = else_alike scope xs o

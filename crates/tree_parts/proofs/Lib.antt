@@ -1,4 +1,3 @@
-pub mod Forms
 pub mod Sizes
 pub mod Steps
 pub mod Parts

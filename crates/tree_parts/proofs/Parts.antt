@@ -7,7 +7,7 @@ use Rattle.java_tree.specs.declared.Expr.{Expr}
 use Rattle.java_tree.specs.Syntax as tree
 use Rattle.java_tree.specs.Syntax.{Expression, Expressions, CallOn}
 use Rattle.java_core.specs.declared.RExpr.{RExpr}
-use Rattle.java_core.specs.Trees.{Tag, Ex, Exs, no_place, expr_of, call}
+use Rattle.java_core.specs.Trees.{Tag, Ex, Exs, expr_of, call}
 use Rattle.java_core.specs.Types as types
 use Rattle.written_tree.specs.Names.{nowhere}
 use Rattle.tree_forms.specs.Sources.{old_program, called}
@@ -29,9 +29,9 @@ module _ (w : Within) (scope : List ℕ) where
 
   -- a form with one part, which stands in a box
   pub around : {x : Expression} {held boxed whole form : RExpr} (r : Result Expr AllocError) (f : Expression → Expression)
-      → x ≡ expression w scope (expr_of no_place held) → held ≡ boxed → whole ≡ form
-      → f (expression w scope (expr_of no_place boxed)) ≡ expression w scope (expr_of no_place form) → IfOk r (λ e. tree.expr_of e ≡ f x)
-      → IfOk r (λ e. tree.expr_of e ≡ expression w scope (expr_of no_place whole))
+      → x ≡ expression w scope (expr_of held) → held ≡ boxed → whole ≡ form
+      → f (expression w scope (expr_of boxed)) ≡ expression w scope (expr_of form) → IfOk r (λ e. tree.expr_of e ≡ f x)
+      → IfOk r (λ e. tree.expr_of e ≡ expression w scope (expr_of whole))
   around r f is held whole same made =
-      let seen = λ (y : RExpr). expression w scope (expr_of no_place y) in
+      let seen = λ (y : RExpr). expression w scope (expr_of y) in
       IfOk-weaker r _ _ (λ e h. h ∙ ap f (is ∙ ap seen held) ∙ same ∙ sym (ap seen whole)) made

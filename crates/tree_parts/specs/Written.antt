@@ -1,7 +1,7 @@
 -- The parts of a method's body, as they are written for a numbering and a hierarchy.
 use Rattle.std.specs.Prelude.{ℕ, List, Option}
 use Rattle.java_tree.specs.Syntax as tree
-use Rattle.java_core.specs.Trees.{no_place, Ex, Exs, Target, St, Sts, Arms}
+use Rattle.java_core.specs.Trees.{Ex, Exs, Target, St, Sts, Arms}
 use Rattle.java_core.specs.Programs.{PlainMethod, method_seen}
 use Rattle.hier_model.specs.Hierarchies.{Hierarchy}
 use Rattle.written_tree.specs.Bodies as written
@@ -10,7 +10,7 @@ use Rattle.tree_parts.specs.declared.within.Within.{Within}
 
 -- the method, as plain data
 abbrev pub method_of : Within → PlainMethod
-method_of w = method_seen no_place w.method.now
+method_of w = method_seen w.method.now
 
 -- the hierarchy
 abbrev pub hierarchy_of : Within → Hierarchy

@@ -3,7 +3,6 @@
 ghost use Rattle.std.specs.Prelude.{◌≡◌, IfOk};
 ghost use Rattle.java_tree.specs.Syntax.{expr_of, exprs};
 ghost use Rattle.java_core.specs.Trees as core;
-ghost use Rattle.java_core.specs.Trees.{no_place};
 ghost use Rattle.tree_forms.specs.Sources.{IsSource};
 ghost use Rattle.tree_parts.specs.Written.{expression, expressions};
 
@@ -24,7 +23,7 @@ use tree_forms::{forms, infix_mark, prefix_mark, static_call, static_field, vari
 #[cycle(exprs)]
 pub fn expr(within: &Within, scope: &Vec<u32>, tree: &RExpr) -> Result<Expr, AllocError>
     requires { IsSource within.now.source.now }
-    ensures value { IfOk result (λ e. expr_of e ≡ expression within.now scope.now.items (core.expr_of no_place tree.now)) }
+    ensures value { IfOk result (λ e. expr_of e ≡ expression within.now scope.now.items (core.expr_of tree.now)) }
 {
     match tree {
         RExpr::Int { value, .. } => Ok(Expr::Int {
@@ -147,7 +146,7 @@ pub fn expr(within: &Within, scope: &Vec<u32>, tree: &RExpr) -> Result<Expr, All
 #[cycle(exprs)]
 fn all(within: &Within, scope: &Vec<u32>, list: &Vec<RExpr>) -> Result<Vec<Expr>, AllocError>
     requires { IsSource within.now.source.now }
-    ensures value { IfOk result (λ v. exprs v.items ≡ expressions within.now scope.now.items (core.exprs no_place list.now.items)) }
+    ensures value { IfOk result (λ v. exprs v.items ≡ expressions within.now scope.now.items (core.exprs list.now.items)) }
 {
     let mut done = Vec::new(within.source.alloc);
     for one in list {

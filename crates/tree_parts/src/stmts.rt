@@ -4,7 +4,7 @@ ghost use Rattle.std.specs.Prelude.{◌≡◌, IfOk, OnOk};
 ghost use Rattle.java_tree.specs.Syntax.{stmt_of, stmts, value_of, arms_seen, else_seen};
 ghost use Rattle.java_tree.specs.Syntax.{step_seen, expr_of};
 ghost use Rattle.java_core.specs.Trees as core;
-ghost use Rattle.java_core.specs.Trees.{no_place, no_other};
+ghost use Rattle.java_core.specs.Trees.{no_other};
 ghost use Rattle.written_tree.specs.Bodies.{scope_after, scope_after_part};
 ghost use Rattle.tree_forms.specs.Renamed.{IsFitting};
 ghost use Rattle.tree_forms.specs.Sources.{IsSource};
@@ -35,7 +35,7 @@ fn value(
     tree: &Option<RExpr>,
 ) -> Result<Option<Expr>, AllocError>
     requires { IsSource within.now.source.now }
-    ensures value { IfOk result (λ e. value_of e ≡ written.expression_if within.now scope.now.items (core.value_of no_place tree.now)) }
+    ensures value { IfOk result (λ e. value_of e ≡ written.expression_if within.now scope.now.items (core.value_of tree.now)) }
 {
     match tree {
         None => Ok(None),
@@ -49,7 +49,7 @@ fn value(
 /// What is assigned to; a form to which nothing can be assigned is written `null`.
 fn target(within: &Within, scope: &Vec<u32>, tree: &RExpr) -> Result<Expr, AllocError>
     requires { IsSource within.now.source.now }
-    ensures value { IfOk result (λ e. expr_of e ≡ written.target within.now scope.now.items (core.target_of no_place tree.now)) }
+    ensures value { IfOk result (λ e. expr_of e ≡ written.target within.now scope.now.items (core.target_of tree.now)) }
 {
     match tree {
         RExpr::Local { .. } => expr(within, scope, tree),
@@ -86,8 +86,8 @@ fn declaration(within: &Within, local: u32, value: Option<Expr>) -> Result<Stmt,
 #[cycle(stmts)]
 fn stmt(within: &Within, scope: &mut Vec<u32>, tree: &RStmt) -> Result<Stmt, AllocError>
     requires { IsSource within.now.source.now }
-    ensures value { IfOk result (λ s. stmt_of s ≡ written.statement within.now scope.old.items (core.stmt_of no_place tree.now)) }
-    ensures scope { OnOk result (scope.new.items ≡ scope_after scope.old.items (core.stmt_of no_place tree.now)) }
+    ensures value { IfOk result (λ s. stmt_of s ≡ written.statement within.now scope.old.items (core.stmt_of tree.now)) }
+    ensures scope { OnOk result (scope.new.items ≡ scope_after scope.old.items (core.stmt_of tree.now)) }
 {
     match tree {
         RStmt::Local {
@@ -175,8 +175,8 @@ fn part(
     tree: &Option<Box<RStmt>>,
 ) -> Result<Option<Stmt>, AllocError>
     requires { IsSource within.now.source.now }
-    ensures value { IfOk result (λ s. step_seen s ≡ written.part within.now scope.old.items (core.step_seen no_place tree.now)) }
-    ensures scope { OnOk result (scope.new.items ≡ scope_after_part scope.old.items (core.step_seen no_place tree.now)) }
+    ensures value { IfOk result (λ s. step_seen s ≡ written.part within.now scope.old.items (core.step_seen tree.now)) }
+    ensures scope { OnOk result (scope.new.items ≡ scope_after_part scope.old.items (core.step_seen tree.now)) }
 {
     match tree {
         None => Ok(None),
@@ -195,7 +195,7 @@ fn last(
     tree: &Option<Box<RStmt>>,
 ) -> Result<Option<Stmt>, AllocError>
     requires { IsSource within.now.source.now }
-    ensures value { IfOk result (λ s. step_seen s ≡ written.part within.now scope.now.items (core.step_seen no_place tree.now)) }
+    ensures value { IfOk result (λ s. step_seen s ≡ written.part within.now scope.now.items (core.step_seen tree.now)) }
 {
     let mut inner = copy_scope(within.source.alloc, scope)?;
     part(within, &mut inner, tree)
@@ -209,7 +209,7 @@ fn otherwise(
     tree: &Option<Vec<RStmt>>,
 ) -> Result<Option<Vec<Stmt>>, AllocError>
     requires { IsSource within.now.source.now }
-    ensures value { IfOk result (λ o. else_seen o ≡ written.otherwise within.now scope.now.items (core.else_seen no_place tree.now)) }
+    ensures value { IfOk result (λ o. else_seen o ≡ written.otherwise within.now scope.now.items (core.else_seen tree.now)) }
 {
     match tree {
         Some(list) => {
@@ -224,7 +224,7 @@ fn otherwise(
 #[cycle(stmts)]
 fn all_arms(within: &Within, scope: &Vec<u32>, list: &Vec<RArm>) -> Result<Vec<Arm>, AllocError>
     requires { IsSource within.now.source.now }
-    ensures value { IfOk result (λ v. arms_seen v.items ≡ written.arms within.now scope.now.items (core.arms_seen no_place list.now.items no_other)) }
+    ensures value { IfOk result (λ v. arms_seen v.items ≡ written.arms within.now scope.now.items (core.arms_seen list.now.items no_other)) }
 {
     let mut done = Vec::new(within.source.alloc);
     for one in list {
@@ -241,7 +241,7 @@ fn all_arms(within: &Within, scope: &Vec<u32>, list: &Vec<RArm>) -> Result<Vec<A
 #[cycle(stmts)]
 pub fn body(within: &Within, scope: &Vec<u32>, list: &Vec<RStmt>) -> Result<Vec<Stmt>, AllocError>
     requires { IsSource within.now.source.now }
-    ensures value { IfOk result (λ v. stmts v.items ≡ written.statements within.now scope.now.items (core.stmts no_place list.now.items)) }
+    ensures value { IfOk result (λ v. stmts v.items ≡ written.statements within.now scope.now.items (core.stmts list.now.items)) }
 {
     let mut inner = copy_scope(within.source.alloc, scope)?;
     let mut done = Vec::new(within.source.alloc);

@@ -21,10 +21,8 @@ use Rattle.hier_rules.specs.Instances.{of_node}
 use Rattle.hier_rules.specs.Names.{known_names, is_reserved, is_variable, is_named, is_other_type, is_taken_type, taken_type}
 use Rattle.hier_rules.specs.First.{first_broken}
 use Rattle.flow_rules.specs.Facts.{is_holder, IsFactsOf}
-use Rattle.facts_order.proofs.Pairs.{IsPlaced}
 use Rattle.facts_order.proofs.Classes.{class_at, class_there}
 use Rattle.hier_begin.proofs.Unbroken.{none_broken}
-use Rattle.rebuild_looks.proofs.Fields.{field_holder, method_holder}
 
 -- a test holds somewhere in a list
 pub any_at : {A : Type 0} (p : A → Bool) (xs : List A) → list_any p xs ≡ true → (i : ℕ) × (x : A) × (slice_get xs i ≡ Some x) × (p x ≡ true)
@@ -32,7 +30,7 @@ any_at p [] h = absurd (false≢true h)
 any_at p (x ∷ xs) h =
     ⊎_elim (λ e. (0, x, refl, e)) (λ e. let z = any_at p xs (sym (ap (λ b. b || list_any p xs) e) ∙ h) in (suc z.0, z.1, z.2, z.3)) (cases_Bool (p x))
 
--- what has static members is a class of the program, and also with places
+-- what has static members is a class of the program
 module _ (P : Plain) (formed : IsFormed P) (c : ℕ) where
   pub holder_class : is_holder P c ≡ true → (k : PlainClass) × (slice_get P.classes c ≡ Some k)
   holder_class h =
@@ -47,26 +45,6 @@ module _ (P : Plain) (formed : IsFormed P) (c : ℕ) where
       let k = formed.methods z.0 z.1 z.2 in (k.holder, subst (λ y. slice_get P.classes y ≡ Some k.holder) o k.stands))
       (or_cases (list_any (λ (f : PlainField). f.is_static && (f.owner == c)) P.fields)
       (list_any (λ (f : PlainMethod). f.is_static && (f.owner == c)) P.methods) h)
-
-pub holder_placed : (P Q : Plain) (placed : IsPlaced P Q) (c : ℕ) → is_holder P c ≡ true → is_holder Q c ≡ true
-holder_placed P Q placed c h =
-    ⊎_elim
-    (λ a. let z = any_at (λ (f : PlainField). f.is_static && (f.owner == c)) P.fields a in
-    let k = placed.placed_field z.0 z.1 z.2 in
-    let same = same_Some _ _ (sym z.2 ∙ placed.fields z.0 k.0 k.1) in
-    of_member z.1.is_static z.1.owner k.0.is_static k.0.owner z.3 (ap (λ (y : PlainField). y.is_static) same)
-    (ap (λ (y : PlainField). y.owner) same) (field_holder Q z.0 k.0 k.1))
-    (λ a. let z = any_at (λ (f : PlainMethod). f.is_static && (f.owner == c)) P.methods a in
-    let k = placed.placed_method z.0 z.1 z.2 in
-    let w = placed.methods z.0 k.0 k.1 in
-    of_member z.1.is_static z.1.owner k.0.is_static k.0.owner z.3 (ap (λ (y : PlainMethod). y.is_static) (same_Some _ _ (sym z.2 ∙ w.stands)) ∙ w.static)
-    (ap (λ (y : PlainMethod). y.owner) (same_Some _ _ (sym z.2 ∙ w.stands)) ∙ w.owner) (method_holder Q z.0 k.0 k.1))
-    (or_cases (list_any (λ (f : PlainField). f.is_static && (f.owner == c)) P.fields)
-    (list_any (λ (f : PlainMethod). f.is_static && (f.owner == c)) P.methods) h)
-  where
-    of_member : (s : Bool) (o : ℕ) (t : Bool) (r : ℕ) → (s && (o == c)) ≡ true → s ≡ t → o ≡ r → (t ≡ true → is_holder Q r ≡ true) → is_holder Q c ≡ true
-    of_member s o t r h a b held = let p = and_parts s (o == c) h in
-        subst (λ z. is_holder Q z ≡ true) (sym b ∙ eqb-true o c p.1) (held (sym a ∙ p.0))
 
 module _ (F : Facts) (pt : PointsTo) (H : Hierarchy) (none : first_broken F pt H ≡ None) where
   not_taken : (n : ℕ) → is_live H.order n ≡ true → is_taken_type F H n ≡ false
@@ -98,14 +76,14 @@ module _ (F : Facts) (pt : PointsTo) (H : Hierarchy) (none : first_broken F pt H
       (list_any (λ k. bytes_eq k (type_name H n)) (codes "String" ∷ codes "System" ∷ [])) known).1 in
       (or_parts (bytes_eq (codes "String") (type_name H n)) (list_any (λ k. bytes_eq k (type_name H n)) (codes "System" ∷ [])) rest).0
 
-  pub no_holder : (P Q : Plain) (placed : IsPlaced P Q) → IsFactsOf P Q F → (n c : ℕ) (k : PlainClass) → is_live H.order n ≡ true → is_holder P c ≡ true
+  pub no_holder : (P : Plain) → IsFactsOf P F → (n c : ℕ) (k : PlainClass) → is_live H.order n ≡ true → is_holder P c ≡ true
       → slice_get P.classes c ≡ Some k
       → type_name H n ≢ k.name
-  no_holder P Q placed facts n c k ln h e same =
+  no_holder P facts n c k ln h e same =
       let none = (or_parts (list_any (λ k. k.holder && bytes_eq k.name (type_name H n)) F.classes.items)
       (list_any (λ k. bytes_eq k (type_name H n)) known_names) (unreserved n ln)).0 in
-      let i = class_there P Q placed F facts c k e in
-      let z = class_at P Q placed F facts c i.0 i.1 in
+      let i = class_there P F facts c k e in
+      let z = class_at P F facts c i.0 i.1 in
       let name : i.0.name ≡ type_name H n = z.name ∙ ap (λ (y : PlainClass). y.name) (same_Some _ _ (sym z.stands ∙ e)) ∙ sym same in
       false≢true (sym none ∙ any_passes_from_place (λ k. k.holder && bytes_eq k.name (type_name H n)) F.classes.items c i.0 i.1
-      (and_from i.0.holder (bytes_eq i.0.name (type_name H n)) (z.holder ∙ holder_placed P Q placed c h) ((bytes_eq-Decides i.0.name (type_name H n)).1 name)))
+      (and_from i.0.holder (bytes_eq i.0.name (type_name H n)) (z.holder ∙ h) ((bytes_eq-Decides i.0.name (type_name H n)).1 name)))

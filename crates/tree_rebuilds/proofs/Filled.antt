@@ -7,10 +7,9 @@ use Rattle.java_tree.specs.declared.TypeBase.TheVariants as bases
 use Rattle.java_core.specs.declared.Ty.{Ty}
 use Rattle.java_core.specs.declared.TyBase.{TyBase}
 use Rattle.java_core.specs.declared.TyBase.TheVariants.{Int, Boolean, Char, Str, Class}
-use Rattle.java_core.specs.Trees.{Ex, number, cast, Sts}
+use Rattle.java_core.specs.Trees.{Tag, Ex, number, cast, Sts}
 use Rattle.java_core.specs.Programs.{Plain, PlainMethod}
 use Rattle.java_core.specs.Types.{plain_type, is_class, is_object, is_base, is_reference}
-use Rattle.java_core.specs.Untagged.{bare_tag, bare, bare_sts}
 use Rattle.name_rules.specs.declared.parts.Here.{Here}
 use Rattle.name_rules.specs.declared.parts.Bound.{Bound}
 use Rattle.name_rules.specs.Meanings.{MeansCastBase, to_char, MeansCast}
@@ -34,16 +33,16 @@ array_reference b d =
 char_base : (O : Plain) (b : TyBase) → MeansCastBase O bases.Char b → b ≡ Char
 char_base O _ to_char = refl
 
-cast_default : (O : Plain) (t : Ty) (i : ℕ) → MeansCast O (record { base = bases.Char; dim = 0; place = nowhere }) t
-    → IsDefault (plain_type Char) (cast bare_tag i t (number bare_tag (pos 0)))
-cast_default O t i m =
+cast_default : {w u : Tag} (O : Plain) (t : Ty) (i : ℕ) → MeansCast O (record { base = bases.Char; dim = 0; place = nowhere }) t
+    → IsDefault (plain_type Char) (cast w i t (number u (pos 0)))
+cast_default {w} {u} O t i m =
     let same : plain_type Char ≡ t = ap (λ (b : TyBase). record { base = b; dim = 0 }) (sym (char_base O t.base m.base))
     ∙ ap (λ (d : ℕ). record { base = t.base; dim = d }) (sym m.dim) in
-    subst (λ w. IsDefault (plain_type Char) (cast bare_tag i w (number bare_tag (pos 0)))) same zero_char
+    subst (λ z. IsDefault (plain_type Char) (cast w i z (number u (pos 0)))) same zero_char
 
 module _ (O : Plain) (here : Here) (scope : List Bound) where
   pub default_is : (o : Option ℕ) (b : TyBase) (d : ℕ) (x : Ex) → ResolvesTo O here scope (value_of_none b d) x
-      → IsDefault (retyped o (record { base = b; dim = d })) (bare x)
+      → IsDefault (retyped o (record { base = b; dim = d })) x
   default_is None Int zero _ r_number = zero_int
   default_is (Some c) Int zero _ r_number = zero_int
   default_is None Int (suc d) _ r_null = no_object (array_reference Int d)
@@ -63,6 +62,6 @@ module _ (O : Plain) (here : Here) (scope : List Bound) where
 
 pub filling_is : (O : Plain) (here : Here) (k : PlainMethod) (in_loop : Bool) (scope : List Bound) (o : Option ℕ) (r : Option Ty) (ys : Sts)
     → StsResolve O here k in_loop scope (filling r) ys
-    → IsFilling (retyped_if o r) (bare_sts ys)
+    → IsFilling (retyped_if o r) ys
 filling_is O here k in_loop scope o None _ r_no_statements = fills_nothing
 filling_is O here k in_loop scope o (Some t) _ (r_and_then (r_return (r_some {x = x} d)) r_no_statements) = fills (default_is O here scope o t.base t.dim x d)

@@ -8,7 +8,6 @@ use Rattle.kaba_order.specs.Orders.{is_le, is_live}
 use Rattle.java_core.specs.Programs.{Plain}
 use Rattle.java_core.specs.Formed.{IsFormed}
 use Rattle.name_rules.specs.Resolves.{Resolves}
-use Rattle.java_core.specs.Untagged.{untagged}
 use Rattle.fact_model.specs.Items.{column_kind}
 use Rattle.fact_model.specs.declared.facts.Facts.{Facts}
 use Rattle.fact_model.specs.declared.sets.PointsTo.{PointsTo}
@@ -19,7 +18,6 @@ use Rattle.flow_rules.specs.declared.items.ColumnItem.{ColumnItem}
 use Rattle.flow_rules.specs.Numbered.{columns_of}
 use Rattle.flow_rules.specs.Facts.{numbers, column_info, kind_of, IsFactsOf}
 use Rattle.flow_rules.proofs.Listed.{at_map, map_at}
-use Rattle.facts_order.proofs.Pairs.{IsPlaced}
 use Rattle.flow_rules.proofs.NumberedItems.{numbered_columns}
 use Rattle.rebuild_model.specs.Renaming.{Places, Renaming, renaming_of}
 use Rattle.rebuild_model.specs.Members.{StandsAt}
@@ -28,28 +26,26 @@ use Rattle.rebuild_given.proofs.Given.{columns as columns_are}
 use Rattle.written_tree.specs.Written.{java_tree}
 use Rattle.tree_rebuilds.proofs.Nodes.{items, places}
 
-pub record Given (P Q : Plain) (F : Facts) (pt : PointsTo) (H : Hierarchy) (V : Plain) : Type 0 where
+pub record Given (P : Plain) (F : Facts) (pt : PointsTo) (H : Hierarchy) (V : Plain) : Type 0 where
   pub formed : IsFormed P
-  pub placed : IsPlaced P Q
-  pub same : untagged Q ≡ P
-  pub facts : IsFactsOf P Q F
+  pub facts : IsFactsOf P F
   pub hierarchy : IsHierarchyOf F H
   pub unbroken : first_broken F pt H ≡ None
-  pub resolves : Resolves (java_tree P Q F H) V
-  pub new : IsFormed (untagged V)
+  pub resolves : Resolves (java_tree P F H) V
+  pub new : IsFormed V
 
-module _ {P Q : Plain} {F : Facts} {pt : PointsTo} {H : Hierarchy} {V : Plain} (G : Given P Q F pt H V) where
+module _ {P : Plain} {F : Facts} {pt : PointsTo} {H : Hierarchy} {V : Plain} (G : Given P F pt H V) where
   abbrev pub T : Places
-  T = places P Q F H V G.resolves G.new
+  T = places P F H V G.resolves G.new
 
   abbrev pub R : Renaming
-  R = renaming_of P Q H T
+  R = renaming_of P H T
 
   abbrev pub Stands : ColumnItem → ℕ → Type 0
-  Stands i n = StandsAt P Q F H (untagged V) T i n
+  Stands i n = StandsAt P F H V T i n
 
-  pub columns : AreColumns P Q F
-  columns = columns_are P Q G.placed G.formed F G.facts
+  pub columns : AreColumns P F
+  columns = columns_are P G.formed F G.facts
 
   pub at_from : (n : ℕ) (o : Option NodeId) → is_at n o ≡ true → (p : NodeId) × (o ≡ Some p) × (p.0 ≡ n)
   at_from n None h = absurd (false≢true h)
@@ -58,28 +54,28 @@ module _ {P Q : Plain} {F : Facts} {pt : PointsTo} {H : Hierarchy} {V : Plain} (
   -- a column in the tree, and the same as an item that stands at the node
   pub record IsColumnAt (i : ColumnItem) (n : ℕ) : Type 0 where
     pub number : ℕ
-    pub item : slice_get (items P Q F H) number ≡ Some i
-    pub info : slice_get F.columns.items number ≡ Some (column_info Q i)
+    pub item : slice_get (items P F H) number ≡ Some i
+    pub info : slice_get F.columns.items number ≡ Some (column_info P i)
     pub at : stands_at H n number ≡ true
     pub live : is_live H.order n ≡ true
-    pub numbered : (numbers P Q).column i ≡ Some number
+    pub numbered : (numbers P).column i ≡ Some number
 
-  pub stands_from : (c : ℕ) (i : ColumnItem) (n : ℕ) → slice_get (items P Q F H) c ≡ Some i → stands_at H n c ≡ true → Stands i n
+  pub stands_from : (c : ℕ) (i : ColumnItem) (n : ℕ) → slice_get (items P F H) c ≡ Some i → stands_at H n c ≡ true → Stands i n
   unfolding numbers
   stands_from c i n e h =
-      let z = map_at (λ c. c.item) (columns_of P Q) c i e in
+      let z = map_at (λ c. c.item) (columns_of P) c i e in
       let p = at_from n (place_of_column H c) h in
-      record { number = c; numbered = ap (λ j. (numbers P Q).column j) (sym z.2) ∙ (numbered_columns P Q).back c z.0 z.1; place = p.0; placed = p.1; at = p.2 }
+      record { number = c; numbered = ap (λ j. (numbers P).column j) (sym z.2) ∙ (numbered_columns P).back c z.0 z.1; place = p.0; placed = p.1; at = p.2 }
 
   pub column_there : (i : ColumnItem) (n : ℕ) → Stands i n → IsColumnAt i n
   unfolding numbers
   column_there i n s =
-      let x = (numbered_columns P Q).at i s.number s.numbered in
+      let x = (numbered_columns P).at i s.number s.numbered in
       record {
         number = s.number;
-        item = at_map (λ c. c.item) (columns_of P Q) s.number x.0 x.1 ∙ ap Some x.2;
-        info = ap (λ w. slice_get w s.number) G.facts.columns ∙ at_map (λ c. column_info Q c.item) (columns_of P Q) s.number x.0 x.1
-            ∙ ap (λ j. Some (column_info Q j)) x.2;
+        item = at_map (λ c. c.item) (columns_of P) s.number x.0 x.1 ∙ ap Some x.2;
+        info = ap (λ w. slice_get w s.number) G.facts.columns ∙ at_map (λ c. column_info P c.item) (columns_of P) s.number x.0 x.1
+            ∙ ap (λ j. Some (column_info P j)) x.2;
         at = ap (is_at n) s.placed ∙ eq-eqb s.place.0 n s.at;
         live = subst (λ z. is_live H.order z ≡ true) s.at (G.hierarchy.placed.columns s.number s.place s.placed);
         numbered = s.numbered;
@@ -96,6 +92,6 @@ module _ {P Q : Plain} {F : Facts} {pt : PointsTo} {H : Hierarchy} {V : Plain} (
       let c = column_there i n s in
       or_left (has_class_member F H n) (has_object F H n)
       (any_below_has (λ c. is_of_class (column_kind F c) && is_offered H n c) (length F.columns.items) c.number
-      (slice_get_within F.columns.items c.number (column_info Q i) c.info)
+      (slice_get_within F.columns.items c.number (column_info P i) c.info)
       (and_from (is_of_class (column_kind F c.number)) (is_offered H n c.number) (ap is_of_class (columns.kind i c.number c.numbered) ∙ k)
       (offered_there n c.number c.live c.at)))

@@ -10,7 +10,6 @@ use Rattle.java_core.specs.Programs.{Plain, PlainClass, PlainLocal, PlainMethod}
 use Rattle.java_core.specs.Types.{types_of}
 use Rattle.java_core.specs.Formed.{IsMain}
 use Rattle.java_tree.specs.Syntax.{DeclTree}
-use Rattle.java_core.specs.Untagged.{untagged}
 use Rattle.fact_model.specs.declared.facts.Facts.{Facts}
 use Rattle.fact_model.specs.declared.sets.PointsTo.{PointsTo}
 use Rattle.hier_model.specs.Hierarchies.{Hierarchy}
@@ -111,26 +110,23 @@ unfolding strings
 from_strings o t e = ap (λ (b : TyBase). record { base = b; dim = t.dim }) (base_strings o t.base (ap (λ (z : Ty). z.base) e))
     ∙ ap (λ (d : ℕ). record { base = Str; dim = d }) (ap (λ (z : Ty). z.dim) e)
 
-module _ {P Q : Plain} {F : Facts} {pt : PointsTo} {H : Hierarchy} {V : Plain} (G : Given P Q F pt H V) (match : BodiesMatch G) where
-  abbrev U : Plain
-  U = untagged V
-
+module _ {P : Plain} {F : Facts} {pt : PointsTo} {H : Hierarchy} {V : Plain} (G : Given P F pt H V) (match : BodiesMatch G) where
   holders_turn : (c d : ℕ) (k h : PlainClass) → slice_get P.classes c ≡ Some k → slice_get P.classes d ≡ Some h → c < d → is_holder P c ≡ true
       → is_holder P d ≡ true
-      → AreInTurn (holders P Q F H) (old_tree P Q F H c k) (old_tree P Q F H d h)
-  holders_turn c d k h e q lt a b = in_turn (is_holder P) (old_tree P Q F H) 0 P.classes c d c d k h e q lt (omega arith) (omega arith) a b
+      → AreInTurn (holders P F H) (old_tree P F H c k) (old_tree P F H d h)
+  holders_turn c d k h e q lt a b = in_turn (is_holder P) (old_tree P F H) 0 P.classes c d c d k h e q lt (omega arith) (omega arith) a b
 
-  in_tree : (i : ℕ) (d : DeclTree) → slice_get (holders P Q F H) i ≡ Some d → slice_get (tree P Q F H) (length (nodes P Q F H) + i) ≡ Some d
-  in_tree i d e = ap (λ w. slice_get w (length (nodes P Q F H) + i)) (tree_is P Q F H)
-      ∙ get_right (nodes P Q F H) (holders P Q F H) i (length (nodes P Q F H) + i) refl ∙ e
+  in_tree : (i : ℕ) (d : DeclTree) → slice_get (holders P F H) i ≡ Some d → slice_get (tree P F H) (length (nodes P F H) + i) ≡ Some d
+  in_tree i d e = ap (λ w. slice_get w (length (nodes P F H) + i)) (tree_is P F H)
+      ∙ get_right (nodes P F H) (holders P F H) i (length (nodes P F H) + i) refl ∙ e
 
   pub holder_order : (c d : ℕ) → is_holder P c ≡ true → is_holder P d ≡ true → c < d → (T G).holder_of c < (T G).holder_of d
   holder_order c d a b lt =
       let k = holder_class P G.formed c a in
       let h = holder_class P G.formed d b in
       let t = holders_turn c d k.0 h.0 k.1 h.1 lt a b in
-      let x = holder_number P Q F H V G.resolves G.new c (length (nodes P Q F H) + t.lower) k.0 k.1 (in_tree t.lower (old_tree P Q F H c k.0) t.at_lower) in
-      let y = holder_number P Q F H V G.resolves G.new d (length (nodes P Q F H) + t.upper) h.0 h.1 (in_tree t.upper (old_tree P Q F H d h.0) t.at_upper) in
+      let x = holder_number P F H V G.resolves G.new c (length (nodes P F H) + t.lower) k.0 k.1 (in_tree t.lower (old_tree P F H c k.0) t.at_lower) in
+      let y = holder_number P F H V G.resolves G.new d (length (nodes P F H) + t.upper) h.0 h.1 (in_tree t.upper (old_tree P F H d h.0) t.at_upper) in
       let turn = t.turn in
       omega (arith, x, y, turn)
 
@@ -167,10 +163,10 @@ module _ {P Q : Plain} {F : Facts} {pt : PointsTo} {H : Hierarchy} {V : Plain} (
   unfolding renaming_of
   holder_is c o e = e
 
-  pub main_is : IsStaticMethod P U (R G) P.main U.main
+  pub main_is : IsStaticMethod P V (R G) P.main V.main
   main_is =
       let N = G.new in
-      let z = static_method G match U.main N.main N.main_stands N.main_is.static in
+      let z = static_method G match V.main N.main N.main_stands N.main_is.static in
       let s = z.1.same in
       let made : s.new ≡ N.main = same_Some _ _ (sym s.new_stands ∙ N.main_stands) in
       let old : IsMain s.old = record {
@@ -204,4 +200,4 @@ module _ {P Q : Plain} {F : Facts} {pt : PointsTo} {H : Hierarchy} {V : Plain} (
       (λ lt. absurd (let o = holder_order M.owner s.old.owner hm ho lt in omega (arith, o, above, so, sm)))
       (λ gt. absurd (omega (arith, gt, below))) other)
       (cases_order M.owner s.old.owner) in
-      subst (λ m. IsStaticMethod P U (R G) m U.main) one s
+      subst (λ m. IsStaticMethod P V (R G) m V.main) one s

@@ -13,7 +13,6 @@ use Rattle.java_core.specs.Programs.{Plain, PlainMethod, PlainSlot}
 use Rattle.java_core.specs.Classes.{slot_of_method}
 use Rattle.name_rules.specs.declared.parts.Kind.TheVariants as kinds
 use Rattle.name_rules.specs.Outline.{MethodAt, methods_declared, method_member, has_word, is_static_word, is_abstract_word}
-use Rattle.java_core.specs.Untagged.{untag_method, untagged}
 use Rattle.fact_model.specs.Items.{site_at, site_row, column_kind, column_slot}
 use Rattle.fact_model.specs.Classes.{is_slot}
 use Rattle.fact_model.specs.declared.facts.Facts.{Facts}
@@ -26,7 +25,7 @@ use Rattle.hier_model.proofs.AnyLemmas.{any_below_some, any_below_has}
 use Rattle.flow_rules.specs.declared.items.ColumnItem.{ColumnItem}
 use Rattle.flow_rules.specs.declared.items.ColumnItem.TheVariants as column
 use Rattle.flow_rules.specs.Facts.{numbers, kind_of, column_info}
-use Rattle.flow_rules.proofs.Listed.{first, at_map, map_from, map_has, below_at, index_at}
+use Rattle.flow_rules.proofs.Listed.{first, map_from, map_has, below_at, index_at}
 use Rattle.flow_rules.proofs.NumberedItems.{numbered_columns}
 use Rattle.facts_order.proofs.Columns.{Stands as IsOfText, for_field, for_declaration, for_body, for_mark, column_stands}
 use Rattle.rebuild_model.specs.Renaming.{Renaming, renaming_of, column_name}
@@ -55,33 +54,31 @@ as_method i a h b = record { owner = suc i; kind = kinds.Method; in_abstract = a
 abbrev pub as_head : ℕ → HeadTree → MethodAt
 as_head i h = record { owner = suc i; kind = kinds.Head; in_abstract = true; head = h; body = None }
 
--- what the written tree was resolved to, the renaming, and which of its methods are resolved to which
+-- the renaming of the written tree, and which of its methods are resolved to which
 pub record Read : Type 1 where
-  pub program : Plain
   pub renaming : Renaming
   pub Resolved : MethodAt → ℕ → Type 0
 
-abbrev pub read : {P Q : Plain} {F : Facts} {pt : PointsTo} {H : Hierarchy} {V : Plain} → Given P Q F pt H V → Read
-read {P} {Q} {F} {pt} {H} {V} G = record {
-  program = untagged V;
-  renaming = by_node P Q F H;
-  Resolved = λ m g. IsResolved (java_tree P Q F H) V G.resolves G.new m g;
+abbrev pub read : {P : Plain} {F : Facts} {pt : PointsTo} {H : Hierarchy} {V : Plain} → Given P F pt H V → Read
+read {P} {F} {pt} {H} {V} G = record {
+  renaming = by_node P F H;
+  Resolved = λ m g. IsResolved (java_tree P F H) V G.resolves G.new m g;
 }
 
-module _ {P Q : Plain} {F : Facts} {pt : PointsTo} {H : Hierarchy} {V : Plain} (G : Given P Q F pt H V) where
-  open read G use {program as U, renaming as R₀, Resolved as Rs}
+module _ {P : Plain} {F : Facts} {pt : PointsTo} {H : Hierarchy} {V : Plain} (G : Given P F pt H V) where
+  open read G use {renaming as R₀, Resolved as Rs}
 
   abbrev pub IsOldBody : ℕ → PlainMethod → Type 0
-  IsOldBody m k = IsBody P Q F H U (T G) m k
+  IsOldBody m k = IsBody P F H V (T G) m k
 
   abbrev pub IsMemberOf : ℕ → ℕ → PlainMethod → Type 0
-  IsMemberOf n m k = IsOfSlot P Q F H U (T G) n m k
+  IsMemberOf n m k = IsOfSlot P F H V (T G) n m k
 
   abbrev pub IsOldHead : ℕ → ℕ → PlainMethod → Type 0
-  IsOldHead n m k = IsHead P Q F H U (T G) n m k
+  IsOldHead n m k = IsHead P F H V (T G) n m k
 
   abbrev pub IsOldFiller : ℕ → ℕ → PlainMethod → Type 0
-  IsOldFiller n m k = IsFiller P Q F H U (T G) n m k
+  IsOldFiller n m k = IsFiller P F H V (T G) n m k
 
   -- ---- names of a slot
 
@@ -106,9 +103,9 @@ module _ {P Q : Plain} {F : Facts} {pt : PointsTo} {H : Hierarchy} {V : Plain} (
 
   -- a body
   pub node_body : (match : BodiesMatch G) (n i m g : ℕ) (a : Bool) (old : PlainMethod) (xs : Sts)
-      → slice_get (tree P Q F H) i ≡ Some (node_tree P Q F H n) → Stands G (column.Def m) n
+      → slice_get (tree P F H) i ≡ Some (node_tree P F H n) → Stands G (column.Def m) n
       → slice_get P.methods m ≡ Some old → old.is_static ≡ false → old.body ≡ Some xs
-      → (r : Rs (as_method i a (head P R₀ H (modifier Public ∷ []) (R₀.method_name m) m old) (body P R₀ H m old)) g) → IsOldBody m (untag_method r.method)
+      → (r : Rs (as_method i a (head P R₀ H (modifier Public ∷ []) (R₀.method_name m) m old) (body P R₀ H m old)) g) → IsOldBody m r.method
   unfolding renaming_of
   node_body match n i m g a old xs e s o st b r =
       let at : MethodAt = as_method i a (head P R₀ H (modifier Public ∷ []) (R₀.method_name m) m old) (body P R₀ H m old) in
@@ -119,7 +116,7 @@ module _ {P Q : Plain} {F : Facts} {pt : PointsTo} {H : Hierarchy} {V : Plain} (
           node = n;
           stands = s;
           instance = static_is G at g r;
-          owner_is = owner_is G at g r ∙ sym (node_number P Q F H V G.resolves G.new n i e);
+          owner_is = owner_is G at g r ∙ sym (node_number P F H V G.resolves G.new n i e);
         };
         name = name_is G at g r;
         types = types_are G at g r (modifier Public ∷ []) (R₀.method_name m) m old o refl;
@@ -127,10 +124,10 @@ module _ {P Q : Plain} {F : Facts} {pt : PointsTo} {H : Hierarchy} {V : Plain} (
       }
 
   -- a head or a filler
-  pub node_member : (n i m s g : ℕ) (mods : List Modifier) (at : MethodAt) (old : PlainMethod) → slice_get (tree P Q F H) i ≡ Some (node_tree P Q F H n)
+  pub node_member : (n i m s g : ℕ) (mods : List Modifier) (at : MethodAt) (old : PlainMethod) → slice_get (tree P F H) i ≡ Some (node_tree P F H n)
       → at.owner ≡ suc i
       → has_word is_static_word mods ≡ false → IsHeadTree P R₀ F H mods s at.head → slice_get P.methods m ≡ Some old → old.slot ≡ Some s → (r : Rs at g)
-      → IsMemberOf n m (untag_method r.method)
+      → IsMemberOf n m r.method
   unfolding renaming_of
   node_member n i m s g mods at old e ow st t o os r =
       let z = G.formed.slots s t.signature t.slot_stands in
@@ -141,7 +138,7 @@ module _ {P Q : Plain} {F : Facts} {pt : PointsTo} {H : Hierarchy} {V : Plain} (
       record {
         was = record { old = old; old_stands = o; slot = s; of_slot = os; signature = t.signature; slot_stands = t.slot_stands };
         instance = static_is G at g r ∙ ap (λ (h : HeadTree). has_word is_static_word h.mods) (sym t.is) ∙ st;
-        owner = owner_is G at g r ∙ ow ∙ sym (node_number P Q F H V G.resolves G.new n i e);
+        owner = owner_is G at g r ∙ ow ∙ sym (node_number P F H V G.resolves G.new n i e);
         name = name_is G at g r ∙ ap (λ (h : HeadTree). h.name) (sym t.is)
             ∙ one_name t.signature.first m s (method_slot t.signature.first s t.first t.first_stands of) (method_slot m s old o os);
         types = slot_types_are G at g r mods (R₀.method_name t.signature.first) t.signature.first s t.first t.signature t.first_stands (sym t.is) of
@@ -179,7 +176,7 @@ module _ {P Q : Plain} {F : Facts} {pt : PointsTo} {H : Hierarchy} {V : Plain} (
       t.info_stands in
       let k : kind_of i.0 ≡ t.info.kind = sym (C.kind i.0 t.number i.1) ∙ ap (λ (z : ColumnInfo). z.kind) info in
       let m = declaration_item i.0 (ap is_declaration k ∙ t.declared) in
-      let at : (numbers P Q).column (column.Dcl m.0) ≡ Some t.number = ap (λ j. (numbers P Q).column j) (sym m.1) ∙ i.1 in
+      let at : (numbers P).column (column.Dcl m.0) ≡ Some t.number = ap (λ j. (numbers P).column j) (sym m.1) ∙ i.1 in
       let slot : slot_of_method P m.0 ≡ Some t.slot = sym (C.slot (column.Dcl m.0) t.number at) ∙ ap (λ (z : ColumnInfo). z.slot) info ∙ t.of_slot in
       let old = slotted_method m.0 t.slot slot in
       let p = at_from G n _ t.at in
@@ -191,9 +188,9 @@ module _ {P Q : Plain} {F : Facts} {pt : PointsTo} {H : Hierarchy} {V : Plain} (
         stands = record { number = t.number; numbered = at; place = p.0; placed = p.1; at = p.2 };
       }
 
-  pub node_head : (n i g : ℕ) (mods : List Modifier) (at : MethodAt) → slice_get (tree P Q F H) i ≡ Some (node_tree P Q F H n) → at.owner ≡ suc i
+  pub node_head : (n i g : ℕ) (mods : List Modifier) (at : MethodAt) → slice_get (tree P F H) i ≡ Some (node_tree P F H n) → at.owner ≡ suc i
       → at.body ≡ None → has_word is_static_word mods ≡ false
-      → IsHeadAt P R₀ F H mods n at.head → (r : Rs at g) → (m : ℕ) × IsOldHead n m (untag_method r.method)
+      → IsHeadAt P R₀ F H mods n at.head → (r : Rs at g) → (m : ℕ) × IsOldHead n m r.method
   unfolding node_member
   node_head n i g mods at e ow b st t r =
       let d = declared_at mods n at.head t in (
@@ -211,10 +208,10 @@ module _ {P Q : Plain} {F : Facts} {pt : PointsTo} {H : Hierarchy} {V : Plain} (
       let z = G.formed.slots s t.signature t.slot_stands in
       ap (λ (y : PlainMethod). y.slot) (same_Some _ _ (sym t.first_stands ∙ z.stands)) ∙ z.of
 
-  pub node_filler : (n i s g : ℕ) (at : MethodAt) (ss : Statements) → is_live H.order n ≡ true → slice_get (tree P Q F H) i ≡ Some (node_tree P Q F H n)
+  pub node_filler : (n i s g : ℕ) (at : MethodAt) (ss : Statements) → is_live H.order n ≡ true → slice_get (tree P F H) i ≡ Some (node_tree P F H n)
       → at.owner ≡ suc i → at.body ≡ Some ss
       → is_filled F H n s ≡ true → (t : IsHeadTree P R₀ F H (as_filler P R₀ F H) s at.head) → (r : Rs at g)
-      → IsOldFiller n t.signature.first (untag_method r.method)
+      → IsOldFiller n t.signature.first r.method
   unfolding node_member
   node_filler n i s g at ss live e ow b h t r = record {
     of = node_member n i t.signature.first s g (as_filler P R₀ F H) at t.first e ow refl t t.first_stands (first_method s at.head (as_filler P R₀ F H) t) r;
@@ -229,37 +226,34 @@ module _ {P Q : Plain} {F : Facts} {pt : PointsTo} {H : Hierarchy} {V : Plain} (
   is_abstract n = has_word is_abstract_word (class_modifiers (is_made_at F H n))
 
   -- a method that the type of a node declares is of one of its members, or one of the heads of an interface
-  pub in_type : (b : Bool) (n i : ℕ) (x : MethodAt) → Contains (methods_declared (suc i) (type_tree P R₀ F H (items P Q F H) b n)) x
-      → ((m : MemberTree) × IsMember P R₀ F H (items P Q F H) n m × Contains (method_member (suc i) (is_abstract n) m) x)
+  pub in_type : (b : Bool) (n i : ℕ) (x : MethodAt) → Contains (methods_declared (suc i) (type_tree P R₀ F H (items P F H) b n)) x
+      → ((m : MemberTree) × IsMember P R₀ F H (items P F H) n m × Contains (method_member (suc i) (is_abstract n) m) x)
       ⊎ ((h : HeadTree) × IsHeadAt P R₀ F H [] n h × (as_head i h ≡ x))
   in_type true n i x h =
-      let z = member_method_from (suc i) (is_abstract n) (class_members P R₀ F H (items P Q F H) n) x h in
-      inl (z.0, class_from P R₀ F H (items P Q F H) n z.0 z.1, z.2)
+      let z = member_method_from (suc i) (is_abstract n) (class_members P R₀ F H (items P F H) n) x h in
+      inl (z.0, class_from P R₀ F H (items P F H) n z.0 z.1, z.2)
   in_type false n i x h =
       let z = map_from (λ h. as_head i h) (interface_heads P R₀ F H n) x h in
       inr (z.0, interface_from P R₀ F H n z.0 z.1, z.2)
 
   -- a method of a class node's members
-  class_method : (n i : ℕ) (h : HeadTree) (b : Option Statements) → slice_get (tree P Q F H) i ≡ Some (node_tree P Q F H n) → is_class_node F H n ≡ true
-      → Contains (class_members P R₀ F H (items P Q F H) n) (MethodTree h b nowhere) → (g : ℕ) × Rs (as_method i (is_abstract n) h b) g
+  class_method : (n i : ℕ) (h : HeadTree) (b : Option Statements) → slice_get (tree P F H) i ≡ Some (node_tree P F H n) → is_class_node F H n ≡ true
+      → Contains (class_members P R₀ F H (items P F H) n) (MethodTree h b nowhere) → (g : ℕ) × Rs (as_method i (is_abstract n) h b) g
   class_method n i h b e c m =
       let x : MethodAt = as_method i (is_abstract n) h b in
-      let d : Contains (methods_declared (suc i) (node_tree P Q F H n)) x =
-      subst (λ z. Contains (methods_declared (suc i) (type_tree P R₀ F H (items P Q F H) z n)) x) (sym c)
-      (member_method_has (suc i) (is_abstract n) (class_members P R₀ F H (items P Q F H) n) x (MethodTree h b nowhere) m (first x [])) in
-      method_there (tree P Q F H) V G.resolves G.new i (node_tree P Q F H n) x e d
+      let d : Contains (methods_declared (suc i) (node_tree P F H n)) x =
+      subst (λ z. Contains (methods_declared (suc i) (type_tree P R₀ F H (items P F H) z n)) x) (sym c)
+      (member_method_has (suc i) (is_abstract n) (class_members P R₀ F H (items P F H) n) x (MethodTree h b nowhere) m (first x [])) in
+      method_there (tree P F H) V G.resolves G.new i (node_tree P F H n) x e d
 
-  interface_method : (n i : ℕ) (h : HeadTree) → slice_get (tree P Q F H) i ≡ Some (node_tree P Q F H n) → is_class_node F H n ≡ false
+  interface_method : (n i : ℕ) (h : HeadTree) → slice_get (tree P F H) i ≡ Some (node_tree P F H n) → is_class_node F H n ≡ false
       → Contains (interface_heads P R₀ F H n) h → (g : ℕ) × Rs (as_head i h) g
   interface_method n i h e c m =
       let x : MethodAt = as_head i h in
-      let d : Contains (methods_declared (suc i) (node_tree P Q F H n)) x =
-      subst (λ z. Contains (methods_declared (suc i) (type_tree P R₀ F H (items P Q F H) z n)) x) (sym c)
+      let d : Contains (methods_declared (suc i) (node_tree P F H n)) x =
+      subst (λ z. Contains (methods_declared (suc i) (type_tree P R₀ F H (items P F H) z n)) x) (sym c)
       (map_has (λ h. as_head i h) (interface_heads P R₀ F H n) h m) in
-      method_there (tree P Q F H) V G.resolves G.new i (node_tree P Q F H n) x e d
-
-  pub stands_made : (m : MethodAt) (g : ℕ) (r : Rs m g) → slice_get U.methods g ≡ Some (untag_method r.method)
-  stands_made m g r = at_map untag_method V.methods g r.method r.stands
+      method_there (tree P F H) V G.resolves G.new i (node_tree P F H n) x e d
 
   -- the old method of a body's column
   pub record IsOldMethod (m : ℕ) : Type 0 where
@@ -273,12 +267,11 @@ module _ {P Q : Plain} {F : Facts} {pt : PointsTo} {H : Hierarchy} {V : Plain} (
   some_code None h = absurd (false≢true h)
   some_code (Some xs) h = (xs, refl)
 
-  text_body : (m : ℕ) (i : ColumnItem) → IsOfText Q i → i ≡ column.Def m → IsOldMethod m
+  text_body : (m : ℕ) (i : ColumnItem) → IsOfText P i → i ≡ column.Def m → IsOldMethod m
   text_body m _ (for_body d k e h b) q =
       let same : d ≡ m = cc q in
-      let z = G.placed.methods d k e in
-      let c = some_code z.plain.body (z.bodied ∙ b) in
-      record { old = z.plain; stands = ap (slice_get P.methods) (sym same) ∙ z.stands; instance = z.static ∙ h; code = c.0; body = c.1 }
+      let c = some_code k.body b in
+      record { old = k; stands = ap (slice_get P.methods) (sym same) ∙ e; instance = h; code = c.0; body = c.1 }
   text_body m _ (for_field g k e h) q = absurd (cc q)
   text_body m _ (for_declaration d k e h) q = absurd (cc q)
   text_body m _ (for_mark c) q = absurd (cc q)
@@ -286,18 +279,18 @@ module _ {P Q : Plain} {F : Facts} {pt : PointsTo} {H : Hierarchy} {V : Plain} (
   pub old_method : (m n : ℕ) → Stands G (column.Def m) n → IsOldMethod m
   unfolding numbers
   old_method m n s =
-      let x = (numbered_columns P Q).at (column.Def m) s.number s.numbered in
-      text_body m x.0.item (column_stands P Q s.number x.0 x.1) x.2
+      let x = (numbered_columns P).at (column.Def m) s.number s.numbered in
+      text_body m x.0.item (column_stands P s.number x.0 x.1) x.2
 
-  pub each_body : BodiesMatch G → (m n : ℕ) → Stands G (column.Def m) n → (g : ℕ) × (new : PlainMethod) × (slice_get U.methods g ≡ Some new) × IsOldBody m new
+  pub each_body : BodiesMatch G → (m n : ℕ) → Stands G (column.Def m) n → (g : ℕ) × (new : PlainMethod) × (slice_get V.methods g ≡ Some new) × IsOldBody m new
   each_body match m n s =
       let c = column_there G (column.Def m) n s in
       let o = old_method m n s in
-      let z = node_at P Q F H n c.live in
+      let z = node_at P F H n c.live in
       let h = head P R₀ H (modifier Public ∷ []) (R₀.method_name m) m o.old in
       let r = class_method n z.0 h (body P R₀ H m o.old) z.1 (class_there G (column.Def m) n s refl)
-      (body_has P R₀ F H (items P Q F H) n c.number m (column_info Q (column.Def m)) o.old c.info c.at c.item o.stands) in
-      (r.0, untag_method r.1.method, stands_made _ r.0 r.1, node_body match n z.0 m r.0 (is_abstract n) o.old o.code z.1 s o.stands o.instance o.body r.1)
+      (body_has P R₀ F H (items P F H) n c.number m (column_info P (column.Def m)) o.old c.info c.at c.item o.stands) in
+      (r.0, r.1.method, r.1.stands, node_body match n z.0 m r.0 (is_abstract n) o.old o.code z.1 s o.stands o.instance o.body r.1)
 
   -- the first column at a node that declares a slot
   pub record IsFirstColumn (n s : ℕ) : Type 0 where
@@ -321,7 +314,7 @@ module _ {P Q : Plain} {F : Facts} {pt : PointsTo} {H : Hierarchy} {V : Plain} (
       let z = least_below p (suc c.number) (or_right (any_below c.number p) (p c.number) here) in
       let a = and_parts (is_declaration (column_kind F z.0)) (is_slot (column_slot F z.0) s && stands_at H n z.0) z.2 in
       let b = and_parts (is_slot (column_slot F z.0) s) (stands_at H n z.0) a.1 in
-      let lt = slice_get_within F.columns.items c.number (column_info Q (column.Dcl m)) c.info in
+      let lt = slice_get_within F.columns.items c.number (column_info P (column.Dcl m)) c.info in
       let k = below_at F.columns.items z.0 (omega (arith, z.1, lt)) in
       let info = index_at F.columns.items z.0 (record { kind = kind.Is; class = record { 0 = 0 }; slot = None; name = []; label = [] }) k.0 k.1 in
       record {
@@ -343,21 +336,21 @@ module _ {P Q : Plain} {F : Facts} {pt : PointsTo} {H : Hierarchy} {V : Plain} (
       (z.slot, z.stands, f.method, f.stands)
 
   pub each_head : (m n s : ℕ) (old : PlainMethod) → Stands G (column.Dcl m) n → slice_get P.methods m ≡ Some old → old.slot ≡ Some s → is_headed F H n s ≡ true
-      → (g : ℕ) × (new : PlainMethod) × (slice_get U.methods g ≡ Some new) × (new.body ≡ None) × IsMemberOf n m new
+      → (g : ℕ) × (new : PlainMethod) × (slice_get V.methods g ≡ Some new) × (new.body ≡ None) × IsMemberOf n m new
   each_head m n s old st o os h =
       let live = (column_there G (column.Dcl m) n st).live in
       let c = first_column m n s st (method_slot m s old o os) in
       let q = slot_parts s m old o os in
-      let z = node_at P Q F H n live in
+      let z = node_at P F H n live in
       ⊎_elim
       (λ class.
       let t = head P R₀ H (in_class P R₀ F H) (R₀.method_name q.0.first) q.0.first q.2 in
       let r = class_method n z.0 t None z.1 class (head_has P R₀ F H
-      (items P Q F H) n c.number s c.info q.0 q.2 c.info_stands c.at c.declared c.of_slot h c.first q.1 q.3) in
+      (items P F H) n c.number s c.info q.0 q.2 c.info_stands c.at c.declared c.of_slot h c.first q.1 q.3) in
       let at : MethodAt = as_method z.0 (is_abstract n) t None in (
         r.0,
-        untag_method r.1.method,
-        stands_made at r.0 r.1,
+        r.1.method,
+        r.1.stands,
         bodyless G at r.0 r.1 refl,
         node_member n z.0 m s r.0 (in_class P R₀ F H) at old z.1 refl refl
             (record { signature = q.0; slot_stands = q.1; first = q.2; first_stands = q.3; is = refl }) o os r.1,
@@ -368,8 +361,8 @@ module _ {P Q : Plain} {F : Facts} {pt : PointsTo} {H : Hierarchy} {V : Plain} (
       q.3) in
       let at : MethodAt = as_head z.0 t in (
         r.0,
-        untag_method r.1.method,
-        stands_made at r.0 r.1,
+        r.1.method,
+        r.1.stands,
         bodyless G at r.0 r.1 refl,
         node_member n z.0 m s r.0 [] at old z.1 refl refl (record { signature = q.0; slot_stands = q.1; first = q.2; first_stands = q.3; is = refl }) o os r.1,
       ))
@@ -385,17 +378,17 @@ module _ {P Q : Plain} {F : Facts} {pt : PointsTo} {H : Hierarchy} {V : Plain} (
       (subst (λ z. is_le H.order n z ≡ true) (sym (eqb-true (place_of_row H (site_row F s.0)) n both.1)) (G.hierarchy.sized.order.reflexive n live))))
 
   pub each_filler : (m n s : ℕ) (old : PlainMethod) → is_live H.order n ≡ true → slice_get P.methods m ≡ Some old → old.slot ≡ Some s → is_filled F H n s ≡ true
-      → (g : ℕ) × (new : PlainMethod) × (slice_get U.methods g ≡ Some new) × IsMemberOf n m new
+      → (g : ℕ) × (new : PlainMethod) × (slice_get V.methods g ≡ Some new) × IsMemberOf n m new
   each_filler m n s old live o os h =
       let q = slot_parts s m old o os in
-      let z = node_at P Q F H n live in
+      let z = node_at P F H n live in
       let class = made_class n live (and_parts (is_made_at F H n) (offers_slot F H n s && not (offers_body F H n s)) h).0 in
       let t = head P R₀ H (as_filler P R₀ F H) (R₀.method_name q.0.first) q.0.first q.2 in
-      let r = class_method n z.0 t (Some (filling q.0.result)) z.1 class (filler_has P R₀ F H (items P Q F H) n s q.0 q.2 q.1 q.3 h) in
+      let r = class_method n z.0 t (Some (filling q.0.result)) z.1 class (filler_has P R₀ F H (items P F H) n s q.0 q.2 q.1 q.3 h) in
       let at : MethodAt = as_method z.0 (is_abstract n) t (Some (filling q.0.result)) in (
         r.0,
-        untag_method r.1.method,
-        stands_made at r.0 r.1,
+        r.1.method,
+        r.1.stands,
         node_member n z.0 m s r.0 (as_filler P R₀ F H) at old z.1 refl refl
             (record { signature = q.0; slot_stands = q.1; first = q.2; first_stands = q.3; is = refl }) o os r.1,
       )

@@ -14,13 +14,12 @@ use Rattle.java_core.proofs.Positions.{position-passes}
 use Rattle.name_rules.specs.Outline.{name_of, is_text_type, types_in, class_outline, outline}
 use Rattle.name_rules.specs.Meanings.{type_names, class_named}
 use Rattle.name_rules.specs.Resolves.{heading_of}
-use Rattle.java_core.specs.Untagged.{untag_class, untag_field, untag_method, untagged}
 use Rattle.fact_model.specs.declared.facts.Facts.{Facts}
 use Rattle.fact_model.specs.declared.sets.PointsTo.{PointsTo}
 use Rattle.hier_model.specs.Hierarchies.{Hierarchy, place_of_row, type_name}
 use Rattle.flow_rules.specs.declared.items.RowItem.{RowItem}
 use Rattle.flow_rules.specs.Facts.{numbers, is_holder}
-use Rattle.flow_rules.proofs.Listed.{at_map, map_at, contains_at, position_there}
+use Rattle.flow_rules.proofs.Listed.{map_at, contains_at, position_there}
 use Rattle.rebuild_model.specs.Renaming.{renaming_of}
 use Rattle.rebuild_model.specs.Matches.{IsStaticField, IsStaticMethod}
 use Rattle.written_tree.specs.Names.{class_name}
@@ -40,19 +39,16 @@ outline_types : (ds : List DeclTree) → type_names (outline ds) ≡ types_in ds
 unfolding outline
 outline_types ds = ap (λ z. codes "Object" ∷ z) (names_are (types_in ds) ds)
 
-module _ {P Q : Plain} {F : Facts} {pt : PointsTo} {H : Hierarchy} {V : Plain} (G : Given P Q F pt H V) where
-  abbrev U : Plain
-  U = untagged V
-
+module _ {P : Plain} {F : Facts} {pt : PointsTo} {H : Hierarchy} {V : Plain} (G : Given P F pt H V) where
   abbrev O : Plain
-  O = outline (java_tree P Q F H)
+  O = outline (java_tree P F H)
 
-  pub named_row : (i : RowItem) (r : ℕ) → (numbers P Q).row i ≡ Some r → is_live H.order (place_of_row H r) ≡ true
+  pub named_row : (i : RowItem) (r : ℕ) → (numbers P).row i ≡ Some r → is_live H.order (place_of_row H r) ≡ true
   unfolding numbers
-  named_row i r e = row_live P Q F G.facts H G.hierarchy i r e
+  named_row i r e = row_live P F G.facts H G.hierarchy i r e
 
   pub named_node : (n : ℕ) → is_live H.order n ≡ true → class_named O (type_name H n) ≡ Some ((T G).type_of n)
-  named_node n h = ap (λ z. position (λ m. bytes_eq m (type_name H n)) z) (outline_types (java_tree P Q F H)) ∙ node_named P Q F H V G.resolves G.new n h
+  named_node n h = ap (λ z. position (λ m. bytes_eq m (type_name H n)) z) (outline_types (java_tree P F H)) ∙ node_named P F H V G.resolves G.new n h
 
   pub node_no_text : (n : ℕ) → is_live H.order n ≡ true → is_text_type (type_name H n) ≡ false
   node_no_text n h = no_text F pt H G.unbroken n h
@@ -60,39 +56,35 @@ module _ {P Q : Plain} {F : Facts} {pt : PointsTo} {H : Hierarchy} {V : Plain} (
   pub named_holder : (c : ℕ) → is_holder P c ≡ true → class_named O (class_name P c) ≡ Some ((T G).holder_of c)
   named_holder c h =
       let k = holder_class P G.formed c h in
-      ap (λ z. position (λ m. bytes_eq m (class_name P c)) z) (outline_types (java_tree P Q F H)) ∙ holder_named P Q F H V G.resolves G.new c k.0 k.1 h
+      ap (λ z. position (λ m. bytes_eq m (class_name P c)) z) (outline_types (java_tree P F H)) ∙ holder_named P F H V G.resolves G.new c k.0 k.1 h
 
   -- the fields of the outline are those of the program
-  field_at : (f : ℕ) (k : PlainField) → slice_get O.fields f ≡ Some k → slice_get U.fields f ≡ Some (untag_field k)
-  field_at f k e = at_map untag_field V.fields f k (ap (λ w. slice_get w f) G.resolves.fields ∙ e)
-
-  field_back : (f : ℕ) (k : PlainField) → slice_get U.fields f ≡ Some k → (h : PlainField) × (slice_get O.fields f ≡ Some h) × (untag_field h ≡ k)
-  field_back f k e = let z = map_at untag_field V.fields f k e in (z.0, sym (ap (λ w. slice_get w f) G.resolves.fields) ∙ z.1, z.2)
+  field_at : (f : ℕ) (k : PlainField) → slice_get O.fields f ≡ Some k → slice_get V.fields f ≡ Some k
+  field_at f k e = ap (λ w. slice_get w f) G.resolves.fields ∙ e
 
   holder_name : (c : ℕ) (k : PlainClass) → slice_get P.classes c ≡ Some k → class_name P c ≡ k.name
   holder_name c k e = ap (λ o. option_map_or (λ (k : PlainClass). k.name) o []) e
 
   pub no_field_holder : (c f : ℕ) (k : PlainField) → is_holder P c ≡ true → slice_get O.fields f ≡ Some k → k.name ≢ class_name P c
   no_field_holder c f k h e same =
-      let old = holder_there P Q F H G.formed c h in
-      let class = class_there (tree P Q F H) V G.resolves G.new old.2 (old_tree P Q F H c old.0) old.3 in
-      (G.new.fields f (untag_field k) (field_at f k e)).name.no_class (suc old.2)
-      (untag_class (class_outline (types_in (java_tree P Q F H)) (old_tree P Q F H c old.0))) class (sym (same ∙ holder_name c old.0 old.1))
+      let old = holder_there P F H G.formed c h in
+      let class = class_there (tree P F H) V G.resolves G.new old.2 (old_tree P F H c old.0) old.3 in
+      (G.new.fields f k (field_at f k e)).name.no_class (suc old.2)
+      (class_outline (types_in (java_tree P F H)) (old_tree P F H c old.0)) class (sym (same ∙ holder_name c old.0 old.1))
 
-  one_static : (c g : ℕ) (new : PlainField) → slice_get U.fields g ≡ Some new → new.owner ≡ c → own_field_of O c new.name ≡ Some g
+  one_static : (c g : ℕ) (new : PlainField) → slice_get V.fields g ≡ Some new → new.owner ≡ c → own_field_of O c new.name ≡ Some g
   one_static c g new e ow =
-      let h = field_back g new e in
       let p : PlainField → Bool = is_field_of c new.name in
-      let passes : p h.0 ≡ true = and_from (h.0.owner == c) (bytes_eq h.0.name new.name) (eq-eqb h.0.owner c (ap (λ (y : PlainField). y.owner) h.2 ∙ ow))
-      ((bytes_eq-Decides h.0.name new.name).1 (ap (λ (y : PlainField). y.name) h.2)) in
-      let z = position_there p O.fields h.0 (contains_at O.fields g h.0 h.1) passes in
+      let passes : p new ≡ true = and_from (new.owner == c) (bytes_eq new.name new.name) (eq-eqb new.owner c ow)
+      ((bytes_eq-Decides new.name new.name).1 refl) in
+      let z = position_there p O.fields new (contains_at O.fields g new (sym (ap (λ w. slice_get w g) G.resolves.fields) ∙ e)) passes in
       let w = position-passes p O.fields z.0 z.1 in
       let q = and_parts (w.0.owner == c) (bytes_eq w.0.name new.name) w.2 in
-      z.1 ∙ ap Some (G.new.field_names z.0 g (untag_field w.0) new (field_at z.0 w.0 w.1) e (eqb-true w.0.owner c q.0 ∙ sym ow)
+      z.1 ∙ ap Some (G.new.field_names z.0 g w.0 new (field_at z.0 w.0 w.1) e (eqb-true w.0.owner c q.0 ∙ sym ow)
       ((bytes_eq-Decides w.0.name new.name).0 q.1))
 
   pub named_static_field : (f : ℕ) (old : PlainField) → slice_get P.fields f ≡ Some old → old.is_static ≡ true
-      → (g : ℕ) × (own_field_of O ((T G).holder_of old.owner) old.name ≡ Some g) × IsStaticField P U (renaming_of P Q H (T G)) f g
+      → (g : ℕ) × (own_field_of O ((T G).holder_of old.owner) old.name ≡ Some g) × IsStaticField P V (renaming_of P H (T G)) f g
   unfolding renaming_of
   named_static_field f old e h =
       let z = each_static_field G f old e h in
@@ -106,15 +98,15 @@ module _ {P Q : Plain} {F : Facts} {pt : PointsTo} {H : Hierarchy} {V : Plain} (
       )
 
   pub named_static_method : (m g : ℕ) (old new : PlainMethod) → slice_get P.methods m ≡ Some old → old.is_static ≡ true → slice_get O.methods g ≡ Some new
-      → new.is_static ≡ true → new.owner ≡ (T G).holder_of old.owner → new.name ≡ old.name → IsStaticMethod P U (renaming_of P Q H (T G)) m g
+      → new.is_static ≡ true → new.owner ≡ (T G).holder_of old.owner → new.name ≡ old.name → IsStaticMethod P V (renaming_of P H (T G)) m g
   unfolding renaming_of
   named_static_method m g old new e h d st ow name =
       let z = map_at heading_of V.methods g new (ap (λ w. slice_get w g) G.resolves.headings ∙ d) in
       record {
         old = old;
-        new = untag_method z.0;
+        new = z.0;
         old_stands = e;
-        new_stands = at_map untag_method V.methods g z.0 z.1;
+        new_stands = z.1;
         old_static = h;
         new_static = ap (λ (y : PlainMethod). y.is_static) z.2 ∙ st;
         owner = ap (λ (y : PlainMethod). y.owner) z.2 ∙ ow;

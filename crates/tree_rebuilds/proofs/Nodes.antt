@@ -12,7 +12,6 @@ use Rattle.java_core.specs.Programs.{Plain, PlainClass}
 use Rattle.java_core.specs.Formed.{IsFormed, HasNoTwice}
 use Rattle.name_rules.specs.Outline.{name_of, is_interface_of, mods_of, has_word, is_abstract_word, types_in, class_outline, type_named}
 use Rattle.name_rules.specs.Resolves.{Resolves}
-use Rattle.java_core.specs.Untagged.{untag_class, untagged}
 use Rattle.fact_model.specs.declared.facts.Facts.{Facts}
 use Rattle.fact_model.specs.declared.sets.PointsTo.{PointsTo}
 use Rattle.hier_model.specs.Hierarchies.{Hierarchy, type_name, is_class_node}
@@ -22,7 +21,6 @@ use Rattle.flow_rules.specs.Ordered.{when}
 use Rattle.flow_rules.specs.Numbered.{columns_of}
 use Rattle.flow_rules.specs.Facts.{is_holder, IsFactsOf}
 use Rattle.flow_rules.proofs.Listed.{first, at_contains, contains_at, index_at, each_has, each_from_zero, when_has, when_from, one_from, at_map}
-use Rattle.facts_order.proofs.Pairs.{IsPlaced}
 use Rattle.rebuild_model.specs.Renaming.{Places, Renaming, renaming_of}
 use Rattle.rebuild_model.specs.Members.{is_made_at}
 use Rattle.rebuild_model.specs.Rebuilds.{IsNodeType, IsHolderType, AreTypes}
@@ -36,16 +34,16 @@ bit_at [] n h = absurd (false≢true h)
 bit_at (b ∷ bs) zero h = ap Some h
 bit_at (b ∷ bs) (suc n) h = bit_at bs n h
 
-module _ (P Q : Plain) (F : Facts) (H : Hierarchy) where
+module _ (P : Plain) (F : Facts) (H : Hierarchy) where
   abbrev pub items : List ColumnItem
-  items = map (λ c. c.item) (columns_of P Q)
+  items = map (λ c. c.item) (columns_of P)
 
   -- the new names, with nodes in place of types
   abbrev pub by_node : Renaming
-  by_node = renaming_of P Q H by_number
+  by_node = renaming_of P H by_number
 
   abbrev pub tree : List DeclTree
-  tree = java_tree P Q F H
+  tree = java_tree P F H
 
   abbrev pub node_tree : ℕ → DeclTree
   node_tree n = type_tree P by_node F H items (is_class_node F H n) n
@@ -120,15 +118,15 @@ module _ (P Q : Plain) (F : Facts) (H : Hierarchy) where
       subst Declares (one_from (old_tree z.0 z.1) d w.1) (a_holder z.0 z.1 z.2 w.0))
       (Contains-append_cases nodes holders d (contains_at (nodes ++ holders) i d (sym (ap (λ w. slice_get w i) tree_is) ∙ e)))
 
-  module _ (V : Plain) (resolves : Resolves (java_tree P Q F H) V) (new : IsFormed (untagged V)) where
+  module _ (V : Plain) (resolves : Resolves (java_tree P F H) V) (new : IsFormed V) where
     abbrev types : List (List ℕ)
-    types = types_in (java_tree P Q F H)
+    types = types_in (java_tree P F H)
 
     -- the types by the names of nodes and of holders
     unfoldable pub places : Places
     places = record {
-      type_of = λ n. number (types_in (java_tree P Q F H)) (type_name H n);
-      holder_of = λ c. number (types_in (java_tree P Q F H))
+      type_of = λ n. number (types_in (java_tree P F H)) (type_name H n);
+      holder_of = λ c. number (types_in (java_tree P F H))
           (class_name P c);
     }
 
@@ -161,13 +159,13 @@ module _ (P Q : Plain) (F : Facts) (H : Hierarchy) where
     no_zero : (n k : ℕ) → k ≡ suc n → k ≢ 0
     no_zero n k e d = cc (e, d)
 
-    pub node_type : (n : ℕ) → is_live H.order n ≡ true → IsNodeType P Q F H (untagged V) places n
+    pub node_type : (n : ℕ) → is_live H.order n ≡ true → IsNodeType P F H V places n
     node_type n h =
         let z = node_at n h in
         let at = node_number n z.0 z.1 in
         record {
-          class = untag_class (class_outline types (node_tree n));
-          stands = ap (λ w. slice_get (untagged V).classes w) at ∙ class_there tree V resolves new z.0 (node_tree n) z.1;
+          class = class_outline types (node_tree n);
+          stands = ap (λ w. slice_get V.classes w) at ∙ class_there tree V resolves new z.0 (node_tree n) z.1;
           no_object = no_zero z.0 (places.type_of n) at;
           name = tree_name (is_class_node F H n) n;
           kind = tree_kind (is_class_node F H n) n;
@@ -175,14 +173,14 @@ module _ (P Q : Plain) (F : Facts) (H : Hierarchy) where
         }
 
     module _ (formed : IsFormed P) where
-      holder_type : (c : ℕ) → is_holder P c ≡ true → IsHolderType P Q F H (untagged V) places c
+      holder_type : (c : ℕ) → is_holder P c ≡ true → IsHolderType P F H V places c
       holder_type c h =
           let k = holder_there formed c h in
           let at = holder_number c k.2 k.0 k.1 k.3 in
           record {
-            class = untag_class (class_outline types (old_tree c k.0));
+            class = class_outline types (old_tree c k.0);
             old = k.0;
-            stands = ap (λ w. slice_get (untagged V).classes w) at ∙ class_there tree V resolves new k.2 (old_tree c k.0) k.3;
+            stands = ap (λ w. slice_get V.classes w) at ∙ class_there tree V resolves new k.2 (old_tree c k.0) k.3;
             old_stands = k.1;
             no_object = no_zero k.2 (places.holder_of c) at;
             name = refl;
@@ -194,7 +192,7 @@ module _ (P Q : Plain) (F : Facts) (H : Hierarchy) where
       one_tree : (i j : ℕ) (d e : DeclTree) → slice_get tree i ≡ Some d → slice_get tree j ≡ Some e → suc i ≡ suc j → d ≡ e
       one_tree i j d e p q same = let at : i ≡ j = omega (arith, same) in same_Some d e (sym p ∙ ap (slice_get tree) at ∙ q)
 
-      module _ (placed : IsPlaced P Q) (facts : IsFactsOf P Q F) (pt : PointsTo) (none : first_broken F pt H ≡ None) where
+      module _ (facts : IsFactsOf P F) (pt : PointsTo) (none : first_broken F pt H ≡ None) where
         pub nodes_once : (n m : ℕ) → is_live H.order n ≡ true → is_live H.order m ≡ true → places.type_of n ≡ places.type_of m → n ≡ m
         nodes_once n m ln lm same =
             let a = node_at n ln in
@@ -207,7 +205,7 @@ module _ (P Q : Plain) (F : Facts) (H : Hierarchy) where
         which i k _ e at (a_node n h) = inl (n, h, at ∙ sym (node_number n i e))
         which i k _ e at (a_holder c old s h) = inr (c, h, at ∙ sym (holder_number c i old s e))
 
-        pub are_types : AreTypes P Q F H (untagged V) places
+        pub are_types : AreTypes P F H V places
         unfolding HasNoTwice
         are_types = record {
           nodes = node_type;
@@ -225,6 +223,6 @@ module _ (P Q : Plain) (F : Facts) (H : Hierarchy) where
               let a = node_at n ln in
               let b = holder_at c k.0 k.1 hc in
               let one = one_tree a.0 b.0 (node_tree n) (old_tree c k.0) a.1 b.1 (sym (node_number n a.0 a.1) ∙ same ∙ holder_number c b.0 k.0 k.1 b.1) in
-              no_holder F pt H none P Q placed facts n c k.0 ln hc k.1 (sym (tree_name (is_class_node F H n) n) ∙ ap name_of one);
+              no_holder F pt H none P facts n c k.0 ln hc k.1 (sym (tree_name (is_class_node F H n) n) ∙ ap name_of one);
           all = λ k class e. ⊎_elim (λ z. inl z) (λ z. inr (which z.0 k z.1 z.3 z.2 (declares z.0 z.1 z.3))) (class_back tree V resolves new k class e);
         }

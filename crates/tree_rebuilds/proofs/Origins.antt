@@ -10,7 +10,6 @@ use Rattle.java_tree.specs.Syntax.{MemberTree, MethodTree, Statements, DeclTree}
 use Rattle.java_core.specs.Trees.{Sts}
 use Rattle.java_core.specs.Programs.{Plain, PlainClass, PlainMethod}
 use Rattle.name_rules.specs.Outline.{MethodAt, methods_declared, method_member}
-use Rattle.java_core.specs.Untagged.{untag_method}
 use Rattle.fact_model.specs.declared.facts.Facts.{Facts}
 use Rattle.fact_model.specs.declared.sets.PointsTo.{PointsTo}
 use Rattle.hier_model.specs.Hierarchies.{Hierarchy, is_class_node}
@@ -27,34 +26,34 @@ use Rattle.tree_rebuilds.proofs.Nodes.{items, tree, node_tree, old_tree, holder_
 use Rattle.tree_rebuilds.proofs.Members.{IsMember, a_field, a_body, a_head, a_filler, in_class as class_mods, IsStatic, a_static_field, a_static_method, holder_from, static_method_has}
 use Rattle.tree_rebuilds.proofs.Given.{Given, T, stands_from}
 use Rattle.tree_rebuilds.proofs.Resolved.{BodiesMatch, owner_is, name_is, static_is, types_are, code_is}
-use Rattle.tree_rebuilds.proofs.Methods.{read, as_method, as_head, IsOldBody, IsOldHead, IsOldFiller, node_body, node_head, node_filler, in_type, is_abstract, stands_made, old_method}
+use Rattle.tree_rebuilds.proofs.Methods.{read, as_method, as_head, IsOldBody, IsOldHead, IsOldFiller, node_body, node_head, node_filler, in_type, is_abstract, old_method}
 
-module _ {P Q : Plain} {F : Facts} {pt : PointsTo} {H : Hierarchy} {V : Plain} (G : Given P Q F pt H V) (match : BodiesMatch G) where
-  open read G use {program as U, renaming as R₀, Resolved as Rs}
+module _ {P : Plain} {F : Facts} {pt : PointsTo} {H : Hierarchy} {V : Plain} (G : Given P F pt H V) (match : BodiesMatch G) where
+  open read G use {renaming as R₀, Resolved as Rs}
 
   abbrev pub IsOldStatic : ℕ → ℕ → Type 0
-  IsOldStatic m g = IsStaticMethodOf P Q F H U (T G) m g
+  IsOldStatic m g = IsStaticMethodOf P F H V (T G) m g
 
   -- the declaration of a static method
   abbrev pub as_static : ℕ → ℕ → PlainMethod → MethodAt
   as_static i m old = as_method i false (head P R₀ H (modifier Public ∷ modifier Static ∷ []) old.name m old) (body P R₀ H m old)
 
   -- a static method in its holder
-  holder_method : (c i m g : ℕ) (k : PlainClass) (old : PlainMethod) (xs : Sts) → slice_get (tree P Q F H) i ≡ Some (old_tree P Q F H c k)
+  holder_method : (c i m g : ℕ) (k : PlainClass) (old : PlainMethod) (xs : Sts) → slice_get (tree P F H) i ≡ Some (old_tree P F H c k)
       → slice_get P.classes c ≡ Some k
       → slice_get P.methods m ≡ Some old → (old.is_static && (old.owner == c)) ≡ true → old.body ≡ Some xs → Rs (as_static i m old) g → IsOldStatic m g
   unfolding renaming_of
   holder_method c i m g k old xs e d o h b r =
       let p = and_parts old.is_static (old.owner == c) h in
       let at : MethodAt = as_static i m old in
-      let ow : at.owner ≡ (T G).holder_of old.owner = sym (holder_number P Q F H V G.resolves G.new c i k d e)
+      let ow : at.owner ≡ (T G).holder_of old.owner = sym (holder_number P F H V G.resolves G.new c i k d e)
       ∙ ap (λ y. (T G).holder_of y) (sym (eqb-true old.owner c p.1)) in
       record {
         same = record {
           old = old;
-          new = untag_method r.method;
+          new = r.method;
           old_stands = o;
-          new_stands = stands_made G at g r;
+          new_stands = r.stands;
           old_static = p.0;
           new_static = static_is G at g r;
           owner = owner_is G at g r ∙ ow;
@@ -77,10 +76,10 @@ module _ {P Q : Plain} {F : Facts} {pt : PointsTo} {H : Hierarchy} {V : Plain} (
   Origin g new = (((m : ℕ) × IsOldBody G m new) ⊎ ((n : ℕ) × (m : ℕ) × (IsOldHead G n m new ⊎ IsOldFiller G n m new))) ⊎ ((m : ℕ) × IsOldStatic m g)
 
   abbrev Made : ℕ → MethodAt → Type 0
-  Made g x = (r : Rs x g) → Origin g (untag_method r.method)
+  Made g x = (r : Rs x g) → Origin g r.method
 
-  in_class : (n i g : ℕ) (x : MethodAt) (m : MemberTree) → is_live H.order n ≡ true → slice_get (tree P Q F H) i ≡ Some (node_tree P Q F H n)
-      → IsMember P R₀ F H (items P Q F H) n m → Contains (method_member (suc i) (is_abstract G n) m) x → Made g x
+  in_class : (n i g : ℕ) (x : MethodAt) (m : MemberTree) → is_live H.order n ≡ true → slice_get (tree P F H) i ≡ Some (node_tree P F H n)
+      → IsMember P R₀ F H (items P F H) n m → Contains (method_member (suc i) (is_abstract G n) m) x → Made g x
   in_class n i g x _ live e (a_field c f k d at o) h = absurd (omega (arith, h.1))
   in_class n i g x _ live e (a_body c f k d at o) h =
       let s = stands_from G c (column.Def f) n d at in
@@ -100,14 +99,14 @@ module _ {P Q : Plain} {F : Facts} {pt : PointsTo} {H : Hierarchy} {V : Plain} (
       let y : MethodAt = as_method i (is_abstract G n) t (Some ss) in
       subst (Made g) (one_from y x h) (λ r. inl (inr (n, o.signature.first, inr (node_filler G n i s g y ss live e refl refl d o r))))
 
-  in_node : (b : Bool) (n i g : ℕ) (x : MethodAt) → is_live H.order n ≡ true → slice_get (tree P Q F H) i ≡ Some (node_tree P Q F H n)
-      → Contains (methods_declared (suc i) (type_tree P R₀ F H (items P Q F H) b n)) x → Made g x
+  in_node : (b : Bool) (n i g : ℕ) (x : MethodAt) → is_live H.order n ≡ true → slice_get (tree P F H) i ≡ Some (node_tree P F H n)
+      → Contains (methods_declared (suc i) (type_tree P R₀ F H (items P F H) b n)) x → Made g x
   in_node b n i g x live e h = ⊎_elim
       (λ z. in_class n i g x z.0 live e z.1 z.2)
       (λ z. subst (Made g) z.2 (λ r. let w = node_head G n i g [] (as_head i z.0) e refl refl refl z.1 r in inl (inr (n, w.0, inl w.1))))
       (in_type G b n i x h)
 
-  in_holder : (c i g : ℕ) (k : PlainClass) (x : MethodAt) (m : MemberTree) → slice_get (tree P Q F H) i ≡ Some (old_tree P Q F H c k)
+  in_holder : (c i g : ℕ) (k : PlainClass) (x : MethodAt) (m : MemberTree) → slice_get (tree P F H) i ≡ Some (old_tree P F H c k)
       → slice_get P.classes c ≡ Some k
       → IsStatic P R₀ H c m → Contains (method_member (suc i) false m) x → Made g x
   in_holder c i g k x m e d (a_static_field f old _ o h y) z =
@@ -119,43 +118,43 @@ module _ {P Q : Plain} {F : Facts} {pt : PointsTo} {H : Hierarchy} {V : Plain} (
       subst (Made g) (one_from (as_static i f old) x (subst (λ v. Contains (method_member (suc i) false v) x) (sym (one_from _ m w.1)) z))
       (λ r. inr (f, holder_method c i f g k old xs.0 e d o h xs.1 r))
 
-  by_declaration : (i g : ℕ) (d : DeclTree) (x : MethodAt) → slice_get (tree P Q F H) i ≡ Some d → Declares P Q F H d
+  by_declaration : (i g : ℕ) (d : DeclTree) (x : MethodAt) → slice_get (tree P F H) i ≡ Some d → Declares P F H d
       → Contains (methods_declared (suc i) d) x → Made g x
   by_declaration i g _ x e (a_node n live) h = in_node (is_class_node F H n) n i g x live e h
   by_declaration i g _ x e (a_holder c k d holder) h =
       let z = member_method_from (suc i) false (holder_members P R₀ H c) x h in
       in_holder c i g k x z.0 e d (holder_from P R₀ H c z.0 z.1) z.2
 
-  pub origin : (g : ℕ) (new : PlainMethod) → slice_get U.methods g ≡ Some new → Origin g new
+  pub origin : (g : ℕ) (new : PlainMethod) → slice_get V.methods g ≡ Some new → Origin g new
   origin g new e =
-      let z = method_back (tree P Q F H) V G.resolves G.new g new e in
+      let z = method_back (tree P F H) V G.resolves G.new g new e in
       let d = z.declared in
-      subst (Origin g) z.is (by_declaration d.number g d.declaration z.method d.stands (declares P Q F H d.number d.declaration d.stands) d.has z.resolved)
+      subst (Origin g) z.is (by_declaration d.number g d.declaration z.method d.stands (declares P F H d.number d.declaration d.stands) d.has z.resolved)
 
   instance_of : (new : PlainMethod) → ((m : ℕ) × IsOldBody G m new) ⊎
       ((n : ℕ) × (m : ℕ) × (IsOldHead G n m new ⊎ IsOldFiller G n m new)) → new.is_static ≡ false
   instance_of new z = ⊎_elim (λ b. b.1.at.instance) (λ b. ⊎_elim (λ h. h.of.instance) (λ f. f.of.instance) b.2) z
 
-  pub instance_method : (g : ℕ) (new : PlainMethod) → slice_get U.methods g ≡ Some new → new.is_static ≡ false
+  pub instance_method : (g : ℕ) (new : PlainMethod) → slice_get V.methods g ≡ Some new → new.is_static ≡ false
       → ((m : ℕ) × IsOldBody G m new) ⊎ ((n : ℕ) × (m : ℕ) × (IsOldHead G n m new ⊎ IsOldFiller G n m new))
   instance_method g new e h =
       ⊎_elim (λ z. z) (λ z. let s = z.1.same in
       absurd (false≢true (sym h ∙ ap (λ (o : Option PlainMethod). option_map_or (λ (k : PlainMethod). k.is_static) o false) (sym e ∙ s.new_stands)
       ∙ s.new_static))) (origin g new e)
 
-  pub static_method : (g : ℕ) (new : PlainMethod) → slice_get U.methods g ≡ Some new → new.is_static ≡ true → (m : ℕ) × IsOldStatic m g
+  pub static_method : (g : ℕ) (new : PlainMethod) → slice_get V.methods g ≡ Some new → new.is_static ≡ true → (m : ℕ) × IsOldStatic m g
   static_method g new e h = ⊎_elim (λ z. absurd (false≢true (sym (instance_of new z) ∙ h))) (λ z. z) (origin g new e)
 
   pub each_static_method : (m : ℕ) (old : PlainMethod) → slice_get P.methods m ≡ Some old → old.is_static ≡ true → (g : ℕ) × IsOldStatic m g
   each_static_method m old e h =
       let c = old.owner in
-      let k = holder_there P Q F H G.formed c (method_holder P m old e h) in
+      let k = holder_there P F H G.formed c (method_holder P m old e h) in
       let mine = and_from old.is_static (c == c) h (eq-eqb c c refl) in
       let xs = static_code m old e h in
       let x : MethodAt = as_static k.2 m old in
       let t : MemberTree = MethodTree x.head x.body nowhere in
       let y : Contains (static_method_member P R₀ H c m old) t = when_has (old.is_static && (c == c)) (t ∷ []) t mine (first t []) in
-      let d : Contains (methods_declared (suc k.2) (old_tree P Q F H c k.0)) x =
+      let d : Contains (methods_declared (suc k.2) (old_tree P F H c k.0)) x =
       member_method_has (suc k.2) false (holder_members P R₀ H c) x t (static_method_has P R₀ H c m old t e y) (first x []) in
-      let r = method_there (tree P Q F H) V G.resolves G.new k.2 (old_tree P Q F H c k.0) x k.3 d in
+      let r = method_there (tree P F H) V G.resolves G.new k.2 (old_tree P F H c k.0) x k.3 d in
       (r.0, holder_method c k.2 m r.0 k.0 old xs.0 k.3 k.1 e mine xs.1 r.1)

@@ -11,7 +11,6 @@ use Rattle.java_core.specs.Formed.{IsFormed, HasNoTwice}
 use Rattle.java_core.proofs.Positions.{position-passes}
 use Rattle.name_rules.specs.Outline.{FieldAt, MethodAt, name_of, types_in, type_named, class_at, field_member, method_member, fields_of, methods_of, fields_declared, methods_declared, fields_from, methods_from, fields_in, methods_in, object, class_outline, field_outline, method_outline, outline}
 use Rattle.name_rules.specs.Resolves.{BodyResolves, BodiesResolve, r_no_methods, r_method, heading_of, Resolves}
-use Rattle.java_core.specs.Untagged.{untag_class, untag_field, untag_method, untagged}
 use Rattle.flow_rules.specs.Ordered.{each}
 use Rattle.flow_rules.proofs.Listed.{each_from, each_has, first, more, contains_at, at_contains, at_map, map_at, position_there}
 
@@ -94,7 +93,7 @@ named_at types once i x e =
     z.1 ∙ ap Some (once z.0 i x (w.1 ∙ ap Some same) e)
 
 outline_names : (types : List (List ℕ)) (ds : List DeclTree) → map (λ (k : PlainClass). k.name)
-    (map untag_class (map (class_outline types) ds)) ≡ map name_of ds
+    (map (class_outline types) ds) ≡ map name_of ds
 outline_names types [] = refl
 outline_names types (d ∷ ds) = ap (λ z. name_of d ∷ z) (outline_names types ds)
 
@@ -104,12 +103,9 @@ body_there O _ _ g m r_no_methods e = absurd (cc e)
 body_there O _ _ zero m (r_method {k = k} b bs) e = (k, refl, subst (λ z. BodyResolves O z k) (same_Some _ _ e) b)
 body_there O _ _ (suc g) m (r_method b bs) e = body_there O _ _ g m bs e
 
-module _ (tree : List DeclTree) (V : Plain) (resolves : Resolves tree V) (new : IsFormed (untagged V)) where
+module _ (tree : List DeclTree) (V : Plain) (resolves : Resolves tree V) (new : IsFormed V) where
   abbrev pub types : List (List ℕ)
   types = types_in tree
-
-  abbrev pub U : Plain
-  U = untagged V
 
   classes_are : V.classes ≡ object ∷ map (class_outline types) tree
   unfolding outline
@@ -123,11 +119,8 @@ module _ (tree : List DeclTree) (V : Plain) (resolves : Resolves tree V) (new : 
   unfolding outline
   headings_are = resolves.headings
 
-  untagged_are : U.classes ≡ untag_class object ∷ map untag_class (map (class_outline types) tree)
-  untagged_are = ap (map untag_class) classes_are
-
   pub types_once : HasNoTwice types
-  types_once = subst HasNoTwice (ap (map (λ (k : PlainClass). k.name)) untagged_are ∙ ap (λ z. codes "Object" ∷ z) (outline_names types tree)) new.class_names
+  types_once = subst HasNoTwice (ap (map (λ (k : PlainClass). k.name)) classes_are ∙ ap (λ z. codes "Object" ∷ z) (outline_names types tree)) new.class_names
 
   -- each declaration has its number
   pub declared_named : (i : ℕ) (d : DeclTree) → slice_get tree i ≡ Some d → type_named types (name_of d) ≡ Some (suc i)
@@ -136,41 +129,36 @@ module _ (tree : List DeclTree) (V : Plain) (resolves : Resolves tree V) (new : 
   pub declared_number : (i : ℕ) (d : DeclTree) → slice_get tree i ≡ Some d → number types (name_of d) ≡ suc i
   declared_number i d e = ap (λ z. (class_at z).0) (declared_named i d e)
 
-  pub class_there : (i : ℕ) (d : DeclTree) → slice_get tree i ≡ Some d → slice_get U.classes (suc i) ≡ Some (untag_class (class_outline types d))
-  class_there i d e = ap (λ z. slice_get z (suc i)) untagged_are
-      ∙ at_map untag_class (map (class_outline types) tree) i (class_outline types d) (at_map (class_outline types) tree i d e)
+  pub class_there : (i : ℕ) (d : DeclTree) → slice_get tree i ≡ Some d → slice_get V.classes (suc i) ≡ Some (class_outline types d)
+  class_there i d e = ap (λ z. slice_get z (suc i)) classes_are
+      ∙ at_map (class_outline types) tree i d e
 
-  pub class_back : (k : ℕ) (class : PlainClass) → slice_get U.classes k ≡ Some class
+  pub class_back : (k : ℕ) (class : PlainClass) → slice_get V.classes k ≡ Some class
       → (k ≡ 0) ⊎ ((i : ℕ) × (d : DeclTree) × (k ≡ suc i) × (slice_get tree i ≡ Some d))
   class_back zero class e = inl refl
   class_back (suc i) class e =
-      let z = map_at untag_class (map (class_outline types) tree) i class (sym (ap (λ w. slice_get w (suc i)) untagged_are) ∙ e) in
-      let w = map_at (class_outline types) tree i z.0 z.1 in
+      let w = map_at (class_outline types) tree i class (sym (ap (λ w. slice_get w (suc i)) classes_are) ∙ e) in
       inr (i, w.0, refl, w.1)
 
   -- fields
   pub field_there : (i : ℕ) (d : DeclTree) (f : FieldAt) → slice_get tree i ≡ Some d → Contains (fields_declared (suc i) d) f
-      → (g : ℕ) × (slice_get U.fields g ≡ Some (untag_field (field_outline types f)))
+      → (g : ℕ) × (slice_get V.fields g ≡ Some (field_outline types f))
   field_there i d f e c =
-      let z = at_contains (fields_in tree) f (declared_has fields_declared 1 tree (fields_each 1 tree) f i (suc i) d e (omega arith) c) in (
-        z.0,
-        at_map untag_field V.fields z.0 (field_outline types f)
-            (ap (λ w. slice_get w z.0) fields_are ∙ at_map (field_outline types) (fields_in tree) z.0 f z.1),
-      )
+      let z = at_contains (fields_in tree) f (declared_has fields_declared 1 tree (fields_each 1 tree) f i (suc i) d e (omega arith) c) in
+      (z.0, ap (λ w. slice_get w z.0) fields_are ∙ at_map (field_outline types) (fields_in tree) z.0 f z.1)
 
   pub record IsDeclaredField (k : PlainField) : Type 0 where
     pub field : FieldAt
     pub declared : IsDeclared fields_declared tree field
-    pub is : untag_field (field_outline types field) ≡ k
+    pub is : field_outline types field ≡ k
 
-  pub field_back : (g : ℕ) (k : PlainField) → slice_get U.fields g ≡ Some k → IsDeclaredField k
+  pub field_back : (g : ℕ) (k : PlainField) → slice_get V.fields g ≡ Some k → IsDeclaredField k
   field_back g k e =
-      let z = map_at untag_field V.fields g k e in
-      let w = map_at (field_outline types) (fields_in tree) g z.0 (sym (ap (λ y. slice_get y g) fields_are) ∙ z.1) in
+      let w = map_at (field_outline types) (fields_in tree) g k (sym (ap (λ y. slice_get y g) fields_are) ∙ e) in
       record {
         field = w.0;
         declared = declared_from fields_declared 1 tree (fields_each 1 tree) w.0 refl (contains_at (fields_in tree) g w.0 w.1);
-        is = ap untag_field w.2 ∙ z.2;
+        is = w.2;
       }
 
   -- methods
@@ -200,17 +188,16 @@ module _ (tree : List DeclTree) (V : Plain) (resolves : Resolves tree V) (new : 
     pub method : MethodAt
     pub declared : IsDeclared methods_declared tree method
     pub resolved : IsResolved method g
-    pub is : untag_method resolved.method ≡ k
+    pub is : resolved.method ≡ k
 
-  pub method_back : (g : ℕ) (k : PlainMethod) → slice_get U.methods g ≡ Some k → IsDeclaredMethod g k
+  pub method_back : (g : ℕ) (k : PlainMethod) → slice_get V.methods g ≡ Some k → IsDeclaredMethod g k
   method_back g k e =
-      let z = map_at untag_method V.methods g k e in
-      let w = map_at (method_outline types) (methods_in tree) g (heading_of z.0)
-      (sym (ap (λ y. slice_get y g) headings_are) ∙ at_map heading_of V.methods g z.0 z.1) in
+      let w = map_at (method_outline types) (methods_in tree) g (heading_of k)
+      (sym (ap (λ y. slice_get y g) headings_are) ∙ at_map heading_of V.methods g k e) in
       let r = resolved_at g w.0 w.1 in
       record {
         method = w.0;
         declared = declared_from methods_declared 1 tree (methods_each 1 tree) w.0 refl (contains_at (methods_in tree) g w.0 w.1);
         resolved = r;
-        is = ap untag_method (same_Some _ _ (sym r.stands ∙ z.1)) ∙ z.2;
+        is = same_Some _ _ (sym r.stands ∙ e);
       }

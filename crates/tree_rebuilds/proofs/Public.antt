@@ -10,7 +10,6 @@ use Rattle.java_tree.specs.Syntax.{HeadTree, MemberTree, DeclTree}
 use Rattle.java_core.specs.Trees.{Sts}
 use Rattle.java_core.specs.Programs.{Plain, PlainClass, PlainMethod, PlainSlot}
 use Rattle.java_core.specs.Classes.{is_interface, slot_of_method}
-use Rattle.java_core.specs.Untagged.{bare_sts, untag_body, untag_method, untagged}
 use Rattle.name_rules.specs.Outline.{MethodAt, methods_declared, method_member, is_public_word, has_word, outline}
 use Rattle.name_rules.specs.Resolves.{BodyResolves, r_no_body, r_body, StsResolve, here_of, params_from}
 use Rattle.fact_model.specs.Items.{column_kind, column_slot}
@@ -42,17 +41,14 @@ use Rattle.tree_rebuilds.proofs.Resolved.{owner_is, name_is, static_is, public_i
 use Rattle.tree_rebuilds.proofs.Methods.{as_method, as_head, in_type, is_abstract, declared_name, method_slot, first_method, old_method}
 use Rattle.tree_rebuilds.proofs.Filled.{filling_is}
 
-module _ {P Q : Plain} {F : Facts} {pt : PointsTo} {H : Hierarchy} {V : Plain} (G : Given P Q F pt H V) where
-  abbrev U : Plain
-  U = untagged V
-
+module _ {P : Plain} {F : Facts} {pt : PointsTo} {H : Hierarchy} {V : Plain} (G : Given P F pt H V) where
   abbrev R₀ : Renaming
-  R₀ = by_node P Q F H
+  R₀ = by_node P F H
 
   abbrev IsOpen : MethodAt → Type 0
   IsOpen x = has_word is_public_word x.head.mods ≡ true
 
-  member_open : (n i : ℕ) (x : MethodAt) (m : MemberTree) → IsMember P R₀ F H (items P Q F H) n m
+  member_open : (n i : ℕ) (x : MethodAt) (m : MemberTree) → IsMember P R₀ F H (items P F H) n m
       → Contains (method_member (suc i) (is_abstract G n) m) x → IsOpen x
   member_open n i x _ (a_field c f k d at o) h = absurd (omega (arith, h.1))
   member_open n i x _ (a_body c f k d at o) h =
@@ -65,18 +61,18 @@ module _ {P Q : Plain} {F : Facts} {pt : PointsTo} {H : Hierarchy} {V : Plain} (
       (ap (λ (y : HeadTree). has_word is_public_word y.mods) (sym o.is))
 
   -- in an interface
-  face_owner : (n i : ℕ) (x : MethodAt) → is_live H.order n ≡ true → slice_get (tree P Q F H) i ≡ Some (node_tree P Q F H n) → is_class_node F H n ≡ false
-      → x.owner ≡ suc i → is_interface U x.owner ≡ true
+  face_owner : (n i : ℕ) (x : MethodAt) → is_live H.order n ≡ true → slice_get (tree P F H) i ≡ Some (node_tree P F H n) → is_class_node F H n ≡ false
+      → x.owner ≡ suc i → is_interface V x.owner ≡ true
   face_owner n i x live e c ow =
-      let t : IsNodeType P Q F H U (T G) n = node_type P Q F H V G.resolves G.new n live in
-      ap (is_interface U) (ow ∙ sym (node_number P Q F H V G.resolves G.new n i e))
+      let t : IsNodeType P F H V (T G) n = node_type P F H V G.resolves G.new n live in
+      ap (is_interface V) (ow ∙ sym (node_number P F H V G.resolves G.new n i e))
       ∙ ap (λ o. option_map_or (λ (k : PlainClass). k.is_interface) o false) t.stands ∙ t.kind ∙ ap not c
 
-  node_open : (b : Bool) (n i : ℕ) (x : MethodAt) → is_class_node F H n ≡ b → is_live H.order n ≡ true → slice_get (tree P Q F H) i ≡ Some (node_tree P Q F H n)
-      → Contains (methods_declared (suc i) (type_tree P R₀ F H (items P Q F H) b n)) x → is_interface U x.owner ≡ false → IsOpen x
+  node_open : (b : Bool) (n i : ℕ) (x : MethodAt) → is_class_node F H n ≡ b → is_live H.order n ≡ true → slice_get (tree P F H) i ≡ Some (node_tree P F H n)
+      → Contains (methods_declared (suc i) (type_tree P R₀ F H (items P F H) b n)) x → is_interface V x.owner ≡ false → IsOpen x
   node_open true n i x c live e h free =
-      let z = member_method_from (suc i) (is_abstract G n) (class_members P R₀ F H (items P Q F H) n) x h in
-      member_open n i x z.0 (class_from P R₀ F H (items P Q F H) n z.0 z.1) z.2
+      let z = member_method_from (suc i) (is_abstract G n) (class_members P R₀ F H (items P F H) n) x h in
+      member_open n i x z.0 (class_from P R₀ F H (items P F H) n z.0 z.1) z.2
   node_open false n i x c live e h free =
       let z = map_from (λ h. as_head i h) (interface_heads P R₀ F H n) x h in
       absurd (false≢true (sym free ∙ face_owner n i x live e c (ap (λ (y : MethodAt). y.owner) (sym z.2))))
@@ -90,22 +86,22 @@ module _ {P Q : Plain} {F : Facts} {pt : PointsTo} {H : Hierarchy} {V : Plain} (
       let t : MethodAt = as_method i false (head P R₀ H (modifier Public ∷ modifier Static ∷ []) old.name f old) (body P R₀ H f old) in
       subst IsOpen (one_from t x (subst (λ v. Contains (method_member (suc i) false v) x) (sym (one_from _ m w.1)) z)) refl
 
-  declared_open : (i : ℕ) (d : DeclTree) (x : MethodAt) → slice_get (tree P Q F H) i ≡ Some d → Declares P Q F H d
-      → Contains (methods_declared (suc i) d) x → is_interface U x.owner ≡ false → IsOpen x
+  declared_open : (i : ℕ) (d : DeclTree) (x : MethodAt) → slice_get (tree P F H) i ≡ Some d → Declares P F H d
+      → Contains (methods_declared (suc i) d) x → is_interface V x.owner ≡ false → IsOpen x
   declared_open i _ x e (a_node n live) h free = node_open (is_class_node F H n) n i x refl live e h free
   declared_open i _ x e (a_holder c k d holder) h free =
       let z = member_method_from (suc i) false (holder_members P R₀ H c) x h in
       holder_open c i x z.0 (holder_from P R₀ H c z.0 z.1) z.2
 
-  pub public_method : (g : ℕ) (new : PlainMethod) → slice_get U.methods g ≡ Some new → new.is_static ≡ false → is_interface U new.owner ≡ false
+  pub public_method : (g : ℕ) (new : PlainMethod) → slice_get V.methods g ≡ Some new → new.is_static ≡ false → is_interface V new.owner ≡ false
       → new.is_public ≡ true
   public_method g new e h free =
-      let z = method_back (tree P Q F H) V G.resolves G.new g new e in
+      let z = method_back (tree P F H) V G.resolves G.new g new e in
       let d = z.declared in
       let ow : new.owner ≡ z.method.owner = ap (λ (y : PlainMethod). y.owner) (sym z.is) ∙ owner_is G z.method g z.resolved in
       ap (λ (y : PlainMethod). y.is_public) (sym z.is) ∙ public_is G z.method g z.resolved
-      ∙ declared_open d.number d.declaration z.method d.stands (declares P Q F H d.number d.declaration d.stands) d.has
-      (ap (is_interface U) (sym ow) ∙ free)
+      ∙ declared_open d.number d.declaration z.method d.stands (declares P F H d.number d.declaration d.stands) d.has
+      (ap (is_interface V) (sym ow) ∙ free)
 
   -- ---- what fills in
 
@@ -149,8 +145,8 @@ module _ {P Q : Plain} {F : Facts} {pt : PointsTo} {H : Hierarchy} {V : Plain} (
       false≢true (sym (ap not there) ∙ offers.1)
 
   abbrev Fills : ℕ → MethodAt → Type 0
-  Fills g x = (r : IsResolved (java_tree P Q F H) V G.resolves G.new x g) → (n m : ℕ) → IsFiller P Q F H U (T G) n m (untag_method r.method)
-      → HasFilling P Q F H U (T G) (untag_method r.method)
+  Fills g x = (r : IsResolved (java_tree P F H) V G.resolves G.new x g) → (n m : ℕ) → IsFiller P F H V (T G) n m r.method
+      → HasFilling P F H V (T G) r.method
 
   no_code : {A : Type 0} (o : Option Sts) → o ≡ None → is_some o ≡ true → A
   no_code None e h = absurd (false≢true h)
@@ -170,21 +166,21 @@ module _ {P Q : Plain} {F : Facts} {pt : PointsTo} {H : Hierarchy} {V : Plain} (
           (types_are G x g r (as_filler P R₀ F H) (R₀.method_name o.signature.first) o.signature.first o.first o.first_stands (sym o.is)).result
           ∙ ap (retyped_if ((R G).row_type (result_in o.first.slot o.signature.first))) sig_result
 
-      go : BodyResolves (outline (java_tree P Q F H)) x r.method → HasFilling P Q F H U (T G) (untag_method r.method)
+      go : BodyResolves (outline (java_tree P F H)) x r.method → HasFilling P F H V (T G) r.method
       go (r_no_body a _ _) = absurd (cc (a, b))
       go (r_body {ss = ss} {xs = ys} a d res counts) =
           let same : ss ≡ filling o.signature.result = same_Some _ _ (sym a ∙ b) in
           record {
-            code = bare_sts ys;
-            is = ap untag_body d;
-            fills = subst (λ w. IsFilling w (bare_sts ys)) (sym result)
-                (filling_is (outline (java_tree P Q F H)) (here_of x) r.method false (params_from 0 r.method.params)
+            code = ys;
+            is = d;
+            fills = subst (λ w. IsFilling w ys) (sym result)
+                (filling_is (outline (java_tree P F H)) (here_of x) r.method false (params_from 0 r.method.params)
                 ((R G).row_type (result_in o.first.slot o.signature.first)) o.signature.result ys
-                (subst (λ w. StsResolve (outline (java_tree P Q F H)) (here_of x) r.method false (params_from 0 r.method.params) w ys) same res));
+                (subst (λ w. StsResolve (outline (java_tree P F H)) (here_of x) r.method false (params_from 0 r.method.params) w ys) same res));
           }
 
   -- the body of a column is no filler
-  body_fills : (a i g f : ℕ) (b : Bool) (k : PlainMethod) → is_live H.order a ≡ true → slice_get (tree P Q F H) i ≡ Some (node_tree P Q F H a)
+  body_fills : (a i g f : ℕ) (b : Bool) (k : PlainMethod) → is_live H.order a ≡ true → slice_get (tree P F H) i ≡ Some (node_tree P F H a)
       → Stands G (column.Def f) a → slice_get P.methods f ≡ Some k
       → Fills g (as_method i b (head P R₀ H (modifier Public ∷ []) (R₀.method_name f) f k) (body P R₀ H f k))
   unfolding renaming_of
@@ -193,29 +189,29 @@ module _ {P Q : Plain} {F : Facts} {pt : PointsTo} {H : Hierarchy} {V : Plain} (
       let old = old_method G f a st in
       let same : old.old ≡ k = same_Some _ _ (sym old.stands ∙ o) in
       let s = (G.formed.methods f k o).slotted (ap (λ (y : PlainMethod). y.is_static) (sym same) ∙ old.instance) in
-      let ow : (T G).type_of a ≡ (T G).type_of n = node_number P Q F H V G.resolves G.new a i e ∙ sym (owner_is G x g r) ∙ q.of.owner in
-      let one : a ≡ n = nodes_once P Q F H V G.resolves G.new G.formed G.placed G.facts pt G.unbroken a n live q.live ow in
+      let ow : (T G).type_of a ≡ (T G).type_of n = node_number P F H V G.resolves G.new a i e ∙ sym (owner_is G x g r) ∙ q.of.owner in
+      let one : a ≡ n = nodes_once P F H V G.resolves G.new G.formed G.facts pt G.unbroken a n live q.live ow in
       absurd (no_body n m f q.of.was.slot s.0 k q.filled (method_slot G m q.of.was.slot q.of.was.old q.of.was.old_stands q.of.was.of_slot)
       (subst (Stands G (column.Def f)) one st) o s.1 (sym (name_is G x g r) ∙ q.of.name))
 
-  member_fills : (n i g : ℕ) (x : MethodAt) (m : MemberTree) → is_live H.order n ≡ true → slice_get (tree P Q F H) i ≡ Some (node_tree P Q F H n)
-      → IsMember P R₀ F H (items P Q F H) n m → Contains (method_member (suc i) (is_abstract G n) m) x → Fills g x
+  member_fills : (n i g : ℕ) (x : MethodAt) (m : MemberTree) → is_live H.order n ≡ true → slice_get (tree P F H) i ≡ Some (node_tree P F H n)
+      → IsMember P R₀ F H (items P F H) n m → Contains (method_member (suc i) (is_abstract G n) m) x → Fills g x
   member_fills n i g x _ live e (a_field c f k d at o) h = absurd (omega (arith, h.1))
   member_fills n i g x _ live e (a_body c f k d at o) h =
       let y : MethodAt = as_method i (is_abstract G n) (head P R₀ H (modifier Public ∷ []) (R₀.method_name f) f k) (body P R₀ H f k) in
       subst (Fills g) (one_from y x h) (body_fills n i g f (is_abstract G n) k live e (stands_from G c (column.Def f) n d at) o)
   member_fills n i g x _ live e (a_head t d) h =
       let y : MethodAt = as_method i (is_abstract G n) t None in
-      subst (Fills g) (one_from y x h) (λ r a m q. no_code (untag_method r.method).body (bodyless G y g r refl) q.bodied)
+      subst (Fills g) (one_from y x h) (λ r a m q. no_code r.method.body (bodyless G y g r refl) q.bodied)
   member_fills n i g x _ live e (a_filler s t d o) h =
       let y : MethodAt = as_method i (is_abstract G n) t (Some (filling o.signature.result)) in
       subst (Fills g) (one_from y x h) (filler_fills g y s o refl)
 
-  node_fills : (b : Bool) (n i g : ℕ) (x : MethodAt) → is_live H.order n ≡ true → slice_get (tree P Q F H) i ≡ Some (node_tree P Q F H n)
-      → Contains (methods_declared (suc i) (type_tree P R₀ F H (items P Q F H) b n)) x → Fills g x
+  node_fills : (b : Bool) (n i g : ℕ) (x : MethodAt) → is_live H.order n ≡ true → slice_get (tree P F H) i ≡ Some (node_tree P F H n)
+      → Contains (methods_declared (suc i) (type_tree P R₀ F H (items P F H) b n)) x → Fills g x
   node_fills b n i g x live e h = ⊎_elim
       (λ z. member_fills n i g x z.0 live e z.1 z.2)
-      (λ z. subst (Fills g) z.2 (λ r a m q. no_code (untag_method r.method).body (bodyless G (as_head i z.0) g r refl) q.bodied))
+      (λ z. subst (Fills g) z.2 (λ r a m q. no_code r.method.body (bodyless G (as_head i z.0) g r refl) q.bodied))
       (in_type G b n i x h)
 
   static_fills : (c i g : ℕ) (x : MethodAt) (m : MemberTree) → IsStatic P R₀ H c m → Contains (method_member (suc i) false m) x → Fills g x
@@ -228,20 +224,20 @@ module _ {P Q : Plain} {F : Facts} {pt : PointsTo} {H : Hierarchy} {V : Plain} (
       subst (Fills g) (one_from t x (subst (λ v. Contains (method_member (suc i) false v) x) (sym (one_from _ m w.1)) z))
       (λ r a b q. absurd (false≢true (sym q.of.instance ∙ static_is G t g r)))
 
-  declared_fills : (i g : ℕ) (d : DeclTree) (x : MethodAt) → slice_get (tree P Q F H) i ≡ Some d → Declares P Q F H d
+  declared_fills : (i g : ℕ) (d : DeclTree) (x : MethodAt) → slice_get (tree P F H) i ≡ Some d → Declares P F H d
       → Contains (methods_declared (suc i) d) x → Fills g x
   declared_fills i g _ x e (a_node n live) h = node_fills (is_class_node F H n) n i g x live e h
   declared_fills i g _ x e (a_holder c k d holder) h =
       let z = member_method_from (suc i) false (holder_members P R₀ H c) x h in
       static_fills c i g x z.0 (holder_from P R₀ H c z.0 z.1) z.2
 
-  pub written : IsWritten P Q F H U (T G)
+  pub written : IsWritten P F H V (T G)
   written = record {
     public = public_method;
     fillers = λ g n m new e f.
-        let z = method_back (tree P Q F H) V G.resolves G.new g new e in
+        let z = method_back (tree P F H) V G.resolves G.new g new e in
         let d = z.declared in
-        subst (HasFilling P Q F H U (T G)) z.is
-        (declared_fills d.number g d.declaration z.method d.stands (declares P Q F H d.number d.declaration d.stands) d.has z.resolved n m
-        (subst (IsFiller P Q F H U (T G) n m) (sym z.is) f));
+        subst (HasFilling P F H V (T G)) z.is
+        (declared_fills d.number g d.declaration z.method d.stands (declares P F H d.number d.declaration d.stands) d.has z.resolved n m
+        (subst (IsFiller P F H V (T G) n m) (sym z.is) f));
   }

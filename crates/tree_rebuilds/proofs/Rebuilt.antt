@@ -1,6 +1,5 @@
 -- A program to which the written tree resolves rebuilds the old one, where its bodies match.
 use Rattle.java_core.specs.Programs.{Plain}
-use Rattle.java_core.specs.Untagged.{untagged}
 use Rattle.fact_model.specs.declared.facts.Facts.{Facts}
 use Rattle.fact_model.specs.declared.sets.PointsTo.{PointsTo}
 use Rattle.hier_model.specs.Hierarchies.{Hierarchy}
@@ -14,12 +13,12 @@ use Rattle.tree_rebuilds.proofs.Methods.{each_body, each_head, each_filler}
 use Rattle.tree_rebuilds.proofs.Origins.{instance_method, static_method, each_static_method}
 use Rattle.tree_rebuilds.proofs.Main.{main_is}
 
-module _ {P Q : Plain} {F : Facts} {pt : PointsTo} {H : Hierarchy} {V : Plain} (G : Given P Q F pt H V) (match : BodiesMatch G) where
-  unfoldable pub rebuilt : Rebuilds P Q F H (untagged V)
+module _ {P : Plain} {F : Facts} {pt : PointsTo} {H : Hierarchy} {V : Plain} (G : Given P F pt H V) (match : BodiesMatch G) where
+  unfoldable pub rebuilt : Rebuilds P F H V
   rebuilt = record {
     places = T G;
-    types = are_types P Q F H V G.resolves G.new G.formed G.placed G.facts pt G.unbroken;
-    order = order_is P Q F H V G.resolves G.new G.hierarchy.sized.order pt G.unbroken G.formed G.placed G.facts;
+    types = are_types P F H V G.resolves G.new G.formed G.facts pt G.unbroken;
+    order = order_is P F H V G.resolves G.new G.hierarchy.sized.order pt G.unbroken G.formed G.facts;
     members = record {
       fields = instance_field G;
       each_field = each_field G;

@@ -1,6 +1,6 @@
 -- The types that are written mean the types of the rows' nodes, since each item of a class type has a row, and each row stands at a live node.
-use Rattle.std.proofs.Common.{◌≡◌, ℕ, zero, suc, true, List, [], ◌∷◌, ◌++◌, Option, Some, None, refl, sym, ap, ◌∙◌, subst}
-use Rattle.std.specs.Prelude.{length, map, slice_get, nat_lt, if◌then◌else◌}
+use Rattle.std.proofs.Common.{◌≡◌, ℕ, true, List, Option, Some, None, refl, sym, ap, ◌∙◌, subst}
+use Rattle.std.specs.Prelude.{slice_get, if◌then◌else◌}
 use Rattle.std.specs.Option.{option_map}
 use Rattle.std.proofs.lemmas.Option.{slice_get_within}
 use Rattle.kaba_base.specs.declared.ClassId.{ClassId}
@@ -12,8 +12,7 @@ use Rattle.java_core.specs.Programs.{Plain, PlainField, PlainLocal, PlainMethod}
 use Rattle.java_core.specs.Formed.{IsFormed, variables_of}
 use Rattle.name_rules.specs.Outline.{types_in, type_named, class_at, base_meant, type_meant}
 use Rattle.name_rules.specs.Resolves.{Resolves}
-use Rattle.java_core.specs.Untagged.{untag_local, untag_method, untagged}
-use Rattle.run_cover.proofs.HasRows.{field_row_of, result_row_of, variable_row_of, of_method}
+use Rattle.run_cover.proofs.HasRows.{field_row_of, result_row_of, variable_row_of}
 use Rattle.fact_model.specs.declared.facts.Facts.{Facts}
 use Rattle.fact_model.specs.declared.sets.PointsTo.{PointsTo}
 use Rattle.hier_model.specs.Hierarchies.{Hierarchy, IsHierarchyOf, place_of_row, type_name}
@@ -21,7 +20,7 @@ use Rattle.hier_rules.specs.First.{first_broken}
 use Rattle.flow_rules.specs.declared.items.ObjectType.{ObjectType}
 use Rattle.flow_rules.specs.declared.items.RowItem.{RowItem}
 use Rattle.flow_rules.specs.declared.items.RowItem.TheVariants as row
-use Rattle.flow_rules.specs.Operands.{object_in, object_of, object_if, variable_in, variable_row, result_in}
+use Rattle.flow_rules.specs.Operands.{object_in, object_of, object_if, variable_row, result_in}
 use Rattle.flow_rules.specs.Numbered.{row_number, rows_of}
 use Rattle.flow_rules.specs.Types.{variable_object}
 use Rattle.flow_rules.specs.Facts.{numbers, row_info, IsFactsOf}
@@ -35,105 +34,59 @@ use Rattle.tree_rebuilds.proofs.Nodes.{places, node_named, by_node}
 
 -- ---- what has a class type has a row
 
-length_untagged : (vs : List PlainLocal) → length (map untag_local vs) ≡ length vs
-length_untagged [] = refl
-length_untagged (v ∷ vs) = ap suc (length_untagged vs)
-
-untagged_row : (m : ℕ) (k : PlainMethod) (i : ℕ) → variable_row m (untag_method k) i ≡ variable_row m k i
-untagged_row m k i = ap (λ n. variable_in k.slot (nat_lt i n) m i) (length_untagged k.params)
-
-get_untagged : (vs : List PlainLocal) (i : ℕ) → option_map (λ (v : PlainLocal). v.ty) (slice_get (map untag_local vs) i) ≡ option_map
-    (λ (v : PlainLocal). v.ty) (slice_get vs i)
-get_untagged [] i = refl
-get_untagged (v ∷ vs) zero = refl
-get_untagged (v ∷ vs) (suc i) = get_untagged vs i
-
-append_untagged : (vs ws : List PlainLocal) → map untag_local vs ++ map untag_local ws ≡ map untag_local (vs ++ ws)
-append_untagged [] ws = refl
-append_untagged (v ∷ vs) ws = ap (λ z. untag_local v ∷ z) (append_untagged vs ws)
-
-untagged_object : (k : PlainMethod) (i : ℕ) → variable_object (untag_method k) i ≡ variable_object k i
-untagged_object k i =
-    ap (λ vs. object_if (option_map (λ (v : PlainLocal). v.ty) (slice_get vs i))) (append_untagged k.params k.locals)
-    ∙ ap (λ z. object_if z) (get_untagged (k.params ++ k.locals) i)
-
 -- an item has a row
-abbrev pub HasRow : Plain → Plain → RowItem → Type 0
-HasRow P Q i = (r : ℕ) × (row_number P Q i ≡ Some r)
+abbrev pub HasRow : Plain → RowItem → Type 0
+HasRow P i = (r : ℕ) × (row_number P i ≡ Some r)
 
-module _ (Q : Plain) (formed : IsFormed (untagged Q)) where
-  field_row_in : (f : ℕ) (k : PlainField) (t : ObjectType) → slice_get (untagged Q).fields f ≡ Some k → object_of k.ty ≡ Some t
-      → HasRow (untagged Q) Q (row.Field f)
-  field_row_in f k t e o = field_row_of Q formed f t (ap (λ z. object_if (option_map (λ (k : PlainField). k.ty) z)) e ∙ o)
-
-  variable_row_in : (m : ℕ) (k : PlainMethod) (i : ℕ) (v : PlainLocal) (t : ObjectType) → slice_get (untagged Q).methods m ≡ Some k
-      → slice_get (variables_of k) i ≡ Some v → object_of v.ty ≡ Some t
-      → HasRow (untagged Q) Q (variable_row m k i)
-  variable_row_in m k i v t e d o =
-      let q = of_method Q formed m k e in
-      let object : variable_object k i ≡ Some t = ap (λ z. object_if (option_map (λ (v : PlainLocal). v.ty) z)) d ∙ o in
-      let r = variable_row_of Q formed m q.0 i t q.1 (sym (untagged_object q.0 i) ∙ ap (λ z. variable_object z i) q.2 ∙ object) in
-      (r.0, ap (row_number (untagged Q) Q) (ap (λ z. variable_row m z i) (sym q.2) ∙ untagged_row m q.0 i) ∙ r.1)
-
-  result_row_in : (m : ℕ) (k : PlainMethod) (t : ObjectType) → slice_get (untagged Q).methods m ≡ Some k → object_if k.result ≡ Some t
-      → HasRow (untagged Q) Q (result_in k.slot m)
-  result_row_in m k t e o =
-      let q = of_method Q formed m k e in
-      let r = result_row_of Q formed m q.0 t q.1 (ap (λ (z : PlainMethod). object_if z.result) q.2 ∙ o) in
-      (r.0, ap (λ (z : PlainMethod). row_number (untagged Q) Q (result_in z.slot m)) (sym q.2) ∙ r.1)
-
--- P is the program without its places
-module _ (P Q : Plain) (same : untagged Q ≡ P) (formed : IsFormed P) where
-  bare_formed : IsFormed (untagged Q)
-  bare_formed = subst IsFormed (sym same) formed
-
-  pub field_row : (f : ℕ) (k : PlainField) → slice_get P.fields f ≡ Some k → (t : ObjectType) → object_of k.ty ≡ Some t → HasRow P Q (row.Field f)
-  field_row f k e t o = subst (λ p. slice_get p.fields f ≡ Some k → HasRow p Q (row.Field f)) same (λ e. field_row_in Q bare_formed f k t e o) e
+module _ (P : Plain) (formed : IsFormed P) where
+  pub field_row : (f : ℕ) (k : PlainField) → slice_get P.fields f ≡ Some k → (t : ObjectType) → object_of k.ty ≡ Some t → HasRow P (row.Field f)
+  field_row f k e t o = field_row_of P formed f t (ap (λ z. object_if (option_map (λ (k : PlainField). k.ty) z)) e ∙ o)
 
   pub variable_has_row : (m : ℕ) (k : PlainMethod) (i : ℕ) (v : PlainLocal) → slice_get P.methods m ≡ Some k → slice_get (variables_of k) i ≡ Some v
       → (t : ObjectType) → object_of v.ty ≡ Some t
-      → HasRow P Q (variable_row m k i)
-  variable_has_row m k i v e d t o = subst (λ p. slice_get p.methods m ≡ Some k → HasRow p Q (variable_row m k i)) same
-      (λ e. variable_row_in Q bare_formed m k i v t e d o) e
+      → HasRow P (variable_row m k i)
+  variable_has_row m k i v e d t o =
+      let object : variable_object k i ≡ Some t = ap (λ z. object_if (option_map (λ (v : PlainLocal). v.ty) z)) d ∙ o in
+      variable_row_of P formed m k i t e object
 
   pub result_has_row : (m : ℕ) (k : PlainMethod) → slice_get P.methods m ≡ Some k → (t : ObjectType) → object_if k.result ≡ Some t
-      → HasRow P Q (result_in k.slot m)
-  result_has_row m k e t o = subst (λ p. slice_get p.methods m ≡ Some k → HasRow p Q (result_in k.slot m)) same (λ e. result_row_in Q bare_formed m k t e o) e
+      → HasRow P (result_in k.slot m)
+  result_has_row m k e t o = result_row_of P formed m k t e o
 
 -- ---- what is written means the type of the row
 
-module _ (P Q : Plain) (F : Facts) (facts : IsFactsOf P Q F) (H : Hierarchy) (hierarchy : IsHierarchyOf F H) where
+module _ (P : Plain) (F : Facts) (facts : IsFactsOf P F) (H : Hierarchy) (hierarchy : IsHierarchyOf F H) where
   -- a row stands at a live node
-  pub row_live : (i : RowItem) (r : ℕ) → row_number P Q i ≡ Some r → is_live H.order (place_of_row H r) ≡ true
+  pub row_live : (i : RowItem) (r : ℕ) → row_number P i ≡ Some r → is_live H.order (place_of_row H r) ≡ true
   row_live i r e =
-      let x = (numbered_rows P Q).at i r e in
-      let at = subst (λ z. slice_get z r ≡ Some (row_info (numbers P Q) Q x.0)) (sym facts.rows) (at_map (row_info (numbers P Q) Q) (rows_of P Q) r x.0 x.1) in
-      hierarchy.placed.rows r (slice_get_within F.rows.items r (row_info (numbers P Q) Q x.0) at)
+      let x = (numbered_rows P).at i r e in
+      let at = subst (λ z. slice_get z r ≡ Some (row_info (numbers P) P x.0)) (sym facts.rows) (at_map (row_info (numbers P) P) (rows_of P) r x.0 x.1) in
+      hierarchy.placed.rows r (slice_get_within F.rows.items r (row_info (numbers P) P x.0) at)
 
-  module _ (V : Plain) (resolves : Resolves (java_tree P Q F H) V) (new : IsFormed (untagged V)) (pt : PointsTo) (none : first_broken F pt H ≡ None) where
+  module _ (V : Plain) (resolves : Resolves (java_tree P F H) V) (new : IsFormed V) (pt : PointsTo) (none : first_broken F pt H ≡ None) where
     abbrev types : List (List ℕ)
-    types = types_in (java_tree P Q F H)
+    types = types_in (java_tree P F H)
 
     abbrev pub T : Places
-    T = places P Q F H V resolves new
+    T = places P F H V resolves new
 
     abbrev pub R : Renaming
-    R = renaming_of P Q H T
+    R = renaming_of P H T
 
     named_base : (n : ℕ) (c : ClassId) → is_live H.order n ≡ true → base_meant types (written_base P H (Some n) (Class c)) ≡ Class (record { 0 = T.type_of n })
     named_base n c h =
         ap (λ b. if b then Str else Class (class_at (type_named types (type_name H n)))) (no_text F pt H none n h)
-        ∙ ap (λ o. Class (class_at o)) (node_named P Q F H V resolves new n h)
+        ∙ ap (λ o. Class (class_at o)) (node_named P F H V resolves new n h)
 
-    row_type : (i : RowItem) (r : Option ℕ) → row_number P Q i ≡ r → R.row_type i ≡ option_map (λ r. T.type_of (place_of_row H r)) r
+    row_type : (i : RowItem) (r : Option ℕ) → row_number P i ≡ r → R.row_type i ≡ option_map (λ r. T.type_of (place_of_row H r)) r
     unfolding renaming_of numbers
     row_type i r e = ap (λ o. option_map (λ r. T.type_of (place_of_row H r)) o) e
 
-    row_node : (i : RowItem) (r : Option ℕ) → row_number P Q i ≡ r → (by_node P Q F H).row_type i ≡ option_map (place_of_row H) r
+    row_node : (i : RowItem) (r : Option ℕ) → row_number P i ≡ r → (by_node P F H).row_type i ≡ option_map (place_of_row H) r
     unfolding renaming_of numbers
     row_node i r e = ap (λ o. option_map (place_of_row H) o) e
 
-    base_is : (i : RowItem) (b : TyBase) (d : ℕ) (r : Option ℕ) → row_number P Q i ≡ r → ((t : ObjectType) → object_in b d ≡ Some t → HasRow P Q i)
+    base_is : (i : RowItem) (b : TyBase) (d : ℕ) (r : Option ℕ) → row_number P i ≡ r → ((t : ObjectType) → object_in b d ≡ Some t → HasRow P i)
         → base_meant types (written_base P H (option_map (place_of_row H) r) b) ≡ reclassed (option_map (λ r. T.type_of (place_of_row H r)) r) b
     base_is i Int d None e f = refl
     base_is i Int d (Some r) e f = refl
@@ -147,9 +100,9 @@ module _ (P Q : Plain) (F : Facts) (facts : IsFactsOf P Q F) (H : Hierarchy) (hi
     base_is i (Class c) d (Some r) e f = named_base (place_of_row H r) c (row_live i r e)
 
     -- the type of an item that has a row where it has a class type
-    pub type_is : (i : RowItem) (t : Ty) → ((o : ObjectType) → object_of t ≡ Some o → HasRow P Q i)
-        → type_meant types (written_type P H ((by_node P Q F H).row_type i) t) ≡ retyped (R.row_type i) t
+    pub type_is : (i : RowItem) (t : Ty) → ((o : ObjectType) → object_of t ≡ Some o → HasRow P i)
+        → type_meant types (written_type P H ((by_node P F H).row_type i) t) ≡ retyped (R.row_type i) t
     type_is i t f =
-        ap (λ (o : Option ℕ). type_meant types (written_type P H o t)) (row_node i (row_number P Q i) refl)
-        ∙ ap (λ (b : TyBase). record { base = b; dim = t.dim }) (base_is i t.base t.dim (row_number P Q i) refl f)
-        ∙ ap (λ (o : Option ℕ). retyped o t) (sym (row_type i (row_number P Q i) refl))
+        ap (λ (o : Option ℕ). type_meant types (written_type P H o t)) (row_node i (row_number P i) refl)
+        ∙ ap (λ (b : TyBase). record { base = b; dim = t.dim }) (base_is i t.base t.dim (row_number P i) refl f)
+        ∙ ap (λ (o : Option ℕ). retyped o t) (sym (row_type i (row_number P i) refl))

@@ -13,14 +13,12 @@ use Rattle.java_core.specs.Formed.{IsFormed}
 use Rattle.java_core.proofs.Upwards.{above_object}
 use Rattle.name_rules.specs.Outline.{parent_named, faces_named, parent_meant, id_meant, types_in}
 use Rattle.name_rules.specs.Resolves.{Resolves}
-use Rattle.java_core.specs.Untagged.{untagged}
 use Rattle.fact_model.specs.declared.facts.Facts.{Facts}
 use Rattle.fact_model.specs.declared.sets.PointsTo.{PointsTo}
 use Rattle.hier_model.specs.Hierarchies.{Hierarchy, is_class_node}
 use Rattle.hier_rules.specs.First.{first_broken}
 use Rattle.flow_rules.specs.Facts.{IsFactsOf}
 use Rattle.flow_rules.proofs.Listed.{first, more, map_has, map_from}
-use Rattle.facts_order.proofs.Pairs.{IsPlaced}
 use Rattle.written_tree.specs.Supers.{is_cover, nodes_that, superclass, type_id}
 use Rattle.written_tree.specs.Written.{type_tree, java_tree}
 use Rattle.tree_rebuilds.specs.Supertypes.{Names, extends, implements, Subtype, itself, by_name}
@@ -30,13 +28,13 @@ use Rattle.tree_rebuilds.proofs.Order.{ordered, cover_from, cover_is, superclass
 use Rattle.tree_rebuilds.proofs.Outlined.{class_there}
 use Rattle.tree_rebuilds.proofs.Nodes.{by_node, items, node_tree, node_at, node_number, places, nodes_once}
 
-module _ (P Q : Plain) (F : Facts) (H : Hierarchy) (V : Plain) (resolves : Resolves (java_tree P Q F H) V) (new : IsFormed (untagged V))
+module _ (P : Plain) (F : Facts) (H : Hierarchy) (V : Plain) (resolves : Resolves (java_tree P F H) V) (new : IsFormed V)
     (order : IsPartialOrder H.order) (pt : PointsTo) (none : first_broken F pt H ≡ None) where
   abbrev types : List (List ℕ)
-  types = types_in (java_tree P Q F H)
+  types = types_in (java_tree P F H)
 
   abbrev type : ℕ → ℕ
-  type n = (places P Q F H V resolves new).type_of n
+  type n = (places P F H V resolves new).type_of n
 
   abbrev le : ℕ → ℕ → Bool
   le = is_le H.order
@@ -45,17 +43,17 @@ module _ (P Q : Plain) (F : Facts) (H : Hierarchy) (V : Plain) (resolves : Resol
   class = is_class_node F H
 
   abbrev shown : Bool → ℕ → DeclTree
-  shown b n = type_tree P (by_node P Q F H) F H (items P Q F H) b n
+  shown b n = type_tree P (by_node P F H) F H (items P F H) b n
 
   abbrev super_ids : Bool → ℕ → List ClassId
   super_ids b n = parent_meant types (parent_named (shown b n)) ∷ map (id_meant types) (faces_named (shown b n))
 
-  supers_is : (n : ℕ) → is_live H.order n ≡ true → supers_of (untagged V) (type n) ≡ super_ids (class n) n
+  supers_is : (n : ℕ) → is_live H.order n ≡ true → supers_of V (type n) ≡ super_ids (class n) n
   supers_is n h =
-      let z = node_at P Q F H n h in
-      ap (supers_of (untagged V)) (node_number P Q F H V resolves new n z.0 z.1)
+      let z = node_at P F H n h in
+      ap (supers_of V) (node_number P F H V resolves new n z.0 z.1)
       ∙ ap (λ o. option_to_list (option_and_then (λ (k : PlainClass). k.parent) o) ++ option_map_or (λ (k : PlainClass). k.faces) o [])
-      (class_there (java_tree P Q F H) V resolves new z.0 (node_tree P Q F H n) z.1)
+      (class_there (java_tree P F H) V resolves new z.0 (node_tree P F H n) z.1)
 
   meant : (m : ℕ) → (id_meant types (type_id F H m)).0 ≡ type m
   unfolding places
@@ -120,30 +118,30 @@ module _ (P Q : Plain) (F : Facts) (H : Hierarchy) (V : Plain) (resolves : Resol
   named_has false n m k (extends c l) = absurd (false≢true (sym k ∙ c))
   named_has false n m k (implements i c) = face_has n m (λ a. is_cover H.order n a) _ c.above (cover_is F H order pt none n m c)
 
-  below_node : (a b : ℕ) → Subtype le class a b → is_live H.order a ≡ true → IsSubclass (untagged V) (type a) (type b)
+  below_node : (a b : ℕ) → Subtype le class a b → is_live H.order a ≡ true → IsSubclass V (type a) (type b)
   below_node a _ itself h = same_class
   below_node a b (by_name {b = m} k s) h =
       let z = named_has (class a) a m refl k in
       let up = names_le (length H.order.live) le (ordered F H order pt none) class (class_down F H order) (chained F H order pt none) a m k in
       through {c = z.0} (subst (λ y. Contains y z.0) (sym (supers_is a h)) z.1)
-      (subst (λ y. IsSubclass (untagged V) y (type b)) (sym z.2) (below_node m b s (order.upper_lives a m up)))
+      (subst (λ y. IsSubclass V y (type b)) (sym z.2) (below_node m b s (order.upper_lives a m up)))
 
-  module _ (formed : IsFormed P) (placed : IsPlaced P Q) (facts : IsFactsOf P Q F) where
-    node_below : (x y : ℕ) → IsSubclass (untagged V) x y → (a b : ℕ) → is_live H.order a ≡ true → is_live H.order b ≡ true → x ≡ type a → y ≡ type b
+  module _ (formed : IsFormed P) (facts : IsFactsOf P F) where
+    node_below : (x y : ℕ) → IsSubclass V x y → (a b : ℕ) → is_live H.order a ≡ true → is_live H.order b ≡ true → x ≡ type a → y ≡ type b
         → y ≢ 0 → le a b ≡ true
     node_below x _ same_class a b la lb e d o =
-        subst (λ z. le a z ≡ true) (nodes_once P Q F H V resolves new formed placed facts pt none a b la lb (sym e ∙ d)) (order.reflexive a la)
+        subst (λ z. le a z ≡ true) (nodes_once P F H V resolves new formed facts pt none a b la lb (sym e ∙ d)) (order.reflexive a la)
     node_below x y (through {c = c} direct rest) a b la lb e d o =
         ⊎_elim
-        (λ zero. absurd (o (above_object (untagged V) new zero rest)))
+        (λ zero. absurd (o (above_object V new zero rest)))
         (λ m. let up = names_le (length H.order.live) le (ordered F H order pt none) class (class_down F H order) (chained F H order pt none) a m.0 m.1 in
         order.transitive a m.0 b up (node_below c.0 y rest m.0 b (order.upper_lives a m.0 up) lb m.2 d o))
-        (named_from (class a) a c refl (subst (λ z. Contains z c) (ap (supers_of (untagged V)) e ∙ supers_is a la) direct))
+        (named_from (class a) a c refl (subst (λ z. Contains z c) (ap (supers_of V) e ∙ supers_is a la) direct))
 
-    pub order_is : (a b : ℕ) → is_live H.order a ≡ true → is_live H.order b ≡ true → IsSubclass (untagged V) (type a) (type b) ↔ (le a b ≡ true)
+    pub order_is : (a b : ℕ) → is_live H.order a ≡ true → is_live H.order b ≡ true → IsSubclass V (type a) (type b) ↔ (le a b ≡ true)
     order_is a b la lb = (
-      λ h. let z = node_at P Q F H b lb in
-          node_below (type a) (type b) h a b la lb refl refl (λ o. no_zero z.0 (type b) (node_number P Q F H V resolves new b z.0 z.1) o),
+      λ h. let z = node_at P F H b lb in
+          node_below (type a) (type b) h a b la lb refl refl (λ o. no_zero z.0 (type b) (node_number P F H V resolves new b z.0 z.1) o),
       λ h. below_node a b (subtype_of_le (length H.order.live) le (ordered F H order pt none) class (class_down F H order) (chained F H order pt none)
           (count (length H.order.live) (le a) + 1) a b (omega arith) h) la,
     )

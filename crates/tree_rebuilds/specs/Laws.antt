@@ -1,12 +1,9 @@
 -- A program to which the written tree resolves rebuilds the old one over its hierarchy, and has what a written program has.
 use Rattle.std.specs.Prelude.{◌≡◌, None}
-use Rattle.java_core.specs.declared.Program.{Program}
-use Rattle.java_core.specs.Trees.{at_place, no_place}
-use Rattle.java_core.specs.Programs.{Plain, program_of}
+use Rattle.java_core.specs.Programs.{Plain}
 use Rattle.java_core.specs.Typing.{IsTyped}
 use Rattle.java_core.specs.Formed.{IsFormed}
 use Rattle.name_rules.specs.Resolves.{Resolves}
-use Rattle.java_core.specs.Untagged.{untagged}
 use Rattle.fact_model.specs.declared.facts.Facts.{Facts}
 use Rattle.fact_model.specs.declared.sets.PointsTo.{PointsTo}
 use Rattle.hier_model.specs.Hierarchies.{Hierarchy, IsHierarchyOf}
@@ -18,22 +15,20 @@ use Rattle.written_tree.specs.Written.{java_tree}
 use Rattle.body_rebuilds.specs.Known.{HasLocalsInOrder}
 
 -- a typed program whose locals are numbered in the order of the text, its facts, and a hierarchy over them that breaks no obligation
-pub record IsReady (P Q : Plain) (F : Facts) (s : PointsTo) (H : Hierarchy) : Type 0 where
+pub record IsReady (P : Plain) (F : Facts) (s : PointsTo) (H : Hierarchy) : Type 0 where
   pub formed : IsFormed P
   pub typed : IsTyped P
   pub locals : HasLocalsInOrder P
-  pub facts : IsFactsOf P Q F
+  pub facts : IsFactsOf P F
   pub hierarchy : IsHierarchyOf F H
   pub unbroken : first_broken F s H ≡ None
 
 -- what a written program is
-pub record IsRebuilt (P Q : Plain) (F : Facts) (H : Hierarchy) (W : Plain) : Type 0 where
-  pub rebuilds : Rebuilds P Q F H W
-  pub written : IsWritten P Q F H W rebuilds.places
+pub record IsRebuilt (P : Plain) (F : Facts) (H : Hierarchy) (W : Plain) : Type 0 where
+  pub rebuilds : Rebuilds P F H W
+  pub written : IsWritten P F H W rebuilds.places
 
--- any formed program to which the tree resolves is one, as typing sees it
+-- any formed program to which the tree resolves is one
 unfoldable pub TreeRebuilds : Type 0
-TreeRebuilds = (p : Program) (F : Facts) (s : PointsTo) (H : Hierarchy) (W : Plain)
-    → IsReady (program_of no_place p) (program_of at_place p) F s H
-    → Resolves (java_tree (program_of no_place p) (program_of at_place p) F H) W → IsFormed (untagged W)
-    → IsRebuilt (program_of no_place p) (program_of at_place p) F H (untagged W)
+TreeRebuilds = (P : Plain) (F : Facts) (s : PointsTo) (H : Hierarchy) (W : Plain) → IsReady P F s H → Resolves (java_tree P F H) W → IsFormed W
+    → IsRebuilt P F H W

@@ -40,7 +40,7 @@ use Rattle.written_tree.specs.Members.{is_declaration, filling, head, first_head
 use Rattle.tree_rebuilds.proofs.Nodes.{items}
 use Rattle.tree_rebuilds.proofs.Members.{IsHeadTree, first_head_from, in_class, as_filler, flat_option_from}
 use Rattle.tree_resolves.proofs.Origins.{R}
-use Rattle.tree_resolves.proofs.Modifiers.{Given}
+use Rattle.tree_resolves.specs.Laws.{IsNamed}
 use Rattle.tree_resolves.proofs.Variables.{column_number, field_name_is}
 use Rattle.tree_resolves.proofs.Instances.{OffersSlot, one_slot, offered_there, name_is, body_offers}
 use Rattle.tree_resolves.proofs.Once.{Once, append_once, each_once, one_once, when_once, map_once}
@@ -82,9 +82,9 @@ method_item P (column.Def m) s h = refl
 method_item P (column.Fld m) s h = absurd (cc h)
 method_item P (column.Is m) s h = absurd (cc h)
 
-module _ {P Q : Plain} {F : Facts} {pt : PointsTo} {H : Hierarchy} (G : Given P Q F pt H) where
-  columns : AreColumns P Q F
-  columns = columns_are P Q G.placed G.formed F G.facts
+module _ {P : Plain} {F : Facts} {pt : PointsTo} {H : Hierarchy} (G : IsNamed P F pt H) where
+  columns : AreColumns P F
+  columns = columns_are P G.formed F G.facts
 
   abbrev Offers : ℕ → ℕ → List ℕ → Type 0
   Offers n s x = OffersSlot G n s x
@@ -103,17 +103,17 @@ module _ {P Q : Plain} {F : Facts} {pt : PointsTo} {H : Hierarchy} (G : Given P 
     pub offers : Offers n slot h.name
 
   heads_in : (mods : List Modifier) (n c : ℕ) (k : ColumnInfo) (h : HeadTree) → is_live H.order n ≡ true → slice_get F.columns.items c ≡ Some k
-      → stands_at H n c ≡ true → Contains (column_heads P (R P Q F H) F H mods n c k) h → HeadAt n c h
+      → stands_at H n c ≡ true → Contains (column_heads P (R P F H) F H mods n c k) h → HeadAt n c h
   heads_in mods n c k h live e at d =
-      let z = when_from (is_declaration k.kind) (heads_of_slot P (R P Q F H) F H mods n c k.slot) h d in go k.slot refl z.0 z.1
+      let z = when_from (is_declaration k.kind) (heads_of_slot P (R P F H) F H mods n c k.slot) h d in go k.slot refl z.0 z.1
     where
-      go : (o : Option ℕ) → k.slot ≡ o → is_declaration k.kind ≡ true → Contains (heads_of_slot P (R P Q F H) F H mods n c o) h → HeadAt n c h
+      go : (o : Option ℕ) → k.slot ≡ o → is_declaration k.kind ≡ true → Contains (heads_of_slot P (R P F H) F H mods n c o) h → HeadAt n c h
       go None p q x = absurd (let l = x.1 in omega (arith, l))
       go (Some s) p q x =
-          let z = when_from (is_headed F H n s && is_first_there F H n c s) (slot_head P (R P Q F H) H mods s) h x in
+          let z = when_from (is_headed F H n s && is_first_there F H n c s) (slot_head P (R P F H) H mods s) h x in
           let w = and_parts (is_headed F H n s) (is_first_there F H n c s) z.0 in
-          let y = flat_option_from (first_head P (R P Q F H) H mods) (slice_get P.slots s) h z.1 in
-          let t : IsHeadTree P (R P Q F H) F H mods s h = first_head_from P (R P Q F H) F H mods s y.0 h y.1 y.2 in
+          let y = flat_option_from (first_head P (R P F H) H mods) (slice_get P.slots s) h z.1 in
+          let t : IsHeadTree P (R P F H) F H mods s h = first_head_from P (R P F H) F H mods s y.0 h y.1 y.2 in
           let info = index_at F.columns.items c (record { kind = kind.Is; class = record { 0 = 0 }; slot = None; name = []; label = [] }) k e in
           let kinded : column_kind F c ≡ kind.Dcl = ap (λ (i : ColumnInfo). i.kind) info ∙ declaration_kind k.kind q in
           let slotted : column_slot F c ≡ Some s = ap (λ (i : ColumnInfo). i.slot) info ∙ p in
@@ -127,16 +127,16 @@ module _ {P Q : Plain} {F : Facts} {pt : PointsTo} {H : Hierarchy} (G : Given P 
           } in
           record { kind = kinded; slot = s; of_slot = slotted; at = at; headed = w.0; leading = w.1; offers = offers }
 
-  heads_once : (mods : List Modifier) (n c : ℕ) (k : ColumnInfo) → Once SameHead (column_heads P (R P Q F H) F H mods n c k)
+  heads_once : (mods : List Modifier) (n c : ℕ) (k : ColumnInfo) → Once SameHead (column_heads P (R P F H) F H mods n c k)
   heads_once mods n c k = when_once SameHead (is_declaration k.kind) _ (go k.slot)
     where
-      go : (o : Option ℕ) → Once SameHead (heads_of_slot P (R P Q F H) F H mods n c o)
+      go : (o : Option ℕ) → Once SameHead (heads_of_slot P (R P F H) F H mods n c o)
       go None = tt
       go (Some s) =
           when_once SameHead (is_headed F H n s && is_first_there F H n c s) _
-          (option_once SameHead (first_head P (R P Q F H) H mods) (slice_get P.slots s)
-          (λ sig. option_once SameHead (λ k. head P (R P Q F H) H mods ((R P Q F H).method_name sig.first) sig.first k ∷ []) (slice_get P.methods sig.first)
-          (λ k. one_once SameHead (head P (R P Q F H) H mods ((R P Q F H).method_name sig.first) sig.first k))))
+          (option_once SameHead (first_head P (R P F H) H mods) (slice_get P.slots s)
+          (λ sig. option_once SameHead (λ k. head P (R P F H) H mods ((R P F H).method_name sig.first) sig.first k ∷ []) (slice_get P.methods sig.first)
+          (λ k. one_once SameHead (head P (R P F H) H mods ((R P F H).method_name sig.first) sig.first k))))
 
   -- two columns give no two heads of one name
   two_heads : (n c d : ℕ) (h k : HeadTree) → c < d → HeadAt n c h → HeadAt n d k → h.name ≡ k.name → ⊥
@@ -148,9 +148,9 @@ module _ {P Q : Plain} {F : Facts} {pt : PointsTo} {H : Hierarchy} (G : Given P 
       (and_from (is_declaration (column_kind F c)) (is_slot (column_slot F c) b.slot && stands_at H n c) (ap is_declaration a.kind)
       (and_from (is_slot (column_slot F c) b.slot) (stands_at H n c) slot a.at)))
 
-  pub interface_once : (n : ℕ) → is_live H.order n ≡ true → Once SameHead (interface_heads P (R P Q F H) F H n)
+  pub interface_once : (n : ℕ) → is_live H.order n ≡ true → Once SameHead (interface_heads P (R P F H) F H n)
   interface_once n live =
-      all_once SameHead (λ c k. when (stands_at H n c) (column_heads P (R P Q F H) F H [] n c k)) F.columns.items
+      all_once SameHead (λ c k. when (stands_at H n c) (column_heads P (R P F H) F H [] n c k)) F.columns.items
       (λ c k e. when_once SameHead (stands_at H n c) _ (heads_once [] n c k))
       (λ c d k l a b p q lt x y e.
       let u = when_from (stands_at H n c) _ a x in let v = when_from (stands_at H n d) _ b y in
@@ -159,20 +159,20 @@ module _ {P Q : Plain} {F : Facts} {pt : PointsTo} {H : Hierarchy} (G : Given P 
   -- ---- fields and bodies
 
   pub data OwnAt (n c : ℕ) : MemberTree → Type 0 where
-    field_at : (f : ℕ) (k : PlainField) → column_kind F c ≡ kind.Fld → stands_at H n c ≡ true → (R P Q F H).field_name f ≡ member_name H c
-        → OwnAt n c (field_member P (R P Q F H) H f k)
+    field_at : (f : ℕ) (k : PlainField) → column_kind F c ≡ kind.Fld → stands_at H n c ≡ true → (R P F H).field_name f ≡ member_name H c
+        → OwnAt n c (field_member P (R P F H) H f k)
     body_at : (m s : ℕ) (k : PlainMethod) → column_kind F c ≡ kind.Def → column_slot F c ≡ Some s → stands_at H n c ≡ true → c < length F.columns.items
-        → Offers n s ((R P Q F H).method_name m)
-        → OwnAt n c (body_member P (R P Q F H) H m k)
+        → Offers n s ((R P F H).method_name m)
+        → OwnAt n c (body_member P (R P F H) H m k)
 
-  own_in : (n c : ℕ) (o : Option ColumnItem) (x : MemberTree) → is_live H.order n ≡ true → slice_get (items P Q F H) c ≡ o → stands_at H n c ≡ true
-      → Contains (own_member P (R P Q F H) F H o) x → OwnAt n c x
+  own_in : (n c : ℕ) (o : Option ColumnItem) (x : MemberTree) → is_live H.order n ≡ true → slice_get (items P F H) c ≡ o → stands_at H n c ≡ true
+      → Contains (own_member P (R P F H) F H o) x → OwnAt n c x
   own_in n c (Some (column.Fld f)) x live e at d =
-      let z = flat_option_from (λ k. field_member P (R P Q F H) H f k ∷ []) (slice_get P.fields f) x d in
+      let z = flat_option_from (λ k. field_member P (R P F H) H f k ∷ []) (slice_get P.fields f) x d in
       let number = column_number G c (column.Fld f) e in
       subst (OwnAt n c) (one_from _ x z.2) (field_at f z.0 (columns.kind (column.Fld f) c number) at (field_name_is G c f number))
   own_in n c (Some (column.Def m)) x live e at d =
-      let z = flat_option_from (λ k. body_member P (R P Q F H) H m k ∷ []) (slice_get P.methods m) x d in
+      let z = flat_option_from (λ k. body_member P (R P F H) H m k ∷ []) (slice_get P.methods m) x d in
       let number = column_number G c (column.Def m) e in
       let slot = columns.slotted (column.Def m) c number refl in
       subst (OwnAt n c) (one_from _ x z.2)
@@ -182,13 +182,13 @@ module _ {P Q : Plain} {F : Facts} {pt : PointsTo} {H : Hierarchy} (G : Given P 
   own_in n c (Some (column.Is k)) x live e at d = absurd (let l = d.1 in omega (arith, l))
   own_in n c None x live e at d = absurd (let l = d.1 in omega (arith, l))
 
-  own_once : (o : Option ColumnItem) → Once SameMember (own_member P (R P Q F H) F H o)
+  own_once : (o : Option ColumnItem) → Once SameMember (own_member P (R P F H) F H o)
   own_once (Some (column.Fld f)) =
-      option_once SameMember (λ k. field_member P (R P Q F H) H f k ∷ []) (slice_get P.fields f)
-      (λ k. one_once SameMember (field_member P (R P Q F H) H f k))
+      option_once SameMember (λ k. field_member P (R P F H) H f k ∷ []) (slice_get P.fields f)
+      (λ k. one_once SameMember (field_member P (R P F H) H f k))
   own_once (Some (column.Def m)) =
-      option_once SameMember (λ k. body_member P (R P Q F H) H m k ∷ []) (slice_get P.methods m)
-      (λ k. one_once SameMember (body_member P (R P Q F H) H m k))
+      option_once SameMember (λ k. body_member P (R P F H) H m k ∷ []) (slice_get P.methods m)
+      (λ k. one_once SameMember (body_member P (R P F H) H m k))
   own_once (Some (column.Dcl m)) = tt
   own_once (Some (column.Is k)) = tt
   own_once None = tt
@@ -220,7 +220,7 @@ module _ {P Q : Plain} {F : Facts} {pt : PointsTo} {H : Hierarchy} (G : Given P 
   two_own n c d _ _ live lt (field_at f k kd at name) (body_at m s l ld sl there below off) e = e
   two_own n c d _ _ live lt (body_at m s k kd sl at below off) (field_at g l ld there other) e = e
   two_own n c d _ _ live lt (body_at m s k kd sl at below off) (body_at g t l ld tl there under oft) e =
-      let same = one_slot G n s t ((R P Q F H).method_name g) (subst (Offers n s) e off) oft in
+      let same = one_slot G n s t ((R P F H).method_name g) (subst (Offers n s) e off) oft in
       two_at n c d t live lt under kd ld (sl ∙ ap Some same) tl at there
 
   -- a body at a node is offered there
@@ -240,7 +240,7 @@ module _ {P Q : Plain} {F : Facts} {pt : PointsTo} {H : Hierarchy} (G : Given P 
       → SameMember (bodyless h) x → ⊥
   head_own n c d h _ live class a (field_at f k kd at name) e = e
   head_own n c d h _ live class a (body_at m s k kd sl at below off) e =
-      let same = one_slot G n a.slot s ((R P Q F H).method_name m) (subst (Offers n a.slot) e a.offers) off in
+      let same = one_slot G n a.slot s ((R P F H).method_name m) (subst (Offers n a.slot) e a.offers) off in
       false≢true (sym (head_is_bodyless n c h class a).1 ∙ ap (offers_body F H n) same ∙ body_offered n d s live kd sl at below)
 
   turned : (x y : MemberTree) → SameMember x y → SameMember y x
@@ -254,14 +254,14 @@ module _ {P Q : Plain} {F : Facts} {pt : PointsTo} {H : Hierarchy} (G : Given P 
   AtColumn n c x = ((h : HeadTree) × HeadAt n c h × (bodyless h ≡ x)) ⊎ OwnAt n c x
 
   at_column : (n c : ℕ) (k : ColumnInfo) (x : MemberTree) → is_live H.order n ≡ true → slice_get F.columns.items c ≡ Some k → stands_at H n c ≡ true
-      → Contains (column_members P (R P Q F H) F H (items P Q F H) n c k) x → AtColumn n c x
+      → Contains (column_members P (R P F H) F H (items P F H) n c k) x → AtColumn n c x
   at_column n c k x live e at d =
       ⊎_elim
-      (λ y. let z = map_from bodyless (column_heads P (R P Q F H) F H (in_class P (R P Q F H) F H) n c k) x y in
-      inl (z.0, heads_in (in_class P (R P Q F H) F H) n c k z.0 live e at z.1, z.2))
-      (λ y. inr (own_in n c (slice_get (items P Q F H) c) x live refl at y))
-      (Contains-append_cases (map bodyless (column_heads P (R P Q F H) F H (in_class P (R P Q F H) F H) n c k))
-      (own_member P (R P Q F H) F H (slice_get (items P Q F H) c)) x d)
+      (λ y. let z = map_from bodyless (column_heads P (R P F H) F H (in_class P (R P F H) F H) n c k) x y in
+      inl (z.0, heads_in (in_class P (R P F H) F H) n c k z.0 live e at z.1, z.2))
+      (λ y. inr (own_in n c (slice_get (items P F H) c) x live refl at y))
+      (Contains-append_cases (map bodyless (column_heads P (R P F H) F H (in_class P (R P F H) F H) n c k))
+      (own_member P (R P F H) F H (slice_get (items P F H) c)) x d)
 
   two_columns : (n c d : ℕ) (x y : MemberTree) → is_live H.order n ≡ true → is_class_node F H n ≡ true → c < d → AtColumn n c x → AtColumn n d y
       → SameMember x y → ⊥
@@ -273,21 +273,21 @@ module _ {P Q : Plain} {F : Facts} {pt : PointsTo} {H : Hierarchy} (G : Given P 
   two_columns n c d x y live class lt (inr a) (inr b) e = two_own n c d x y live lt a b e
 
   one_column : (n c : ℕ) (k : ColumnInfo) → is_live H.order n ≡ true → is_class_node F H n ≡ true → slice_get F.columns.items c ≡ Some k
-      → Once SameMember (when (stands_at H n c) (column_members P (R P Q F H) F H (items P Q F H) n c k))
+      → Once SameMember (when (stands_at H n c) (column_members P (R P F H) F H (items P F H) n c k))
   one_column n c k live class e = go (stands_at H n c) refl
     where
-      go : (b : Bool) → stands_at H n c ≡ b → Once SameMember (when b (column_members P (R P Q F H) F H (items P Q F H) n c k))
+      go : (b : Bool) → stands_at H n c ≡ b → Once SameMember (when b (column_members P (R P F H) F H (items P F H) n c k))
       go false at = tt
       go true at =
-          append_once SameMember (map bodyless (column_heads P (R P Q F H) F H (in_class P (R P Q F H) F H) n c k))
-          (own_member P (R P Q F H) F H (slice_get (items P Q F H) c))
-          (map_once SameMember bodyless (column_heads P (R P Q F H) F H (in_class P (R P Q F H) F H) n c k)
-          (heads_once (in_class P (R P Q F H) F H) n c k))
-          (own_once (slice_get (items P Q F H) c))
+          append_once SameMember (map bodyless (column_heads P (R P F H) F H (in_class P (R P F H) F H) n c k))
+          (own_member P (R P F H) F H (slice_get (items P F H) c))
+          (map_once SameMember bodyless (column_heads P (R P F H) F H (in_class P (R P F H) F H) n c k)
+          (heads_once (in_class P (R P F H) F H) n c k))
+          (own_once (slice_get (items P F H) c))
           (λ x y a b s.
-          let z = map_from bodyless (column_heads P (R P Q F H) F H (in_class P (R P Q F H) F H) n c k) x a in
-          head_own n c c z.0 y live class (heads_in (in_class P (R P Q F H) F H) n c k z.0 live e at z.1)
-          (own_in n c (slice_get (items P Q F H) c) y live refl at b) (subst (λ w. SameMember w y) (sym z.2) s))
+          let z = map_from bodyless (column_heads P (R P F H) F H (in_class P (R P F H) F H) n c k) x a in
+          head_own n c c z.0 y live class (heads_in (in_class P (R P F H) F H) n c k z.0 live e at z.1)
+          (own_in n c (slice_get (items P F H) c) y live refl at b) (subst (λ w. SameMember w y) (sym z.2) s))
 
   -- ---- fillers
 
@@ -299,7 +299,7 @@ module _ {P Q : Plain} {F : Facts} {pt : PointsTo} {H : Hierarchy} (G : Given P 
     pub offers : Offers n s head.name
 
   pub filler_offers : (n s : ℕ) (x : List ℕ) (sig : PlainSlot) → is_filled F H n s ≡ true → slice_get P.slots s ≡ Some sig
-      → x ≡ (R P Q F H).method_name sig.first → Offers n s x
+      → x ≡ (R P F H).method_name sig.first → Offers n s x
   filler_offers n s x sig h e name =
       let w = and_parts (is_made_at F H n) (offers_slot F H n s && not (offers_body F H n s)) h in
       let v = and_parts (offers_slot F H n s) (not (offers_body F H n s)) w.1 in
@@ -316,12 +316,12 @@ module _ {P Q : Plain} {F : Facts} {pt : PointsTo} {H : Hierarchy} (G : Given P 
         name = name ∙ name_is G sig.first s c.0 (slot_first s sig e) method slot;
       }
 
-  filler_in : (n s : ℕ) (sig : PlainSlot) (x : MemberTree) → slice_get P.slots s ≡ Some sig → Contains (filler P (R P Q F H) F H n s sig) x → FillerAt n s x
+  filler_in : (n s : ℕ) (sig : PlainSlot) (x : MemberTree) → slice_get P.slots s ≡ Some sig → Contains (filler P (R P F H) F H n s sig) x → FillerAt n s x
   filler_in n s sig x e d =
       let z = when_from (is_filled F H n s)
-      (map (λ h. MethodTree h (Some (filling sig.result)) nowhere) (first_head P (R P Q F H) H (as_filler P (R P Q F H) F H) sig)) x d in
-      let y = map_from (λ h. MethodTree h (Some (filling sig.result)) nowhere) (first_head P (R P Q F H) H (as_filler P (R P Q F H) F H) sig) x z.1 in
-      let o = flat_option_from (λ k. head P (R P Q F H) H (as_filler P (R P Q F H) F H) ((R P Q F H).method_name sig.first) sig.first k ∷ [])
+      (map (λ h. MethodTree h (Some (filling sig.result)) nowhere) (first_head P (R P F H) H (as_filler P (R P F H) F H) sig)) x d in
+      let y = map_from (λ h. MethodTree h (Some (filling sig.result)) nowhere) (first_head P (R P F H) H (as_filler P (R P F H) F H) sig) x z.1 in
+      let o = flat_option_from (λ k. head P (R P F H) H (as_filler P (R P F H) F H) ((R P F H).method_name sig.first) sig.first k ∷ [])
       (slice_get P.methods sig.first) y.0 y.1 in
       record {
         filled = z.0;
@@ -331,13 +331,13 @@ module _ {P Q : Plain} {F : Facts} {pt : PointsTo} {H : Hierarchy} (G : Given P 
         offers = filler_offers n s y.0.name sig z.0 e (ap (λ (i : HeadTree). i.name) (sym (one_from _ y.0 o.2)));
       }
 
-  filler_once : (n s : ℕ) (sig : PlainSlot) → Once SameMember (filler P (R P Q F H) F H n s sig)
+  filler_once : (n s : ℕ) (sig : PlainSlot) → Once SameMember (filler P (R P F H) F H n s sig)
   filler_once n s sig =
       when_once SameMember (is_filled F H n s) _
-      (map_once SameMember (λ h. MethodTree h (Some (filling sig.result)) nowhere) (first_head P (R P Q F H) H (as_filler P (R P Q F H) F H) sig)
-      (option_once SameHead (λ k. head P (R P Q F H) H (as_filler P (R P Q F H) F H) ((R P Q F H).method_name sig.first) sig.first k ∷ [])
+      (map_once SameMember (λ h. MethodTree h (Some (filling sig.result)) nowhere) (first_head P (R P F H) H (as_filler P (R P F H) F H) sig)
+      (option_once SameHead (λ k. head P (R P F H) H (as_filler P (R P F H) F H) ((R P F H).method_name sig.first) sig.first k ∷ [])
       (slice_get P.methods sig.first)
-      (λ k. one_once SameHead (head P (R P Q F H) H (as_filler P (R P Q F H) F H) ((R P Q F H).method_name sig.first) sig.first k))))
+      (λ k. one_once SameHead (head P (R P F H) H (as_filler P (R P F H) F H) ((R P F H).method_name sig.first) sig.first k))))
 
   two_fillers : (n s t : ℕ) (x y : MemberTree) → s < t → FillerAt n s x → FillerAt n t y → SameMember x y → ⊥
   two_fillers n s t x y lt a b e =
@@ -350,7 +350,7 @@ module _ {P Q : Plain} {F : Facts} {pt : PointsTo} {H : Hierarchy} (G : Given P 
       → OwnAt n c x → SameMember x (MethodTree h (Some b) nowhere) → ⊥
   own_filler n c s h b _ live none o (field_at f k kd at name) e = e
   own_filler n c s h b _ live none o (body_at m t k kd sl at below off) e =
-      let same = one_slot G n s t ((R P Q F H).method_name m) (subst (Offers n s) (sym e) o) off in
+      let same = one_slot G n s t ((R P F H).method_name m) (subst (Offers n s) (sym e) o) off in
       false≢true (sym none ∙ ap (offers_body F H n) same ∙ body_offered n c t live kd sl at below)
 
   column_filler : (n c s : ℕ) (x y : MemberTree) → is_live H.order n ≡ true → is_class_node F H n ≡ true → AtColumn n c x → FillerAt n s y
@@ -364,23 +364,23 @@ module _ {P Q : Plain} {F : Facts} {pt : PointsTo} {H : Hierarchy} (G : Given P 
       own_filler n c s b.head b.body x live (not-true _ v.1) b.offers a (subst (λ z. SameMember x z) (sym b.is) e)
 
   pub class_once : (n : ℕ) → is_live H.order n ≡ true → is_class_node F H n ≡ true
-      → Once SameMember (class_members P (R P Q F H) F H (items P Q F H) n)
+      → Once SameMember (class_members P (R P F H) F H (items P F H) n)
   class_once n live class =
-      append_once SameMember (each f 0 F.columns.items) (each (filler P (R P Q F H) F H n) 0 P.slots)
+      append_once SameMember (each f 0 F.columns.items) (each (filler P (R P F H) F H n) 0 P.slots)
       (all_once SameMember f F.columns.items
       (λ c k e. one_column n c k live class e)
       (λ c d k l a b p q lt x y e. two_columns n c d a b live class lt (found c k a p x) (found d l b q y) e))
-      (all_once SameMember (filler P (R P Q F H) F H n) P.slots
+      (all_once SameMember (filler P (R P F H) F H n) P.slots
       (λ s sig e. filler_once n s sig)
       (λ s t sig tig a b p q lt x y e. two_fillers n s t a b lt (filler_in n s sig a p x) (filler_in n t tig b q y) e))
       (λ a b x y e.
       let u = each_from_zero f F.columns.items a x in
-      let v = each_from_zero (filler P (R P Q F H) F H n) P.slots b y in
+      let v = each_from_zero (filler P (R P F H) F H n) P.slots b y in
       column_filler n u.0 v.0 a b live class (found u.0 u.1 a u.2 u.3) (filler_in n v.0 v.1 b v.2 v.3) e)
     where
       f : ℕ → ColumnInfo → List MemberTree
-      f c k = when (stands_at H n c) (column_members P (R P Q F H) F H (items P Q F H) n c k)
+      f c k = when (stands_at H n c) (column_members P (R P F H) F H (items P F H) n c k)
 
       found : (c : ℕ) (k : ColumnInfo) (x : MemberTree) → slice_get F.columns.items c ≡ Some k → Contains (f c k) x → AtColumn n c x
       found c k x e d =
-          let z = when_from (stands_at H n c) (column_members P (R P Q F H) F H (items P Q F H) n c k) x d in at_column n c k x live e z.0 z.1
+          let z = when_from (stands_at H n c) (column_members P (R P F H) F H (items P F H) n c k) x d in at_column n c k x live e z.0 z.1

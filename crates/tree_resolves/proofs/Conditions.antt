@@ -12,7 +12,8 @@ use Rattle.name_rules.specs.Outline.{MethodAt, methods_in, is_private}
 use Rattle.name_rules.specs.Conditions.{unknown, type_twice, known_twice, super_twice, field_twice, method_twice, param_twice, loop, overload, type_as_field, type_as_param, face_as_parent, class_as_face, private_reused, no_main, modifiers_disagree, modifier_unfit, wrong_body, in_body}
 use Rattle.name_rules.specs.Causes.{HasNoCondition}
 use Rattle.tree_rebuilds.proofs.Nodes.{tree}
-use Rattle.tree_resolves.proofs.Modifiers.{Given, method_sound, modifiers_fit}
+use Rattle.tree_resolves.specs.Laws.{IsNamed}
+use Rattle.tree_resolves.proofs.Modifiers.{method_sound, modifiers_fit}
 use Rattle.tree_resolves.proofs.Types.{type_once, type_is_new}
 use Rattle.tree_resolves.proofs.Supers.{super_once, no_loop, no_face_as_parent, no_class_as_face}
 use Rattle.tree_resolves.proofs.Variables.{field_free, param_free, param_once}
@@ -22,9 +23,9 @@ use Rattle.tree_resolves.proofs.Main.{has_main}
 use Rattle.tree_resolves.proofs.Separate.{fields_are_apart, methods_are_apart}
 use Rattle.tree_resolves.proofs.Overloads.{slots_are_apart}
 
-module _ {P Q : Plain} {F : Facts} {pt : PointsTo} {H : Hierarchy} (G : Given P Q F pt H) where
+module _ {P : Plain} {F : Facts} {pt : PointsTo} {H : Hierarchy} (G : IsNamed P F pt H) where
   abbrev T : List DeclTree
-  T = tree P Q F H
+  T = tree P F H
 
   no_private : (i : ℕ) (x : MethodAt) → slice_get (methods_in T) i ≡ Some x → is_private x ≡ false
   no_private i x e = (method_sound G x (contains_at (methods_in T) i x e)).open_to_all

@@ -34,16 +34,16 @@ use Rattle.tree_rebuilds.proofs.Nodes.{node_tree, old_tree, tree_name}
 use Rattle.tree_rebuilds.proofs.Members.{static_field_has, static_method_has}
 use Rattle.tree_resolves.specs.Stages.{HasHolder, FindsField, FindsMethod}
 use Rattle.tree_resolves.proofs.Origins.{written, R, old_words, HasMethod, node_body, node_head, node_filler, interface_head, static_method, HasField, node_field, static_field, method_origin, field_origin}
-use Rattle.tree_resolves.proofs.Modifiers.{Given}
+use Rattle.tree_resolves.specs.Laws.{IsNamed}
 use Rattle.tree_resolves.proofs.Supers.{type_number, holder_named, supers_are, above_object}
 use Rattle.tree_resolves.proofs.Variables.{field_free, local_free}
 use Rattle.rebuild_looks.proofs.Fields.{field_holder, method_holder}
 
-module _ {P Q : Plain} {F : Facts} {pt : PointsTo} {H : Hierarchy} (G : Given P Q F pt H) where
-  open written P Q F H use {trees as T, types, program as O}
+module _ {P : Plain} {F : Facts} {pt : PointsTo} {H : Hierarchy} (G : IsNamed P F pt H) where
+  open written P F H use {trees as T, types, program as O}
 
   abbrev R₀ : Renaming
-  R₀ = R P Q F H
+  R₀ = R P F H
 
   -- a field of the outline is one of the tree
   field_at : (g : ℕ) (k : PlainField) → slice_get O.fields g ≡ Some k → (x : FieldAt) × Contains (fields_in T) x × (field_outline types x ≡ k)
@@ -68,7 +68,7 @@ module _ {P Q : Plain} {F : Facts} {pt : PointsTo} {H : Hierarchy} (G : Given P 
     pub class_stands : slice_get P.classes c ≡ Some class
     pub holder : is_holder P c ≡ true
     pub index : ℕ
-    pub stands : slice_get T index ≡ Some (old_tree P Q F H c class)
+    pub stands : slice_get T index ≡ Some (old_tree P F H c class)
     pub named : class_named O (class_name P c) ≡ Some (suc index)
     pub type : is_type_name types (class_name P c) ≡ true
 
@@ -85,7 +85,7 @@ module _ {P Q : Plain} {F : Facts} {pt : PointsTo} {H : Hierarchy} (G : Given P 
         stands = z.1;
         named = ap (class_named O) name ∙ z.2;
         type = ap (is_type_name types) name
-            ∙ or_left (is_some (type_named types k.0.name)) (is_known k.0.name) (ap is_some (type_number G z.0 (old_tree P Q F H c k.0) z.1));
+            ∙ or_left (is_some (type_named types k.0.name)) (is_known k.0.name) (ap is_some (type_number G z.0 (old_tree P F H c k.0) z.1));
       }
 
   -- no field is found under a type's name
@@ -112,21 +112,21 @@ module _ {P Q : Plain} {F : Facts} {pt : PointsTo} {H : Hierarchy} (G : Given P 
 
   -- a number is not that of a node and of a holder
   node_not_holder : (n c i : ℕ) (k : PlainClass) → slice_get P.classes c ≡ Some k → is_holder P c ≡ true → is_live H.order n ≡ true
-      → slice_get T i ≡ Some (node_tree P Q F H n) → slice_get T i ≡ Some (old_tree P Q F H c k) → ⊥
+      → slice_get T i ≡ Some (node_tree P F H n) → slice_get T i ≡ Some (old_tree P F H c k) → ⊥
   node_not_holder n c i k e h live a b =
-      no_holder F pt H G.unbroken P Q G.placed G.facts n c k live h e
-      (sym (tree_name P Q F H (is_class_node F H n) n) ∙ ap name_of (same_Some _ _ (sym a ∙ b)))
+      no_holder F pt H G.unbroken P G.facts n c k live h e
+      (sym (tree_name P F H (is_class_node F H n) n) ∙ ap name_of (same_Some _ _ (sym a ∙ b)))
 
   suc_same : (a b : ℕ) → suc a ≡ suc b → a ≡ b
   suc_same a b e = omega (arith, e)
 
   -- the fields and methods of a holder are static
-  field_static : (c : ℕ) (h : IsHolder c) (x : FieldAt) → HasField P Q F H x → x.owner ≡ suc h.index → (field_outline types x).is_static ≡ true
+  field_static : (c : ℕ) (h : IsHolder c) (x : FieldAt) → HasField P F H x → x.owner ≡ suc h.index → (field_outline types x).is_static ≡ true
   field_static c h _ (node_field n i d f k a e at o) same =
       absurd (node_not_holder n c h.index h.class h.class_stands h.holder a.live (ap (slice_get T) (sym (suc_same i h.index same)) ∙ a.stands) h.stands)
   field_static c h _ (static_field d i f k old a e s o) same = refl
 
-  method_static : (c : ℕ) (h : IsHolder c) (x : MethodAt) → HasMethod P Q F H x → x.owner ≡ suc h.index → is_static x ≡ true
+  method_static : (c : ℕ) (h : IsHolder c) (x : MethodAt) → HasMethod P F H x → x.owner ≡ suc h.index → is_static x ≡ true
   method_static c h _ (node_body n i d m k a e at o) same =
       absurd (node_not_holder n c h.index h.class h.class_stands h.holder a.live (ap (slice_get T) (sym (suc_same i h.index same)) ∙ a.stands) h.stands)
   method_static c h _ (node_head n i t a d) same =
@@ -137,7 +137,7 @@ module _ {P Q : Plain} {F : Facts} {pt : PointsTo} {H : Hierarchy} (G : Given P 
       absurd (node_not_holder n c h.index h.class h.class_stands h.holder a.live (ap (slice_get T) (sym (suc_same i h.index same)) ∙ a.stands) h.stands)
   method_static c h _ (static_method d i m k old a e s o) same = refl
 
-  method_owner : (x : MethodAt) → HasMethod P Q F H x → x.owner ≢ 0
+  method_owner : (x : MethodAt) → HasMethod P F H x → x.owner ≢ 0
   method_owner _ (node_body n i d m k a e at o) same = absurd (omega (arith, same))
   method_owner _ (node_head n i t a d) same = absurd (omega (arith, same))
   method_owner _ (node_filler n i s t a f d) same = absurd (omega (arith, same))
@@ -149,19 +149,19 @@ module _ {P Q : Plain} {F : Facts} {pt : PointsTo} {H : Hierarchy} (G : Given P 
       → (g : ℕ) × (new : PlainField) × (own_field_of O (suc h.index) old.name ≡ Some g) × (slice_get O.fields g ≡ Some new) × (new.is_static ≡ true) ×
       (new.owner ≡ suc h.index)
   own_field f old e s h =
-      let t : MemberTree = FieldTree (old_words P Q F H) (written_type P H (R₀.row_type (row.Field f)) old.ty) old.name nowhere in
+      let t : MemberTree = FieldTree (old_words P F H) (written_type P H (R₀.row_type (row.Field f)) old.ty) old.name nowhere in
       let x : FieldAt = record {
         owner = suc h.index;
-        mods = old_words P Q F H;
+        mods = old_words P F H;
         type = written_type P H (R₀.row_type (row.Field f)) old.ty;
         name = old.name;
         place = nowhere;
       } in
       let mine = and_from old.is_static (old.owner == old.owner) s (eq-eqb old.owner old.owner refl) in
       let y : Contains (static_field_member P R₀ H old.owner f old) t = when_has (old.is_static && (old.owner == old.owner)) (t ∷ []) t mine (first t []) in
-      let d : Contains (fields_declared (suc h.index) (old_tree P Q F H old.owner h.class)) x =
+      let d : Contains (fields_declared (suc h.index) (old_tree P F H old.owner h.class)) x =
       member_field_has (suc h.index) (holder_members P R₀ H old.owner) x t (static_field_has P R₀ H old.owner f old t e y) (first x []) in
-      let c = field_there x (declared_has fields_declared 1 T (fields_each 1 T) x h.index (suc h.index) (old_tree P Q F H old.owner h.class) h.stands
+      let c = field_there x (declared_has fields_declared 1 T (fields_each 1 T) x h.index (suc h.index) (old_tree P F H old.owner h.class) h.stands
       (omega arith) d) in
       let test = and_from (suc h.index == suc h.index) (bytes_eq old.name old.name) (eq-eqb (suc h.index) (suc h.index) refl)
       ((bytes_eq-Decides old.name old.name).1 refl) in
@@ -173,7 +173,7 @@ module _ {P Q : Plain} {F : Facts} {pt : PointsTo} {H : Hierarchy} (G : Given P 
         p.0,
         g.1,
         p.1,
-        sym (ap (λ (z : PlainField). z.is_static) w.2) ∙ field_static old.owner h w.0 (field_origin P Q F H w.0 w.1)
+        sym (ap (λ (z : PlainField). z.is_static) w.2) ∙ field_static old.owner h w.0 (field_origin P F H w.0 w.1)
             (ap (λ (z : PlainField). z.owner) w.2 ∙ owner),
         owner,
       )
@@ -211,20 +211,20 @@ module _ {P Q : Plain} {F : Facts} {pt : PointsTo} {H : Hierarchy} (G : Given P 
     unfolding has_holder
     finds_method d old e s =
         let h = holder_of old.owner (method_holder P d old e s) in
-        let t : MemberTree = MethodTree (head P R₀ H (old_words P Q F H) old.name d old) (body P R₀ H d old) nowhere in
+        let t : MemberTree = MethodTree (head P R₀ H (old_words P F H) old.name d old) (body P R₀ H d old) nowhere in
         let x : MethodAt = record {
           owner = suc h.index;
           kind = kinds.Method;
           in_abstract = false;
-          head = head P R₀ H (old_words P Q F H) old.name d old;
+          head = head P R₀ H (old_words P F H) old.name d old;
           body = body P R₀ H d old;
         } in
         let mine = and_from old.is_static (old.owner == old.owner) s (eq-eqb old.owner old.owner refl) in
         let y : Contains (static_method_member P R₀ H old.owner d old) t = when_has (old.is_static && (old.owner == old.owner)) (t ∷ []) t mine
         (first t []) in
-        let c : Contains (methods_declared (suc h.index) (old_tree P Q F H old.owner h.class)) x =
+        let c : Contains (methods_declared (suc h.index) (old_tree P F H old.owner h.class)) x =
         member_method_has (suc h.index) false (holder_members P R₀ H old.owner) x t (static_method_has P R₀ H old.owner d old t e y) (first x []) in
-        let z = method_there x (declared_has methods_declared 1 T (methods_each 1 T) x h.index (suc h.index) (old_tree P Q F H old.owner h.class)
+        let z = method_there x (declared_has methods_declared 1 T (methods_each 1 T) x h.index (suc h.index) (old_tree P F H old.owner h.class)
         h.stands (omega arith) c) in
         record {
           holder = has_holder m k at here old.owner h;
@@ -239,7 +239,7 @@ module _ {P Q : Plain} {F : Facts} {pt : PointsTo} {H : Hierarchy} (G : Given P 
     above_holder : (h : IsHolder k.owner) (x y : ℕ) → x ≡ suc h.index → IsSubclass O x y → (y ≡ suc h.index) ⊎ (y ≡ 0)
     above_holder h x _ e same_class = inl e
     above_holder h x y e (through {c = c} direct rest) =
-        let d = subst (λ z. Contains z c) (ap (supers_of O) e ∙ supers_are G h.index (old_tree P Q F H k.owner h.class) h.stands) direct in
+        let d = subst (λ z. Contains z c) (ap (supers_of O) e ∙ supers_are G h.index (old_tree P F H k.owner h.class) h.stands) direct in
         inr (above_object G c.0 y rest (ap (λ (x : ClassId). x.0) (sym (one_from _ c d))))
 
     pub holder_met : k.is_static ≡ true → (x : List ℕ) (g : ℕ) (new : PlainMethod) → IsMet O here.owner x g new
@@ -247,7 +247,7 @@ module _ {P Q : Plain} {F : Facts} {pt : PointsTo} {H : Hierarchy} (G : Given P 
     holder_met s x g new met =
         let h = holder_of k.owner (method_holder P m k at s) in
         let w = method_at g new met.stands in
-        let o = method_origin P Q F H w.0 w.1 in
+        let o = method_origin P F H w.0 w.1 in
         let i = here_is s h in
         ⊎_elim
         (λ e. (sym (ap (λ (z : PlainMethod). z.is_static) w.2) ∙ method_static k.owner h w.0 o (ap (λ (z : PlainMethod). z.owner) w.2 ∙ e), e ∙ sym i))

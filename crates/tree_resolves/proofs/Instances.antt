@@ -18,12 +18,12 @@ use Rattle.rebuild_given.proofs.Apart.{names_apart}
 use Rattle.rebuild_model.specs.Renaming.{renaming_of}
 use Rattle.tree_rebuilds.proofs.Nodes.{items}
 use Rattle.tree_resolves.proofs.Origins.{R}
-use Rattle.tree_resolves.proofs.Modifiers.{Given}
+use Rattle.tree_resolves.specs.Laws.{IsNamed}
 use Rattle.tree_resolves.proofs.Variables.{column_number}
 
-module _ {P Q : Plain} {F : Facts} {pt : PointsTo} {H : Hierarchy} (G : Given P Q F pt H) where
-  columns : AreColumns P Q F
-  columns = columns_are P Q G.placed G.formed F G.facts
+module _ {P : Plain} {F : Facts} {pt : PointsTo} {H : Hierarchy} (G : IsNamed P F pt H) where
+  columns : AreColumns P F
+  columns = columns_are P G.formed F G.facts
 
   -- a node offers a slot under a name
   pub record OffersSlot (n s : ℕ) (x : List ℕ) : Type 0 where
@@ -49,7 +49,7 @@ module _ {P Q : Plain} {F : Facts} {pt : PointsTo} {H : Hierarchy} (G : Given P 
 
   -- the methods of a slot have the name of each of its columns
   pub name_is : (m s c : ℕ) → slot_of_method P m ≡ Some s → is_method (column_kind F c) ≡ true → column_slot F c ≡ Some s
-      → (R P Q F H).method_name m ≡ member_name H c
+      → (R P F H).method_name m ≡ member_name H c
   unfolding renaming_of
   name_is m s c e kind slot =
       let d = columns.declared m s e in
@@ -57,9 +57,9 @@ module _ {P Q : Plain} {F : Facts} {pt : PointsTo} {H : Hierarchy} (G : Given P 
       ∙ G.hierarchy.names d.0 c s (ap is_method (columns.kind (column.Dcl m) d.0 d.1)) kind (columns.slot (column.Dcl m) d.0 d.1 ∙ e) slot
 
   -- the body of a column
-  pub body_offers : (n c m s : ℕ) → is_live H.order n ≡ true → slice_get (items P Q F H) c ≡ Some (column.Def m) → stands_at H n c ≡ true
+  pub body_offers : (n c m s : ℕ) → is_live H.order n ≡ true → slice_get (items P F H) c ≡ Some (column.Def m) → stands_at H n c ≡ true
       → slot_of_method P m ≡ Some s
-      → OffersSlot n s ((R P Q F H).method_name m)
+      → OffersSlot n s ((R P F H).method_name m)
   body_offers n c m s live e at slot =
       let number = column_number G c (column.Def m) e in
       let kind = ap is_method (columns.kind (column.Def m) c number) in

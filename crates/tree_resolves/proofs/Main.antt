@@ -24,13 +24,13 @@ use Rattle.tree_rebuilds.proofs.Outlined.{methods_each, declared_has, member_met
 use Rattle.tree_rebuilds.proofs.Nodes.{tree, old_tree}
 use Rattle.tree_rebuilds.proofs.Members.{static_method_has}
 use Rattle.tree_resolves.proofs.Origins.{R, old_words}
-use Rattle.tree_resolves.proofs.Modifiers.{Given}
+use Rattle.tree_resolves.specs.Laws.{IsNamed}
 use Rattle.tree_resolves.proofs.Holders.{holder_of, method_there}
 use Rattle.rebuild_looks.proofs.Fields.{method_holder}
 
-module _ {P Q : Plain} {F : Facts} {pt : PointsTo} {H : Hierarchy} (G : Given P Q F pt H) where
+module _ {P : Plain} {F : Facts} {pt : PointsTo} {H : Hierarchy} (G : IsNamed P F pt H) where
   abbrev types : List (List ℕ)
-  types = types_in (tree P Q F H)
+  types = types_in (tree P F H)
 
   abbrev texts : Ty
   texts = record { base = Str; dim = 1 }
@@ -44,36 +44,36 @@ module _ {P Q : Plain} {F : Facts} {pt : PointsTo} {H : Hierarchy} (G : Given P 
   head_is a b us vs h = (cc, cc)
 
   params_mean : (m : ℕ) (k : PlainMethod) (n : ℕ) (vs : List PlainLocal) → types_of vs ≡ texts ∷ []
-      → types_of (map (param_outline types) (each (λ i v. param P (R P Q F H) H m k i v ∷ []) n vs)) ≡ texts ∷ []
+      → types_of (map (param_outline types) (each (λ i v. param P (R P F H) H m k i v ∷ []) n vs)) ≡ texts ∷ []
   params_mean m k n [] e = absurd (cc e)
   params_mean m k n (v ∷ []) e =
-      ap (λ t. type_meant types (written_type P H ((R P Q F H).row_type (variable_row m k n)) t) ∷ []) (head_is v.ty texts [] [] e).0
-      ∙ ap (λ t. t ∷ []) (text_means ((R P Q F H).row_type (variable_row m k n)))
+      ap (λ t. type_meant types (written_type P H ((R P F H).row_type (variable_row m k n)) t) ∷ []) (head_is v.ty texts [] [] e).0
+      ∙ ap (λ t. t ∷ []) (text_means ((R P F H).row_type (variable_row m k n)))
   params_mean m k n (v ∷ (w ∷ vs)) e = absurd (cc (head_is v.ty texts (types_of (w ∷ vs)) [] e).1)
 
-  pub has_main : (g : ℕ) × (new : PlainMethod) × (slice_get (outline (tree P Q F H)).methods g ≡ Some new) × IsMain new
+  pub has_main : (g : ℕ) × (new : PlainMethod) × (slice_get (outline (tree P F H)).methods g ≡ Some new) × IsMain new
   has_main =
       let d = P.main in
       let old = G.formed.main in
       let is = G.formed.main_is in
       let e = G.formed.main_stands in
       let h = holder_of G old.owner (method_holder P d old e is.static) in
-      let t : MemberTree = MethodTree (head P (R P Q F H) H (old_words P Q F H) old.name d old) (body P (R P Q F H) H d old) nowhere in
+      let t : MemberTree = MethodTree (head P (R P F H) H (old_words P F H) old.name d old) (body P (R P F H) H d old) nowhere in
       let x : MethodAt = record {
         owner = suc h.index;
         kind = kinds.Method;
         in_abstract = false;
-        head = head P (R P Q F H) H (old_words P Q F H) old.name d old;
-        body = body P (R P Q F H) H d old;
+        head = head P (R P F H) H (old_words P F H) old.name d old;
+        body = body P (R P F H) H d old;
       } in
       let mine = and_from old.is_static (old.owner == old.owner) is.static (eq-eqb old.owner old.owner refl) in
-      let y : Contains (static_method_member P (R P Q F H) H old.owner d old) t = when_has (old.is_static && (old.owner == old.owner)) (t ∷ []) t mine
+      let y : Contains (static_method_member P (R P F H) H old.owner d old) t = when_has (old.is_static && (old.owner == old.owner)) (t ∷ []) t mine
       (first t []) in
-      let c : Contains (methods_declared (suc h.index) (old_tree P Q F H old.owner h.class)) x =
-      member_method_has (suc h.index) false (holder_members P (R P Q F H) H old.owner) x t (static_method_has P (R P Q F H) H old.owner d old t e y)
+      let c : Contains (methods_declared (suc h.index) (old_tree P F H old.owner h.class)) x =
+      member_method_has (suc h.index) false (holder_members P (R P F H) H old.owner) x t (static_method_has P (R P F H) H old.owner d old t e y)
       (first x []) in
-      let z = method_there G x (declared_has methods_declared 1 (tree P Q F H) (methods_each 1 (tree P Q F H)) x h.index (suc h.index)
-      (old_tree P Q F H old.owner h.class) h.stands (omega arith) c) in (
+      let z = method_there G x (declared_has methods_declared 1 (tree P F H) (methods_each 1 (tree P F H)) x h.index (suc h.index)
+      (old_tree P F H old.owner h.class) h.stands (omega arith) c) in (
         z.0,
         method_outline types x,
         z.1,
@@ -81,6 +81,6 @@ module _ {P Q : Plain} {F : Facts} {pt : PointsTo} {H : Hierarchy} (G : Given P 
           static = refl;
           name = is.name;
           params = params_mean d old 0 old.params is.params;
-          result = ap (λ o. option_map (type_meant types) (option_map (written_type P H ((R P Q F H).row_type (result_in old.slot d))) o)) is.result;
+          result = ap (λ o. option_map (type_meant types) (option_map (written_type P H ((R P F H).row_type (result_in old.slot d))) o)) is.result;
         },
       )

@@ -9,18 +9,13 @@ use Rattle.kaba_base.proofs.TestLemmas.{none_of}
 use Rattle.java_tree.specs.declared.Modifier.{Modifier}
 use Rattle.java_tree.specs.Syntax.{HeadTree, DeclTree}
 use Rattle.java_core.specs.Programs.{Plain, PlainMethod}
-use Rattle.java_core.specs.Formed.{IsFormed}
 use Rattle.fact_model.specs.declared.facts.Facts.{Facts}
 use Rattle.fact_model.specs.declared.sets.PointsTo.{PointsTo}
-use Rattle.hier_model.specs.Hierarchies.{Hierarchy, IsHierarchyOf, is_class_node}
-use Rattle.hier_rules.specs.First.{first_broken}
-use Rattle.java_core.specs.Untagged.{untagged}
+use Rattle.hier_model.specs.Hierarchies.{Hierarchy, is_class_node}
 use Rattle.flow_rules.specs.declared.items.ColumnItem.{ColumnItem}
 use Rattle.flow_rules.specs.declared.items.ColumnItem.TheVariants as column
 use Rattle.flow_rules.specs.Numbered.{columns_of}
-use Rattle.flow_rules.specs.Facts.{IsFactsOf, AreNamesOf}
 use Rattle.flow_rules.proofs.Listed.{at_contains, map_at}
-use Rattle.facts_order.proofs.Pairs.{IsPlaced}
 use Rattle.facts_order.proofs.Columns.{Stands as IsOfText, for_field, for_declaration, for_body, for_mark, column_stands}
 use Rattle.name_rules.specs.declared.parts.Kind.{Kind}
 use Rattle.name_rules.specs.declared.parts.Kind.TheVariants as kinds
@@ -32,17 +27,8 @@ use Rattle.written_tree.specs.Bodies.{written_sts}
 use Rattle.written_tree.specs.Members.{parameters}
 use Rattle.written_tree.specs.Written.{class_modifiers, type_tree}
 use Rattle.tree_rebuilds.proofs.Nodes.{items, tree, Declares, a_node, a_holder, declares}
+use Rattle.tree_resolves.specs.Laws.{IsNamed}
 use Rattle.tree_resolves.proofs.Origins.{R, HasMethod, node_body, node_head, node_filler, interface_head, static_method, HasField, node_field, static_field, method_origin, field_origin}
-
--- what the tree rests on: a formed program with its facts, and a hierarchy that breaks no obligation
-pub record Given (P Q : Plain) (F : Facts) (pt : PointsTo) (H : Hierarchy) : Type 0 where
-  pub formed : IsFormed P
-  pub placed : IsPlaced P Q
-  pub same : untagged Q ≡ P
-  pub facts : IsFactsOf P Q F
-  pub words : AreNamesOf Q F
-  pub hierarchy : IsHierarchyOf F H
-  pub unbroken : first_broken F pt H ≡ None
 
 pub record Fits (kind : Kind) (mods : List Modifier) : Type 0 where
   pub apart : (i j : ℕ) (a b : Modifier) → slice_get mods i ≡ Some a → slice_get mods j ≡ Some b → i < j → disagree a.word b.word ≡ false
@@ -114,18 +100,17 @@ head_body x kind plain (missing p q r) = absurd (cc (p, kind))
 head_body x kind plain (superfluous p q) = false≢true (sym plain ∙ p)
 head_body x kind plain (in_concrete p q) = false≢true (sym plain ∙ p)
 
-module _ {P Q : Plain} {F : Facts} {pt : PointsTo} {H : Hierarchy} (G : Given P Q F pt H) where
+module _ {P : Plain} {F : Facts} {pt : PointsTo} {H : Hierarchy} (G : IsNamed P F pt H) where
   -- the body of a column is there
-  pub body_there : (c m : ℕ) (k : PlainMethod) → slice_get (items P Q F H) c ≡ Some (column.Def m) → slice_get P.methods m ≡ Some k
+  pub body_there : (c m : ℕ) (k : PlainMethod) → slice_get (items P F H) c ≡ Some (column.Def m) → slice_get P.methods m ≡ Some k
       → (is_some k.body ≡ true) × (k.is_static ≡ false)
-  body_there c m k e at = let z = map_at (λ c. c.item) (columns_of P Q) c (column.Def m) e in go z.0.item (column_stands P Q c z.0 z.1) z.2
+  body_there c m k e at = let z = map_at (λ c. c.item) (columns_of P) c (column.Def m) e in go z.0.item (column_stands P c z.0 z.1) z.2
     where
-      go : (i : ColumnItem) → IsOfText Q i → i ≡ column.Def m → (is_some k.body ≡ true) × (k.is_static ≡ false)
+      go : (i : ColumnItem) → IsOfText P i → i ≡ column.Def m → (is_some k.body ≡ true) × (k.is_static ≡ false)
       go _ (for_body g h d s b) same =
-          let w = G.placed.methods g h d in
-          let one : g ≡ m = cc (same) in
-          let plain : w.plain ≡ k = same_Some _ _ (sym w.stands ∙ ap (slice_get P.methods) one ∙ at) in
-          (ap (λ (y : PlainMethod). is_some y.body) (sym plain) ∙ w.bodied ∙ b, ap (λ (y : PlainMethod). y.is_static) (sym plain) ∙ w.static ∙ s)
+          let one : g ≡ m = cc same in
+          let plain : h ≡ k = same_Some _ _ (sym d ∙ ap (slice_get P.methods) one ∙ at) in
+          (ap (λ (y : PlainMethod). is_some y.body) (sym plain) ∙ b, ap (λ (y : PlainMethod). y.is_static) (sym plain) ∙ s)
       go _ (for_field g h d s) same = absurd (cc same)
       go _ (for_declaration g h d s) same = absurd (cc same)
       go _ (for_mark g) same = absurd (cc same)
@@ -134,10 +119,10 @@ module _ {P Q : Plain} {F : Facts} {pt : PointsTo} {H : Hierarchy} (G : Given P 
   static_body m old e s =
       ⊎_elim (λ h. h) (λ h. absurd (false≢true (sym ((G.formed.methods m old e).bodyless (none_of old.body h)).0 ∙ s))) (cases_Bool (is_some old.body))
 
-  sound : (x : MethodAt) → HasMethod P Q F H x → IsSound x
+  sound : (x : MethodAt) → HasMethod P F H x → IsSound x
   sound x (node_body n i c m k a e at o) = record {
     modifiers = fits_one kinds.Method (modifier Public) refl;
-    body = right_body x refl (mapped (written_sts P (R P Q F H) H m k (parameters 0 k.params)) k.body ∙ (body_there c m k e o).0);
+    body = right_body x refl (mapped (written_sts P (R P F H) H m k (parameters 0 k.params)) k.body ∙ (body_there c m k e o).0);
     open_to_all = refl;
   }
   sound x (node_head n i h a t) =
@@ -164,31 +149,31 @@ module _ {P Q : Plain} {F : Facts} {pt : PointsTo} {H : Hierarchy} (G : Given P 
       }
   sound x (static_method c i m k old a e s o) = record {
     modifiers = fits_two kinds.Method (modifier Public) (modifier Static) refl refl refl;
-    body = right_body x refl (mapped (written_sts P (R P Q F H) H m old (parameters 0 old.params)) old.body ∙ static_body m old e s);
+    body = right_body x refl (mapped (written_sts P (R P F H) H m old (parameters 0 old.params)) old.body ∙ static_body m old e s);
     open_to_all = refl;
   }
 
-  pub method_sound : (x : MethodAt) → Contains (methods_in (tree P Q F H)) x → IsSound x
-  method_sound x c = sound x (method_origin P Q F H x c)
+  pub method_sound : (x : MethodAt) → Contains (methods_in (tree P F H)) x → IsSound x
+  method_sound x c = sound x (method_origin P F H x c)
 
   made_fits : (made : Bool) → Fits kinds.Class (class_modifiers made)
   made_fits true = fits_none kinds.Class
   made_fits false = fits_one kinds.Class (modifier Abstract) refl
 
-  type_fits : (b : Bool) (n : ℕ) → Fits (kind_of (type_tree P (R P Q F H) F H (items P Q F H) b n))
-      (mods_of (type_tree P (R P Q F H) F H (items P Q F H) b n))
+  type_fits : (b : Bool) (n : ℕ) → Fits (kind_of (type_tree P (R P F H) F H (items P F H) b n))
+      (mods_of (type_tree P (R P F H) F H (items P F H) b n))
   type_fits true n = made_fits (is_made_at F H n)
   type_fits false n = fits_none kinds.Interface
 
-  declared_fits : (d : DeclTree) → Declares P Q F H d → Fits (kind_of d) (mods_of d)
+  declared_fits : (d : DeclTree) → Declares P F H d → Fits (kind_of d) (mods_of d)
   declared_fits _ (a_node n live) = type_fits (is_class_node F H n) n
   declared_fits _ (a_holder c k e h) = fits_none kinds.Class
 
-  field_fits : (x : FieldAt) → HasField P Q F H x → Fits kinds.Field x.mods
+  field_fits : (x : FieldAt) → HasField P F H x → Fits kinds.Field x.mods
   field_fits _ (node_field n i c f k a e at o) = fits_none kinds.Field
   field_fits _ (static_field c i f k old a e s o) = fits_two kinds.Field (modifier Public) (modifier Static) refl refl refl
 
-  pub modifiers_fit : (kind : Kind) (mods : List Modifier) → HasModifiers (tree P Q F H) kind mods → Fits kind mods
-  modifiers_fit _ _ (of_type {d = d} c) = let z = at_contains (tree P Q F H) d c in declared_fits d (declares P Q F H z.0 d z.1)
-  modifiers_fit _ _ (of_field {f = f} c) = field_fits f (field_origin P Q F H f c)
+  pub modifiers_fit : (kind : Kind) (mods : List Modifier) → HasModifiers (tree P F H) kind mods → Fits kind mods
+  modifiers_fit _ _ (of_type {d = d} c) = let z = at_contains (tree P F H) d c in declared_fits d (declares P F H z.0 d z.1)
+  modifiers_fit _ _ (of_field {f = f} c) = field_fits f (field_origin P F H f c)
   modifiers_fit _ _ (of_method {m = m} c) = (method_sound m c).modifiers

@@ -31,25 +31,25 @@ pub record Written : Type 0 where
   pub types : List (List ℕ)
   pub program : Plain
 
-abbrev pub written : Plain → Plain → Facts → Hierarchy → Written
-written P Q F H = record { trees = tree P Q F H; types = types_in (tree P Q F H); program = outline.outline (tree P Q F H) }
+abbrev pub written : Plain → Facts → Hierarchy → Written
+written P F H = record { trees = tree P F H; types = types_in (tree P F H); program = outline.outline (tree P F H) }
 
-module _ (P Q : Plain) (F : Facts) (H : Hierarchy) where
+module _ (P : Plain) (F : Facts) (H : Hierarchy) where
   abbrev pub R : Renaming
-  R = by_node P Q F H
+  R = by_node P F H
 
   abbrev pub old_words : List Modifier
   old_words = modifier Public ∷ modifier Static ∷ []
 
   -- the number i is that of the node n's type in the tree, and of a class or of an interface
   pub record IsNodeAt (class : Bool) (n i : ℕ) : Type 0 where
-    pub stands : slice_get (tree P Q F H) i ≡ Some (node_tree P Q F H n)
+    pub stands : slice_get (tree P F H) i ≡ Some (node_tree P F H n)
     pub live : is_live H.order n ≡ true
     pub kind : is_class_node F H n ≡ class
 
   -- and that of the holder of a class
   pub record IsHolderAt (c i : ℕ) (k : PlainClass) : Type 0 where
-    pub stands : slice_get (tree P Q F H) i ≡ Some (old_tree P Q F H c k)
+    pub stands : slice_get (tree P F H) i ≡ Some (old_tree P F H c k)
     pub class_stands : slice_get P.classes c ≡ Some k
     pub holder : is_holder P c ≡ true
 
@@ -64,7 +64,7 @@ module _ (P Q : Plain) (F : Facts) (H : Hierarchy) where
 
   -- a method of the tree
   pub data HasMethod : MethodAt → Type 0 where
-    node_body : (n i c m : ℕ) (k : PlainMethod) → IsNodeAt true n i → slice_get (items P Q F H) c ≡ Some (column.Def m) → stands_at H n c ≡ true
+    node_body : (n i c m : ℕ) (k : PlainMethod) → IsNodeAt true n i → slice_get (items P F H) c ≡ Some (column.Def m) → stands_at H n c ≡ true
         → slice_get P.methods m ≡ Some k
         → HasMethod (class_method n i (head P R H (modifier Public ∷ []) (R.method_name m) m k) (body P R H m k))
     node_head : (n i : ℕ) (h : HeadTree) → IsNodeAt true n i → IsHeadAt P R F H (in_class P R F H) n h → HasMethod (class_method n i h None)
@@ -78,40 +78,40 @@ module _ (P Q : Plain) (F : Facts) (H : Hierarchy) where
 
   -- a field of the tree
   pub data HasField : FieldAt → Type 0 where
-    node_field : (n i c f : ℕ) (k : PlainField) → IsNodeAt true n i → slice_get (items P Q F H) c ≡ Some (column.Fld f) → stands_at H n c ≡ true
+    node_field : (n i c f : ℕ) (k : PlainField) → IsNodeAt true n i → slice_get (items P F H) c ≡ Some (column.Fld f) → stands_at H n c ≡ true
         → slice_get P.fields f ≡ Some k
         → HasField (record { owner = suc i; mods = []; type = written_type P H (R.row_type (row.Field f)) k.ty; name = R.field_name f; place = nowhere })
     static_field : (c i f : ℕ) (k : PlainClass) (old : PlainField) → IsHolderAt c i k → slice_get P.fields f ≡ Some old → old.is_static ≡ true → old.owner ≡ c
         → HasField (record { owner = suc i; mods = old_words; type = written_type P H (R.row_type (row.Field f)) old.ty; name = old.name; place = nowhere })
 
-  class_method_from : (n i : ℕ) (x : MethodAt) (m : MemberTree) → IsNodeAt true n i → IsMember P R F H (items P Q F H) n m
+  class_method_from : (n i : ℕ) (x : MethodAt) (m : MemberTree) → IsNodeAt true n i → IsMember P R F H (items P F H) n m
       → Contains (outline.method_member (suc i) (has_word is_abstract_word (class_modifiers (is_made_at F H n))) m) x → HasMethod x
   class_method_from n i x _ a (a_field c f k d at o) h = absurd (omega (arith, h.1))
   class_method_from n i x _ a (a_body c m k d at o) h = subst HasMethod (one_from _ x h) (node_body n i c m k a d at o)
   class_method_from n i x _ a (a_head t d) h = subst HasMethod (one_from _ x h) (node_head n i t a d)
   class_method_from n i x _ a (a_filler s t d o) h = subst HasMethod (one_from _ x h) (node_filler n i s t a d o)
 
-  class_field_from : (n i : ℕ) (x : FieldAt) (m : MemberTree) → IsNodeAt true n i → IsMember P R F H (items P Q F H) n m
+  class_field_from : (n i : ℕ) (x : FieldAt) (m : MemberTree) → IsNodeAt true n i → IsMember P R F H (items P F H) n m
       → Contains (outline.field_member (suc i) m) x → HasField x
   class_field_from n i x _ a (a_field c f k d at o) h = subst HasField (one_from _ x h) (node_field n i c f k a d at o)
   class_field_from n i x _ a (a_body c m k d at o) h = absurd (omega (arith, h.1))
   class_field_from n i x _ a (a_head t d) h = absurd (omega (arith, h.1))
   class_field_from n i x _ a (a_filler s t d o) h = absurd (omega (arith, h.1))
 
-  node_method_from : (b : Bool) (n i : ℕ) (x : MethodAt) → IsNodeAt b n i → Contains (methods_declared (suc i) (type_tree P R F H (items P Q F H) b n)) x
+  node_method_from : (b : Bool) (n i : ℕ) (x : MethodAt) → IsNodeAt b n i → Contains (methods_declared (suc i) (type_tree P R F H (items P F H) b n)) x
       → HasMethod x
   node_method_from true n i x a h =
-      let z = member_method_from (suc i) (has_word is_abstract_word (class_modifiers (is_made_at F H n))) (class_members P R F H (items P Q F H) n) x h in
-      class_method_from n i x z.0 a (class_from P R F H (items P Q F H) n z.0 z.1) z.2
+      let z = member_method_from (suc i) (has_word is_abstract_word (class_modifiers (is_made_at F H n))) (class_members P R F H (items P F H) n) x h in
+      class_method_from n i x z.0 a (class_from P R F H (items P F H) n z.0 z.1) z.2
   node_method_from false n i x a h =
       let z = map_from (λ t. record { owner = suc i; kind = kinds.Head; in_abstract = true; head = t; body = None }) (interface_heads P R F H n) x h in
       subst HasMethod z.2 (interface_head n i z.0 a (interface_from P R F H n z.0 z.1))
 
-  node_field_from : (b : Bool) (n i : ℕ) (x : FieldAt) → IsNodeAt b n i → Contains (fields_declared (suc i) (type_tree P R F H (items P Q F H) b n)) x
+  node_field_from : (b : Bool) (n i : ℕ) (x : FieldAt) → IsNodeAt b n i → Contains (fields_declared (suc i) (type_tree P R F H (items P F H) b n)) x
       → HasField x
   node_field_from true n i x a h =
-      let z = member_field_from (suc i) (class_members P R F H (items P Q F H) n) x h in class_field_from n i x z.0 a
-      (class_from P R F H (items P Q F H) n z.0 z.1) z.2
+      let z = member_field_from (suc i) (class_members P R F H (items P F H) n) x h in class_field_from n i x z.0 a
+      (class_from P R F H (items P F H) n z.0 z.1) z.2
   node_field_from false n i x a h = absurd (omega (arith, h.1))
 
   old_method_from : (c i : ℕ) (k : PlainClass) (x : MethodAt) (m : MemberTree) → IsHolderAt c i k → IsStatic P R H c m
@@ -136,26 +136,26 @@ module _ (P Q : Plain) (F : Facts) (H : Hierarchy) where
       let w = when_from (old.is_static && (old.owner == c)) _ m y in
       absurd (omega (arith, (subst (λ v. Contains (outline.field_member (suc i) v) x) (sym (one_from _ m w.1)) z).1))
 
-  declared_method : (i : ℕ) (d : _) (x : MethodAt) → slice_get (tree P Q F H) i ≡ Some d → Declares P Q F H d → Contains (methods_declared (suc i) d) x
+  declared_method : (i : ℕ) (d : _) (x : MethodAt) → slice_get (tree P F H) i ≡ Some d → Declares P F H d → Contains (methods_declared (suc i) d) x
       → HasMethod x
   declared_method i _ x e (a_node n live) h = node_method_from (is_class_node F H n) n i x (record { stands = e; live = live; kind = refl }) h
   declared_method i _ x e (a_holder c k d holder) h =
       let z = member_method_from (suc i) false (holder_members P R H c) x h in
       old_method_from c i k x z.0 (record { stands = e; class_stands = d; holder = holder }) (holder_from P R H c z.0 z.1) z.2
 
-  declared_field : (i : ℕ) (d : _) (x : FieldAt) → slice_get (tree P Q F H) i ≡ Some d → Declares P Q F H d → Contains (fields_declared (suc i) d) x
+  declared_field : (i : ℕ) (d : _) (x : FieldAt) → slice_get (tree P F H) i ≡ Some d → Declares P F H d → Contains (fields_declared (suc i) d) x
       → HasField x
   declared_field i _ x e (a_node n live) h = node_field_from (is_class_node F H n) n i x (record { stands = e; live = live; kind = refl }) h
   declared_field i _ x e (a_holder c k d holder) h =
       let z = member_field_from (suc i) (holder_members P R H c) x h in
       old_field_from c i k x z.0 (record { stands = e; class_stands = d; holder = holder }) (holder_from P R H c z.0 z.1) z.2
 
-  pub method_origin : (x : MethodAt) → Contains (methods_in (tree P Q F H)) x → HasMethod x
+  pub method_origin : (x : MethodAt) → Contains (methods_in (tree P F H)) x → HasMethod x
   method_origin x c =
-      let z = declared_from methods_declared 1 (tree P Q F H) (methods_each 1 (tree P Q F H)) x refl c in
-      declared_method z.number z.declaration x z.stands (declares P Q F H z.number z.declaration z.stands) z.has
+      let z = declared_from methods_declared 1 (tree P F H) (methods_each 1 (tree P F H)) x refl c in
+      declared_method z.number z.declaration x z.stands (declares P F H z.number z.declaration z.stands) z.has
 
-  pub field_origin : (x : FieldAt) → Contains (fields_in (tree P Q F H)) x → HasField x
+  pub field_origin : (x : FieldAt) → Contains (fields_in (tree P F H)) x → HasField x
   field_origin x c =
-      let z = declared_from fields_declared 1 (tree P Q F H) (fields_each 1 (tree P Q F H)) x refl c in
-      declared_field z.number z.declaration x z.stands (declares P Q F H z.number z.declaration z.stands) z.has
+      let z = declared_from fields_declared 1 (tree P F H) (fields_each 1 (tree P F H)) x refl c in
+      declared_field z.number z.declaration x z.stands (declares P F H z.number z.declaration z.stands) z.has

@@ -36,26 +36,26 @@ use Rattle.tree_rebuilds.proofs.Apart.{no_holder}
 use Rattle.tree_rebuilds.proofs.Nodes.{node_tree, old_tree, tree_name, Declares, a_node, a_holder, declares}
 use Rattle.tree_rebuilds.proofs.Members.{IsHeadTree, IsHeadAt}
 use Rattle.tree_resolves.proofs.Origins.{written, R, IsNodeAt, IsHolderAt, HasMethod, node_body, node_head, node_filler, interface_head, static_method, method_origin}
-use Rattle.tree_resolves.proofs.Modifiers.{Given}
+use Rattle.tree_resolves.specs.Laws.{IsNamed}
 use Rattle.tree_resolves.proofs.Variables.{column_number}
 use Rattle.tree_resolves.proofs.Supers.{IsNumber, above_object, above_node, same_node, supers_are}
 use Rattle.tree_resolves.proofs.Instances.{OffersSlot, one_slot, offered_there, name_is, body_offers}
 use Rattle.tree_resolves.proofs.AtNodes.{slot_first, filler_offers, declaration_kind}
 use Rattle.tree_resolves.proofs.Separate.{methods_are_apart}
 
-module _ {P Q : Plain} {F : Facts} {pt : PointsTo} {H : Hierarchy} (G : Given P Q F pt H) where
-  open written P Q F H use {trees as T, types, program as O}
+module _ {P : Plain} {F : Facts} {pt : PointsTo} {H : Hierarchy} (G : IsNamed P F pt H) where
+  open written P F H use {trees as T, types, program as O}
 
   -- ---- the types of a method of a slot
 
   abbrev meant : RowItem → Ty → Ty
-  meant i t = type_meant types (written_type P H ((R P Q F H).row_type i) t)
+  meant i t = type_meant types (written_type P H ((R P F H).row_type i) t)
 
   abbrev slot_params : ℕ → ℕ → List Ty → List Ty
   slot_params s n ts = each (λ i t. meant (row.Param s i) t ∷ []) n ts
 
   abbrev written_params : ℕ → PlainMethod → ℕ → List PlainLocal → List Ty
-  written_params m k n vs = types_of (map (param_outline types) (each (λ i v. param P (R P Q F H) H m k i v ∷ []) n vs))
+  written_params m k n vs = types_of (map (param_outline types) (each (λ i v. param P (R P F H) H m k i v ∷ []) n vs))
 
   slot_param : (m s j : ℕ) (k : PlainMethod) → k.slot ≡ Some s → j < length k.params → variable_row m k j ≡ row.Param s j
   slot_param m s j k e h = ap (λ z. variable_in z (nat_lt j (length k.params)) m j) e ∙ ap (λ b. variable_in (Some s) b m j) (lt-ltb j (length k.params) h)
@@ -90,7 +90,7 @@ module _ {P Q : Plain} {F : Facts} {pt : PointsTo} {H : Hierarchy} (G : Given P 
   two_maps f g (Some t) h = ap Some (h t)
 
   head_types : (mods : List Modifier) (name : List ℕ) (m s : ℕ) (k : PlainMethod) → slice_get P.methods m ≡ Some k → k.slot ≡ Some s
-      → HasTypes s (head P (R P Q F H) H mods name m k)
+      → HasTypes s (head P (R P F H) H mods name m k)
   head_types mods name m s k e d =
       let sig = ((G.formed.methods m k e).slots s).0 d in
       record {
@@ -98,25 +98,25 @@ module _ {P Q : Plain} {F : Facts} {pt : PointsTo} {H : Hierarchy} (G : Given P 
         stands = sig.stands;
         params = params_from_slot m s k 0 k.params (λ i j v u h. slot_param m s j k d (let lt = slice_get_within k.params i v h in omega (arith, u, lt)))
             ∙ ap (slot_params s 0) sig.params;
-        result = two_maps (written_type P H ((R P Q F H).row_type (result_in k.slot m))) (meant (row.Return s)) k.result
+        result = two_maps (written_type P H ((R P F H).row_type (result_in k.slot m))) (meant (row.Return s)) k.result
             (λ t. ap (λ o. meant (result_in o m) t) d)
             ∙ ap (option_map (meant (row.Return s))) sig.result;
       }
 
-  first_types : (mods : List Modifier) (s : ℕ) (h : HeadTree) → IsHeadTree P (R P Q F H) F H mods s h → HasTypes s h
+  first_types : (mods : List Modifier) (s : ℕ) (h : HeadTree) → IsHeadTree P (R P F H) F H mods s h → HasTypes s h
   first_types mods s h t =
       let z = G.formed.slots s t.signature t.slot_stands in
       let one : z.method ≡ t.first = same_Some _ _ (sym z.stands ∙ t.first_stands) in
       subst (HasTypes s) t.is
-      (head_types mods ((R P Q F H).method_name t.signature.first) t.signature.first s t.first t.first_stands
+      (head_types mods ((R P F H).method_name t.signature.first) t.signature.first s t.first t.first_stands
       (ap (λ (y : PlainMethod). y.slot) (sym one) ∙ z.of))
 
   -- ---- what each method of the tree is
 
-  columns : AreColumns P Q F
-  columns = columns_are P Q G.placed G.formed F G.facts
+  columns : AreColumns P F
+  columns = columns_are P G.formed F G.facts
 
-  head_offers : (mods : List Modifier) (n : ℕ) (h : HeadTree) → is_live H.order n ≡ true → (a : IsHeadAt P (R P Q F H) F H mods n h)
+  head_offers : (mods : List Modifier) (n : ℕ) (h : HeadTree) → is_live H.order n ≡ true → (a : IsHeadAt P (R P F H) F H mods n h)
       → OffersSlot G n a.slot h.name
   head_offers mods n h live a =
       let info = index_at F.columns.items a.number (record { kind = kind.Is; class = record { 0 = 0 }; slot = None; name = []; label = [] }) a.info
@@ -133,21 +133,21 @@ module _ {P Q : Plain} {F : Facts} {pt : PointsTo} {H : Hierarchy} (G : Given P 
             (slot_first G a.slot a.tree.signature a.tree.slot_stands) method slotted;
       }
 
-  numbered : (b : Bool) (n i : ℕ) → IsNodeAt P Q F H b n i → IsNumber G (suc i) n
+  numbered : (b : Bool) (n i : ℕ) → IsNodeAt P F H b n i → IsNumber G (suc i) n
   numbered b n i a = record { number = i; is = refl; stands = a.stands; live = a.live }
 
   abbrev IsOld : MethodAt → Type 0
-  IsOld x = (c : ℕ) × (i : ℕ) × (k : PlainClass) × IsHolderAt P Q F H c i k × (x.owner ≡ suc i)
+  IsOld x = (c : ℕ) × (i : ℕ) × (k : PlainClass) × IsHolderAt P F H c i k × (x.owner ≡ suc i)
 
   of_types : (x : MethodAt) (n s : ℕ) → IsNumber G x.owner n → OffersSlot G n s x.head.name → is_static x ≡ false → HasTypes s x.head → IsOfSlot x
   of_types x n s at offers instance t = record { node = n; slot = s; at = at; offers = offers; instance = instance; types = t }
 
-  found : (x : MethodAt) → HasMethod P Q F H x → IsOfSlot x ⊎ IsOld x
+  found : (x : MethodAt) → HasMethod P F H x → IsOfSlot x ⊎ IsOld x
   found x (node_body n i c m k a e at o) =
       let number = column_number G c (column.Def m) e in
       let s = columns.slotted (column.Def m) c number refl in
       inl (of_types _ n s.0 (numbered true n i a) (body_offers G n c m s.0 a.live e at s.1) refl
-      (head_types _ ((R P Q F H).method_name m) m s.0 k o (sym (ap (option_and_then (λ (z : PlainMethod). z.slot)) o) ∙ s.1)))
+      (head_types _ ((R P F H).method_name m) m s.0 k o (sym (ap (option_and_then (λ (z : PlainMethod). z.slot)) o) ∙ s.1)))
   found x (node_head n i h a d) = inl (of_types _ n d.slot (numbered true n i a) (head_offers _ n h a.live d)
       (ap (λ (y : HeadTree). has_word is_static_word y.mods) (sym d.tree.is)) (first_types _ d.slot h d.tree))
   found x (node_filler n i s h a f d) = inl (of_types _ n s (numbered true n i a)
@@ -160,8 +160,8 @@ module _ {P Q : Plain} {F : Facts} {pt : PointsTo} {H : Hierarchy} (G : Given P 
   -- ---- at and above a type
 
   owner_there : (x : MethodAt) → IsOfSlot x ⊎ IsOld x → (i : ℕ) × (d : DeclTree) × (x.owner ≡ suc i) × (slice_get T i ≡ Some d)
-  owner_there x (inl s) = (s.at.number, node_tree P Q F H s.node, s.at.is, s.at.stands)
-  owner_there x (inr o) = (o.1, old_tree P Q F H o.0 o.2, o.4, o.3.stands)
+  owner_there x (inl s) = (s.at.number, node_tree P F H s.node, s.at.is, s.at.stands)
+  owner_there x (inr o) = (o.1, old_tree P F H o.0 o.2, o.4, o.3.stands)
 
   class_from : (i : ℕ) (w : PlainClass) → slice_get O.classes (suc i) ≡ Some w → (d : DeclTree) × (slice_get T i ≡ Some d)
   unfolding outline
@@ -190,10 +190,10 @@ module _ {P Q : Plain} {F : Facts} {pt : PointsTo} {H : Hierarchy} (G : Given P 
       by_number (suc i) p = by_class i (slice_get O.classes (suc i)) p refl
 
   -- above a holder is Object alone
-  above_holder : (c y i h : ℕ) (k : PlainClass) → IsSubclass O c y → c ≡ suc i → slice_get T i ≡ Some (old_tree P Q F H h k) → (y ≡ 0 → ⊥) → y ≡ c
+  above_holder : (c y i h : ℕ) (k : PlainClass) → IsSubclass O c y → c ≡ suc i → slice_get T i ≡ Some (old_tree P F H h k) → (y ≡ 0 → ⊥) → y ≡ c
   above_holder c _ i h k same_class e t n = refl
   above_holder c y i h k (through {c = w} a b) e t n =
-      let d = subst (λ z. Contains z w) (ap (supers_of O) e ∙ supers_are G i (old_tree P Q F H h k) t) a in
+      let d = subst (λ z. Contains z w) (ap (supers_of O) e ∙ supers_are G i (old_tree P F H h k) t) a in
       absurd (n (above_object G w.0 y b (ap (λ (x : ClassId). x.0) (sym (one_from _ w d)))))
 
   lifted : (n m s : ℕ) (x : List ℕ) → is_le H.order n m ≡ true → OffersSlot G m s x → OffersSlot G n s x
@@ -206,9 +206,9 @@ module _ {P Q : Plain} {F : Facts} {pt : PointsTo} {H : Hierarchy} (G : Given P 
   no_old : (x : MethodAt) (m : ℕ) → IsNumber G x.owner m → IsOld x → ⊥
   no_old x m a o =
       let e = suc_same a.number o.1 (sym a.is ∙ o.4) in
-      let one : node_tree P Q F H m ≡ old_tree P Q F H o.0 o.2 = same_Some _ _ (sym a.stands ∙ ap (slice_get T) e ∙ o.3.stands) in
-      no_holder F pt H G.unbroken P Q G.placed G.facts m o.0 o.2 a.live o.3.holder o.3.class_stands
-      (sym (tree_name P Q F H (is_class_node F H m) m) ∙ ap name_of one)
+      let one : node_tree P F H m ≡ old_tree P F H o.0 o.2 = same_Some _ _ (sym a.stands ∙ ap (slice_get T) e ∙ o.3.stands) in
+      no_holder F pt H G.unbroken P G.facts m o.0 o.2 a.live o.3.holder o.3.class_stands
+      (sym (tree_name P F H (is_class_node F H m) m) ∙ ap name_of one)
     where
       suc_same : (i j : ℕ) → suc i ≡ suc j → i ≡ j
       suc_same i j e = omega (arith, e)
@@ -239,7 +239,7 @@ module _ {P Q : Plain} {F : Facts} {pt : PointsTo} {H : Hierarchy} (G : Given P 
 
   in_type : (i j c r : ℕ) (x y : MethodAt) (d : DeclTree) → slice_get (methods_in T) i ≡ Some x → slice_get (methods_in T) j ≡ Some y → i < j
       → x.head.name ≡ y.head.name → IsSubclass O c x.owner → IsSubclass O c y.owner → IsOfSlot x ⊎ IsOld x → IsOfSlot y ⊎ IsOld y
-      → c ≡ suc r → slice_get T r ≡ Some d → Declares P Q F H d → AreOneSlot (method_outline types x) (method_outline types y)
+      → c ≡ suc r → slice_get T r ≡ Some d → Declares P F H d → AreOneSlot (method_outline types x) (method_outline types y)
   in_type i j c r x y _ p q lt e a b u v is at (a_node n live) =
       let number : IsNumber G c n = record { number = r; is = is; stands = at; live = live } in
       let s = in_node c n x number a u in
@@ -255,11 +255,11 @@ module _ {P Q : Plain} {F : Facts} {pt : PointsTo} {H : Hierarchy} (G : Given P 
   at_methods : (i j c : ℕ) (x y : MethodAt) → slice_get (methods_in T) i ≡ Some x → slice_get (methods_in T) j ≡ Some y → i < j
       → x.head.name ≡ y.head.name → IsSubclass O c x.owner → IsSubclass O c y.owner → AreOneSlot (method_outline types x) (method_outline types y)
   at_methods i j c x y p q lt e a b =
-      let u = found x (method_origin P Q F H x (contains_at (methods_in T) i x p)) in
-      let v = found y (method_origin P Q F H y (contains_at (methods_in T) j y q)) in
+      let u = found x (method_origin P F H x (contains_at (methods_in T) i x p)) in
+      let v = found y (method_origin P F H y (contains_at (methods_in T) j y q)) in
       let w = owner_there x u in
       let z = there c x.owner w.0 w.1 a w.2 w.3 in
-      in_type i j c z.0 x y z.1 p q lt e a b u v z.2 z.3 (declares P Q F H z.0 z.1 z.3)
+      in_type i j c z.0 x y z.1 p q lt e a b u v z.2 z.3 (declares P F H z.0 z.1 z.3)
 
   outlined : (i : ℕ) (h : PlainMethod) → slice_get O.methods i ≡ Some h → (x : MethodAt) × (slice_get (methods_in T) i ≡ Some x) ×
       (method_outline types x ≡ h)

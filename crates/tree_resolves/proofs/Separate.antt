@@ -17,7 +17,7 @@ use Rattle.written_tree.specs.Members.{head, body, static_field_member, static_m
 use Rattle.written_tree.specs.Written.{type_tree}
 use Rattle.tree_rebuilds.proofs.Nodes.{items, tree, Declares, a_node, a_holder, declares}
 use Rattle.tree_resolves.proofs.Origins.{R, old_words}
-use Rattle.tree_resolves.proofs.Modifiers.{Given}
+use Rattle.tree_resolves.specs.Laws.{IsNamed}
 use Rattle.tree_resolves.proofs.Once.{Once, once_at, append_once, when_once}
 use Rattle.tree_resolves.proofs.Declared.{SameMember, SameField, SameMethod, MembersApart, fields_apart, methods_apart}
 use Rattle.tree_resolves.proofs.AtNodes.{all_once, class_once, interface_once}
@@ -34,57 +34,57 @@ two c f g s t o r u v x y a b e lt same =
     let owner : o ≡ r = eqb-true o c (and_parts s (o == c) m.0).1 ∙ sym (eqb-true r c (and_parts t (r == c) n.0).1) in
     omega (arith, lt, same owner (same_from x y u v (one_from _ x m.1) (one_from _ y n.1) e))
 
-module _ {P Q : Plain} {F : Facts} {pt : PointsTo} {H : Hierarchy} (G : Given P Q F pt H) where
+module _ {P : Plain} {F : Facts} {pt : PointsTo} {H : Hierarchy} (G : IsNamed P F pt H) where
   abbrev T : List DeclTree
-  T = tree P Q F H
+  T = tree P F H
 
   abbrev old_field : ℕ → PlainField → MemberTree
-  old_field f k = FieldTree (old_words P Q F H) (written_type P H ((R P Q F H).row_type (row.Field f)) k.ty) k.name nowhere
+  old_field f k = FieldTree (old_words P F H) (written_type P H ((R P F H).row_type (row.Field f)) k.ty) k.name nowhere
 
   abbrev old_method : ℕ → PlainMethod → MemberTree
-  old_method m k = MethodTree (head P (R P Q F H) H (old_words P Q F H) k.name m k) (body P (R P Q F H) H m k) nowhere
+  old_method m k = MethodTree (head P (R P F H) H (old_words P F H) k.name m k) (body P (R P F H) H m k) nowhere
 
   two_fields : (c f g : ℕ) (k l : PlainField) (x y : MemberTree) → slice_get P.fields f ≡ Some k → slice_get P.fields g ≡ Some l → f < g
-      → Contains (static_field_member P (R P Q F H) H c f k) x → Contains (static_field_member P (R P Q F H) H c g l) y → SameMember x y → ⊥
+      → Contains (static_field_member P (R P F H) H c f k) x → Contains (static_field_member P (R P F H) H c g l) y → SameMember x y → ⊥
   two_fields c f g k l x y p q lt a b e = two c f g k.is_static l.is_static k.owner l.owner (old_field f k) (old_field g l) x y a b e lt
       (λ owner name. G.formed.field_names f g k l p q owner name)
 
   two_methods : (c m n : ℕ) (k l : PlainMethod) (x y : MemberTree) → slice_get P.methods m ≡ Some k → slice_get P.methods n ≡ Some l → m < n
-      → Contains (static_method_member P (R P Q F H) H c m k) x → Contains (static_method_member P (R P Q F H) H c n l) y → SameMember x y → ⊥
+      → Contains (static_method_member P (R P F H) H c m k) x → Contains (static_method_member P (R P F H) H c n l) y → SameMember x y → ⊥
   two_methods c m n k l x y p q lt a b e = two c m n k.is_static l.is_static k.owner l.owner (old_method m k) (old_method n l) x y a b e lt
       (λ owner name. G.formed.method_names m n k l p q owner name)
 
-  field_method : (c f m : ℕ) (k : PlainField) (l : PlainMethod) (x y : MemberTree) → Contains (static_field_member P (R P Q F H) H c f k) x
-      → Contains (static_method_member P (R P Q F H) H c m l) y → SameMember x y → ⊥
+  field_method : (c f m : ℕ) (k : PlainField) (l : PlainMethod) (x y : MemberTree) → Contains (static_field_member P (R P F H) H c f k) x
+      → Contains (static_method_member P (R P F H) H c m l) y → SameMember x y → ⊥
   field_method c f m k l x y a b e =
       let u = when_from (k.is_static && (k.owner == c)) _ x a in
       let v = when_from (l.is_static && (l.owner == c)) _ y b in
       same_from x y (old_field f k) (old_method m l) (one_from _ x u.1) (one_from _ y v.1) e
 
-  holder_once : (c : ℕ) → Once SameMember (holder_members P (R P Q F H) H c)
+  holder_once : (c : ℕ) → Once SameMember (holder_members P (R P F H) H c)
   holder_once c =
-      append_once SameMember (each (static_field_member P (R P Q F H) H c) 0 P.fields) (each (static_method_member P (R P Q F H) H c) 0 P.methods)
-      (all_once SameMember (static_field_member P (R P Q F H) H c) P.fields
+      append_once SameMember (each (static_field_member P (R P F H) H c) 0 P.fields) (each (static_method_member P (R P F H) H c) 0 P.methods)
+      (all_once SameMember (static_field_member P (R P F H) H c) P.fields
       (λ f k e. when_once SameMember (k.is_static && (k.owner == c)) _ (λ y d. absurd (let l = d.1 in omega (arith, l)), tt))
       (λ f g k l a b p q lt x y e. two_fields c f g k l a b p q lt x y e))
-      (all_once SameMember (static_method_member P (R P Q F H) H c) P.methods
+      (all_once SameMember (static_method_member P (R P F H) H c) P.methods
       (λ m k e. when_once SameMember (k.is_static && (k.owner == c)) _ (λ y d. absurd (let l = d.1 in omega (arith, l)), tt))
       (λ m n k l a b p q lt x y e. two_methods c m n k l a b p q lt x y e))
       (λ a b x y e.
-      let u = each_from_zero (static_field_member P (R P Q F H) H c) P.fields a x in
-      let v = each_from_zero (static_method_member P (R P Q F H) H c) P.methods b y in
+      let u = each_from_zero (static_field_member P (R P F H) H c) P.fields a x in
+      let v = each_from_zero (static_method_member P (R P F H) H c) P.methods b y in
       field_method c u.0 v.0 u.1 v.1 a b u.3 v.3 e)
 
-  type_apart : (b : Bool) (n : ℕ) → is_live H.order n ≡ true → is_class_node F H n ≡ b → MembersApart (type_tree P (R P Q F H) F H (items P Q F H) b n)
+  type_apart : (b : Bool) (n : ℕ) → is_live H.order n ≡ true → is_class_node F H n ≡ b → MembersApart (type_tree P (R P F H) F H (items P F H) b n)
   type_apart true n live class = class_once G n live class
   type_apart false n live class = interface_once G n live
 
-  declared_apart : (d : DeclTree) → Declares P Q F H d → MembersApart d
+  declared_apart : (d : DeclTree) → Declares P F H d → MembersApart d
   declared_apart _ (a_node n live) = type_apart (is_class_node F H n) n live refl
   declared_apart _ (a_holder c k e h) = holder_once c
 
   pub members_apart : (i : ℕ) (d : DeclTree) → slice_get T i ≡ Some d → MembersApart d
-  members_apart i d e = declared_apart d (declares P Q F H i d e)
+  members_apart i d e = declared_apart d (declares P F H i d e)
 
   pub fields_are_apart : (i j : ℕ) (f g : FieldAt) → slice_get (fields_in T) i ≡ Some f → slice_get (fields_in T) j ≡ Some g → i < j
       → f.owner ≡ g.owner → f.name ≡ g.name → ⊥

@@ -29,7 +29,7 @@ use Rattle.tree_rebuilds.proofs.Order.{cover_from, superclass_from, among_from}
 use Rattle.tree_rebuilds.proofs.Outlined.{named_at}
 use Rattle.tree_rebuilds.proofs.Nodes.{items, node_tree, old_tree, node_at, holder_at, tree_name, Declares, a_node, a_holder, declares}
 use Rattle.tree_rebuilds.proofs.Named.{names_are}
-use Rattle.tree_resolves.proofs.Modifiers.{Given}
+use Rattle.tree_resolves.specs.Laws.{IsNamed}
 use Rattle.tree_resolves.proofs.Origins.{written, R}
 use Rattle.tree_resolves.proofs.Once.{Once, once_at, map_once, filter_once, range_once}
 use Rattle.tree_resolves.proofs.Types.{type_once, type_is_new}
@@ -43,14 +43,14 @@ once_within agree same (x ∷ xs) h o = (
   once_within agree same xs (λ a b c d. h a b (more a x xs c) (more b x xs d)) o.1,
 )
 
-module _ {P Q : Plain} {F : Facts} {pt : PointsTo} {H : Hierarchy} (G : Given P Q F pt H) where
-  open written P Q F H use {trees as T, types, program as O}
+module _ {P : Plain} {F : Facts} {pt : PointsTo} {H : Hierarchy} (G : IsNamed P F pt H) where
+  open written P F H use {trees as T, types, program as O}
 
   abbrev class : ℕ → Bool
   class = is_class_node F H
 
   abbrev shown : Bool → ℕ → DeclTree
-  shown b n = type_tree P (R P Q F H) F H (items P Q F H) b n
+  shown b n = type_tree P (R P F H) F H (items P F H) b n
 
   pub types_are : type_names O ≡ types
   unfolding outline
@@ -77,15 +77,15 @@ module _ {P Q : Plain} {F : Facts} {pt : PointsTo} {H : Hierarchy} (G : Given P 
   pub named : (i : ℕ) (d : DeclTree) → slice_get T i ≡ Some d → class_named O (name_of d) ≡ Some (suc i)
   named i d e = ap (λ z. type_named z (name_of d)) types_are ∙ type_number i d e
 
-  pub node_named : (n : ℕ) → is_live H.order n ≡ true → (i : ℕ) × (slice_get T i ≡ Some (node_tree P Q F H n)) ×
+  pub node_named : (n : ℕ) → is_live H.order n ≡ true → (i : ℕ) × (slice_get T i ≡ Some (node_tree P F H n)) ×
       (class_named O (type_name H n) ≡ Some (suc i))
   node_named n h =
-      let z = node_at P Q F H n h in
-      (z.0, z.1, ap (class_named O) (sym (tree_name P Q F H (class n) n)) ∙ named z.0 (node_tree P Q F H n) z.1)
+      let z = node_at P F H n h in
+      (z.0, z.1, ap (class_named O) (sym (tree_name P F H (class n) n)) ∙ named z.0 (node_tree P F H n) z.1)
 
   pub holder_named : (c : ℕ) (k : PlainClass) → slice_get P.classes c ≡ Some k → is_holder P c ≡ true
-      → (i : ℕ) × (slice_get T i ≡ Some (old_tree P Q F H c k)) × (class_named O k.name ≡ Some (suc i))
-  holder_named c k e h = let z = holder_at P Q F H c k e h in (z.0, z.1, named z.0 (old_tree P Q F H c k) z.1)
+      → (i : ℕ) × (slice_get T i ≡ Some (old_tree P F H c k)) × (class_named O k.name ≡ Some (suc i))
+  holder_named c k e h = let z = holder_at P F H c k e h in (z.0, z.1, named z.0 (old_tree P F H c k) z.1)
 
   pub class_is : (i : ℕ) (d : DeclTree) → slice_get T i ≡ Some d → slice_get O.classes (suc i) ≡ Some (class_outline types d)
   unfolding outline
@@ -129,11 +129,11 @@ module _ {P Q : Plain} {F : Facts} {pt : PointsTo} {H : Hierarchy} (G : Given P 
       let u = cover_from F H G.hierarchy.sized.order pt G.unbroken n z.0 (among_from F H G.hierarchy.sized.order pt G.unbroken test z.0 z.1) in
       record { node = z.0; is = z.2; above = u.above; other = u.other; kind = interface_above n z.0 k u.above }
 
-  pub declared_parent : (d : DeclTree) → Declares P Q F H d → (i : Id) → parent_named d ≡ Some i → (n : ℕ) × IsAbove n i true
+  pub declared_parent : (d : DeclTree) → Declares P F H d → (i : Id) → parent_named d ≡ Some i → (n : ℕ) × IsAbove n i true
   declared_parent _ (a_node n live) i e = (n, parent_is (class n) n i refl e)
   declared_parent _ (a_holder c k h d) i e = absurd (cc e)
 
-  pub declared_face : (d : DeclTree) → Declares P Q F H d → (i : Id) → Contains (faces_named d) i → (n : ℕ) × IsAbove n i false
+  pub declared_face : (d : DeclTree) → Declares P F H d → (i : Id) → Contains (faces_named d) i → (n : ℕ) × IsAbove n i false
   declared_face _ (a_node n live) i c = (n, faces_is (class n) n i refl c)
   declared_face _ (a_holder c k h d) i e = absurd (omega (arith, e.1))
 
@@ -143,8 +143,8 @@ module _ {P Q : Plain} {F : Facts} {pt : PointsTo} {H : Hierarchy} (G : Given P 
   above_type n i b a c k e at =
       let z = node_named a.node (live_above n i b a) in
       let number : suc z.0 ≡ c = same_Some _ _ (sym z.2 ∙ ap (λ (x : Id). class_named O x.name) a.is ∙ e) in
-      let is : class_outline types (node_tree P Q F H a.node) ≡ k = same_Some _ _
-      (sym (class_is z.0 (node_tree P Q F H a.node) z.1) ∙ ap (slice_get O.classes) number ∙ at) in
+      let is : class_outline types (node_tree P F H a.node) ≡ k = same_Some _ _
+      (sym (class_is z.0 (node_tree P F H a.node) z.1) ∙ ap (slice_get O.classes) number ∙ at) in
       ap (λ (x : PlainClass). x.is_interface) (sym is) ∙ interface_is (class a.node) a.node ∙ ap not a.kind
     where
       interface_is : (b : Bool) (n : ℕ) → (class_outline types (shown b n)).is_interface ≡ not b
@@ -156,7 +156,7 @@ module _ {P Q : Plain} {F : Facts} {pt : PointsTo} {H : Hierarchy} (G : Given P 
       → k.is_interface ≡ true → ⊥
   no_face_as_parent d i c k h e f at is =
       let z = at_contains T d h in
-      let a = declared_parent d (declares P Q F H z.0 d z.1) i e in
+      let a = declared_parent d (declares P F H z.0 d z.1) i e in
       false≢true (sym (above_type a.0 i true a.1 c k f at) ∙ is)
 
   pub no_class_as_face : (d : DeclTree) (i : Id) (c : ℕ) (k : PlainClass) → Contains T d → Contains (faces_named d) i → class_named O i.name ≡ Some c
@@ -164,7 +164,7 @@ module _ {P Q : Plain} {F : Facts} {pt : PointsTo} {H : Hierarchy} (G : Given P 
       → k.is_interface ≡ false → ⊥
   no_class_as_face d i c k h e f at is =
       let z = at_contains T d h in
-      let a = declared_face d (declares P Q F H z.0 d z.1) i e in
+      let a = declared_face d (declares P F H z.0 d z.1) i e in
       false≢true (sym is ∙ above_type a.0 i false a.1 c k f at)
 
   above_known : (n : ℕ) (i : Id) (b : Bool) → IsAbove n i b → class_named O i.name ≢ None
@@ -176,11 +176,11 @@ module _ {P Q : Plain} {F : Facts} {pt : PointsTo} {H : Hierarchy} (G : Given P 
   pub super_known : (i : Id) → IsSuper T i → class_named O i.name ≢ None
   super_known i (a_parent {d = d} h e) =
       let z = at_contains T d h in
-      let a = declared_parent d (declares P Q F H z.0 d z.1) i e in
+      let a = declared_parent d (declares P F H z.0 d z.1) i e in
       above_known a.0 i true a.1
   super_known i (a_face {d = d} h e) =
       let z = at_contains T d h in
-      let a = declared_face d (declares P Q F H z.0 d z.1) i e in
+      let a = declared_face d (declares P F H z.0 d z.1) i e in
       above_known a.0 i false a.1
 
   -- ---- each supertype once
@@ -203,7 +203,7 @@ module _ {P Q : Plain} {F : Facts} {pt : PointsTo} {H : Hierarchy} (G : Given P 
   faces_once true n = nodes_once (λ a. is_cover H.order n a && not (class a)) (λ a h. cover_live n a (and_parts (is_cover H.order n a) (not (class a)) h).0)
   faces_once false n = nodes_once (λ a. is_cover H.order n a) (λ a h. cover_live n a h)
 
-  declared_once : (d : DeclTree) → Declares P Q F H d → Once SameName (faces_named d)
+  declared_once : (d : DeclTree) → Declares P F H d → Once SameName (faces_named d)
   declared_once _ (a_node n live) = faces_once (class n) n
   declared_once _ (a_holder c k h d) = tt
 
@@ -211,7 +211,7 @@ module _ {P Q : Plain} {F : Facts} {pt : PointsTo} {H : Hierarchy} (G : Given P 
       → i < j → a.name ≡ b.name → ⊥
   super_once d i j a b h p q lt e =
       let z = at_contains T d h in
-      once_at SameName (faces_named d) (declared_once d (declares P Q F H z.0 d z.1)) i j a b p q lt e
+      once_at SameName (faces_named d) (declared_once d (declares P F H z.0 d z.1)) i j a b p q lt e
 
   -- ---- no loop
 
@@ -233,18 +233,18 @@ module _ {P Q : Plain} {F : Facts} {pt : PointsTo} {H : Hierarchy} (G : Given P 
   pub record IsNumber (x n : ℕ) : Type 0 where
     pub number : ℕ
     pub is : x ≡ suc number
-    pub stands : slice_get T number ≡ Some (node_tree P Q F H n)
+    pub stands : slice_get T number ≡ Some (node_tree P F H n)
     pub live : is_live H.order n ≡ true
 
   above_number : (n : ℕ) (i : Id) (b : Bool) (a : IsAbove n i b) (c : ClassId) → id_meant types i ≡ c → IsNumber c.0 a.node
   above_number n i b a c e =
       let live = live_above n i b a in
-      let z = node_at P Q F H a.node live in
+      let z = node_at P F H a.node live in
       record {
         number = z.0;
         is = ap (λ (x : ClassId). x.0) (sym e) ∙ ap (λ (x : Id). (id_meant types x).0) (sym a.is)
-            ∙ ap (λ o. (class_at o).0) (ap (type_named types) (sym (tree_name P Q F H (class a.node) a.node))
-            ∙ type_number z.0 (node_tree P Q F H a.node) z.1);
+            ∙ ap (λ o. (class_at o).0) (ap (type_named types) (sym (tree_name P F H (class a.node) a.node))
+            ∙ type_number z.0 (node_tree P F H a.node) z.1);
         stands = z.1;
         live = live;
       }
@@ -267,7 +267,7 @@ module _ {P Q : Plain} {F : Facts} {pt : PointsTo} {H : Hierarchy} (G : Given P 
       by_parent (Some i) p q = let a = parent_is b n i k p in inr (a.node, above_number n i true a c q, a.above, a.other)
 
   pub node_step : (x n : ℕ) (c : ClassId) → IsNumber x n → Contains (supers_of O x) c → Next n c.0
-  node_step x n c a h = step (class n) n c refl (subst (λ z. Contains z c) (ap (supers_of O) a.is ∙ supers_are a.number (node_tree P Q F H n) a.stands) h)
+  node_step x n c a h = step (class n) n c refl (subst (λ z. Contains z c) (ap (supers_of O) a.is ∙ supers_are a.number (node_tree P F H n) a.stands) h)
 
   -- what is above a node's type is Object or the type of a node at or above
   pub above_node : (x y n : ℕ) → IsNumber x n → IsSubclass O x y → (y ≡ 0) ⊎ ((m : ℕ) × IsNumber y m × (is_le H.order n m ≡ true))
@@ -281,8 +281,8 @@ module _ {P Q : Plain} {F : Facts} {pt : PointsTo} {H : Hierarchy} (G : Given P 
   pub same_node : (x n m : ℕ) → IsNumber x n → IsNumber x m → n ≡ m
   same_node x n m a b =
       let e = suc_same a.number b.number (sym a.is ∙ b.is) in
-      let one : node_tree P Q F H n ≡ node_tree P Q F H m = same_Some _ _ (sym a.stands ∙ ap (slice_get T) e ∙ b.stands) in
-      types_apart F pt H G.unbroken n m a.live b.live (sym (tree_name P Q F H (class n) n) ∙ ap name_of one ∙ tree_name P Q F H (class m) m)
+      let one : node_tree P F H n ≡ node_tree P F H m = same_Some _ _ (sym a.stands ∙ ap (slice_get T) e ∙ b.stands) in
+      types_apart F pt H G.unbroken n m a.live b.live (sym (tree_name P F H (class n) n) ∙ ap name_of one ∙ tree_name P F H (class m) m)
     where
       suc_same : (i j : ℕ) → suc i ≡ suc j → i ≡ j
       suc_same i j e = omega (arith, e)
@@ -290,7 +290,7 @@ module _ {P Q : Plain} {F : Facts} {pt : PointsTo} {H : Hierarchy} (G : Given P 
   no_zero : (c : ℕ) → suc c ≡ 0 → ⊥
   no_zero c e = omega (arith, e)
 
-  declared_loop : (c : ℕ) (d : DeclTree) → slice_get T c ≡ Some d → Declares P Q F H d → IsProperSubclass O (suc c) (suc c) → ⊥
+  declared_loop : (c : ℕ) (d : DeclTree) → slice_get T c ≡ Some d → Declares P F H d → IsProperSubclass O (suc c) (suc c) → ⊥
   declared_loop c _ e (a_node n live) p =
       let a : IsNumber (suc c) n = record { number = c; is = refl; stands = e; live = live } in
       ⊎_elim
@@ -302,8 +302,8 @@ module _ {P Q : Plain} {F : Facts} {pt : PointsTo} {H : Hierarchy} (G : Given P 
       (above_node p.by.0 (suc c) m.0 m.1 p.rest))
       (node_step (suc c) n p.by a p.direct)
   declared_loop c _ e (a_holder h k f g) p =
-      let d = subst (λ z. Contains z p.by) (supers_are c (old_tree P Q F H h k) e) p.direct in
+      let d = subst (λ z. Contains z p.by) (supers_are c (old_tree P F H h k) e) p.direct in
       no_zero c (above_object p.by.0 (suc c) p.rest (ap (λ (x : ClassId). x.0) (sym (one_from _ p.by d))))
 
   pub no_loop : (c : ℕ) (d : DeclTree) → slice_get T c ≡ Some d → IsProperSubclass O (suc c) (suc c) → ⊥
-  no_loop c d e p = declared_loop c d e (declares P Q F H c d e) p
+  no_loop c d e p = declared_loop c d e (declares P F H c d e) p

@@ -20,35 +20,35 @@ use Rattle.name_rules.specs.Outline.{name_of, is_known}
 use Rattle.written_tree.specs.Written.{java_tree}
 use Rattle.tree_rebuilds.proofs.Apart.{any_at, types_apart, unreserved, no_holder}
 use Rattle.tree_rebuilds.proofs.Nodes.{tree, node_tree, old_tree, tree_name, Declares, a_node, a_holder, declares}
-use Rattle.tree_resolves.proofs.Modifiers.{Given}
+use Rattle.tree_resolves.specs.Laws.{IsNamed}
 use Rattle.tree_resolves.proofs.Once.{Once, once_at, append_once, each_once, one_once, when_once}
 
 live_at : (bs : List Bool) (n : ℕ) (b : Bool) → slice_get bs n ≡ Some b → b ≡ true → slice_get bs n ≡ Some true
 live_at bs n b e h = e ∙ ap Some h
 
-module _ {P Q : Plain} {F : Facts} {pt : PointsTo} {H : Hierarchy} (G : Given P Q F pt H) where
+module _ {P : Plain} {F : Facts} {pt : PointsTo} {H : Hierarchy} (G : IsNamed P F pt H) where
   abbrev Alike : DeclTree → DeclTree → Type 0
   Alike c d = name_of c ≡ name_of d
 
   abbrev node_list : ℕ → Bool → List DeclTree
-  node_list n live = when live (node_tree P Q F H n ∷ [])
+  node_list n live = when live (node_tree P F H n ∷ [])
 
   abbrev old_list : ℕ → PlainClass → List DeclTree
-  old_list c k = when (is_holder P c) (old_tree P Q F H c k ∷ [])
+  old_list c k = when (is_holder P c) (old_tree P F H c k ∷ [])
 
-  tree_is : tree P Q F H ≡ each node_list 0 H.order.live ++ each old_list 0 P.classes
+  tree_is : tree P F H ≡ each node_list 0 H.order.live ++ each old_list 0 P.classes
   unfolding java_tree
   tree_is = refl
 
-  node_name : (n : ℕ) (d : DeclTree) → node_tree P Q F H n ≡ d → name_of d ≡ type_name H n
-  node_name n d e = ap name_of (sym e) ∙ tree_name P Q F H (is_class_node F H n) n
+  node_name : (n : ℕ) (d : DeclTree) → node_tree P F H n ≡ d → name_of d ≡ type_name H n
+  node_name n d e = ap name_of (sym e) ∙ tree_name P F H (is_class_node F H n) n
 
   nodes_once : Once Alike (each node_list 0 H.order.live)
   nodes_once =
-      each_once Alike node_list 0 H.order.live (λ i j b e k. when_once Alike b (node_tree P Q F H j ∷ []) (one_once Alike (node_tree P Q F H j)))
+      each_once Alike node_list 0 H.order.live (λ i j b e k. when_once Alike b (node_tree P F H j ∷ []) (one_once Alike (node_tree P F H j)))
       (λ i j k l x y a b p q lt u v c d h.
-      let s = when_from x (node_tree P Q F H k ∷ []) a c in
-      let t = when_from y (node_tree P Q F H l ∷ []) b d in
+      let s = when_from x (node_tree P F H k ∷ []) a c in
+      let t = when_from y (node_tree P F H l ∷ []) b d in
       let i_is : k ≡ i = omega (arith, u) in
       let j_is : l ≡ j = omega (arith, v) in
       let live_i : is_live H.order k ≡ true = subst (λ z. is_live H.order z ≡ true) (sym i_is)
@@ -56,47 +56,47 @@ module _ {P Q : Plain} {F : Facts} {pt : PointsTo} {H : Hierarchy} (G : Given P 
       let live_j : is_live H.order l ≡ true = subst (λ z. is_live H.order z ≡ true) (sym j_is)
       (index_at H.order.live j false true (live_at H.order.live j y q t.0)) in
       let same : k ≡ l = types_apart F pt H G.unbroken k l live_i live_j
-      (sym (node_name k a (one_from (node_tree P Q F H k) a s.1)) ∙ h ∙ node_name l b (one_from (node_tree P Q F H l) b t.1)) in
+      (sym (node_name k a (one_from (node_tree P F H k) a s.1)) ∙ h ∙ node_name l b (one_from (node_tree P F H l) b t.1)) in
       omega (arith, same, i_is, j_is, lt))
 
   old_once : Once Alike (each old_list 0 P.classes)
   unfolding HasNoTwice
   old_once =
-      each_once Alike old_list 0 P.classes (λ i j k e u. when_once Alike (is_holder P j) (old_tree P Q F H j k ∷ []) (one_once Alike (old_tree P Q F H j k)))
+      each_once Alike old_list 0 P.classes (λ i j k e u. when_once Alike (is_holder P j) (old_tree P F H j k ∷ []) (one_once Alike (old_tree P F H j k)))
       (λ i j k l x y a b p q lt u v c d h.
-      let s = when_from (is_holder P k) (old_tree P Q F H k x ∷ []) a c in
-      let t = when_from (is_holder P l) (old_tree P Q F H l y ∷ []) b d in
-      let name : x.name ≡ y.name = ap name_of (one_from (old_tree P Q F H k x) a s.1) ∙ h ∙ ap name_of (sym (one_from (old_tree P Q F H l y) b t.1)) in
+      let s = when_from (is_holder P k) (old_tree P F H k x ∷ []) a c in
+      let t = when_from (is_holder P l) (old_tree P F H l y ∷ []) b d in
+      let name : x.name ≡ y.name = ap name_of (one_from (old_tree P F H k x) a s.1) ∙ h ∙ ap name_of (sym (one_from (old_tree P F H l y) b t.1)) in
       let same : i ≡ j = G.formed.class_names i j y.name (at_map (λ (k : PlainClass). k.name) P.classes i x p ∙ ap Some name)
       (at_map (λ (k : PlainClass). k.name) P.classes j y q) in
       omega (arith, same, lt))
 
   -- what a name in the tree is the name of
-  node_in : (d : DeclTree) → Contains (each node_list 0 H.order.live) d → (n : ℕ) × (is_live H.order n ≡ true) × (node_tree P Q F H n ≡ d)
+  node_in : (d : DeclTree) → Contains (each node_list 0 H.order.live) d → (n : ℕ) × (is_live H.order n ≡ true) × (node_tree P F H n ≡ d)
   node_in d c =
       let z = each_from_zero node_list H.order.live d c in
-      let s = when_from z.1 (node_tree P Q F H z.0 ∷ []) d z.3 in
-      (z.0, index_at H.order.live z.0 false true (live_at H.order.live z.0 z.1 z.2 s.0), one_from (node_tree P Q F H z.0) d s.1)
+      let s = when_from z.1 (node_tree P F H z.0 ∷ []) d z.3 in
+      (z.0, index_at H.order.live z.0 false true (live_at H.order.live z.0 z.1 z.2 s.0), one_from (node_tree P F H z.0) d s.1)
 
   old_in : (d : DeclTree) → Contains (each old_list 0 P.classes) d → (c : ℕ) × (k : PlainClass) × (slice_get P.classes c ≡ Some k) ×
-      (is_holder P c ≡ true) × (old_tree P Q F H c k ≡ d)
+      (is_holder P c ≡ true) × (old_tree P F H c k ≡ d)
   old_in d h =
       let z = each_from_zero old_list P.classes d h in
-      let s = when_from (is_holder P z.0) (old_tree P Q F H z.0 z.1 ∷ []) d z.3 in
-      (z.0, z.1, z.2, s.0, one_from (old_tree P Q F H z.0 z.1) d s.1)
+      let s = when_from (is_holder P z.0) (old_tree P F H z.0 z.1 ∷ []) d z.3 in
+      (z.0, z.1, z.2, s.0, one_from (old_tree P F H z.0 z.1) d s.1)
 
-  tree_once : Once Alike (tree P Q F H)
+  tree_once : Once Alike (tree P F H)
   tree_once =
       subst (Once Alike) (sym tree_is)
       (append_once Alike (each node_list 0 H.order.live) (each old_list 0 P.classes) nodes_once old_once
       (λ a b c d h.
       let n = node_in a c in
       let k = old_in b d in
-      no_holder F pt H G.unbroken P Q G.placed G.facts n.0 k.0 k.1 n.1 k.3 k.2 (sym (node_name n.0 a n.2) ∙ h ∙ ap name_of (sym k.4))))
+      no_holder F pt H G.unbroken P G.facts n.0 k.0 k.1 n.1 k.3 k.2 (sym (node_name n.0 a n.2) ∙ h ∙ ap name_of (sym k.4))))
 
   -- each type has a name of its own
-  pub type_once : (i j : ℕ) (c d : DeclTree) → slice_get (tree P Q F H) i ≡ Some c → slice_get (tree P Q F H) j ≡ Some d → i < j → name_of c ≡ name_of d → ⊥
-  type_once i j c d p q lt h = once_at Alike (tree P Q F H) tree_once i j c d p q lt h
+  pub type_once : (i j : ℕ) (c d : DeclTree) → slice_get (tree P F H) i ≡ Some c → slice_get (tree P F H) j ≡ Some d → i < j → name_of c ≡ name_of d → ⊥
+  type_once i j c d p q lt h = once_at Alike (tree P F H) tree_once i j c d p q lt h
 
   unknown_parts : (n : ℕ) → is_live H.order n ≡ true → (bytes_eq (codes "Object") (type_name H n) ≡ false) × (is_known (type_name H n) ≡ false)
   unknown_parts n live =
@@ -136,16 +136,16 @@ module _ {P Q : Plain} {F : Facts} {pt : PointsTo} {H : Hierarchy} (G : Given P 
       nothing : suc c ≡ 0 → ⊥
       nothing e = omega (arith, e)
 
-  name_is_new : (d : DeclTree) → Declares P Q F H d → (name_of d ≢ codes "Object") × (is_known (name_of d) ≡ false)
+  name_is_new : (d : DeclTree) → Declares P F H d → (name_of d ≢ codes "Object") × (is_known (name_of d) ≡ false)
   name_is_new _ (a_node n live) =
-      let name = tree_name P Q F H (is_class_node F H n) n in
+      let name = tree_name P F H (is_class_node F H n) n in
       let u = unknown_parts n live in
       (λ e. false≢true (sym u.0 ∙ (bytes_eq-Decides (codes "Object") (type_name H n)).1 (sym e ∙ name)), ap is_known name ∙ u.1)
   name_is_new _ (a_holder c k e h) = old_parts c k e h
 
   -- and none of Object, String and System
-  pub type_is_new : (d : DeclTree) → Contains (tree P Q F H) d → (name_of d ≡ codes "Object") ⊎ (is_known (name_of d) ≡ true) → ⊥
+  pub type_is_new : (d : DeclTree) → Contains (tree P F H) d → (name_of d ≡ codes "Object") ⊎ (is_known (name_of d) ≡ true) → ⊥
   type_is_new d c h =
-      let z = at_contains (tree P Q F H) d c in
-      let n = name_is_new d (declares P Q F H z.0 d z.1) in
+      let z = at_contains (tree P F H) d c in
+      let n = name_is_new d (declares P F H z.0 d z.1) in
       ⊎_elim (λ e. n.0 e) (λ e. false≢true (sym n.1 ∙ e)) h

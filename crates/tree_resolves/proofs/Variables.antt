@@ -41,11 +41,11 @@ use Rattle.name_rules.specs.Outline.{FieldAt, MethodAt, fields_in, methods_in, n
 use Rattle.rebuild_model.specs.Renaming.{renaming_of}
 use Rattle.rebuild_given.proofs.Given.{columns as columns_are}
 use Rattle.written_tree.specs.Members.{head, param}
-use Rattle.tree_rebuilds.proofs.Apart.{taken_parts, holder_placed}
+use Rattle.tree_rebuilds.proofs.Apart.{taken_parts}
 use Rattle.tree_rebuilds.proofs.Nodes.{items, tree, tree_name, Declares, a_node, a_holder, declares}
 use Rattle.tree_rebuilds.proofs.Members.{IsHeadTree}
 use Rattle.tree_resolves.proofs.Origins.{R, old_words, HasMethod, node_body, node_head, node_filler, interface_head, static_method, HasField, node_field, static_field, method_origin, field_origin}
-use Rattle.tree_resolves.proofs.Modifiers.{Given}
+use Rattle.tree_resolves.specs.Laws.{IsNamed}
 use Rattle.hier_begin.proofs.Unbroken.{none_broken}
 
 -- what each gives one of, place by place
@@ -55,24 +55,24 @@ each_at g n [] i b e = absurd (cc e)
 each_at g n (x ∷ xs) zero b e = (n, x, refl, same_Some (g n x) b e, omega arith)
 each_at g n (x ∷ xs) (suc i) b e = let z = each_at g (n + 1) xs i b e in (z.0, z.1, z.2, z.3, (let d = z.4 in omega (arith, d)))
 
-module _ {P Q : Plain} {F : Facts} {pt : PointsTo} {H : Hierarchy} (G : Given P Q F pt H) where
+module _ {P : Plain} {F : Facts} {pt : PointsTo} {H : Hierarchy} (G : IsNamed P F pt H) where
   abbrev types : List (List ℕ)
-  types = types_in (tree P Q F H)
+  types = types_in (tree P F H)
 
   -- a name that is neither that of a node nor of a holder nor known is no type's
   not_type : (x : List ℕ) → x ≢ codes "Object" → is_known x ≡ false → ((n : ℕ) → is_live H.order n ≡ true → type_name H n ≢ x)
       → ((c : ℕ) (k : PlainClass) → slice_get P.classes c ≡ Some k → is_holder P c ≡ true → k.name ≢ x) → is_type_name types x ≡ false
   not_type x object known node holder = go (type_named types x) refl
     where
-      declared : (d : DeclTree) → Declares P Q F H d → name_of d ≢ x
-      declared _ (a_node n live) e = node n live (sym (tree_name P Q F H (is_class_node F H n) n) ∙ e)
+      declared : (d : DeclTree) → Declares P F H d → name_of d ≢ x
+      declared _ (a_node n live) e = node n live (sym (tree_name P F H (is_class_node F H n) n) ∙ e)
       declared _ (a_holder c k at h) e = holder c k at h e
 
       at : (i : ℕ) (m : List ℕ) → slice_get types i ≡ Some m → m ≢ x
       at zero m e same = object (sym same ∙ sym (same_Some (codes "Object") m e))
       at (suc i) m e same =
-          let z = map_at name_of (tree P Q F H) i m e in
-          declared z.0 (declares P Q F H i z.0 z.1) (z.2 ∙ same)
+          let z = map_at name_of (tree P F H) i m e in
+          declared z.0 (declares P F H i z.0 z.1) (z.2 ∙ same)
 
       go : (o : Option ℕ) → type_named types x ≡ o → (is_some (type_named types x) || is_known x) ≡ false
       go None e = ap (λ z. is_some z || is_known x) e ∙ known
@@ -87,7 +87,7 @@ module _ {P Q : Plain} {F : Facts} {pt : PointsTo} {H : Hierarchy} (G : Given P 
   -- ---- variables
 
   -- a variable's name in the text is no type's
-  pub variable_free : (x : List ℕ) → IsVariableName P x → Contains (all_variables Q) x → is_type_name types x ≡ false
+  pub variable_free : (x : List ℕ) → IsVariableName P x → Contains (all_variables P) x → is_type_name types x ≡ false
   variable_free x v c =
       let o = G.formed.object in
       not_type x (λ e. v.no_class 0 o.object o.first (o.name ∙ sym e)) (unknown x v.no_string v.no_system)
@@ -98,25 +98,19 @@ module _ {P Q : Plain} {F : Facts} {pt : PointsTo} {H : Hierarchy} (G : Given P 
       any_name : (xs : List (List ℕ)) (y : List ℕ) → Contains xs y → list_any (λ v. bytes_eq v y) xs ≡ true
       any_name xs y d = let z = at_contains xs y d in any_passes_from_place (λ v. bytes_eq v y) xs z.0 y z.1 ((bytes_eq-Decides y y).1 refl)
 
-  field_variable : (f : ℕ) (k : PlainField) → slice_get P.fields f ≡ Some k → Contains (all_variables Q) k.name
+  field_variable : (f : ℕ) (k : PlainField) → slice_get P.fields f ≡ Some k → Contains (all_variables P) k.name
   field_variable f k e =
-      let z = G.placed.placed_field f k e in
-      let name : z.0.name ≡ k.name = ap (λ (y : PlainField). y.name) (same_Some _ _ (sym (G.placed.fields f z.0 z.1) ∙ e)) in
-      Contains-append_left (map (λ (f : PlainField). f.name) Q.fields) (flat_map variable_names Q.methods) k.name
-      (subst (Contains (map (λ (f : PlainField). f.name) Q.fields)) name (map_has (λ (f : PlainField). f.name) Q.fields z.0 (contains_at Q.fields f z.0 z.1)))
+      Contains-append_left (map (λ (f : PlainField). f.name) P.fields) (flat_map variable_names P.methods) k.name
+      (map_has (λ (f : PlainField). f.name) P.fields k (contains_at P.fields f k e))
 
   method_variable : (m : ℕ) (k : PlainMethod) (v : PlainLocal) → slice_get P.methods m ≡ Some k → Contains (variables_of k) v
-      → Contains (all_variables Q) v.name
+      → Contains (all_variables P) v.name
   method_variable m k v e c =
-      let z = G.placed.placed_method m k e in
-      let w = G.placed.methods m z.0 z.1 in
-      let plain : w.plain ≡ k = same_Some _ _ (sym w.stands ∙ e) in
       let mine : Contains (map (λ (v : PlainLocal). v.name) k.params ++ map (λ (v : PlainLocal). v.name) k.locals) v.name =
       subst (λ z. Contains z v.name) (map-append (λ (v : PlainLocal). v.name) k.params k.locals)
       (map_has (λ (v : PlainLocal). v.name) (variables_of k) v c) in
-      let names = ap (λ (y : PlainMethod). map (λ (v : PlainLocal). v.name) y.params ++ map (λ (v : PlainLocal). v.name) y.locals) (sym plain) ∙ w.names in
-      Contains-append_right (map (λ (f : PlainField). f.name) Q.fields) (flat_map variable_names Q.methods) v.name
-      (flat_has variable_names Q.methods z.0 v.name (contains_at Q.methods m z.0 z.1) (subst (λ z. Contains z v.name) names mine))
+      Contains-append_right (map (λ (f : PlainField). f.name) P.fields) (flat_map variable_names P.methods) v.name
+      (flat_has variable_names P.methods k v.name (contains_at P.methods m k e) mine)
 
   pub local_free : (m : ℕ) (k : PlainMethod) (v : PlainLocal) → slice_get P.methods m ≡ Some k → Contains (variables_of k) v
       → is_type_name types v.name ≡ false
@@ -134,20 +128,20 @@ module _ {P Q : Plain} {F : Facts} {pt : PointsTo} {H : Hierarchy} (G : Given P 
       let no = when-None (stands_at H n c && is_field (column_kind F c) && is_taken_name F H c) (of_column B8 n c) two in
       sym (ap (λ z. z && is_field (column_kind F c) && is_taken_name F H c) at ∙ ap (λ z. z && is_taken_name F H c) kind) ∙ no
 
-  pub column_number : (c : ℕ) (i : ColumnItem) → slice_get (items P Q F H) c ≡ Some i → (numbers P Q).column i ≡ Some c
+  pub column_number : (c : ℕ) (i : ColumnItem) → slice_get (items P F H) c ≡ Some i → (numbers P).column i ≡ Some c
   unfolding numbers
-  column_number c i e = let z = map_at (λ c. c.item) (columns_of P Q) c i e in ap (λ j. (numbers P Q).column j) (sym z.2)
-      ∙ (numbered_columns P Q).back c z.0 z.1
+  column_number c i e = let z = map_at (λ c. c.item) (columns_of P) c i e in ap (λ j. (numbers P).column j) (sym z.2)
+      ∙ (numbered_columns P).back c z.0 z.1
 
-  pub field_name_is : (c f : ℕ) → (numbers P Q).column (column.Fld f) ≡ Some c → (R P Q F H).field_name f ≡ member_name H c
+  pub field_name_is : (c f : ℕ) → (numbers P).column (column.Fld f) ≡ Some c → (R P F H).field_name f ≡ member_name H c
   unfolding renaming_of
   field_name_is c f e = ap (λ o. option_map_or (member_name H) o []) e
 
-  node_field_free : (n c f : ℕ) → is_live H.order n ≡ true → slice_get (items P Q F H) c ≡ Some (column.Fld f) → stands_at H n c ≡ true
-      → is_type_name types ((R P Q F H).field_name f) ≡ false
+  node_field_free : (n c f : ℕ) → is_live H.order n ≡ true → slice_get (items P F H) c ≡ Some (column.Fld f) → stands_at H n c ≡ true
+      → is_type_name types ((R P F H).field_name f) ≡ false
   node_field_free n c f live e at =
       let number = column_number c (column.Fld f) e in
-      let columns = columns_are P Q G.placed G.formed F G.facts in
+      let columns = columns_are P G.formed F G.facts in
       let parts = or_parts (is_type F H (member_name H c)) (is_reserved F (member_name H c))
       (not_taken n c live (columns.below (column.Fld f) c number) at (ap is_field (columns.kind (column.Fld f) c number))) in
       subst (λ x. is_type_name types x ≡ false) (sym (field_name_is c f number)) (free_name (member_name H c) parts.0 parts.1)
@@ -163,19 +157,19 @@ module _ {P Q : Plain} {F : Facts} {pt : PointsTo} {H : Hierarchy} (G : Given P 
           (λ n live e. false≢true (sym (any_below_none (is_named H x) (length H.order.live) n no_type (bit-below H.order.live n live))
           ∙ and_from (is_live H.order n) (bytes_eq (type_name H n) x) live ((bytes_eq-Decides (type_name H n) x).1 e)))
           (λ c k at h e.
-          let i = class_there P Q G.placed F G.facts c k at in
-          let z = class_at P Q G.placed F G.facts c i.0 i.1 in
+          let i = class_there P F G.facts c k at in
+          let z = class_at P F G.facts c i.0 i.1 in
           let name : i.0.name ≡ x = z.name ∙ ap (λ (y : PlainClass). y.name) (same_Some _ _ (sym z.stands ∙ at)) ∙ e in
           false≢true (sym r.0 ∙ any_passes_from_place (λ k. k.holder && bytes_eq k.name x) F.classes.items c i.0 i.1
-          (and_from i.0.holder (bytes_eq i.0.name x) (z.holder ∙ holder_placed P Q G.placed c h) ((bytes_eq-Decides i.0.name x).1 name))))
+          (and_from i.0.holder (bytes_eq i.0.name x) (z.holder ∙ h) ((bytes_eq-Decides i.0.name x).1 name))))
 
-  field_is_free : (x : FieldAt) → HasField P Q F H x → is_type_name types x.name ≡ false
+  field_is_free : (x : FieldAt) → HasField P F H x → is_type_name types x.name ≡ false
   field_is_free _ (node_field n i c f k a e at o) = node_field_free n c f a.live e at
   field_is_free _ (static_field c i f k old a e s o) = variable_free old.name (G.formed.fields f old e).name (field_variable f old e)
 
   -- no field has the name of a type
-  pub field_free : (x : FieldAt) → Contains (fields_in (tree P Q F H)) x → is_type_name types x.name ≡ false
-  field_free x c = field_is_free x (field_origin P Q F H x c)
+  pub field_free : (x : FieldAt) → Contains (fields_in (tree P F H)) x → is_type_name types x.name ≡ false
+  field_free x c = field_is_free x (field_origin P F H x c)
 
   -- ---- parameters
 
@@ -186,46 +180,46 @@ module _ {P Q : Plain} {F : Facts} {pt : PointsTo} {H : Hierarchy} (G : Given P 
     pub stands : slice_get P.methods number ≡ Some method
     pub mods : List Modifier
     pub name : List ℕ
-    pub is : head P (R P Q F H) H mods name number method ≡ h
+    pub is : head P (R P F H) H mods name number method ≡ h
 
-  head_tree : (mods : List Modifier) (s : ℕ) (h : HeadTree) → IsHeadTree P (R P Q F H) F H mods s h → HasHead h
+  head_tree : (mods : List Modifier) (s : ℕ) (h : HeadTree) → IsHeadTree P (R P F H) F H mods s h → HasHead h
   head_tree mods s h t = record {
     number = t.signature.first;
     method = t.first;
     stands = t.first_stands;
     mods = mods;
-    name = (R P Q F H).method_name t.signature.first;
+    name = (R P F H).method_name t.signature.first;
     is = t.is;
   }
 
-  pub head_of : (x : MethodAt) → HasMethod P Q F H x → HasHead x.head
-  head_of _ (node_body n i c m k a e at o) = record { number = m; method = k; stands = o; mods = _; name = (R P Q F H).method_name m; is = refl }
+  pub head_of : (x : MethodAt) → HasMethod P F H x → HasHead x.head
+  head_of _ (node_body n i c m k a e at o) = record { number = m; method = k; stands = o; mods = _; name = (R P F H).method_name m; is = refl }
   head_of _ (node_head n i h a t) = head_tree _ t.slot h t.tree
   head_of _ (node_filler n i s h a f t) = head_tree _ s h t
   head_of _ (interface_head n i h a t) = head_tree _ t.slot h t.tree
-  head_of _ (static_method c i m k old a e s o) = record { number = m; method = old; stands = e; mods = old_words P Q F H; name = old.name; is = refl }
+  head_of _ (static_method c i m k old a e s o) = record { number = m; method = old; stands = e; mods = old_words P F H; name = old.name; is = refl }
 
   -- a parameter is that of the method
   pub param_of : (h : HeadTree) (t : HasHead h) (i : ℕ) (q : Param) → slice_get h.params i ≡ Some q
-      → (v : PlainLocal) × (slice_get t.method.params i ≡ Some v) × (param P (R P Q F H) H t.number t.method i v ≡ q)
+      → (v : PlainLocal) × (slice_get t.method.params i ≡ Some v) × (param P (R P F H) H t.number t.method i v ≡ q)
   param_of h t i q e =
-      let z = each_at (λ i v. param P (R P Q F H) H t.number t.method i v) 0 t.method.params i q (ap (λ (y : HeadTree). slice_get y.params i) t.is ∙ e) in
-      (z.1, z.2, ap (λ j. param P (R P Q F H) H t.number t.method j z.1) (let d = z.4 in omega (arith, d)) ∙ z.3)
+      let z = each_at (λ i v. param P (R P F H) H t.number t.method i v) 0 t.method.params i q (ap (λ (y : HeadTree). slice_get y.params i) t.is ∙ e) in
+      (z.1, z.2, ap (λ j. param P (R P F H) H t.number t.method j z.1) (let d = z.4 in omega (arith, d)) ∙ z.3)
 
-  pub param_free : (x : MethodAt) (q : Param) → Contains (methods_in (tree P Q F H)) x → Contains x.head.params q → is_type_name types q.name ≡ false
+  pub param_free : (x : MethodAt) (q : Param) → Contains (methods_in (tree P F H)) x → Contains x.head.params q → is_type_name types q.name ≡ false
   param_free x q c d =
-      let t = head_of x (method_origin P Q F H x c) in
+      let t = head_of x (method_origin P F H x c) in
       let z = at_contains x.head.params q d in
       let v = param_of x.head t z.0 q z.1 in
       subst (λ y. is_type_name types y ≡ false) (ap (λ (y : Param). y.name) v.2)
       (local_free t.number t.method v.0 t.stands (Contains-append_left t.method.params t.method.locals v.0 (contains_at t.method.params z.0 v.0 v.1)))
 
   -- the parameters of a method have a name each
-  pub param_once : (x : MethodAt) (i j : ℕ) (a b : Param) → Contains (methods_in (tree P Q F H)) x → slice_get x.head.params i ≡ Some a
+  pub param_once : (x : MethodAt) (i j : ℕ) (a b : Param) → Contains (methods_in (tree P F H)) x → slice_get x.head.params i ≡ Some a
       → slice_get x.head.params j ≡ Some b → i < j → a.name ≡ b.name → ⊥
   unfolding HasNoTwice
   param_once x i j a b c p q lt e =
-      let t = head_of x (method_origin P Q F H x c) in
+      let t = head_of x (method_origin P F H x c) in
       let v = param_of x.head t i a p in
       let w = param_of x.head t j b q in
       let name : v.0.name ≡ w.0.name = ap (λ (y : Param). y.name) v.2 ∙ e ∙ sym (ap (λ (y : Param). y.name) w.2) in

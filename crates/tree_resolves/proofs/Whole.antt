@@ -11,8 +11,7 @@ use Rattle.java_core.specs.declared.TyBase.{TyBase}
 use Rattle.java_core.specs.declared.TyBase.TheVariants.{Int, Boolean, Char, Str, Class}
 use Rattle.java_core.specs.Programs.{Plain, PlainClass, PlainMethod}
 use Rattle.java_core.specs.Trees.{Sts}
-use Rattle.java_core.specs.Formed.{FormedSts, numbers_below}
-use Rattle.java_core.specs.Untagged.{bare_sts}
+use Rattle.java_core.specs.Formed.{numbers_below}
 use Rattle.fact_model.specs.declared.facts.Facts.{Facts}
 use Rattle.fact_model.specs.declared.sets.PointsTo.{PointsTo}
 use Rattle.hier_model.specs.Hierarchies.{Hierarchy}
@@ -28,10 +27,9 @@ use Rattle.written_tree.specs.Bodies.{written_sts}
 use Rattle.written_tree.specs.Members.{parameters, filling, value_of_none}
 use Rattle.tree_rebuilds.proofs.Nodes.{tree, old_tree}
 use Rattle.tree_resolves.specs.Stages.{IsStage}
-use Rattle.tree_resolves.specs.Known.{known}
-use Rattle.java_meaning.specs.EachStatement.{InSts}
 use Rattle.tree_resolves.proofs.Origins.{R, HasMethod, node_body, node_head, node_filler, interface_head, static_method, method_origin}
-use Rattle.tree_resolves.proofs.Modifiers.{Given, body_there}
+use Rattle.tree_resolves.specs.Laws.{IsNamed}
+use Rattle.tree_resolves.proofs.Modifiers.{body_there}
 use Rattle.tree_resolves.proofs.Supers.{types_are, named}
 use Rattle.tree_resolves.proofs.Variables.{local_free}
 use Rattle.tree_resolves.proofs.Scopes.{IsScope}
@@ -57,9 +55,9 @@ filling_sound O here names None r x = elim x [ ]
 filling_sound O here names (Some t) r (in_statement (in_returned (in_value x))) = value_sound O here names t.base t.dim r x
 filling_sound O here names (Some t) r (in_rest x) = elim x [ ]
 
-module _ {P Q : Plain} {F : Facts} {pt : PointsTo} {H : Hierarchy} (G : Given P Q F pt H) where
+module _ {P : Plain} {F : Facts} {pt : PointsTo} {H : Hierarchy} (G : IsNamed P F pt H) where
   abbrev O : Plain
-  O = outline (tree P Q F H)
+  O = outline (tree P F H)
 
   stage : (m : ℕ) (k : PlainMethod) → slice_get P.methods m ≡ Some k → (here : Here) → here.is_static ≡ k.is_static
       → (k.is_static ≡ true → class_named O (class_name P k.owner) ≡ Some here.owner) → IsStage P k O here
@@ -71,52 +69,32 @@ module _ {P Q : Plain} {F : Facts} {pt : PointsTo} {H : Hierarchy} (G : Given P 
     variables = λ i v e. ap (λ z. is_type_name z v.name) (types_are G) ∙ local_free G m k v at (contains_at _ i v e);
   }
 
-  -- the body with its places
-  pub record HasPlaces (m : ℕ) (xs : Sts) : Type 0 where
-    pub method : PlainMethod
-    pub stands : slice_get Q.methods m ≡ Some method
-    pub code : Sts
-    pub is : method.body ≡ Some code
-    pub same : bare_sts code ≡ xs
-
-  with_places : (m : ℕ) (k : PlainMethod) (xs : Sts) → slice_get P.methods m ≡ Some k → k.body ≡ Some xs → HasPlaces m xs
-  with_places m k xs e b =
-      let z = G.placed.placed_method m k e in
-      let w = G.placed.methods m z.0 z.1 in
-      go z.0 z.1 z.0.body refl (w.body ∙ ap (λ (y : PlainMethod). y.body) (same_Some _ _ (sym w.stands ∙ e)) ∙ b)
-    where
-      go : (h : PlainMethod) → slice_get Q.methods m ≡ Some h → (o : Option Sts) → h.body ≡ o → option_map bare_sts h.body ≡ Some xs → HasPlaces m xs
-      go h p None q r = absurd (cc (q, r))
-      go h p (Some ys) q r = record { method = h; stands = p; code = ys; is = q; same = same_Some _ _ (sym (ap (λ o. option_map bare_sts o) q) ∙ r) }
-
   code_sound : (m : ℕ) (k : PlainMethod) (xs : Sts) (here : Here) (r : Refusal) → slice_get P.methods m ≡ Some k → k.body ≡ Some xs
       → here.is_static ≡ k.is_static
       → (k.is_static ≡ true → class_named O (class_name P k.owner) ≡ Some here.owner) → (names : List (List ℕ))
       → IsScope k (numbers_below (length k.params)) (parameters 0 k.params) names
-      → StsFault O here false names (written_sts P (R P Q F H) H m k (parameters 0 k.params) xs) r → ⊥
+      → StsFault O here false names (written_sts P (R P F H) H m k (parameters 0 k.params) xs) r → ⊥
   code_sound m k xs here r e b static own names scope x =
       let f = (G.formed.methods m k e).code xs b in
-      let z = with_places m k xs e b in
-      let known = subst (InSts (known P (R P Q F H) H m k O)) z.same
-      (body_known G m z.method k e z.stands z.code z.is (subst (FormedSts P k false (numbers_below (length k.params))) (sym z.same) f)) in
-      sts_ok P (R P Q F H) H m k O here (stage m k e here static own) scope f known r x
+      let known = body_known G m k e xs b f in
+      sts_ok P (R P F H) H m k O here (stage m k e here static own) scope f known r x
 
   body_sound : (m : ℕ) (k : PlainMethod) (here : Here) (ss : Statements) (r : Refusal) → slice_get P.methods m ≡ Some k → here.is_static ≡ k.is_static
       → (k.is_static ≡ true → class_named O (class_name P k.owner) ≡ Some here.owner) → (names : List (List ℕ))
       → IsScope k (numbers_below (length k.params)) (parameters 0 k.params) names
-      → option_map (written_sts P (R P Q F H) H m k (parameters 0 k.params)) k.body ≡ Some ss → StsFault O here false names ss r → ⊥
+      → option_map (written_sts P (R P F H) H m k (parameters 0 k.params)) k.body ≡ Some ss → StsFault O here false names ss r → ⊥
   body_sound m k here ss r e static own names scope b x = go k.body refl b
     where
-      go : (o : Option Sts) → k.body ≡ o → option_map (written_sts P (R P Q F H) H m k (parameters 0 k.params)) o ≡ Some ss → ⊥
+      go : (o : Option Sts) → k.body ≡ o → option_map (written_sts P (R P F H) H m k (parameters 0 k.params)) o ≡ Some ss → ⊥
       go None p q = absurd (cc q)
       go (Some xs) p q = code_sound m k xs here r e p static own names scope (subst (λ z. StsFault O here false names z r) (sym (same_Some _ ss q)) x)
 
-  sound : (x : MethodAt) → HasMethod P Q F H x → (ss : Statements) (r : Refusal) → x.body ≡ Some ss
+  sound : (x : MethodAt) → HasMethod P F H x → (ss : Statements) (r : Refusal) → x.body ≡ Some ss
       → StsFault O (here_of x) false (map (λ (q : Param). q.name) x.head.params) ss r → ⊥
   sound x (node_body n i c m k a e at o) ss r b y =
       let instance = (body_there G c m k e o).1 in
       body_sound m k (here_of x) ss r o (sym instance) (λ s. absurd (false≢true (sym instance ∙ s))) (map (λ (q : Param). q.name) x.head.params)
-      (start P (R P Q F H) H m k) b y
+      (start P (R P F H) H m k) b y
   sound x (node_head n i h a t) ss r b y = absurd (cc b)
   sound x (node_filler n i s h a f t) ss r b y =
       filling_sound O (here_of x) (map (λ (q : Param). q.name) x.head.params) t.signature.result r
@@ -125,9 +103,9 @@ module _ {P Q : Plain} {F : Facts} {pt : PointsTo} {H : Hierarchy} (G : Given P 
   sound x (static_method c i m k old a e s o) ss r b y =
       body_sound m old (here_of x) ss r e (sym s)
       (λ st. ap (class_named O) (ap (class_name P) o ∙ ap (λ o. option_map_or (λ (k : PlainClass). k.name) o []) a.class_stands)
-      ∙ named G i (old_tree P Q F H c k) a.stands) (map (λ (q : Param). q.name) x.head.params) (start P (R P Q F H) H m old) b y
+      ∙ named G i (old_tree P F H c k) a.stands) (map (λ (q : Param). q.name) x.head.params) (start P (R P F H) H m old) b y
 
   -- no condition holds in a body
-  pub body_has_none : (x : MethodAt) (ss : Statements) (r : Refusal) → Contains (methods_in (tree P Q F H)) x → x.body ≡ Some ss
+  pub body_has_none : (x : MethodAt) (ss : Statements) (r : Refusal) → Contains (methods_in (tree P F H)) x → x.body ≡ Some ss
       → StsFault O (here_of x) false (map (λ (q : Param). q.name) x.head.params) ss r → ⊥
-  body_has_none x ss r c b y = sound x (method_origin P Q F H x c) ss r b y
+  body_has_none x ss r c b y = sound x (method_origin P F H x c) ss r b y

@@ -1,8 +1,6 @@
 -- The tree that is written of a program and a hierarchy can be read again: none of the conditions that refuse a text's names holds of it.
 use Rattle.std.specs.Prelude.{◌≡◌, None}
-use Rattle.java_core.specs.declared.Program.{Program}
-use Rattle.java_core.specs.Trees.{at_place, no_place}
-use Rattle.java_core.specs.Programs.{Plain, program_of}
+use Rattle.java_core.specs.Programs.{Plain}
 use Rattle.java_core.specs.Formed.{IsFormed}
 use Rattle.name_rules.specs.Causes.{HasNoCondition}
 use Rattle.fact_model.specs.declared.facts.Facts.{Facts}
@@ -13,14 +11,13 @@ use Rattle.flow_rules.specs.Facts.{IsFactsOf, AreNamesOf}
 use Rattle.written_tree.specs.Written.{java_tree}
 
 -- a formed program, its facts with the names of its text, and a hierarchy over them that breaks no obligation
-pub record IsNamed (P Q : Plain) (F : Facts) (s : PointsTo) (H : Hierarchy) : Type 0 where
+pub record IsNamed (P : Plain) (F : Facts) (s : PointsTo) (H : Hierarchy) : Type 0 where
   pub formed : IsFormed P
-  pub facts : IsFactsOf P Q F
-  pub words : AreNamesOf Q F
+  pub facts : IsFactsOf P F
+  pub words : AreNamesOf P F
   pub hierarchy : IsHierarchyOf F H
   pub unbroken : first_broken F s H ≡ None
 
 -- the names of the tree that is written are those of one thing each
 unfoldable pub TreeResolves : Type 0
-TreeResolves = (p : Program) (F : Facts) (s : PointsTo) (H : Hierarchy) → IsNamed (program_of no_place p) (program_of at_place p) F s H
-    → HasNoCondition (java_tree (program_of no_place p) (program_of at_place p) F H)
+TreeResolves = (P : Plain) (F : Facts) (s : PointsTo) (H : Hierarchy) → IsNamed P F s H → HasNoCondition (java_tree P F H)

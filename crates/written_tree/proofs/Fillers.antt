@@ -81,7 +81,7 @@ expected =
     (CallOn (NameRef (codes "y") nowhere) (codes "n") no_more nowhere) nowhere)) nowhere) no_statements)))
     ∷ []
 
-tree : (others : Facts) → java_tree program program (facts others) nodes ≡ expected
+tree : (others : Facts) → java_tree program (facts others) nodes ≡ expected
 unfolding java_tree renaming_of numbers rows_of row_number columns_of column_number parts_of type_in call_signature super_signature field_in
     access_type below member_field field_of declaration_of search_order super_method
 tree others = refl

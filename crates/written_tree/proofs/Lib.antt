@@ -1,4 +1,5 @@
 pub mod Small
+pub mod Nowhere
 mod Overriding
 mod Fillers
 mod Sites

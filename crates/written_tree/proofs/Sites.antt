@@ -79,7 +79,7 @@ shown_tree c d shown =
     (and_then (stores (codes "y") (codes "b") (pos 2))
     (and_then (PrintOf true (Some shown) nowhere) no_statements)))))
 
-apart : (others : Facts) → java_tree (program sum) (program sum) (facts others) three
+apart : (others : Facts) → java_tree (program sum) (facts others) three
     ≡ InterfaceTree [] (codes "Object_0") [] [] nowhere ∷ ClassTree [] (codes "P_1") None (id (codes "Object_0") ∷ []) (an_int (codes "a") ∷ [])
     nowhere ∷ ClassTree [] (codes "P_2") None (id (codes "Object_0") ∷ []) (an_int (codes "b") ∷ []) nowhere
     ∷ shown_tree (codes "P_1") (codes "P_2") (BinaryOf marks.Plus (FieldOf (NameRef (codes "x") nowhere) (codes "a") nowhere)
@@ -88,7 +88,7 @@ unfolding java_tree renaming_of numbers rows_of row_number columns_of column_num
     access_type below member_field field_of declaration_of search_order super_method
 apart others = refl
 
-above : (others : Facts) → java_tree (program same) (program same) (facts others) two
+above : (others : Facts) → java_tree (program same) (facts others) two
     ≡ ClassTree [] (codes "P_0") None [] (an_int (codes "a") ∷ []) nowhere ∷ ClassTree [] (codes "P_1") (Some (id (codes "P_0"))) []
     (an_int (codes "b") ∷ []) nowhere
     ∷ shown_tree (codes "P_0") (codes "P_1") (BinaryOf marks.Equal (NameRef (codes "x") nowhere) (NameRef (codes "y") nowhere) nowhere) ∷ []

@@ -50,6 +50,6 @@ module _ (P : Plain) (R : Renaming) (H : Hierarchy) where
 abbrev pub written_by : Plain → Renaming → Facts → Hierarchy → List ColumnItem → List DeclTree
 written_by P R F H items = type_trees P R F H items ++ holder_trees P R H
 
--- P is the program, and Q the same with the places of its forms, by which the rows and columns are numbered
-unfoldable pub java_tree : Plain → Plain → Facts → Hierarchy → List DeclTree
-java_tree P Q F H = written_by P (renaming_of P Q H by_number) F H (map (λ c. c.item) (columns_of P Q))
+-- the rows and columns have the numbers that the facts give them
+unfoldable pub java_tree : Plain → Facts → Hierarchy → List DeclTree
+java_tree P F H = written_by P (renaming_of P H by_number) F H (map (λ c. c.item) (columns_of P))

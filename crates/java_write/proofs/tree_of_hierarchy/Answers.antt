@@ -1,6 +1,5 @@
 use Rattle.std.proofs.Common.{◌≡◌, IfOk, subst}
 use Rattle.java_tree.specs.Syntax.{tree_of}
-use Rattle.java_core.specs.Trees.{no_place}
 use Rattle.java_core.specs.Programs.{program_of}
 use Rattle.written_tree.specs.Written.{written_by}
 use Rattle.tree_forms.specs.Renamed.{renamed}
@@ -23,7 +22,7 @@ returns c =
     let are = subst (λ q. AreNumbersOf q n) c.program-plain.ensures.value c.in_ok-numbering.ensures.numbers in
     record {
       tree = subst (λ d. IfOk c.generate.result (λ t. tree_of t ≡ d)) (same_tree p n F H are)
-          (subst (λ q. IfOk c.generate.result (λ t. tree_of t ≡ written_by (program_of no_place q) (renamed n H) F H n.columns.keys))
+          (subst (λ q. IfOk c.generate.result (λ t. tree_of t ≡ written_by (program_of q) (renamed n H) F H n.columns.keys))
           c.program-plain.ensures.value c.generate.ensures.tree);
       formed = c.program-plain.ensures.formed;
       typed = c.program-plain.ensures.typed;

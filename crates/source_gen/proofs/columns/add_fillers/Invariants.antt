@@ -1,6 +1,5 @@
 use Rattle.std.proofs.Common.{◌≡◌, ◌++◌, drop, map}
 use Rattle.java_tree.specs.Syntax.{members}
-use Rattle.java_core.specs.Trees.{no_place}
 use Rattle.java_core.specs.Programs.{slot_seen}
 use Rattle.flow_rules.specs.Ordered.{each}
 use Rattle.written_tree.specs.Members.{filler}
@@ -10,5 +9,5 @@ use Rattle.source_gen.proofs.columns.add_fillers.Given as goal
 abbrev pub invariant-loop-x : goal.invariant-loop-x
 invariant-loop-x l =
     let f = filler (old_program l.nodes.source) (renaming l.nodes.source) l.nodes.facts.now l.nodes.source.hier.now l.n.0 in
-    members l.into.items ++ each f l.x (map (slot_seen no_place) (drop l.x l.nodes.source.program.now.slots.items))
-    ≡ members l.fn.into.items ++ each f 0 (map (slot_seen no_place) l.nodes.source.program.now.slots.items)
+    members l.into.items ++ each f l.x (map slot_seen (drop l.x l.nodes.source.program.now.slots.items))
+    ≡ members l.fn.into.items ++ each f 0 (map slot_seen l.nodes.source.program.now.slots.items)

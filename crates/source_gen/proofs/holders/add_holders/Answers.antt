@@ -1,5 +1,4 @@
 use Rattle.std.proofs.Common.{ℕ, ◌∷◌, []}
-use Rattle.java_core.specs.Trees.{no_place}
 use Rattle.java_core.specs.Programs.{PlainClass, class_seen}
 use Rattle.flow_rules.specs.Ordered.{when}
 use Rattle.flow_rules.specs.Facts.{is_holder}
@@ -11,7 +10,7 @@ use Rattle.source_gen.proofs.holders.add_holders.Goals as goal
 pub loop-c-preserved : goal.loop-c-preserved
 loop-c-preserved c =
     let s = c.args.source.now in
-    each_seen_more (class_seen no_place)
+    each_seen_more class_seen
     (λ (i : ℕ) (k : PlainClass). when (is_holder (old_program s) i) (holder_tree (old_program s) (renaming s) s.hier.now i k ∷ []))
     s.program.now.classes.items _ c.loop-c.c c.class-item.result _ _ _ c.deref-class-items.ensures.value c.loop-c-test.true c.class-item.is
     c.in_ok-add_holder.ensures c.loop-c.invariant

@@ -1,4 +1,3 @@
-use Rattle.java_core.specs.Trees.{no_place}
 use Rattle.java_core.specs.Programs.{method_seen}
 use Rattle.written_tree.specs.Members.{static_method_member}
 use Rattle.tree_forms.specs.Sources.{old_program, renaming}
@@ -8,6 +7,6 @@ use Rattle.source_gen.proofs.holders.add_methods.Goals as goal
 pub loop-m-preserved : goal.loop-m-preserved
 loop-m-preserved c =
     let s = c.args.old.now.source.now in
-    each_seen_more (method_seen no_place) (static_method_member (old_program s) (renaming s) s.hier.now c.args.old.now.class) s.program.now.methods.items _
+    each_seen_more method_seen (static_method_member (old_program s) (renaming s) s.hier.now c.args.old.now.class) s.program.now.methods.items _
     c.loop-m.m c.method-item.result _ _ _ c.deref-method-items.ensures.value c.loop-m-test.true c.method-item.is c.in_ok-add_method.ensures
     c.loop-m.invariant

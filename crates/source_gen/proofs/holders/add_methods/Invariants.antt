@@ -1,6 +1,5 @@
 use Rattle.std.proofs.Common.{◌≡◌, ◌++◌, drop, map}
 use Rattle.java_tree.specs.Syntax.{members}
-use Rattle.java_core.specs.Trees.{no_place}
 use Rattle.java_core.specs.Programs.{method_seen}
 use Rattle.flow_rules.specs.Ordered.{each}
 use Rattle.written_tree.specs.Members.{static_method_member}
@@ -10,5 +9,5 @@ use Rattle.source_gen.proofs.holders.add_methods.Given as goal
 abbrev pub invariant-loop-m : goal.invariant-loop-m
 invariant-loop-m l =
     let f = static_method_member (old_program l.old.source.now) (renaming l.old.source.now) l.old.source.now.hier.now l.old.class in
-    members l.into.items ++ each f l.m (map (method_seen no_place) (drop l.m l.old.source.now.program.now.methods.items))
-    ≡ members l.fn.into.items ++ each f 0 (map (method_seen no_place) l.old.source.now.program.now.methods.items)
+    members l.into.items ++ each f l.m (map method_seen (drop l.m l.old.source.now.program.now.methods.items))
+    ≡ members l.fn.into.items ++ each f 0 (map method_seen l.old.source.now.program.now.methods.items)

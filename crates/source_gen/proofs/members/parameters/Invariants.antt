@@ -1,10 +1,9 @@
 use Rattle.std.proofs.Common.{◌≡◌, ◌++◌, drop, map}
-use Rattle.java_core.specs.Trees.{no_place}
 use Rattle.java_core.specs.Programs.{local_seen}
 use Rattle.written_tree.specs.Members.{parameters}
 use Rattle.source_gen.proofs.members.parameters.Given as goal
 
 abbrev pub invariant-loop-i : goal.invariant-loop-i
 invariant-loop-i l =
-    l.list.items ++ parameters l.i (map (local_seen no_place) (drop l.i l.method.params.items))
-    ≡ parameters 0 (map (local_seen no_place) l.method.params.items)
+    l.list.items ++ parameters l.i (map local_seen (drop l.i l.method.params.items))
+    ≡ parameters 0 (map local_seen l.method.params.items)

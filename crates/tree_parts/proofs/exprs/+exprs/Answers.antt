@@ -1,7 +1,7 @@
 -- A form that holds a list is the tree over the items of the list.
 use Rattle.std.proofs.Common.{rules, arith, refl, sym, ap, ◌∙◌}
 use Rattle.std.proofs.lemmas.Result.{IfOk-weaker}
-use Rattle.java_core.specs.Trees.{no_place, expr_of, exprs}
+use Rattle.java_core.specs.Trees.{at_place, expr_of, exprs}
 use Rattle.java_core.specs.Types.{class_of, static, env_of}
 use Rattle.java_tree.specs.Syntax as tree
 use Rattle.java_tree.specs.Syntax.{NewArrayOf, CastOf}
@@ -10,7 +10,7 @@ use Rattle.flow_rules.specs.declared.items.RowItem.TheVariants as row
 use Rattle.written_tree.specs.Names.{nowhere}
 use Rattle.tree_forms.specs.Sources.{old_program, row_typed}
 use Rattle.tree_parts.specs.Written.{method_of, expression, expressions}
-use Rattle.tree_parts.proofs.Forms.{own_call, call_on, static_form, super_form, creation_form}
+use Rattle.java_core.proofs.Forms.{own_call, call_on, static_form, super_form, creation_form}
 use Rattle.tree_parts.proofs.Steps.{all_next, all_written}
 use Rattle.tree_parts.proofs.Parts.{call_is, around}
 use Rattle.tree_parts.proofs.exprs.+exprs.Goals as goal
@@ -22,37 +22,37 @@ all-loop-one-preserved t c =
 
 pub all-returns : goal.all-returns
 all-returns t c = record {
-  value = all_written append_exprs (λ xs. expressions c.args.within.now c.args.scope.now.items (exprs no_place xs)) (tree.exprs c.loop-one.done.items)
+  value = all_written append_exprs (λ xs. expressions c.args.within.now c.args.scope.now.items (exprs xs)) (tree.exprs c.loop-one.done.items)
       c.deref-one-items.result.now c.loop-one.one-index (exprs_end (tree.exprs c.loop-one.done.items)) c.loop-one.invariant
       (omega (arith, c.loop-one-test.false));
 }
 
 pub expr-returns-in_ok-args-in-None : goal.expr-returns-in_ok-args-in-None
-expr-returns-in_ok-args-in-None t c = record { value = let form = own_call c.in-Call.args c.in-Call.is c.in-None.is in rw form (search rules) }
+expr-returns-in_ok-args-in-None t c = record { value = let form = own_call _ _ _ c.in-Call.args _ c.in-Call.is c.in-None.is in rw form (search rules) }
 
 pub expr-returns-in-Ok-made-args : goal.expr-returns-in-Ok-made-args
 expr-returns-in-Ok-made-args t c =
     let w = c.args.within.now in
     let scope = c.args.scope.now.items in
     let b = c.in-Some.base.value in
-    let class = ap class_of (c.static_of-found-in-Some.ensures.value no_place w.number
-    ∙ ap (λ y. static (old_program w.source.now) (env_of w.number (method_of w)) (expr_of no_place y)) c.deref-in-Some.ensures) in
-    let on = c.in_ok-on-in-Some.ensures.value ∙ ap (λ y. expression w scope (expr_of no_place y)) c.deref-in-Some-2.ensures in
-    let is = call_is w scope (no_place c.in-Call.place) (expr_of no_place b) c.in-Call.name (exprs no_place c.in-Call.args.items)
+    let class = ap class_of (c.static_of-found-in-Some.ensures.value w.number
+    ∙ ap (λ y. static (old_program w.source.now) (env_of w.number (method_of w)) (expr_of y)) c.deref-in-Some.ensures) in
+    let on = c.in_ok-on-in-Some.ensures.value ∙ ap (λ y. expression w scope (expr_of y)) c.deref-in-Some-2.ensures in
+    let is = call_is w scope (at_place c.in-Call.place) (expr_of b) c.in-Call.name (exprs c.in-Call.args.items)
     on class c.in-Ok-made-args.ensures.value in
-    let form = call_on c.in-Call.args c.in-Call.is c.in-Some.is in
+    let form = call_on _ _ _ _ c.in-Call.args _ c.in-Call.is c.in-Some.is in
     record {
       value = IfOk-weaker c.call.result _ _ (λ e h. h ∙ is ∙ sym (ap (expression w scope) form)) c.call.ensures;
     }
 
 pub expr-returns-in_ok-args-in-StaticCall : goal.expr-returns-in_ok-args-in-StaticCall
-expr-returns-in_ok-args-in-StaticCall t c = record { value = let form = static_form c.in-StaticCall.args c.in-StaticCall.is in rw form (search rules) }
+expr-returns-in_ok-args-in-StaticCall t c = record { value = let form = static_form _ _ c.in-StaticCall.args _ c.in-StaticCall.is in rw form (search rules) }
 
 pub expr-returns-in_ok-args-in-SuperCall : goal.expr-returns-in_ok-args-in-SuperCall
-expr-returns-in_ok-args-in-SuperCall t c = record { value = let form = super_form c.in-SuperCall.args c.in-SuperCall.is in rw form (search rules) }
+expr-returns-in_ok-args-in-SuperCall t c = record { value = let form = super_form _ _ c.in-SuperCall.args _ c.in-SuperCall.is in rw form (search rules) }
 
 pub expr-returns-in_ok-args-in-New : goal.expr-returns-in_ok-args-in-New
-expr-returns-in_ok-args-in-New t c = record { value = let form = creation_form c.in-New.args c.in-New.is in rw form (search rules) }
+expr-returns-in_ok-args-in-New t c = record { value = let form = creation_form _ _ _ c.in-New.args _ c.in-New.is in rw form (search rules) }
 
 pub expr-returns-in_ok-size-in-NewArray : goal.expr-returns-in_ok-size-in-NewArray
 expr-returns-in_ok-size-in-NewArray t c = record {

@@ -2,11 +2,11 @@
 use Rattle.std.proofs.Common.{◌≡◌, drop}
 use Rattle.java_tree.specs.Syntax as tree
 use Rattle.java_tree.proofs.Appended.{append_exprs}
-use Rattle.java_core.specs.Trees.{no_place, exprs}
+use Rattle.java_core.specs.Trees.{exprs}
 use Rattle.tree_parts.specs.Written.{expressions}
 use Rattle.tree_parts.proofs.exprs.+exprs.Given as goal
 
 abbrev pub invariant-all-loop-one : goal.invariant-all-loop-one
 invariant-all-loop-one l =
-    append_exprs (tree.exprs l.done.items) (expressions l.within l.scope.items (exprs no_place (drop l.one-index l.one-items)))
-    ≡ expressions l.within l.scope.items (exprs no_place l.list.items)
+    append_exprs (tree.exprs l.done.items) (expressions l.within l.scope.items (exprs (drop l.one-index l.one-items)))
+    ≡ expressions l.within l.scope.items (exprs l.list.items)

@@ -1,7 +1,7 @@
 -- The recursion goes down; a form that holds a list is the tree over the items of the list.
 use Rattle.std.proofs.Common.{rules, arith, sym, ap, ◌∙◌}
 use Rattle.std.proofs.lemmas.Result.{IfOk-weaker}
-use Rattle.java_core.specs.Trees.{no_place, no_other, value_of, stmts, arms_seen, else_seen, step_seen}
+use Rattle.java_core.specs.Trees.{at_place, no_other, value_of, stmts, arms_seen, else_seen, step_seen}
 use Rattle.std.specs.Prelude.{Option}
 use Rattle.std.specs.declared.vec.Vec.{Vec}
 use Rattle.std.specs.declared.alloc.Global.{Global}
@@ -11,7 +11,7 @@ use Rattle.java_tree.proofs.Appended.{append_stmts, append_arms, stmts_end, arms
 use Rattle.tree_parts.specs.Written.{statement, statements, arms, otherwise}
 use Rattle.java_core.proofs.StatementSize.{st_size}
 use Rattle.tree_parts.proofs.Sizes.{choice_sizes, stmt_within, arm_within}
-use Rattle.tree_parts.proofs.Forms.{block_form, if_form, while_form, for_form}
+use Rattle.java_core.proofs.Forms.{block_form, if_form, while_form, for_form}
 use Rattle.tree_parts.proofs.Bodies.{arms_alike, else_alike, for_is}
 use Rattle.tree_parts.proofs.Steps.{sts_next, arms_next, all_written}
 use Rattle.tree_parts.proofs.stmts.+stmts.Goals as goal
@@ -24,7 +24,7 @@ body-loop-one-preserved t c =
 
 pub body-returns : goal.body-returns
 body-returns t c = record {
-  value = all_written append_stmts (λ xs. statements c.args.within.now c.loop-one.inner.items (stmts no_place xs)) (tree.stmts c.loop-one.done.items)
+  value = all_written append_stmts (λ xs. statements c.args.within.now c.loop-one.inner.items (stmts xs)) (tree.stmts c.loop-one.done.items)
       c.deref-one-items.result.now c.loop-one.one-index (stmts_end (tree.stmts c.loop-one.done.items)) c.loop-one.invariant
       (omega (arith, c.loop-one-test.false));
 }
@@ -33,14 +33,14 @@ pub body-stmt-requires : goal.body-stmt-requires
 body-stmt-requires t c = (omega (arith, c.decreases, stmt_within c.deref-one-items.ensures.value c.loop-one-test.true c.one-item.is), c.requires)
 
 pub stmt-body-requires : goal.stmt-body-requires
-stmt-body-requires t c = (omega (arith, c.decreases, ap st_size (block_form c.in-Block.items c.in-Block.is)), c.requires)
+stmt-body-requires t c = (omega (arith, c.decreases, ap st_size (block_form _ c.in-Block.items _ c.in-Block.is)), c.requires)
 
 pub stmt-body-requires-in-While : goal.stmt-body-requires-in-While
-stmt-body-requires-in-While t c = (omega (arith, c.decreases, ap st_size (while_form c.in-While.run' c.in-While.is)), c.requires)
+stmt-body-requires-in-While t c = (omega (arith, c.decreases, ap st_size (while_form _ _ c.in-While.run' _ c.in-While.is)), c.requires)
 
 pub stmt-body-requires-in-For : goal.stmt-body-requires-in-For
 stmt-body-requires-in-For t c = (
-  omega (arith, c.decreases, ap st_size (for_form c.in-For.first c.in-For.test c.in-For.step c.in-For.run' c.in-For.is)),
+  omega (arith, c.decreases, ap st_size (for_form _ c.in-For.first c.in-For.test c.in-For.step c.in-For.run' _ c.in-For.is)),
   c.requires,
 )
 
@@ -61,23 +61,23 @@ all_arms-loop-one-preserved t c =
 
 pub all_arms-returns : goal.all_arms-returns
 all_arms-returns t c = record {
-  value = all_written append_arms (λ xs. arms c.args.within.now c.args.scope.now.items (arms_seen no_place xs no_other)) (tree.arms_seen c.loop-one.done.items)
+  value = all_written append_arms (λ xs. arms c.args.within.now c.args.scope.now.items (arms_seen xs no_other)) (tree.arms_seen c.loop-one.done.items)
       c.deref-one-items.result.now c.loop-one.one-index (arms_end (tree.arms_seen c.loop-one.done.items)) c.loop-one.invariant
       (omega (arith, c.loop-one-test.false));
 }
 
 pub stmt-returns-in_ok-items-in-Block-clause-value : goal.stmt-returns-in_ok-items-in-Block-clause-value
-stmt-returns-in_ok-items-in-Block-clause-value t c = let form = block_form c.in-Block.items c.in-Block.is in rw form (search rules)
+stmt-returns-in_ok-items-in-Block-clause-value t c = let form = block_form _ c.in-Block.items _ c.in-Block.is in rw form (search rules)
 
 pub stmt-returns-in-Ok-made-run-clause-value : goal.stmt-returns-in-Ok-made-run-clause-value
-stmt-returns-in-Ok-made-run-clause-value t c = let form = while_form c.in-While.run' c.in-While.is in rw form (search rules)
+stmt-returns-in-Ok-made-run-clause-value t c = let form = while_form _ _ c.in-While.run' _ c.in-While.is in rw form (search rules)
 
 pub stmt-returns-in-Ok-made-other-clause-value : goal.stmt-returns-in-Ok-made-other-clause-value
 stmt-returns-in-Ok-made-other-clause-value t c =
     let w = c.args.within.now in
-    let form = if_form c.in-If.arms c.in-If.other c.in-If.is in
+    let form = if_form _ c.in-If.arms c.in-If.other _ c.in-If.is in
     let choice = arms_alike w c.args.scope.now.items c.in-If.arms.items c.in-If.other in
-    let last = else_alike w c.args.scope.now.items c.in-If.arms.items (else_seen no_place c.in-If.other) in
+    let last = else_alike w c.args.scope.now.items c.in-If.arms.items (else_seen c.in-If.other) in
     rw (form, choice, last) (search rules)
 
 pub stmt-returns-in-Ok-made-run-2-clause-value : goal.stmt-returns-in-Ok-made-run-2-clause-value
@@ -85,16 +85,15 @@ stmt-returns-in-Ok-made-run-2-clause-value t c =
     let w = c.args.within.now in
     let scope = c.args.scope.now.items in
     let a = c.in-For in
-    let is = for_is w scope c.in_ok-inner-in-For.inner.items c.part.new.scope.items (no_place a.place)
-    (step_seen no_place a.first) (value_of no_place a.test)
-    (step_seen no_place a.step) (stmts no_place a.run'.items) c.in_ok-inner-in-For.ensures c.in-Ok-made-first.ensures.scope c.in-Ok-made-first.ensures.value
+    let is = for_is w scope c.in_ok-inner-in-For.inner.items c.part.new.scope.items (at_place a.place)
+    (step_seen a.first) (value_of a.test)
+    (step_seen a.step) (stmts a.run'.items) c.in_ok-inner-in-For.ensures c.in-Ok-made-first.ensures.scope c.in-Ok-made-first.ensures.value
     c.in-Ok-made-test.ensures.value c.in-Ok-made-step.ensures.value c.in-Ok-made-run-2.ensures.value c.nowhere-in-For.ensures in
-    let form = for_form a.first a.test a.step a.run' a.is in
+    let form = for_form _ a.first a.test a.step a.run' _ a.is in
     IfOk-weaker c.for_loop.result _ _ (λ s h. h ∙ is ∙ sym (ap (statement w scope) form)) c.for_loop.ensures.value
 
 pub otherwise-returns-in_ok-other-in-Some : goal.otherwise-returns-in_ok-other-in-Some
 otherwise-returns-in_ok-other-in-Some t c =
     let w = c.args.within.now in
-    let some = ap (λ (o : Option (Vec RStmt Global)). otherwise w c.args.scope.now.items (else_seen
-    no_place o)) c.in-Some.is in
+    let some = ap (λ (o : Option (Vec RStmt Global)). otherwise w c.args.scope.now.items (else_seen o)) c.in-Some.is in
     record { value = ap tree.otherwise c.in_ok-other-in-Some.ensures.value ∙ sym some }
