@@ -1,9 +1,14 @@
 -- What is promised follows from the answers.
-use Rattle.std.proofs.Common.{◌≡◌, ◌⊎◌, inl, inr, ℕ, Bool, List, [], ◌∷◌, ◌++◌, Option, Some, None, Result, Ok, Err, refl, sym, ◌∙◌, subst, arith}
+use Rattle.std.proofs.Common.{◌≡◌, ◌⊎◌, inl, inr, ℕ, Bool, List, [], ◌∷◌, ◌++◌, Option, Some, None, Result, Ok, Err, refl, sym, ap, ◌∙◌, subst, arith}
 use Rattle.kaba_base.specs.Outside.{Files}
+use Rattle.java_tree.specs.Syntax.{DeclTree}
+use Rattle.java_tree.specs.Places.{unplaced}
+use Rattle.java_tree.specs.Formed.{IsGiven}
 use Rattle.java_core.specs.declared.Program.{Program}
-use Rattle.java_core.specs.Trees.{no_place}
 use Rattle.java_core.specs.Programs.{program_of}
+use Rattle.java_core.specs.Untagged.{untagged}
+use Rattle.name_rules.specs.Resolves.{Resolves}
+use Rattle.name_rules.specs.Causes.{HasNoCondition}
 use Rattle.fact_model.specs.declared.facts.Facts.{Facts}
 use Rattle.fact_model.specs.declared.sets.PointsTo.{PointsTo}
 use Rattle.hier_model.specs.Hierarchies.{Hierarchy}
@@ -17,7 +22,10 @@ use Rattle.edit_script.specs.declared.lines.Line.{Line}
 use Rattle.edit_script.specs.Script.{AreEditsOf}
 use Rattle.java_write.specs.Written.{IsWrittenText, tree_of_hierarchy}
 use Rattle.kaba_words.specs.Commands.{Cmd, run, table, lattice, edit, regen, make, help, version}
-use Rattle.same_run.specs.Same.{HasSameRun}
+use Rattle.java_meaning.proofs.UntaggedRuns.{same_aside}
+use Rattle.written_tree.proofs.Nowhere.{without_places}
+use Rattle.places_aside.specs.Laws.{HasNoPlaces}
+use Rattle.places_aside.proofs.Whole.{has_no_places}
 use Rattle.kaba_top.proofs.ReadsOne.{reads_one}
 use Rattle.kaba_top.specs.Reading.{IsRefusedText, IsTypedText, TextAnswers}
 use Rattle.kaba_top.specs.FactsAnswers.{HasFacts, AnalysisAnswers, LatticeOf}
@@ -115,6 +123,11 @@ judges bound bytes script p F text facts has edits are = record {
   judged = judged F has.sets edits (start_of bound F has);
 }
 
+written_bare : (tree : List DeclTree) (p : Program) → unplaced tree ≡ tree → IsGiven tree → HasNoCondition tree → Resolves tree (program_of p)
+    → untagged (program_of p) ≡ program_of p
+unfolding HasNoPlaces
+written_bare = has_no_places
+
 rebuilt : (p : Program) (F : Facts) (H : Hierarchy) (text out : List ℕ) → out ≡ text → IsWrittenText p F H text → IsRebuilt p F H out
 rebuilt p F H text out e w = subst (IsRebuilt p F H) (sym e) (record {
   tree = tree_of_hierarchy p F H;
@@ -125,8 +138,15 @@ rebuilt p F H text out e w = subst (IsRebuilt p F H) (sym e) (record {
   rebuilds = w.keeps.rebuilds;
   offers = w.keeps.rows;
   same = w.keeps.run;
-  one = λ q is. reads_one text (tree_of_hierarchy p F H) w.new q w.read w.resolves is;
-  same_again = λ q is. subst (λ z. HasSameRun (program_of no_place p) z) (reads_one text (tree_of_hierarchy p F H) w.new q w.read w.resolves is) w.keeps.run;
+  one = λ q is. sym (written_bare (tree_of_hierarchy p F H) w.new (without_places (program_of p) F H) (record { bytes = text; read = w.read }) w.none w.resolves)
+      ∙ reads_one text (tree_of_hierarchy p F H) w.new q w.read w.resolves is;
+  same_again = λ q is.
+      let same = same_aside (program_of w.new) (program_of q) (reads_one text (tree_of_hierarchy p F H) w.new q w.read w.resolves is) in
+      record {
+        end = λ words n. w.keeps.run.end words n ∙ ap (λ o. o.end) (same words n);
+        out = λ words n. w.keeps.run.out words n ∙ ap (λ o. o.out) (same words n);
+        left = λ words n. w.keeps.run.left words n ∙ ap (λ o. o.left) (same words n);
+      };
 })
 
 module _ (status : ℕ) (out err : List ℕ) (j : IsJudging status) where

@@ -54,15 +54,15 @@ abbrev rest_of : List ClassFacts → List ClassFacts
 rest_of [] = []
 rest_of (k ∷ ks) = ks
 
-none_listed : (Q : Plain) (n : ℕ) (cs : List ClassInfo) (ks : List PlainClass) → map class_seen cs ≡ each (class_facts Q) n ks → first_interface ks ≡ None
+none_listed : (P : Plain) (n : ℕ) (cs : List ClassInfo) (ks : List PlainClass) → map class_seen cs ≡ each (class_facts P) n ks → first_interface ks ≡ None
     → (a : ℕ) → option_map_or (λ k. k.is_interface) (slice_get cs a) false ≡ false
-none_listed Q n [] ks e none a = refl
-none_listed Q n (c ∷ cs) [] e none a = let u = e in cc
-none_listed Q n (c ∷ cs) (k ∷ ks) e none zero =
+none_listed P n [] ks e none a = refl
+none_listed P n (c ∷ cs) [] e none a = let u = e in cc
+none_listed P n (c ∷ cs) (k ∷ ks) e none zero =
     let same : c.is_interface ≡ k.is_interface = ap interface_of e in
     same ∙ (none_first k.is_interface k.name (first_interface ks) none).0
-none_listed Q n (c ∷ cs) (k ∷ ks) e none (suc a) = none_listed Q (n + 1) cs ks (ap rest_of e) (none_first k.is_interface k.name (first_interface ks) none).1 a
+none_listed P n (c ∷ cs) (k ∷ ks) e none (suc a) = none_listed P (n + 1) cs ks (ap rest_of e) (none_first k.is_interface k.name (first_interface ks) none).1 a
 
 -- the facts of a program are those of one without interfaces
-pub no_interface : (P Q : Plain) (F : Facts) → AreProgramFacts P Q F → HasNoInterface F
-no_interface P Q F facts = record { classes = λ a. none_listed Q 0 F.classes.items Q.classes facts.is.classes facts.within.interfaces a }
+pub no_interface : (P : Plain) (F : Facts) → AreProgramFacts P F → HasNoInterface F
+no_interface P F facts = record { classes = λ a. none_listed P 0 F.classes.items P.classes facts.is.classes facts.within.interfaces a }

@@ -3,16 +3,16 @@ use Rattle.std.proofs.Common.{◌≡◌, ℕ, List, refl}
 use Rattle.java_tree.specs.Syntax.{DeclTree}
 use Rattle.java_tree.specs.Formed.{IsReadAs}
 use Rattle.java_core.specs.declared.Program.{Program}
-use Rattle.java_core.specs.Trees.{at_place, no_place}
 use Rattle.java_core.specs.Programs.{program_of}
+use Rattle.java_core.specs.Untagged.{untagged}
 use Rattle.name_rules.specs.Resolves.{Resolves}
 use Rattle.places_aside.specs.Laws.{HasOneProgram}
 use Rattle.places_aside.proofs.Whole.{has_one_program}
 use Rattle.kaba_top.specs.Reading.{IsTypedText}
 
 -- the program that is read of a text is the one to which any tree that the text derives resolves, places aside
-pub reads_one : (bytes : List ℕ) (tree : List DeclTree) (new q : Program) → IsReadAs bytes tree → Resolves tree (program_of at_place new)
-    → IsTypedText bytes q → program_of no_place new ≡ program_of no_place q
+pub reads_one : (bytes : List ℕ) (tree : List DeclTree) (new q : Program) → IsReadAs bytes tree → Resolves tree (program_of new)
+    → IsTypedText bytes q → untagged (program_of new) ≡ untagged (program_of q)
 unfolding HasOneProgram
 reads_one bytes tree new q read resolves is =
     let r = is.has.read in

@@ -2,7 +2,6 @@
 use Rattle.std.proofs.Common.{◌≡◌, inl, inr, ℕ, ◌-◌, ◌++◌, Bool, ◌==◌, true, false, List, [], length, Option, if◌then◌else◌, arith}
 use Rattle.kaba_base.specs.Outside.{Files}
 use Rattle.java_core.specs.declared.Program.{Program}
-use Rattle.java_core.specs.Trees.{no_place}
 use Rattle.java_core.specs.Programs.{program_of}
 use Rattle.java_meaning.specs.Moment as meaning
 use Rattle.fact_model.specs.declared.facts.Facts.{Facts}
@@ -56,7 +55,7 @@ end_other meaning.Wrong bytes status out err h = absurd h
 end_other meaning.Escaped bytes status out err h = absurd h
 
 run_other : (steps : ℕ) (words : List (List ℕ)) (p : Program) → AreOther (RunAnswers steps words p)
-run_other steps words p = end_other (meant (program_of no_place p) words steps).end (meant (program_of no_place p) words steps).out
+run_other steps words p = end_other (meant (program_of p) words steps).end (meant (program_of p) words steps).out
 
 analysis_other : (J : Facts → ℕ → List ℕ → List ℕ → Type 0) → ((f : Facts) → AreOther (J f)) → (p : Program) → AreOther (AnalysisAnswers J p)
 analysis_other J o p status out err (inl (inl a)) = said 75 (omega arith, omega arith) _ status out err a.says
@@ -127,7 +126,7 @@ counts_other counts meaning.Escaped steps bytes status out err h = absurd h
 
 written_other : (counts : Counts) (p : Program) → AreOther (WrittenGives counts p)
 written_other counts p =
-    let o = meant (program_of no_place p) [] made_steps in
+    let o = meant (program_of p) [] made_steps in
     counts_other counts o.end (made_steps - o.left) o.out
 
 made_other : (program : Program) (f : Facts) → AreOther (MadeOf program f)

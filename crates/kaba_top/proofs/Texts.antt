@@ -10,7 +10,6 @@ use Rattle.java_tree.specs.Nesting as nesting
 use Rattle.java_tree.specs.Syntax.{DeclTree}
 use Rattle.java_tree.specs.Declarations.{IsPlaced, Derives}
 use Rattle.java_core.specs.declared.Program.{Program}
-use Rattle.java_core.specs.Trees.{no_place}
 use Rattle.java_core.specs.Programs.{program_of}
 use Rattle.java_core.specs.Typing.{IsTyped}
 use Rattle.name_rules.specs.declared.Refusal.{Refusal}
@@ -55,8 +54,8 @@ unfolding IsRefusedText
 no_tree bytes tokens k reply h w s = inr (inr (inl (record { tokens = tokens; lexed = h; nested = w.0; none = w.2; token = k; within = w.1; says = s })))
 
 -- a program that is not typed
-pub ill_typed : (program : Program) (kind : Kind) (place : Place) (reply : Reply) → IsRefused program (IllTyped kind place)
-    → (IsTyped (program_of no_place program) → ⊥) → Says 65 (refused (typing_text kind place)) reply.status reply.out.items reply.err.items
+pub ill_typed : (program : Program) (kind : Kind) (place : Place) (reply : Reply) → IsRefused (program_of program) (IllTyped kind place)
+    → (IsTyped (program_of program) → ⊥) → Says 65 (refused (typing_text kind place)) reply.status reply.out.items reply.err.items
     → IsReadingOfProgram program (readings.Refused reply)
 unfolding IsRefused
 ill_typed program kind place reply f n s = record { untyped = n; kind = kind; place = place; fails = f; says = s }
@@ -65,7 +64,7 @@ ill_typed program kind place reply f n s = record { untyped = n; kind = kind; pl
 of_program : (tree : List DeclTree) (program : Program) (reading : Reading) → IsResolved tree program → IsReadingOfProgram program reading
     → IsReadingOfTree tree reading
 of_program tree program (readings.Typed same) h t =
-    record { resolved = subst (IsResolved tree) (sym t.0) h; typed = subst (λ p. IsTyped (program_of no_place p)) (sym t.0) t.1 }
+    record { resolved = subst (IsResolved tree) (sym t.0) h; typed = subst (λ p. IsTyped (program_of p)) (sym t.0) t.1 }
 of_program tree program (readings.Refused reply) h t = inr (record { program = program; resolved = h; ill = t })
 
 pub resolved_as : (tree : List DeclTree) (program : Program) (r : Result Reading AllocError) → IsResolved tree program

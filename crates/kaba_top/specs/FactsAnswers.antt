@@ -3,7 +3,6 @@ use Rattle.std.specs.Prelude.{◌≡◌, ◌⊎◌, ℕ, ◌≤◌, Bool, List, 
 use Rattle.std.specs.Fmt.{decimal}
 use Rattle.std.specs.Str.{encode_utf8_all}
 use Rattle.java_core.specs.declared.Program.{Program}
-use Rattle.java_core.specs.Trees.{at_place, no_place}
 use Rattle.java_core.specs.Programs.{program_of}
 use Rattle.fact_model.specs.declared.facts.Facts.{Facts}
 use Rattle.fact_model.specs.declared.sets.Table.{Table}
@@ -23,15 +22,15 @@ use Rattle.kaba_top.specs.Lines.{Says, Gives}
 -- the program declares an interface, the first of which is named
 pub record IsWithInterface (program : Program) (status : ℕ) (out err : List ℕ) : Type 0 where
   pub name : List ℕ
-  pub first : first_interface (program_of at_place program).classes ≡ Some name
+  pub first : first_interface (program_of program).classes ≡ Some name
   pub says : Says 75 (codes "has interface " ++ encode_utf8_all name) status out err
 
 -- the program declares none, and there is too much of it
 pub record IsOverLimit (program : Program) (status : ℕ) (out err : List ℕ) : Type 0 where
-  pub none : first_interface (program_of at_place program).classes ≡ None
+  pub none : first_interface (program_of program).classes ≡ None
   pub what : Counted
   pub number : ℕ
-  pub over : too_many (program_of no_place program) (program_of at_place program) ≡ Some (record { what = what; number = number })
+  pub over : too_many (program_of program) ≡ Some (record { what = what; number = number })
   pub says : Says 67 (codes "too large: " ++ cause_text (cause.Limit what)) status out err
 
 -- no facts, and why
@@ -41,7 +40,7 @@ IsNotAnalysed program status out err = IsWithInterface program status out err �
 -- the program is within the limits and has these facts: each list is that of its text, they are in range and in order, and their
 -- points-to sets cover each run
 abbrev pub HasFacts : Program → Facts → Type 0
-HasFacts program facts = AreProgramFacts (program_of no_place program) (program_of at_place program) facts
+HasFacts program facts = AreProgramFacts (program_of program) facts
 
 -- the program has facts for which there is this answer
 pub record IsAnalysed (J : Facts → ℕ → List ℕ → List ℕ → Type 0) (program : Program) (status : ℕ) (out err : List ℕ) : Type 0 where

@@ -3,7 +3,6 @@ use Rattle.std.specs.Prelude.{◌⊎◌, ℕ, ◌-◌, ◌<◌, ◌≤◌, Bool,
 use Rattle.std.specs.Fmt.{decimal}
 use Rattle.std.specs.Str.{encode_utf8_all}
 use Rattle.java_core.specs.declared.Program.{Program}
-use Rattle.java_core.specs.Trees.{no_place}
 use Rattle.java_core.specs.Programs.{program_of}
 use Rattle.java_meaning.specs.Moment as meaning
 use Rattle.java_print.specs.Layout.{tree_text}
@@ -81,7 +80,7 @@ OutcomeGives counts outcome = RunGives counts outcome.end (made_steps - outcome.
 
 -- what the run of the written program without words gives
 abbrev pub WrittenGives : Counts → Program → ℕ → List ℕ → List ℕ → Type 0
-WrittenGives counts program = OutcomeGives counts (meant (program_of no_place program) [] made_steps)
+WrittenGives counts program = OutcomeGives counts (meant (program_of program) [] made_steps)
 
 -- the hierarchy of the lattice is brought into a tree, the program of the tree is written, and what is written is read and run
 pub record IsMade (program : Program) (facts : Facts) (status : ℕ) (out err : List ℕ) : Type 0 where

@@ -4,8 +4,8 @@ use Rattle.kaba_base.specs.Outside.{Files, taken_more}
 use Rattle.java_tree.specs.Syntax.{DeclTree}
 use Rattle.java_tree.specs.Formed.{IsReadAs}
 use Rattle.java_core.specs.declared.Program.{Program}
-use Rattle.java_core.specs.Trees.{at_place, no_place}
 use Rattle.java_core.specs.Programs.{program_of}
+use Rattle.java_core.specs.Untagged.{untagged}
 use Rattle.java_core.specs.Typing.{IsTyped}
 use Rattle.name_rules.specs.Resolves.{Resolves}
 use Rattle.fact_model.specs.declared.facts.Facts.{Facts}
@@ -84,14 +84,14 @@ pub record IsRebuilt (program : Program) (facts : Facts) (H : Hierarchy) (text :
   pub tree : List DeclTree
   pub read : IsReadAs text tree
   pub new : Program
-  pub resolves : Resolves tree (program_of at_place new)
-  pub typed : IsTyped (program_of no_place new)
-  pub rebuilds : Rebuilds (program_of no_place program) (program_of at_place program) facts H (program_of no_place new)
-  pub offers : OffersRows (program_of no_place program) (program_of at_place program) facts H (program_of no_place new) rebuilds.places
-  pub same : HasSameRun (program_of no_place program) (program_of no_place new)
+  pub resolves : Resolves tree (program_of new)
+  pub typed : IsTyped (program_of new)
+  pub rebuilds : Rebuilds (program_of program) facts H (program_of new)
+  pub offers : OffersRows (program_of program) facts H (program_of new) rebuilds.places
+  pub same : HasSameRun (program_of program) (program_of new)
   -- whatever program the text is read as, again from a file, is that one, places aside, and has the same run
-  pub one : (again : Program) → IsTypedText text again → program_of no_place new ≡ program_of no_place again
-  pub same_again : (again : Program) → IsTypedText text again → HasSameRun (program_of no_place program) (program_of no_place again)
+  pub one : (again : Program) → IsTypedText text again → program_of new ≡ untagged (program_of again)
+  pub same_again : (again : Program) → IsTypedText text again → HasSameRun (program_of program) (program_of again)
 
 -- the script's edits are judged
 pub record TellsEdits (bytes script err : List ℕ) : Type 0 where

@@ -11,7 +11,6 @@ use Rattle.java_tree.specs.Nesting as nesting
 use Rattle.java_tree.specs.Syntax.{DeclTree}
 use Rattle.java_tree.specs.Declarations.{IsPlaced, Derives}
 use Rattle.java_core.specs.declared.Program.{Program}
-use Rattle.java_core.specs.Trees.{at_place, no_place}
 use Rattle.java_core.specs.Programs.{program_of}
 use Rattle.java_core.specs.Formed.{IsFormed}
 use Rattle.java_core.specs.Typing.{IsTyped}
@@ -134,7 +133,7 @@ pub record IsUnresolved (bytes : List ℕ) (status : ℕ) (out err : List ℕ) :
 -- the text has this tree, no condition that refuses names holds of it, and it is resolved to this program
 pub record HasProgram (bytes : List ℕ) (tree : List DeclTree) (program : Program) : Type 0 where
   pub read : IsReadAs bytes tree
-  pub resolves : Resolves tree (program_of at_place program)
+  pub resolves : Resolves tree (program_of program)
   pub none : HasNoCondition tree
 
 -- the program of the text is not typed: a rule of types fails in it at the place named
@@ -142,10 +141,10 @@ pub record IsUntyped (bytes : List ℕ) (status : ℕ) (out err : List ℕ) : Ty
   pub tree : List DeclTree
   pub program : Program
   pub has : HasProgram bytes tree program
-  pub untyped : IsTyped (program_of no_place program) → ⊥
+  pub untyped : IsTyped (program_of program) → ⊥
   pub kind : Kind
   pub place : Place
-  pub fails : FailsIn (program_of no_place program) (program_of at_place program) kind place
+  pub fails : FailsIn (program_of program) kind place
   pub says : Says 65 (refused (typing_text kind place)) status out err
 
 -- the text is refused
@@ -157,8 +156,8 @@ IsRefusedText bytes status out err = IsNoTokens bytes status out err
 pub record IsTypedText (bytes : List ℕ) (program : Program) : Type 0 where
   pub tree : List DeclTree
   pub has : HasProgram bytes tree program
-  pub formed : IsFormed (program_of no_place program)
-  pub typed : IsTyped (program_of no_place program)
+  pub formed : IsFormed (program_of program)
+  pub typed : IsTyped (program_of program)
 
 -- the text is that of a typed program, for which there is this answer
 pub record IsAnsweredText (K : Program → ℕ → List ℕ → List ℕ → Type 0) (bytes : List ℕ) (status : ℕ) (out err : List ℕ) : Type 0 where

@@ -3,7 +3,6 @@ use Rattle.std.specs.Prelude.{◌≡◌, ◌⊎◌, ℕ, ◌≤◌, List, length
 use Rattle.kaba_base.specs.declared.Place.{Place}
 use Rattle.java_tree.specs.Syntax.{DeclTree}
 use Rattle.java_core.specs.declared.Program.{Program}
-use Rattle.java_core.specs.Trees.{at_place, no_place}
 use Rattle.java_core.specs.Programs.{program_of}
 use Rattle.java_core.specs.Formed.{IsFormed}
 use Rattle.java_core.specs.Typing.{IsTyped}
@@ -26,27 +25,27 @@ IsReading bytes (readings.Refused reply) = IsRefusedText bytes reply.status repl
 
 -- the program is not typed
 pub record IsIllTyped (program : Program) (status : ℕ) (out err : List ℕ) : Type 0 where
-  pub untyped : IsTyped (program_of no_place program) → ⊥
+  pub untyped : IsTyped (program_of program) → ⊥
   pub kind : Kind
   pub place : Place
-  pub fails : FailsIn (program_of no_place program) (program_of at_place program) kind place
+  pub fails : FailsIn (program_of program) kind place
   pub says : Says 65 (refused (typing_text kind place)) status out err
 
 -- the program was found typed, or a reply says why it is not
 abbrev pub IsReadingOfProgram : Program → Reading → Type 0
-IsReadingOfProgram given (readings.Typed program) = (◌≡◌ {A = Program} program given) × IsTyped (program_of no_place given)
+IsReadingOfProgram given (readings.Typed program) = (◌≡◌ {A = Program} program given) × IsTyped (program_of given)
 IsReadingOfProgram given (readings.Refused reply) = IsIllTyped given reply.status reply.out.items reply.err.items
 
 -- a tree is resolved to this program
 pub record IsResolved (tree : List DeclTree) (program : Program) : Type 0 where
-  pub resolves : Resolves tree (program_of at_place program)
+  pub resolves : Resolves tree (program_of program)
   pub none : HasNoCondition tree
-  pub formed : IsFormed (program_of no_place program)
+  pub formed : IsFormed (program_of program)
 
 -- a tree is resolved to this typed program
 pub record IsTypedTree (tree : List DeclTree) (program : Program) : Type 0 where
   pub resolved : IsResolved tree program
-  pub typed : IsTyped (program_of no_place program)
+  pub typed : IsTyped (program_of program)
 
 -- a tree is refused: a condition on names holds, or its program is not typed
 pub record IsUnresolvedTree (tree : List DeclTree) (status : ℕ) (out err : List ℕ) : Type 0 where

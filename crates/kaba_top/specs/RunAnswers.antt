@@ -1,7 +1,6 @@
 -- The answers of `run`, for the program of its file.
 use Rattle.std.specs.Prelude.{ℕ, List, [], ◌++◌, codes}
 use Rattle.java_core.specs.declared.Program.{Program}
-use Rattle.java_core.specs.Trees.{no_place}
 use Rattle.java_core.specs.Programs.{program_of}
 use Rattle.java_meaning.specs.Moment as meaning
 use Rattle.java_run.specs.Outcomes.{meant}
@@ -18,4 +17,4 @@ EndGives _ bytes = λ status out err. ⊥
 
 -- what the run of the program on the words gives, within the steps
 abbrev pub RunAnswers : ℕ → List (List ℕ) → Program → ℕ → List ℕ → List ℕ → Type 0
-RunAnswers steps words program = EndGives (meant (program_of no_place program) words steps).end (meant (program_of no_place program) words steps).out
+RunAnswers steps words program = EndGives (meant (program_of program) words steps).end (meant (program_of program) words steps).out

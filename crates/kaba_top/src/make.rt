@@ -2,7 +2,7 @@
 #![tactic(auto)]
 
 ghost use Rattle.std.specs.Prelude.{◌≡◌, ◌++◌, ℕ, ◌<◌, ◌≤◌, IfOk, OnOk, string_bytes};
-ghost use Rattle.kaba_top.specs.Words.{at_place, no_place, program_of, end_of, HasText, AreProgramFacts, AnalysisAnswers};
+ghost use Rattle.kaba_top.specs.Words.{program_of, end_of, HasText, AreProgramFacts, AnalysisAnswers};
 ghost use Rattle.kaba_words.specs.Commands.{most_samples};
 ghost use Rattle.kaba_top.specs.MakeAnswers.{MakeAnswers, MadeOf, MadeTextAnswers, RunGives, SampleAnswers, WrittenGives, count_line, counts_of, sample_text, summary};
 ghost use Rattle.kaba_top.specs.Readings.{IsMadeReading};
@@ -145,7 +145,7 @@ fn made_text(alloc: Global, counts: &Counts, text: &Vec<u8>) -> Tried<Reply>
 /// The reply of `make` for the facts of its program.
 fn made_facts(alloc: Global, program: &Checked, facts: &Facts) -> Tried<Reply>
     requires text { HasText program.now }
-    requires facts { AreProgramFacts (program_of no_place program.now) (program_of at_place program.now) facts.now }
+    requires facts { AreProgramFacts (program_of program.now) facts.now }
     ensures { IfOk result (λ reply. MadeOf program.now facts.now reply.status reply.out.items reply.err.items) }
 {
     let script = Vec::new(alloc);

@@ -2,7 +2,7 @@
 #![tactic(auto)]
 
 ghost use Rattle.std.specs.Prelude.{◌≡◌, ◌≤◌, IfOk, length};
-ghost use Rattle.kaba_top.specs.Words.{no_place, program_of, Says, most_bytes};
+ghost use Rattle.kaba_top.specs.Words.{program_of, Says, most_bytes};
 ghost use Rattle.java_tree.specs.Syntax.{tree_of};
 ghost use Rattle.java_tree.specs.Formed.{IsFormedTree};
 ghost use Rattle.java_core.specs.Formed.{IsFormed};
@@ -147,7 +147,7 @@ fn not_typed(alloc: Global, kind: Kind, place: Place) -> Tried<Reply>
 
 /// The program where it is typed, or the reply that it is not.
 fn type_program(alloc: Global, program: Program) -> Tried<Reading>
-    requires formed { IsFormed (program_of no_place program) }
+    requires formed { IsFormed (program_of program) }
     ensures reading { IfOk result (λ reading. IsReadingOfProgram program reading) }
 {
     match check(alloc, program) {

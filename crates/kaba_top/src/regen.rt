@@ -2,7 +2,7 @@
 #![tactic(auto)]
 
 ghost use Rattle.std.specs.Prelude.{◌≡◌, ◌≤◌, ◌++◌, [], IfOk, length};
-ghost use Rattle.kaba_top.specs.Words.{MeetsEdit, at_place, no_place, program_of, Table, IsTable, AreSets, IsHierarchyOf, log_text, no_tree_text, AreProgramFacts, HasText, Gives, line, most_bytes, AnalysisAnswers, edit_status, IsTask};
+ghost use Rattle.kaba_top.specs.Words.{MeetsEdit, program_of, Table, IsTable, AreSets, IsHierarchyOf, log_text, no_tree_text, AreProgramFacts, HasText, Gives, line, most_bytes, AnalysisAnswers, edit_status, IsTask};
 ghost use Rattle.kaba_top.specs.RegenAnswers.{RegenOf};
 ghost use Rattle.kaba_top.specs.Answers.{RegenAnswers};
 ghost use Rattle.kaba_top.specs.Proposals.{IsWrittenOver};
@@ -42,7 +42,7 @@ pub fn regenerate(
     hier: Hier,
 ) -> Tried<Regenerated>
     requires text { HasText program.now }
-    requires facts { AreProgramFacts (program_of no_place program.now) (program_of at_place program.now) facts.now }
+    requires facts { AreProgramFacts (program_of program.now) facts.now }
     requires sets { AreSets facts.now sets.now }
     requires table { (t : Table) × IsTable facts.now t }
     requires hierarchy { IsHierarchyOf facts.now hier }
@@ -114,7 +114,7 @@ pub fn stuck(alloc: Global, refusals: Vec<u8>, fault: &NoTree) -> Tried<Reply>
 /// The reply with the program that is written of the hierarchy after the script, or the reply that there is none.
 fn regen_reply(alloc: Global, program: &Checked, facts: &Facts, task: &Task) -> Tried<Reply>
     requires text { HasText program.now }
-    requires facts { AreProgramFacts (program_of no_place program.now) (program_of at_place program.now) facts.now }
+    requires facts { AreProgramFacts (program_of program.now) facts.now }
     requires task { IsTask task.now }
     ensures { IfOk result (λ reply. RegenOf task.now.bound task.now.script.now.items program.now facts.now reply.status reply.out.items reply.err.items) }
 {

@@ -2,7 +2,7 @@
 #![tactic(auto)]
 
 ghost use Rattle.std.specs.Prelude.{◌≡◌, ◌≤◌, IfOk, length};
-ghost use Rattle.kaba_top.specs.Words.{no_place, program_of, end_of, texts, most_bytes, TextAnswers};
+ghost use Rattle.kaba_top.specs.Words.{program_of, end_of, texts, most_bytes, TextAnswers};
 ghost use Rattle.kaba_top.specs.RunAnswers.{EndGives, RunAnswers};
 
 use crate::Tried;

@@ -1,5 +1,4 @@
 use Rattle.std.proofs.Common.{subst}
-use Rattle.java_core.specs.Trees.{at_place, no_place}
 use Rattle.java_core.specs.Programs.{program_of}
 use Rattle.kaba_top.specs.Proposals.{IsProposed, IsWrittenOver}
 use Rattle.kaba_top.proofs.Analysing.{regenerated, stuck_answers}
@@ -28,6 +27,6 @@ returns c =
     stuck_answers c.args.task.now.bound c.args.task.now.script.now.items c.args.program.now F p c.in-Stuck.fault c.stuck.result
     (subst (IsProposed c.args.task.now.bound c.args.task.now.script.now.items F) c.in-Edited.is c.in_ok-proposal.ensures.proposed)
     c.requires.facts.in_range c.requires.facts.in_order
-    (no_interface (program_of no_place c.args.program.now) (program_of at_place c.args.program.now) F c.requires.facts)
+    (no_interface (program_of c.args.program.now) F c.requires.facts)
     (subst (IsWrittenOver c.args.program.now F p.sets p.edited.hier) c.in-Stuck.is c.in_ok-log.ensures.regenerated)
     c.stuck.ensures
