@@ -15,13 +15,12 @@ use Rattle.java_tree.specs.declared.Stmt.TheBlock.{hidden-the_row-Stmt-0}
 use Rattle.java_tree.specs.Syntax.{Expression, Expressions, CallOn, Statement, BlockOf, IfOf, WhileOf, ForOf, Statements, and_then, and_arm, otherwise, expr_of, exprs, value_of, stmt_of, stmts, stmts_of, arms_seen, else_seen}
 use Rattle.java_tree.specs.Statements.{is_called, is_out, output_call, printed_args}
 use Rattle.java_tree.specs.Size.{stmt_size, stmts_size, arms_size}
-use Rattle.java_tree.proofs.Rows.{stmts_vec, arms_vec}
+use Rattle.java_tree.proofs.Rows.{stmts_vec, arms_vec, for_as}
 use Rattle.java_tree.proofs.Outputs.{output_is, output_none}
 use Rattle.java_print.specs.Items.{Item, Space, Margin, text}
 use Rattle.java_print.specs.Layout.{mark_then, key_then, word_then, prints, is_printing, print_head, print_name, bracketed_items, upon_system, call_items, expr_items, stmt_items, stmts_items, arms_items, arm_items, else_then, else_items, last_items, bare_items}
 use Rattle.java_print.specs.Adds.{Adds, Puts}
 use Rattle.java_tree.specs.Syntax.{boxed_step}
-use Rattle.java_tree.proofs.Sameness.{for_as}
 use Rattle.java_print.proofs.Adding.{adds_then}
 
 -- an ASCII text that stands for items

@@ -1,7 +1,6 @@
 pub mod Syntax
 pub mod Places
 pub mod Size
-pub mod Same
 pub mod Tokens
 pub mod Expressions
 pub mod Statements
@@ -9,4 +8,3 @@ pub mod Declarations
 pub mod Formed
 pub mod Nesting
 pub mod Arms
-pub mod Laws

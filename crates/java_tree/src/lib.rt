@@ -1,95 +1,15 @@
 //! Syntax trees and the grammar that derives them.
 #![tactic(auto)]
 
-/// The sum of what is counted in each of a list.
-macro_rules! sum {
-    ($list:expr, $count:ident) => {{
-        let mut all = 0;
-        for one in $list {
-            all += $count(one);
-        }
-        all
-    }};
-}
-
-/// What is counted in a part that may be left out.
-macro_rules! count_if {
-    ($part:ident, $count:ident) => {
-        match $part {
-            None => 0,
-            Some(one) => $count(one),
-        }
-    };
-}
-
-/// Whether two lists are equally long, and equal at each place.
-macro_rules! all_equal {
-    ($a:ident, $b:ident, $equal:ident) => {{
-        if $a.len() != $b.len() {
-            return false;
-        }
-        for i in 0..$a.len() {
-            if !$equal(&$a[i], &$b[i]) {
-                return false;
-            }
-        }
-        true
-    }};
-}
-
-/// Whether both are left out, or both are there and equal.
-macro_rules! may_equal {
-    ($a:ident, $b:ident, $equal:ident) => {
-        match $a {
-            None => match $b {
-                None => true,
-                Some(_) => false,
-            },
-            Some(one) => match $b {
-                None => false,
-                Some(other) => $equal(one, other),
-            },
-        }
-    };
-}
-
-/// Whether the other tree has this form too, with equal parts.
-macro_rules! same_form {
-    ($other:ident, $form:pat => $equal:expr) => {
-        match $other {
-            $form => $equal,
-            _ => false,
-        }
-    };
-}
-
-/// Whether two trees have the same of these forms, with each of the parts that are named equal.
-macro_rules! same_forms {
-    ($a:ident, $b:ident; $($form:path { $first:ident $one:ident $equal:ident $(, $field:ident $other:ident $by:ident)* })*) => {
-        match $a {
-            $($form { $first, $($field,)* .. } =>
-                same_form!($b, $form { $first: $one, $($field: $other,)* .. } => $equal($first, $one) $(&& $by($field, $other))*),)*
-        }
-    };
-}
-
-ghost use Rattle.java_tree.specs.Laws.{OneAnswer};
-
 mod asked;
 /// Trees from their parts.
 pub mod build;
-mod compare;
-mod compare_bodies;
-mod measure;
-mod pairs;
 /// Parts of a tree that was read from no text.
 pub mod unplaced;
 
 pub use asked::{is_text, level_of, output_call};
-pub use compare::same;
 use java_lex::{Mark, Units};
 use kaba_base::{Keyword, Name, Place};
-pub use measure::size;
 
 /// A name with its place.
 #[derive(Drop)]
@@ -383,8 +303,3 @@ pub enum Entry {
     /// `if`, `else`, `while` or `for`.
     Word,
 }
-
-/// The contract of `same` has one result: two answers that meet it for the same trees are equal.
-pub fn one_answer()
-    ensures value { OneAnswer }
-{}

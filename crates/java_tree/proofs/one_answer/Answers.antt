@@ -1,5 +1,0 @@
-use Rattle.java_tree.proofs.Fixed.{one_answer}
-use Rattle.java_tree.proofs.one_answer.Goals as goal
-
-pub returns : goal.returns
-returns c = record { value = one_answer }

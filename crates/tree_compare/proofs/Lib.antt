@@ -1,0 +1,5 @@
+pub mod Sizes
+pub mod Sameness
+pub mod Decided
+pub mod Parts
+mod Fixed
