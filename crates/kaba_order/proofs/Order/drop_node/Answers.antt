@@ -1,5 +1,6 @@
-use Rattle.std.proofs.Common.{◌≡◌, length, sym, ◌∙◌, subst, List, Bool, ap, false, set, take, drop, ◌++◌}
+use Rattle.std.proofs.Common.{◌≡◌, length, sym, ◌∙◌, subst, List, Bool, ap, false, set, take, drop, ◌++◌, arith}
 use Rattle.std.proofs.lemmas.List.{with_items_is, length-set}
+use Rattle.std.proofs.lemmas.Grind.{common_steps}
 use Rattle.kaba_bits.specs.Sets.{HasWidth}
 use Rattle.kaba_order.specs.Orders.{Ordered, IsPartialOrder, IsDropped}
 use Rattle.kaba_order.proofs.StepLemmas.{dropped_order, dropped_live}
@@ -38,3 +39,9 @@ invariant_of-self c = left (goal.at.invariant_of-self c).After-drop_from
 
 pub returns-clause-order : goal.returns-clause-order
 returns-clause-order c = left (goal.at.returns-clause-order c).After-drop_from
+
+pub returns-clause-dropped : goal.returns-clause-dropped
+returns-clause-dropped c = grind (arith, common_steps)
+
+pub drop_from-requires-clause-n : goal.drop_from-requires-clause-n
+drop_from-requires-clause-n c = grind (arith, common_steps)

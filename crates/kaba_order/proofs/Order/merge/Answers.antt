@@ -1,4 +1,5 @@
 use Rattle.std.proofs.Common.{◌≡◌, true, length, arith, sym, ◌∙◌, subst, ap, take, drop, ◌++◌}
+use Rattle.std.proofs.lemmas.Grind.{common_steps}
 use Rattle.kaba_bits.specs.Sets.{bit, row, HasWidth}
 use Rattle.kaba_bits.proofs.SetLemmas.{bit-below}
 use Rattle.kaba_order.specs.Orders.{Ordered, is_live, IsPartialOrder, IsMerged, IsLeastMerged}
@@ -60,3 +61,9 @@ invariant_of-self c = subst IsPartialOrder (whole (goal.at.invariant_of-self c).
 pub returns-clause-least : goal.returns-clause-least
 returns-clause-least c = subst (IsLeastMerged c.args.self.now c.args.set.now c.least_of-m.result.0)
     (whole (goal.at.returns-clause-least c).After-merge_rows) (least (goal.at.returns-clause-least c).After-merge_rows)
+
+pub returns-clause-pairs : goal.returns-clause-pairs
+returns-clause-pairs c = grind (arith, common_steps)
+
+pub keep_one-requires : goal.keep_one-requires
+keep_one-requires c = grind (arith, common_steps)

@@ -1,5 +1,6 @@
-use Rattle.std.proofs.Common.{◌≡◌, true, length, sym, ◌∙◌, subst, ap, ⊎_elim, take, drop, ◌++◌}
+use Rattle.std.proofs.Common.{◌≡◌, true, length, sym, ◌∙◌, subst, ap, ⊎_elim, take, drop, ◌++◌, arith}
 use Rattle.std.proofs.lemmas.Bool.{cases_eq, false≢true}
+use Rattle.std.proofs.lemmas.Grind.{common_steps}
 use Rattle.kaba_bits.specs.Sets.{HasWidth}
 use Rattle.kaba_order.specs.Orders.{Ordered, is_le, IsPartialOrder, IsLeastWith}
 use Rattle.kaba_order.proofs.StepLemmas.{least_under, ordered, stored}
@@ -38,3 +39,12 @@ invariant_of-self c = subst IsPartialOrder (whole (goal.at.invariant_of-self c).
 pub returns-clause-least : goal.returns-clause-least
 returns-clause-least c = subst (IsLeastWith c.args.self.now c.args.n.0 c.args.p.0) (whole (goal.at.returns-clause-least c).After-close_under)
     (least (goal.at.returns-clause-least c).After-close_under)
+
+pub returns-clause-pairs : goal.returns-clause-pairs
+returns-clause-pairs c = grind (arith, common_steps)
+
+pub is_strictly_below-requires-clause-b : goal.is_strictly_below-requires-clause-b
+is_strictly_below-requires-clause-b c = grind (arith, common_steps)
+
+pub close_under-requires-clause-p : goal.close_under-requires-clause-p
+close_under-requires-clause-p c = grind (arith, common_steps)
