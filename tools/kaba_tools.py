@@ -1,19 +1,22 @@
 """What the tools share: the program, the tokens of a text with their places, and what the text declares.
 
-The environment variable KABA names another program than the one that `./kaba` builds.
+The environment variable KABA names another program than the one that is proved and built here: a path, or a command's
+name that is looked up on the PATH.
 """
 import argparse
 import bisect
 import json
 import os
 import re
+import shutil
 import subprocess
 import sys
 from collections import namedtuple
 from pathlib import Path
 
 HERE = Path(__file__).resolve().parent.parent
-PROGRAM = os.path.abspath(os.environ.get("KABA", HERE / "crates" / "kaba" / "out" / "kaba"))
+# Where `rt ci` and tools/build make the program, and where `./kaba` keeps a copy of it.
+BUILT, KEPT = HERE / "crates" / "kaba" / "out" / "kaba", HERE / "out" / "kaba"
 FILE_LIMIT = 1048576
 
 Token = namedtuple("Token", "kind text at")  # kind: word, number, char, string or mark; at: the place of its first byte
@@ -29,6 +32,43 @@ def fail(message, status=1):
     """Ends the tool with one line and a status."""
     print(f"{Path(sys.argv[0]).name}: {message}", file=sys.stderr)
     sys.exit(status)
+
+
+def program():
+    """The path of the program."""
+    named = os.environ.get("KABA")
+    if named:
+        return os.path.abspath(named) if "/" in named else shutil.which(named) or named
+    return str(KEPT if KEPT.is_file() and not BUILT.is_file() else BUILT)
+
+
+PROGRAM = program()
+
+
+def no_program(error):
+    """Ends the tool where the program cannot be run."""
+    if "KABA" in os.environ:
+        fail(f"cannot run {PROGRAM}, which the variable KABA names: {error.strerror}", 127)
+    if isinstance(error, FileNotFoundError):
+        fail("the program is not proved and built on this machine: rt ci does it, or tools/build for it alone", 127)
+    fail(f"cannot run {PROGRAM}: {error.strerror}", 127)
+
+
+def must_have_program():
+    """Ends the tool where there is no program to run."""
+    if not os.path.isfile(PROGRAM):
+        no_program(FileNotFoundError(2, os.strerror(2)))
+
+
+# What a tool may need beside Python, with Debian's package of it.
+PACKAGES = {"java": "openjdk-17-jre-headless", "javac": "openjdk-17-jdk-headless", "dot": "graphviz", "jq": "jq"}
+
+
+def must_have(command):
+    """Ends the tool where a command that it needs is not on the PATH."""
+    if not shutil.which(command):
+        package = f" (Debian's package {PACKAGES[command]} has it)" if command in PACKAGES else ""
+        fail(f"this needs {command}, which is not on the PATH{package}", 127)
 
 
 def run_tool(main):
@@ -60,7 +100,7 @@ def kaba(*words):
     try:
         done = subprocess.run([PROGRAM, *words], stdin=subprocess.DEVNULL, capture_output=True)
     except OSError as error:
-        fail(f"cannot run {PROGRAM}: {error.strerror}; ./kaba builds the program at its first use", 127)
+        no_program(error)
     return done.returncode, done.stdout, done.stderr.decode(errors="replace").strip()
 
 
