@@ -1,0 +1,2 @@
+def explain_script(file, script):
+    return 0

@@ -1,0 +1,2 @@
+def explain_written(file, script):
+    return 0
