@@ -12,6 +12,10 @@ RESTRICTED_TYPES = {"var", "record", "yield", "sealed", "permits"}
 # The methods that every Java class has, and those of them that no class declares anew.
 FINAL_METHODS = {"getClass", "notify", "notifyAll", "wait"}
 METHODS_OF_OBJECT = FINAL_METHODS | {"clone", "equals", "finalize", "hashCode", "toString"}
+# What the methods of Object without parameters give that a class may declare anew.
+RESULTS = {"clone": "Object", "finalize": "void", "hashCode": "int", "toString": "String"}
+NO_OBJECT = ("int", "boolean", "char", "void")
+IN_BETWEEN = "javac refuses it where an abstract class inherits it from an interface alone, since Object has one that is not public"
 
 
 def warning_of_type(name):
@@ -26,12 +30,15 @@ def warning_of_method(name, parameters=None, result=None, is_static=False):
 
     `parameters` is how many it has, and `result` the text of the type of its result.
     """
-    if name == "yield":
-        return "javac refuses a call of a method named `yield` by its simple name, which Java reads as a statement"
-    if name in FINAL_METHODS and (parameters is None or parameters == 0 or name == "wait" and parameters < 3):
-        return f"javac refuses a method named `{name}`: Object has it, and it is final there"
-    if name == "finalize" and not parameters:
-        return "the virtual machine may call a method `finalize()` when it collects an object: give it another name"
-    if name in ("clone", "toString", "hashCode") and not parameters or name == "equals" and parameters in (None, 1):
-        return f"Object has a method `{name}`: javac refuses one with another result or less access, else it is overridden"
-    return None
+    if name == "yield" and is_static:
+        return "inside of its class it is called as `yield(..)`, which javac reads as a statement, and refuses"
+    if name in FINAL_METHODS and not parameters:
+        return f"javac refuses a method `{name}()`, which is final in Object"
+    wanted = RESULTS.get(name)
+    if not wanted or parameters:
+        return None
+    if result is not None and (result in NO_OBJECT if wanted == "Object" else result != wanted):
+        return f"javac refuses a method `{name}()` whose result is not {wanted}, as in Object"
+    if name == "finalize":
+        return "the virtual machine calls a `finalize()` when it collects an object; " + IN_BETWEEN
+    return IN_BETWEEN if name == "clone" else None

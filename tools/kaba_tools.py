@@ -22,6 +22,8 @@ FILE_LIMIT = 1048576
 Token = namedtuple("Token", "kind text at")  # kind: word, number, char, string or mark; at: the place of its first byte
 Declared = namedtuple("Declared", "label type line")  # a variable: the label of its row, the text of its type, and its line
 Body = namedtuple("Body", "label result opens closes")  # a method's body: the text of its result's type, and the tokens of its braces
+# A method's head: C.m, the texts of the types of its parameters and of its result, its line, and its modifiers.
+Head = namedtuple("Head", "label parameters result line modifiers")
 
 MARKS = ["(", ")", "{", "}", "[", "]", ";", ",", ".", "+=", "-=", "*=", "/=", "%=", "++", "--", "==", "!=", "<=", ">=", ">>>", "<<", ">>", "&&", "||"]
 MARKS = sorted(MARKS + list("=+-*/%&|^~!<>"), key=len, reverse=True)
@@ -211,6 +213,7 @@ class Declarations:
         self.members = {}  # C.f or C.m(): line
         self.variables = []  # Declared, in the order of the text
         self.bodies = []  # Body, in the order of the text
+        self.heads = []  # Head, in the order of the text
         self.at = 0
         while self.at < len(source.tokens):
             self.declaration()
@@ -223,9 +226,11 @@ class Declarations:
         return self.source.line_of(self.source.tokens[min(self.at + ahead, len(self.source.tokens) - 1)])
 
     def skip_modifiers(self):
-        """Goes past modifiers."""
+        """Goes past modifiers, and gives them."""
+        first = self.at
         while self.text() in MODIFIERS:
             self.at += 1
+        return {token.text for token in self.source.tokens[first : self.at]}
 
     def declaration(self):
         self.skip_modifiers()
@@ -250,7 +255,7 @@ class Declarations:
         return "".join(token.text for token in self.source.tokens[first : self.at])
 
     def member(self, holder):
-        self.skip_modifiers()
+        modifiers = self.skip_modifiers()
         result = "void" if self.text(1) == "(" else self.skip_type()
         name = f"{holder}.{self.text()}"
         self.members.setdefault(name if self.text(1) != "(" else f"{name}()", self.line())
@@ -259,10 +264,13 @@ class Declarations:
             self.at += 2
             return
         self.variables += [Declared(f"{name}.this", holder, self.line()), Declared(f"{name}.return", result, self.line())]
+        parameters = []
+        self.heads.append(Head(name, parameters, result, self.line(), modifiers))
         self.at += 2
         while self.text() not in (")", ""):
             self.skip_modifiers()
             kind = self.skip_type()
+            parameters.append(kind)
             self.variables.append(Declared(f"{name}.{self.text()}", kind, self.line()))
             self.at += 2 if self.text(1) == "," else 1
         self.at += 1
