@@ -57,6 +57,8 @@ class Faults:
             return
         if fault.kind == "NoMain" and self.found:
             return
+        if fault.kind.startswith("IllTyped") and self.mender.names_at(fault.at) & self.mender.lost:
+            return
         at = None if fault.at is None else self.text.origin(fault.at)
         found = Found(at, fault.exact, fault.kind, fault.sentence)
         if found not in self.found:
@@ -69,7 +71,9 @@ class Faults:
         if by_form and mender.mend(fault.at) and self.text.data != before:
             return True
         at = fault.at if fault.exact else self.first_word(fault.at)
-        if fault.kind in ("Unknown", "TwoKinds"):
+        if fault.kind == "IllTyped Arguments" and mender.without_arguments(at):
+            return True
+        if fault.kind in ("Unknown", "TwoKinds", "Overload"):
             mender.lost.add(fault.name)
         return mender.without_statement(at) or mender.without_body(at) or mender.without_member(at)
 

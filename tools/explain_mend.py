@@ -59,6 +59,11 @@ class Mender:
             k += 1
         return len(self.text.pieces) - 1
 
+    def names_at(self, at):
+        """The names in the statement of a place."""
+        first = self.first_of_statement(self.text.at(at))
+        return {self.text.text(k) for k in range(first, self.end_of_statement(first) + 1) if self.text.kind(k) == "word"}
+
     def names_in(self, first, last):
         """Notes the names that are declared between two pieces: behind a type, and before what follows a name."""
         for k in range(first, last + 1):
@@ -87,7 +92,23 @@ class Mender:
         if last < k or self.text.around(k)[1:] == []:
             return False
         ends = self.text.text(last) == ";"
-        return self.put(self.without(first, last - ends))
+        value = self.value_of_local(first, k)
+        return self.put(self.without(value or first, last - ends))
+
+    def value_of_local(self, first, k):
+        """The `=` of a local whose value, and not its type or name, has the place; or nothing."""
+        equals = next((at for at in range(first, k + 1) if self.text.text(at) == "="), None)
+        if equals is None or equals < first + 2 or self.text.kind(equals - 1) != "word":
+            return None
+        is_type = self.text.kind(equals - 2) == "word" or self.text.text(equals - 2) == "]"
+        return equals if is_type and self.text.kind(first) == "word" else None
+
+    def without_arguments(self, at):
+        """Takes out the arguments of the creation at a place."""
+        k = self.text.at(at)
+        if self.text.text(k) != "new" or self.text.text(k + 2) != "(":
+            return False
+        return self.put([self.text.replace(k + 2, self.text.closing(k + 2), "()")])
 
     def without_body(self, at):
         """Takes out what stands in the innermost body of a method in which a place is."""
