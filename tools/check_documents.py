@@ -8,7 +8,7 @@ from pathlib import Path
 
 from kaba_tools import HERE, PROGRAM
 
-DOCUMENTS = ["README.md", "docs/TUTORIAL.md", "docs/COMMANDS.md", "docs/ANALYSIS.md", "docs/HIERARCHY.md"]
+DOCUMENTS = ["README.md", *(f"docs/{name}.md" for name in ("TUTORIAL", "COMMANDS", "JAVA", "ANALYSIS", "HIERARCHY"))]
 MAY_MISS = ["dot", "java", "javac", "jq"]
 ANY_LINES = ".."
 
