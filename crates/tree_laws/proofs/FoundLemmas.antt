@@ -31,7 +31,7 @@ use Rattle.hier_edit.specs.declared.ApplyFault.{ApplyFault}
 use Rattle.hier_edit.specs.Applied.{outcome, unless_broken}
 use Rattle.hier_tree.specs.declared.Conflict.{Conflict}
 use Rattle.hier_tree.proofs.ConflictLemmas.{IsConflict, conflict_says, some_among, none_unknown, from_live, from_origin, from_has}
-use Rattle.hier_tree.specs.Trees.{Try, MakeOne, PutUnder, conflict_of, nodes_from, tries_of_one, tries_of_lower, tries_of_others, tries_by, tries_of, changed_by, Step, End, accepted_or, tried, first_accepted, Grows, done, stuck, step}
+use Rattle.hier_tree.specs.Trees.{Try, MakeOne, PutUnder, conflict_of, nodes_from, tries_of_one, tries_of_lower, tries_of_higher, tries_of_others, tries_by, tries_of, changed_by, Step, End, accepted_or, tried, first_accepted, Grows, done, stuck, step}
 use Rattle.hier_begin.proofs.GivenLemmas as facts
 use Rattle.hier_begin.proofs.GivenLemmas.{given, roles, in_order}
 use Rattle.hier_laws.specs.Starts.{AreInOrder}
@@ -146,7 +146,7 @@ module _ (F : Facts) (pt : PointsTo) (t : Table) (R : InRange F) (O : InOrder F)
 
     -- the tries of different origins
     abbrev others : ClassId → ClassId → Conflict → List Try
-    others k l c = cond (below F k.0 l.0) (tries_of_lower c.first c.second) (cond (below F l.0 k.0) (tries_of_lower c.second c.first)
+    others k l c = cond (below F k.0 l.0) (tries_of_lower c.first c.second) (cond (below F l.0 k.0) (tries_of_higher c.first c.second)
         (tries_of_others c.first c.second))
 
     -- one of its tries is taken
@@ -180,7 +180,7 @@ module _ (F : Facts) (pt : PointsTo) (t : Table) (R : InRange F) (O : InOrder F)
             (λ two. subst (IsTaken H) (sym (ap (λ b. cond b (tries_of_one H k c.first c.second) (others k l c)) two))
             (⊎_elim
             (λ low. subst (IsTaken H) (sym
-            (ap (λ b. cond b (tries_of_lower c.first c.second) (cond (below F l.0 k.0) (tries_of_lower c.second c.first)
+            (ap (λ b. cond b (tries_of_lower c.first c.second) (cond (below F l.0 k.0) (tries_of_higher c.first c.second)
             (tries_of_others c.first c.second))) low))
             (take_under c.first c.second (MakeOne (c.first ∷ c.second ∷ []) ∷ PutUnder c.second c.first ∷ []) lx ly
             (rw (number c.first.0 k ox, number c.second.0 l oy) low) (differ two)))
@@ -192,10 +192,10 @@ module _ (F : Facts) (pt : PointsTo) (t : Table) (R : InRange F) (O : InOrder F)
             (chain F O (origin_at H c.lower.0) k.0 l.0 (plain c.first.0 k lx ox) (plain c.second.0 l ly oy)
             (facts.is_le F pt t R O S T (origin_at H c.lower.0) k.0 (rw (sym (number c.first.0 k ox)) (K.origins.up c.lower.0 c.first.0 says.first)))
             (facts.is_le F pt t R O S T (origin_at H c.lower.0) l.0 (rw (sym (number c.second.0 l oy)) (K.origins.up c.lower.0 c.second.0 says.second)))) in
-            subst (IsTaken H) (sym (ap (λ b. cond b (tries_of_lower c.first c.second) (cond (below F l.0 k.0) (tries_of_lower c.second c.first)
+            subst (IsTaken H) (sym (ap (λ b. cond b (tries_of_lower c.first c.second) (cond (below F l.0 k.0) (tries_of_higher c.first c.second)
             (tries_of_others c.first c.second))) high
-            ∙ ap (λ b. cond b (tries_of_lower c.second c.first) (tries_of_others c.first c.second)) down))
-            (take_under c.second c.first (MakeOne (c.second ∷ c.first ∷ []) ∷ PutUnder c.first c.second ∷ []) ly lx
+            ∙ ap (λ b. cond b (tries_of_higher c.first c.second) (tries_of_others c.first c.second)) down))
+            (take_under c.second c.first (MakeOne (c.first ∷ c.second ∷ []) ∷ PutUnder c.first c.second ∷ []) ly lx
             (rw (number c.second.0 l oy, number c.first.0 k ox) down) (λ e. differ two (sym e))))
             (cases_Bool (below F k.0 l.0))))
             (cases_Bool (k.0 == l.0))
