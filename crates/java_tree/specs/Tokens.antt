@@ -46,7 +46,25 @@ level marks.Minus = 9
 level marks.Star = 10
 level marks.Slash = 10
 level marks.Percent = 10
-level _ = 0
+level marks.OpenRound = 0
+level marks.CloseRound = 0
+level marks.OpenBrace = 0
+level marks.CloseBrace = 0
+level marks.OpenSquare = 0
+level marks.CloseSquare = 0
+level marks.Semi = 0
+level marks.Comma = 0
+level marks.Dot = 0
+level marks.Assign = 0
+level marks.Flip = 0
+level marks.Bang = 0
+level marks.PlusAssign = 0
+level marks.MinusAssign = 0
+level marks.StarAssign = 0
+level marks.SlashAssign = 0
+level marks.PercentAssign = 0
+level marks.PlusPlus = 0
+level marks.MinusMinus = 0
 
 -- the prefix operators
 abbrev pub is_sign : Mark → Bool
