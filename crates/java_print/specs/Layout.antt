@@ -38,7 +38,18 @@ rank (CastOf t e p) = 11
 rank (UnaryOf m e p) = 11
 rank (InstanceOfClass e c p) = 7
 rank (BinaryOf m a b p) = level m
-rank _ = 13
+rank (CharLit u p) = 13
+rank (StrLit us p) = 13
+rank (BoolLit b p) = 13
+rank (NullLit p) = 13
+rank (ThisRef p) = 13
+rank (NameRef n p) = 13
+rank (FieldOf e n p) = 13
+rank (IndexOf e i p) = 13
+rank (CallOf n es p) = 13
+rank (CallOn e n es p) = 13
+rank (SuperCallOf n es p) = 13
+rank (NewOf c es p) = 13
 
 -- the prefix operator that an expression begins with
 abbrev pub sign_of : Expression → Option Mark
