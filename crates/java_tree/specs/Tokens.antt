@@ -11,12 +11,15 @@ use Rattle.java_lex.specs.declared.Mark.TheVariants as marks
 use Rattle.java_lex.specs.Lexing.{token}
 use Rattle.java_tree.specs.Places.{nowhere}
 
+-- the token of a mark at a place
 abbrev pub mark : Mark → Place → Token
 mark m p = token (kinds.Mark m) p
 
+-- the token of a keyword at a place
 abbrev pub key : Keyword → Place → Token
 key k p = token (kinds.Key k) p
 
+-- the token of a name at a place
 abbrev pub word : List ℕ → Place → Token
 word n p = token (kinds.Word n) p
 
@@ -116,6 +119,7 @@ casts_kind (kinds.Key keys.False) = true
 casts_kind (kinds.Key keys.Null) = true
 casts_kind _ = false
 
+-- whether the next token makes a name in round brackets before it a cast
 abbrev pub casts : List Token → Bool
 casts [] = false
 casts (t ∷ ts) = casts_kind t.kind
