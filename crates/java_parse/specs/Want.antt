@@ -106,6 +106,7 @@ Val (NInterface ms) = DeclTree
 Val NDecl = DeclTree
 Val (NDecls ds) = List DeclTree
 
+-- what reading does: it gives a tree and the tokens behind it, fails at these, or asks for a part and goes on with it
 pub data Step (A : Type 0) : Type 0 where
   Give : A → List Token → Step A
   Fail : List Token → Step A

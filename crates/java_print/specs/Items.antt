@@ -23,6 +23,7 @@ kind_text (kinds.Char u) = 39 ∷ (units_written (u ∷ []) ++ 39 ∷ [])
 kind_text (kinds.Str us) = 34 ∷ (units_written us ++ 34 ∷ [])
 kind_text (kinds.Mark m) = mark_text m
 
+-- a piece of a text as it is laid out
 pub data Item : Type 0 where
   -- a token
   Lexeme : TokenKind → Item

@@ -108,6 +108,7 @@ mutual
     some_args : {e : Expression} {es : Expressions} {ts us rest : List Token} → IsExpr 1 ts us e → IsMoreArgs us rest es →
         IsArgs ts rest (and_more e es)
 
+  -- the arguments behind the first one, each behind a comma, and the bracket that closes them
   pub data IsMoreArgs : List Token → List Token → Expressions → Type 0 where
     last_arg : {p : Place} {rest : List Token} → IsMoreArgs (mark marks.CloseRound p ∷ rest) rest no_more
     next_arg : {e : Expression} {es : Expressions} {p : Place} {ts us rest : List Token} → IsExpr 1 ts us e → IsMoreArgs us rest es →
