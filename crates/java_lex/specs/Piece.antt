@@ -54,7 +54,7 @@ abbrev pub escaped : ℕ → Option ℕ
 escaped d = if d == 98 then Some 8 else if d == 116 then Some 9 else if d == 110 then Some 10 else if d == 102 then Some 12 else if d == 114 then Some 13
     else if d == 34 then Some 34 else if d == 39 then Some 39 else if d == 92 then Some 92 else None
 
--- what follows an opening `"`: units and the characters to the closing one, nothing that closes it, or a wrong escape
+-- what is read of a string, with these units and this number of characters before it
 abbrev pub behind : List ℕ → ℕ → Quoted → Quoted
 behind us n (Closed vs m) = Closed (us ++ vs) (n + m)
 behind us n Open = Open

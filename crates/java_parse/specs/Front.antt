@@ -65,7 +65,7 @@ operator l c (t ∷ ts) = operator_by l c t.kind t.place ts
 abbrev pub instance_next : ℕ → ℕ → List Token → Option (Place × List Token)
 instance_next l c ts = if nat_le l 7 && nat_le 7 c then after_key keys.InstanceOf ts else None
 
--- `-` before 2147483648
+-- the place of 2147483648 and the tokens behind it, where that is the token
 abbrev pub least_kind : TokenKind → Place → List Token → Option (Place × List Token)
 least_kind kinds.Least p ts = Some (p, ts)
 least_kind _ p ts = None
@@ -139,7 +139,7 @@ abbrev pub literal_next : List Token → Option (Expression × List Token)
 literal_next [] = None
 literal_next (t ∷ ts) = literal_by t.kind t.place ts
 
--- an index, which no new array takes
+-- whether what was read ends as a new array, which takes no index
 abbrev pub is_array : End → Bool
 is_array ends.Array = true
 is_array _ = false
@@ -167,7 +167,7 @@ arm_snoc (and_arm x b a) e ss = and_arm x b (arm_snoc a e ss)
 abbrev pub final_of : List Token → Bool × List Token
 final_of ts = elim (after_key keys.Final ts) [ None ↦ (false, ts) | Some a ↦ (true, a.1) ]
 
--- the operator of a mark that `of` gives one, its place and the rest
+-- the operator that was found for a mark, if any, with its place and the rest
 abbrev pub operator_of : Option Mark → Place → List Token → Option (Mark × Place × List Token)
 operator_of None p ts = None
 operator_of (Some o) p ts = Some (o, p, ts)
@@ -220,7 +220,7 @@ done_by p e (Some x) = PrintOf x.0 x.1 p
 abbrev pub done : List Token → Expression → Statement
 done ts e = done_by (first_place ts) e (printed ts e)
 
--- whether a declaration of a local begins here, rather than a statement
+-- whether a token is `]`
 abbrev pub is_close : TokenKind → Bool
 is_close (kinds.Mark marks.CloseSquare) = true
 is_close _ = false

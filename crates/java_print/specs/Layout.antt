@@ -28,13 +28,14 @@ key_then k r = Lexeme (kinds.Key k) ∷ r
 abbrev pub word_then : List ℕ → List Item → List Item
 word_then n r = Lexeme (kinds.Word n) ∷ r
 
--- how tightly an expression binds: 1 to 10 by its operator, 11 a prefix operator or a cast, 12 a new array,
--- 13 what needs no brackets anywhere. The literal -2147483648 is always put in brackets as an operand
+-- how tightly a number binds: as what needs no brackets anywhere, but a negative one, which stands for
+-- -2147483648, is always put in brackets as an operand
 abbrev pub int_rank : ℤ → ℕ
 int_rank (pos n) = 13
 int_rank (negsuc n) = 0
 
--- how tightly an expression binds by its form, on the scale that stands at `int_rank`
+-- how tightly an expression binds: 1 to 10 by its operator, 11 a prefix operator or a cast, 12 a new array,
+-- 13 what needs no brackets anywhere
 abbrev pub rank : Expression → ℕ
 rank (IntLit z p) = int_rank z
 rank (NewArrayOf t e p) = 12

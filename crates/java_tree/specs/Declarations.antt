@@ -42,13 +42,13 @@ pub data IsParam : List Token → List Token → Param → Type 0 where
   a_param : {f : Bool} {t : TypeName} {n : List ℕ} {p : Place} {ts us rest : List Token} → IsFinal ts us f → IsType us (word n p ∷ rest) t →
       IsParam ts rest (record { is_final = f; ty = t; name = n; place = p })
 
--- params = [ param { "," param } ], and the bracket that closes them
+-- { "," param }, and the bracket that closes them
 pub data IsMoreParams : List Token → List Token → List Param → Type 0 where
   last_param : {p : Place} {rest : List Token} → IsMoreParams (mark marks.CloseRound p ∷ rest) rest []
   next_param : {q : Param} {qs : List Param} {p : Place} {ts us rest : List Token} → IsParam ts us q → IsMoreParams us rest qs →
       IsMoreParams (mark marks.Comma p ∷ ts) rest (q ∷ qs)
 
--- params and the bracket that closes them: none, or a first one and those behind commas
+-- params = [ param { "," param } ], and the bracket that closes them: none, or a first one and those behind commas
 pub data IsParams : List Token → List Token → List Param → Type 0 where
   no_params : {p : Place} {rest : List Token} → IsParams (mark marks.CloseRound p ∷ rest) rest []
   some_params : {q : Param} {qs : List Param} {ts us rest : List Token} → IsParam ts us q → IsMoreParams us rest qs → IsParams ts rest (q ∷ qs)
