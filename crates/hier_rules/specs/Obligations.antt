@@ -143,6 +143,6 @@ module _ (F : Facts) (pt : PointsTo) (H : Hierarchy) where
   abbrev pub first_wrong_of_place : ℕ → Option Broken
   first_wrong_of_place p = first_below (length F.rows.items) (λ t. first_below (length F.sites.items) (wrong_outcome p t))
 
-  -- the first instance against B7, by the place of the test
+  -- the first instance against B7, by the place of the test or the store
   abbrev pub first_wrong_outcome : Option Broken
   first_wrong_outcome = first_below (places_of F) first_wrong_of_place
