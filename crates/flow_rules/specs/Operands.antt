@@ -66,7 +66,7 @@ object_class (Some t) = class_at t
 abbrev pub object_field : Plain → Option ObjectType → List ℕ → Option ℕ
 object_field P s x = option_and_then (λ c. member_field P c x) (object_class s)
 
--- the slot that a call of the name x on a type is one of
+-- the slot of the method that a call of the name x on a type finds statically
 abbrev pub call_slot : Plain → Option ObjectType → List ℕ → Option ℕ
 call_slot P s x = option_and_then (λ c. slot_of P c x) (object_class s)
 

@@ -78,7 +78,7 @@ module _ (P : Plain) (type : Ex → Option ObjectType) (m : ℕ) (k : PlainMetho
     parts u (unary t o e) = parts false e
     parts u (binary t o e d) = parts false e ++ parts false d ++ a_pair o (operand_of P type m k e) (operand_of P type m k d) ∷ []
 
-    -- the parts of a list of arguments, for each of which u holds alike
+    -- the parts of a list of arguments; u tells of each whether a creation there is a flow point
     pub parts_all : Bool → Exs → List Part
     parts_all u no_ex = []
     parts_all u (ex_then e es) = parts u e ++ parts_all u es
