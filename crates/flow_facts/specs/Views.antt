@@ -60,7 +60,7 @@ super_operand P m n c x = labelled_operand m n (option_map row.Return (super_slo
 abbrev pub variable_operand : ℕ → PlainMethod → ℕ → Operand
 variable_operand m k i = record { point = Some (point.Local m i); row = Some (variable_row m k i); ty = variable_object k i; created = None }
 
--- a static field, as a place that is read or assigned to
+-- a static field as it is read or assigned to
 abbrev pub static_place : Plain → ℕ → Operand
 static_place P f = record { point = Some (point.Static f); row = Some (row.Field f); ty = field_object P f; created = None }
 
