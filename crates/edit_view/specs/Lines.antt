@@ -11,6 +11,7 @@ use Rattle.hier_model.specs.declared.edits.Edit.TheVariants.{Merge, Under, Move,
 abbrev pub nodes_text : List NodeId → List ℕ
 nodes_text nodes = flat_map (λ n. codes " n" ++ decimal n.0) nodes
 
+-- an edit as a script writes it, without the end of the line
 abbrev pub edit_text : Edit → List ℕ
 edit_text (Merge set) = codes "merge" ++ nodes_text set.items
 edit_text (Under n p) = codes "under n" ++ (decimal n.0 ++ (codes " n" ++ decimal p.0))

@@ -28,6 +28,7 @@ pub record IsConcept (T : List (List Bool)) (w : ℕ) (A B : List Bool) : Type 0
 abbrev pub Pair : Type 0
 Pair = List Bool × List Bool
 
+-- the extent and the intent of a concept
 abbrev pub pair_of : Concept → Pair
 pair_of k = (k.extent, k.intent)
 

@@ -22,6 +22,7 @@ numbers_seen n =
 abbrev pub call_at : PlacedCall → Placed PlainCall
 call_at c = record { place = c.place; item = plain.call_seen c.call }
 
+-- the calls of a list as plain data, each at its place
 abbrev pub calls_seen : List PlacedCall → List (Placed PlainCall)
 calls_seen cs = map call_at cs
 

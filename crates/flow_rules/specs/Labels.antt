@@ -5,6 +5,7 @@ use Rattle.java_core.specs.Trees.{Tag, Ex, Exs, no_ex, ex_then, own_field, field
 
 -- how many labels an expression takes: a literal, `null`, `this`, a variable and a static field take none
 abbrev mutual
+  -- the number of labels in one expression, with those of all its parts
   pub size : Ex → ℕ
   size (own_field t f) = 1
   size (field t e x) = size e + 1
@@ -20,15 +21,18 @@ abbrev mutual
   size (binary t o e d) = size e + size d + 1
   size _ = 0
 
+  -- the number of labels in a list of arguments
   pub sizes : Exs → ℕ
   sizes no_ex = 0
   sizes (ex_then e es) = size e + sizes es
 
+-- the tag with this label, at its old place
 abbrev pub labelled : ℕ → Tag → Tag
 labelled n t = record { label = n; place = t.place }
 
 -- an expression with its labels from a number on: what takes none is as it was
 abbrev mutual
+  -- one expression with its labels from n on
   pub label : ℕ → Ex → Ex
   label n (own_field t f) = own_field (labelled n t) f
   label n (field t e x) = field (labelled (n + size e) t) (label n e) x
@@ -44,14 +48,17 @@ abbrev mutual
   label n (binary t o e d) = binary t o (label n e) (label (n + size e) d)
   label n e = e
 
+  -- arguments with their labels from n on, one after the other
   pub label_all : ℕ → Exs → Exs
   label_all n no_ex = no_ex
   label_all n (ex_then e es) = ex_then (label n e) (label_all (n + size e) es)
 
+-- how many labels an expression takes that may be left out
 abbrev pub size_if : Option Ex → ℕ
 size_if None = 0
 size_if (Some e) = size e
 
+-- an expression that may be left out, with its labels from n on
 abbrev pub label_if : ℕ → Option Ex → Option Ex
 label_if n None = None
 label_if n (Some e) = Some (label n e)
@@ -61,6 +68,7 @@ abbrev pub size_put : Option Ex → ℕ
 size_put None = 0
 size_put (Some e) = size e + 1
 
+-- how many labels the target of an assignment takes: those of its base and its index
 abbrev pub size_target : Target → ℕ
 size_target (to_local t i) = 0
 size_target (to_static t f) = 0
@@ -69,6 +77,7 @@ size_target (to_field t e x) = size e
 size_target (to_element t e i) = size e + size i
 size_target no_target = 0
 
+-- a target with the labels of its base and its index from n on
 abbrev pub label_target : ℕ → Target → Target
 label_target n (to_local t i) = to_local t i
 label_target n (to_static t f) = to_static t f
@@ -79,6 +88,7 @@ label_target n no_target = no_target
 
 -- how many labels statements take: a `break` and a `continue` take none
 abbrev mutual
+  -- the number of labels in one statement
   pub size_st : St → ℕ
   size_st (declare t i e) = size_put e
   size_st (block t xs) = size_sts xs
@@ -90,10 +100,12 @@ abbrev mutual
   size_st (return t e) = size_put e
   size_st _ = 0
 
+  -- the number of labels in a list of statements
   pub size_sts : Sts → ℕ
   size_sts no_st = 0
   size_sts (st_then x xs) = size_st x + size_sts xs
 
+  -- the number of labels in the arms of an `if` and its `else`
   pub size_arms : Arms → ℕ
   size_arms no_other = 0
   size_arms (otherwise xs) = size_sts xs
@@ -101,6 +113,7 @@ abbrev mutual
 
 -- statements with their labels from a number on
 abbrev mutual
+  -- one statement with its labels from n on
   pub label_st : ℕ → St → St
   label_st n (declare t i e) = declare t i (label_if n e)
   label_st n (block t xs) = block t (label_sts n xs)
@@ -114,10 +127,12 @@ abbrev mutual
   label_st n (return t e) = return t (label_if n e)
   label_st n x = x
 
+  -- a list of statements with their labels from n on
   pub label_sts : ℕ → Sts → Sts
   label_sts n no_st = no_st
   label_sts n (st_then x xs) = st_then (label_st n x) (label_sts (n + size_st x) xs)
 
+  -- the arms of an `if` and its `else` with their labels from n on
   pub label_arms : ℕ → Arms → Arms
   label_arms n no_other = no_other
   label_arms n (otherwise xs) = otherwise (label_sts n xs)

@@ -120,6 +120,7 @@ first_unknown o (n ∷ ns) = if is_live o n.0 then first_unknown o ns else Some 
 abbrev pub is_placed : Hierarchy → ColId → Bool
 is_placed H c = is_some (place_of_column H c.0)
 
+-- whether a column of this kind is the mark of a type
 abbrev pub is_mark : ColKind → Bool
 is_mark Is = true
 is_mark kind = false

@@ -33,6 +33,7 @@ conflict_at (One n) = record { lower = n; first = n; second = n }
 conflict_at (Two n x) = record { lower = n; first = x; second = x }
 conflict_at (Three n x y) = record { lower = n; first = x; second = y }
 
+-- the conflict of an instance against B9
 abbrev pub conflict_of : Broken → Conflict
 conflict_of b = conflict_at b.nodes
 
@@ -70,6 +71,7 @@ module _ (F : Facts) where
   tries_by H x y None l = tries_of_others x y
   tries_by H x y (Some k) None = tries_of_others x y
 
+  -- the tries for a conflict, in their order, by the origins of its two nodes
   abbrev pub tries_of : Hierarchy → Conflict → List Try
   tries_of H c = tries_by H c.first c.second (origin_of H c.first.0) (origin_of H c.second.0)
 

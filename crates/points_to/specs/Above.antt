@@ -7,6 +7,7 @@ use Rattle.fact_model.specs.Classes.{supers_of, IsBelow}
 use Rattle.fact_model.specs.InRange.{IsClass}
 use Rattle.fact_model.specs.Items.{site_class}
 
+-- the id of a class by its number
 abbrev pub class_id : ℕ → ClassId
 class_id k = record { 0 = k }
 

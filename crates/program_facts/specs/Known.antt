@@ -7,6 +7,7 @@ use Rattle.flow_rules.specs.Facts.{AreNamesOf, IsFactsOf, IsWithin}
 use Rattle.run_cover.specs.Covers.{CoversProgram}
 use Rattle.program_facts.specs.Solved.{HasCoveringSets}
 
+-- the facts are those of the program, in range and in order, and their points-to sets cover each run
 pub record AreProgramFacts (P : Plain) (F : Facts) : Type 0 where
   -- the program has no interface, and not too much of anything
   pub within : IsWithin P

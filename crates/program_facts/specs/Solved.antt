@@ -14,5 +14,6 @@ pub record CoverRun (P : Plain) (F : Facts) (t : PointsTo) (words : List (List �
   pub covers : (run_in (watched P F (solved t)) P.main words n).end ≢ Escaped
   pub same : unnoted (run_in (watched P F (solved t)) P.main words n) ≡ run P words n
 
+-- the sets of the facts cover each run of the program, on any words and for any number of steps
 unfoldable pub HasCoveringSets : Plain → Facts → Type 0
 HasCoveringSets P F = (t : PointsTo) → AreSets F t → (words : List (List ℕ)) (n : ℕ) → CoverRun P F t words n

@@ -57,5 +57,6 @@ module _ {P : Plain} {F : Facts} {H : Hierarchy} {W : Plain} (K : Known P F H W)
     pub stands : StandsAt P F H W K.rebuilt.places i node
     pub above : is_le H.order n node ≡ true
 
+  -- the places and the renaming that a rebuilt program has
   abbrev pub sides : Sides
   sides = record { places = K.rebuilt.places; renaming = renaming_of P H K.rebuilt.places }

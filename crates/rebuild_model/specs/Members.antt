@@ -132,6 +132,7 @@ module _ (P : Plain) (F : Facts) (H : Hierarchy) (W : Plain) (T : Places) where
     pub same : IsStaticField P W (renaming_of P H T) f g
     pub type : same.new.ty ≡ retyped ((renaming_of P H T).row_type (row.Field f)) same.old.ty
 
+  -- g is the static method m in the holder of its class, with new types and matching code
   pub record IsStaticMethodOf (m g : ℕ) : Type 0 where
     pub same : IsStaticMethod P W (renaming_of P H T) m g
     pub types : HasTypes (renaming_of P H T) m same.old same.new

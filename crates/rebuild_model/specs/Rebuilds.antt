@@ -66,6 +66,7 @@ module _ (P : Plain) (F : Facts) (H : Hierarchy) (W : Plain) where
     pub methods : (g : ℕ) (new : PlainMethod) → slice_get W.methods g ≡ Some new → new.is_static ≡ true → (m : ℕ) × IsStaticMethodOf P F H W T m g
     pub each_method : (m : ℕ) (old : PlainMethod) → slice_get P.methods m ≡ Some old → old.is_static ≡ true → (g : ℕ) × IsStaticMethodOf P F H W T m g
 
+  -- the program W is P over the hierarchy H: its types, their order, its members and where it begins
   pub record Rebuilds : Type 0 where
     pub places : Places
     pub types : AreTypes places

@@ -48,5 +48,6 @@ reclassed None b = b
 abbrev pub retyped : Option ℕ → Ty → Ty
 retyped k t = record { base = reclassed k t.base; dim = t.dim }
 
+-- the new type of a result, where a method has one
 abbrev pub retyped_if : Option ℕ → Option Ty → Option Ty
 retyped_if k t = option_map (retyped k) t

@@ -29,6 +29,7 @@ pub record Sets : Type 0 where
   pub point : ℕ → ℕ → Bool
   pub cell : ℕ → ℕ → Bool
 
+-- whether the sets have what a fact says: a site in a point or in a cell
 abbrev pub has : Sets → Fact → Bool
 has S (in_point p s) = S.point p s
 has S (in_cell c s) = S.cell c s
@@ -41,6 +42,7 @@ solved t = record { point = λ p s. bit (row t.points.items p) s; cell = λ c s.
 unfoldable pub IsClosed : Facts → Sets → Type 0
 IsClosed F S = (ps : List Fact) (f : Fact) → Inclusion F ps f → AllByRecursion (λ p. has S p ≡ true) ps → has S f ≡ true
 
+-- whether there is a site, and it is s
 abbrev pub is_site : Option ℕ → ℕ → Bool
 is_site None s = false
 is_site (Some r) s = r == s
@@ -52,6 +54,7 @@ is_column None (Some d) = false
 is_column (Some c) None = false
 is_column (Some c) (Some d) = c.0 == d
 
+-- whether a cell is that of the site s at a column, or for its elements where there is none
 abbrev pub is_cell : ℕ → Option ℕ → CellInfo → Bool
 is_cell s c k = (k.site.0 == s) && is_column k.column c
 
@@ -71,18 +74,22 @@ module _ (P : Plain) where
     abbrev pub cell_number : ℕ → Option ℕ → Option ℕ
     cell_number s c = position (is_cell s c) F.cells.items
 
+    -- the number of the cell of the site s at the field f
     abbrev pub field_cell : ℕ → ℕ → Option ℕ
     field_cell f s = option_and_then (λ c. cell_number s (Some c)) ((numbers P).column (column.Fld f))
 
+    -- the number of the cell of the elements of the site s
     abbrev pub element_cell : ℕ → Option ℕ
     element_cell s = cell_number s None
 
 -- the watch of sets over the bodies of a program
 module _ (P : Plain) (F : Facts) (S : Sets) where
+  -- whether the set of a point has a site; no point has none
   abbrev pub at_point : Option ℕ → ℕ → Bool
   at_point None s = false
   at_point (Some p) s = S.point p s
 
+  -- whether the set of a cell has a site; no cell has none
   abbrev pub at_cell : Option ℕ → ℕ → Bool
   at_cell None s = false
   at_cell (Some c) s = S.cell c s
@@ -92,6 +99,7 @@ module _ (P : Plain) (F : Facts) (S : Sets) where
   or_itself None r s = is_site r s
   or_itself (Some p) r s = S.point p s
 
+  -- whether an operand may give the site s: by its point, or for a creation by itself where it is no point
   abbrev pub held_in : Option ℕ → Operand → ℕ → Bool
   held_in None o s = at_point (point_at (numbers P) o) s
   held_in (Some n) o s = or_itself (point_at (numbers P) o) ((numbers P).site n) s
@@ -100,6 +108,7 @@ module _ (P : Plain) (F : Facts) (S : Sets) where
   abbrev pub held_sites : Operand → ℕ → Bool
   held_sites o s = held_in o.created o s
 
+  -- the sites of the flow point of an operand
   abbrev pub point_sites : Operand → ℕ → Bool
   point_sites o s = at_point (point_at (numbers P) o) s
 
@@ -109,6 +118,7 @@ module _ (P : Plain) (F : Facts) (S : Sets) where
   tested_by (instance_of t n e c) = e
   tested_by e = e
 
+  -- the receiver of a call
   abbrev pub called_on : Ex → Ex
   called_on (call t e x es) = e
   called_on e = e
@@ -126,6 +136,7 @@ module _ (P : Plain) (F : Facts) (S : Sets) where
   sites_at (tested m d passed) s = point_sites (operand_at P m (tested_by d)) s
   sites_at (ran m d b) s = point_sites (operand_at P m (called_on d)) s
 
+  -- the creations that may stand at a spot: those whose site is there, and those without a site
   abbrev pub spot_set : Spot → Set
   spot_set p o = passes (sites_at p) (site_in (numbers P) o)
 
@@ -138,6 +149,7 @@ module _ (P : Plain) (F : Facts) (S : Sets) where
   is_seen X Nothing h = true
   is_seen X (Text a) h = true
 
+  -- whether the watch lets all values pass that a body takes as its arguments from number i on
   abbrev pub are_seen : ℕ → ℕ → List Value → List Cell → Bool
   are_seen b i [] h = true
   are_seen b i (v ∷ vs) h = is_seen (spot_set (bound b i)) v h && are_seen b (suc i) vs h
@@ -146,6 +158,7 @@ module _ (P : Plain) (F : Facts) (S : Sets) where
   abbrev pub labelled_with : ℕ → PlainMethod → Option Body
   labelled_with m k = option_map (λ xs. body_with m k (label_sts 0 xs)) k.body
 
+  -- the body of the method m, with the labels of its parts
   unfoldable pub labelled_body : ℕ → Option Body
   labelled_body m = option_and_then (labelled_with m) (slice_get P.methods m)
 

@@ -11,6 +11,7 @@ use Rattle.java_meaning.specs.Meaning.{words_type}
 abbrev pub Set : Type 0
 Set = Option ℕ → Bool
 
+-- each creation of the first set is in the second
 abbrev pub Sub : Set → Set → Type 0
 Sub X Y = (o : Option ℕ) → X o ≡ true → Y o ≡ true
 
@@ -26,6 +27,7 @@ ArePlain vs = (i a : ℕ) → slice_get vs i ≡ Some (Object a) → ⊥
 -- in a language, where the relation tells what each creation makes
 module _ (L : Lang) (Made : Option ℕ → Kind → Type 0) (V : Family) where
   module _ (g : Env) where
+    -- the creations that the value of an expression of this body may come from
     abbrev pub value_of : Ex → Set
     value_of e = V.value g.body e
 
@@ -39,6 +41,7 @@ module _ (L : Lang) (Made : Option ℕ → Kind → Type 0) (V : Family) where
       pub base : V.spot (touched g.body e j) o ≡ true
       pub gives : Gives d (V.spot (kept o j))
 
+    -- d reads the field x of what e gives, for each creation in the set of e that has the field
     unfoldable pub Reads : Ex → Ex → Option ℕ → Type 0
     Reads e d x = (j : ℕ) → x ≡ Some j → (o : Option ℕ) (c i : ℕ) → Made o (an_object c) → L.index c j ≡ Some i → value_of e o ≡ true → ReadsAt e d j o
 
@@ -47,6 +50,7 @@ module _ (L : Lang) (Made : Option ℕ → Kind → Type 0) (V : Family) where
       pub base : V.spot (touched g.body e j) o ≡ true
       pub gives : Sub (value_of d) (V.spot (kept o j))
 
+    -- what d gives is put in the field x of what e gives, for each creation in the set of e that has the field
     unfoldable pub Writes : Ex → Ex → Option ℕ → Type 0
     Writes e d x = (j : ℕ) → x ≡ Some j → (o : Option ℕ) (c i : ℕ) → Made o (an_object c) → L.index c j ≡ Some i → value_of e o ≡ true → WritesAt e d j o
 
@@ -76,17 +80,21 @@ module _ (L : Lang) (Made : Option ℕ → Kind → Type 0) (V : Family) where
       pub self : V.spot (self_of b.env.body) o ≡ true
       pub enters : Enters d es b
 
+    -- the call d of a method on what e gives enters the body of each creation in the set of e
     unfoldable pub Calls : Ex → Ex → List ℕ → Exs → Type 0
     Calls d e x es = (o : Option ℕ) (c j : ℕ) (b : Body) → Made o (an_object c) → L.slot g e x ≡ Some j → L.body c j ≡ Some b → value_of e o ≡ true
         → CallsAt d es o b
 
+    -- the call d of a static method enters its body
     unfoldable pub StaticCalls : Ex → ℕ → Exs → Type 0
     StaticCalls d m es = (b : Body) → L.static_body m ≡ Some b → Enters d es b
 
+    -- the body b runs for the super call d, on the object of the caller
     pub record SuperCallsAt (d : Ex) (es : Exs) (b : Body) : Type 0 where
       pub self : Sub (V.spot (self_of g.body)) (V.spot (self_of b.env.body))
       pub enters : Enters d es b
 
+    -- the super call d enters the body that is found above the class of the caller's code
     unfoldable pub SuperCalls : Ex → List ℕ → Exs → Type 0
     SuperCalls d x es = (b : Body) → L.super_body g.self x ≡ Some b → SuperCallsAt d es b
 
@@ -107,6 +115,7 @@ module _ (L : Lang) (Made : Option ℕ → Kind → Type 0) (V : Family) where
 
     -- all that an expression does stays in the sets
     abbrev mutual
+      -- what one expression reads, writes, calls, makes and tests stays in the sets
       pub Included : Ex → Type 0
       Included (number t n) = Unit {0}
       Included (character t c) = Unit {0}
@@ -129,6 +138,7 @@ module _ (L : Lang) (Made : Option ℕ → Kind → Type 0) (V : Family) where
       Included (unary t o e) = Included e
       Included (binary t o e d) = Included e × Included d
 
+      -- what the arguments of a call do stays in the sets
       pub IncludedAll : Exs → Type 0
       IncludedAll no_ex = Unit {0}
       IncludedAll (ex_then e es) = Included e × IncludedAll es
@@ -138,6 +148,7 @@ module _ (L : Lang) (Made : Option ℕ → Kind → Type 0) (V : Family) where
     Sets None p = Unit {0}
     Sets (Some e) p = Included e × Sub (value_of e) (V.spot p)
 
+    -- an assignment stays in the sets: its target, its value, and where the value is put
     abbrev pub Assigns : Target → Ex → Type 0
     Assigns (to_local t x) d = Included d × Sub (value_of d) (V.spot (bound g.body x))
     Assigns (to_static t x) d = Included d × Sub (value_of d) (V.spot (set_static x))

@@ -30,9 +30,11 @@ pub record IsSource (source : Source) : Type 0 where
 abbrev pub accessed : Source → Static → List ℕ → List ℕ
 accessed source type x = option_map_or (renaming source).field_name (field_in (old_program source) type x) x
 
+-- the new name of the method that a class has under a name; another name stays
 abbrev pub called : Source → Option ℕ → List ℕ → List ℕ
 called source class x = option_map_or (renaming source).method_name (option_and_then (λ c. declaration_of (old_program source) c x) class) x
 
+-- the new name of the method that a super call from a class runs; another name stays
 abbrev pub above : Source → ℕ → List ℕ → List ℕ
 above source class x = option_map_or (renaming source).method_name (super_method (old_program source) class x) x
 
@@ -40,5 +42,6 @@ above source class x = option_map_or (renaming source).method_name (super_method
 abbrev pub row_named : Source → RowItem → ℕ → List ℕ
 row_named source i c = names.row_name (old_program source) source.hier.now ((renaming source).row_type i) c
 
+-- a type as it is written, by the node where the row of an item stands
 abbrev pub row_typed : Source → RowItem → Ty → TypeName
 row_typed source i v = names.written_type (old_program source) source.hier.now ((renaming source).row_type i) v

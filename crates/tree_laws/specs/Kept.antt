@@ -23,6 +23,7 @@ origin_at H n = option_map_or (λ k. k.0) (origin_of H n) 0
 abbrev pub field_at : Facts → ℕ → Bool
 field_at F c = is_field (column_kind F c)
 
+-- the slot of the method of a column; a field and a mark have none
 abbrev pub slot_at : Facts → ℕ → Option ℕ
 slot_at F c = method_slot (column_kind F c) (column_slot F c)
 

@@ -21,6 +21,7 @@ pub record IsFresh (F : Facts) (H : Hierarchy) (name : List ℕ) : Type 0 where
   pub members : (c : ℕ) (p : NodeId) → is_member (column_kind F c) ≡ true → place_of_column H c ≡ Some p → member_name H c ≢ name
 
 module _ (F : Facts) (pt : PointsTo) (t : Table) (l : Lattice) where
+  -- a hierarchy that accepted drops and fresh renames make of the start
   pub data IsReached : Hierarchy → Type 0 where
     begun : IsReached (start_from F t l)
     dropped : {H New : Hierarchy} (n : NodeId) → IsReached H → applied F pt H (edit.Drop n) ≡ Ok New → IsReached New

@@ -20,9 +20,11 @@ hierarchy_of w = w.source.now.hier.now
 abbrev pub expression : Within → List ℕ → Ex → tree.Expression
 expression w scope e = written.written (old_program w.source.now) (renaming w.source.now) (hierarchy_of w) w.number (method_of w) scope e
 
+-- arguments in the method's body, as they are written
 abbrev pub expressions : Within → List ℕ → Exs → tree.Expressions
 expressions w scope es = written.written_all (old_program w.source.now) (renaming w.source.now) (hierarchy_of w) w.number (method_of w) scope es
 
+-- an expression that may be left out, as it is written
 abbrev pub expression_if : Within → List ℕ → Option Ex → Option tree.Expression
 expression_if w scope e = written.written_if (old_program w.source.now) (renaming w.source.now) (hierarchy_of w) w.number (method_of w) scope e
 
@@ -38,9 +40,11 @@ declared w local e = written.declared (old_program w.source.now) (renaming w.sou
 abbrev pub statement : Within → List ℕ → St → tree.Statement
 statement w scope s = written.written_st (old_program w.source.now) (renaming w.source.now) (hierarchy_of w) w.number (method_of w) scope s
 
+-- statements of the method's body, as they are written
 abbrev pub statements : Within → List ℕ → Sts → tree.Statements
 statements w scope ss = written.written_sts (old_program w.source.now) (renaming w.source.now) (hierarchy_of w) w.number (method_of w) scope ss
 
+-- the first or the last part of a `for`, as it is written
 abbrev pub part : Within → List ℕ → Sts → tree.OptionalStatement
 part w scope ss = written.written_part (old_program w.source.now) (renaming w.source.now) (hierarchy_of w) w.number (method_of w) scope ss
 
@@ -48,5 +52,6 @@ part w scope ss = written.written_part (old_program w.source.now) (renaming w.so
 abbrev pub arms : Within → List ℕ → Arms → tree.Arms
 arms w scope a = written.written_arms (old_program w.source.now) (renaming w.source.now) (hierarchy_of w) w.number (method_of w) scope a
 
+-- the `else` of an `if`, as it is written, where there is one
 abbrev pub otherwise : Within → List ℕ → Arms → tree.Else
 otherwise w scope a = written.written_else (old_program w.source.now) (renaming w.source.now) (hierarchy_of w) w.number (method_of w) scope a

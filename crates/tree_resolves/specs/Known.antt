@@ -14,18 +14,22 @@ use Rattle.name_rules.specs.Meanings.{class_named}
 use Rattle.name_rules.specs.Conditions.{IsUnknownType, IsUnknownCast}
 use Rattle.written_tree.specs.Names.{row_name, written_type}
 
+-- a class or interface of the outline has the name
 abbrev pub IsKnownName : Plain → List ℕ → Type 0
 IsKnownName O x = class_named O x ≢ None
 
+-- the type is a basic one, String, or an array of these, or its class or interface is in the outline
 abbrev pub IsKnownType : Plain → TypeName → Type 0
 IsKnownType O u = (r : Refusal) → IsUnknownType O u r → ⊥
 
+-- the type of a cast is a basic one, or its class or interface is in the outline
 abbrev pub IsKnownCast : Plain → TypeName → Type 0
 IsKnownCast O u = (r : Refusal) → IsUnknownCast O u r → ⊥
 
 -- in the method m of the program, with the outline O of the tree
 module _ (P : Plain) (R : Renaming) (H : Hierarchy) (m : ℕ) (k : PlainMethod) (O : Plain) where
   abbrev mutual
+    -- the types that an expression names, as it is written, are there
     pub KnownEx : Ex → Type 0
     KnownEx (field t e x) = KnownEx e
     KnownEx (index t e i) = KnownEx e × KnownEx i
@@ -40,10 +44,12 @@ module _ (P : Plain) (R : Renaming) (H : Hierarchy) (m : ℕ) (k : PlainMethod) 
     KnownEx (instance_of t n e c) = IsKnownName O (row_name P H (R.row_type (row.Test n)) c) × KnownEx e
     KnownEx e = Unit {0}
 
+    -- the types that arguments name, as they are written, are there
     pub KnownExs : Exs → Type 0
     KnownExs no_ex = Unit {0}
     KnownExs (ex_then e es) = KnownEx e × KnownExs es
 
+  -- the types that the base and the index of a target name are there
   abbrev pub KnownTarget : Target → Type 0
   KnownTarget (to_field t e x) = KnownEx e
   KnownTarget (to_element t e i) = KnownEx e × KnownEx i

@@ -32,6 +32,7 @@ module _ (P : Plain) (k : PlainMethod) (O : Plain) (here : Here) where
     pub found : IsStaticMethodOf O holder.number old.name method
     pub near : k.is_static ≡ true → k.owner ≡ old.owner → (g : ℕ) × (new : PlainMethod) × IsMet O here.owner old.name g new
 
+  -- a written body can stand here: its static members are found, and no variable has the name of a type
   pub record IsStage : Type 0 where
     pub static : here.is_static ≡ k.is_static
     pub fields : (f : ℕ) (old : PlainField) → slice_get P.fields f ≡ Some old → old.is_static ≡ true → FindsField old

@@ -16,6 +16,7 @@ conflict_text c = node_word c.lower ++ (codes " " ++ (node_word c.first ++ (code
 abbrev pub log_line : TreeStep → List ℕ
 log_line s = codes "tree " ++ (conflict_text s.conflict ++ (codes ": " ++ (edit_text s.edit ++ 10 ∷ [])))
 
+-- the lines of a log, one for each step
 abbrev pub log_text : List TreeStep → List ℕ
 log_text log = flat_map log_line log
 

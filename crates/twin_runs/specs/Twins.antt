@@ -109,6 +109,7 @@ module _ (L M : Lang) (K : Link) (Made : Option ℕ → Kind → Kind → Type 0
         → K.may (spot_of g.body e) o ≡ true → K.may (spot_of g.body d) q ≡ true → L.is_sub (own_type k) t ≡ M.is_sub (own_type l) u
 
     mutual
+      -- an expression of the second language is the twin of one of the first
       pub data Same : Ex → Ex → Type 0 where
         same_number : {t u : Tag} {n : ℤ} → Same (number t n) (number u n)
         same_character : {t u : Tag} {c : ℕ} → Same (character t c) (character u c)
@@ -138,6 +139,7 @@ module _ (L M : Lang) (K : Link) (Made : Option ℕ → Kind → Kind → Type 0
         same_unary : {t u : Tag} {o : UnOp} {e d : Ex} → Same e d → Same (unary t o e) (unary u o d)
         same_binary : {t u : Tag} {o : BinOp} {a b c d : Ex} → Same a c → Same b d → Same (binary t o a b) (binary u o c d)
 
+      -- the arguments of two calls are twins one by one
       pub data SameAll : Exs → Exs → Type 0 where
         same_no_ex : SameAll no_ex no_ex
         same_ex_then : {e d : Ex} {es ds : Exs} → Same e d → SameAll es ds → SameAll (ex_then e es) (ex_then d ds)
@@ -151,15 +153,19 @@ module _ (L M : Lang) (K : Link) (Made : Option ℕ → Kind → Kind → Type 0
           → SameTarget a (to_field t e x) (to_field u d y)
       same_to_element : {t u : Tag} {e d i j : Ex} → Same e d → Same i j → SameStore e a → SameTarget a (to_element t e i) (to_element u d j)
 
+    -- both expressions are left out, or both are there and twins
     abbrev pub SameIf : Option Ex → Option Ex → Type 0
     SameIf = PairedIf Same SameTarget
 
+    -- two statements of one form whose parts are twins
     abbrev pub SameSt : St → St → Type 0
     SameSt = PairedSt Same SameTarget
 
+    -- two lists of statements that are twins one by one
     abbrev pub SameSts : Sts → Sts → Type 0
     SameSts = PairedSts Same SameTarget
 
+    -- the arms of two `if`s, and their `else`, are twins one by one
     abbrev pub SameArms : Arms → Arms → Type 0
     SameArms = PairedArms Same SameTarget
 

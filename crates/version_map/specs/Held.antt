@@ -24,6 +24,7 @@ abbrev pub odd_side : Tree → Tree
 odd_side Empty = Empty
 odd_side (Fork' v p o q e) = o
 
+-- the side that holds the even keys from 2 on; that of the empty tree is empty
 abbrev pub even_side : Tree → Tree
 even_side Empty = Empty
 even_side (Fork' v p o q e) = e

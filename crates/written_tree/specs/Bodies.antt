@@ -21,6 +21,7 @@ abbrev pub static_field_tree : Bool → List ℕ → List ℕ → Expression
 static_field_tree true holder x = NameRef x nowhere
 static_field_tree false holder x = FieldOf (NameRef holder nowhere) x nowhere
 
+-- a call of a static method by its simple name, or by its holder's name and its own
 abbrev pub static_call_tree : Bool → List ℕ → List ℕ → Expressions → Expression
 static_call_tree true holder x es = CallOf x es nowhere
 static_call_tree false holder x es = CallOn (NameRef holder nowhere) x es nowhere
@@ -35,6 +36,7 @@ abbrev pub scope_after : List ℕ → St → List ℕ
 scope_after scope (declare t i e) = scope ++ i ∷ []
 scope_after scope _ = scope
 
+-- the parameters and locals in scope after the first part of a `for`
 abbrev pub scope_after_part : List ℕ → Sts → List ℕ
 scope_after_part scope no_st = scope
 scope_after_part scope (st_then x xs) = scope_after scope x
@@ -47,6 +49,7 @@ variable_name k i = option_map_or (λ v. v.name) (slice_get (variables_of k) i) 
 abbrev pub is_named : PlainMethod → List ℕ → ℕ → Bool
 is_named k x i = option_map_or (λ v. bytes_eq v.name x) (slice_get (variables_of k) i) false
 
+-- whether one of the parameters and locals in scope has a name
 abbrev pub is_in_scope : PlainMethod → List ℕ → List ℕ → Bool
 is_in_scope k scope x = list_any (is_named k x) scope
 
@@ -54,10 +57,12 @@ is_in_scope k scope x = list_any (is_named k x) scope
 abbrev pub is_simple : PlainMethod → List ℕ → ℕ → List ℕ → Bool
 is_simple k scope owner x = k.is_static && ((k.owner == owner) && not (is_in_scope k scope x))
 
+-- a static field as it is written where these parameters and locals are in scope
 abbrev pub static_field_name : Plain → PlainMethod → List ℕ → ℕ → Expression
 static_field_name P k scope f =
     option_map_or (λ g. static_field_tree (is_simple k scope g.owner g.name) (class_name P g.owner) g.name) (slice_get P.fields f) (NullLit nowhere)
 
+-- a call of a static method as it is written where these parameters and locals are in scope
 abbrev pub static_call_name : Plain → PlainMethod → List ℕ → ℕ → Expressions → Expression
 static_call_name P k scope d es =
     option_map_or (λ g. static_call_tree (is_simple k scope g.owner g.name) (class_name P g.owner) g.name es) (slice_get P.methods d) (NullLit nowhere)
@@ -68,14 +73,17 @@ module _ (P : Plain) (R : Renaming) (H : Hierarchy) (m : ℕ) (k : PlainMethod) 
   abbrev pub field_name : Static → List ℕ → List ℕ
   field_name s x = option_map_or R.field_name (field_in P s x) x
 
+  -- the new name of the method that a call finds statically; another name stays
   abbrev pub called_name : Static → List ℕ → List ℕ
   called_name s x = option_map_or R.method_name (option_and_then (λ c. declaration_of P c x) (class_of s)) x
 
+  -- the new name of the method that a super call runs; another name stays
   abbrev pub super_name : List ℕ → List ℕ
   super_name x = option_map_or R.method_name (super_method P k.owner x) x
 
   -- one line a form
   abbrev mutual
+    -- an expression as it is written
     pub written : List ℕ → Ex → Expression
     written scope (number t n) = IntLit n nowhere
     written scope (character t c) = CharLit c nowhere
@@ -98,14 +106,17 @@ module _ (P : Plain) (R : Renaming) (H : Hierarchy) (m : ℕ) (k : PlainMethod) 
     written scope (unary t o e) = UnaryOf (prefix_mark o) (written scope e) nowhere
     written scope (binary t o e d) = BinaryOf (infix_mark o) (written scope e) (written scope d) nowhere
 
+    -- arguments as they are written
     pub written_all : List ℕ → Exs → Expressions
     written_all scope no_ex = no_more
     written_all scope (ex_then e es) = and_more (written scope e) (written_all scope es)
 
+  -- an expression that may be left out, as it is written
   abbrev pub written_if : List ℕ → Option Ex → Option Expression
   written_if scope None = None
   written_if scope (Some e) = Some (written scope e)
 
+  -- the target of an assignment as it is written; a field of `this` has a written `this`
   abbrev pub written_target : List ℕ → Target → Expression
   written_target scope (to_local t i) = NameRef (variable_name k i) nowhere
   written_target scope (to_static t f) = static_field_name P k scope f
@@ -120,6 +131,7 @@ module _ (P : Plain) (R : Renaming) (H : Hierarchy) (m : ℕ) (k : PlainMethod) 
       (slice_get (variables_of k) i) (BlockOf no_statements nowhere)
 
   abbrev mutual
+    -- a statement as it is written
     pub written_st : List ℕ → St → Statement
     written_st scope (declare t i e) = declared i (written_if (scope ++ i ∷ []) e)
     written_st scope (block t xs) = BlockOf (written_sts scope xs) nowhere
@@ -134,6 +146,7 @@ module _ (P : Plain) (R : Renaming) (H : Hierarchy) (m : ℕ) (k : PlainMethod) 
     written_st scope (break t) = BreakOf nowhere
     written_st scope (continue t) = ContinueOf nowhere
 
+    -- statements as they are written, each in the scope that those before it leave
     pub written_sts : List ℕ → Sts → Statements
     written_sts scope no_st = no_statements
     written_sts scope (st_then x xs) = and_then (written_st scope x) (written_sts (scope_after scope x) xs)
@@ -143,11 +156,13 @@ module _ (P : Plain) (R : Renaming) (H : Hierarchy) (m : ℕ) (k : PlainMethod) 
     written_part scope no_st = absent
     written_part scope (st_then x xs) = present (written_st scope x)
 
+    -- the arms of an `if` as they are written, without its `else`
     pub written_arms : List ℕ → Arms → tree.Arms
     written_arms scope no_other = tree.no_arms
     written_arms scope (otherwise xs) = tree.no_arms
     written_arms scope (arm e xs more) = tree.and_arm (written scope e) (written_sts scope xs) (written_arms scope more)
 
+    -- the `else` of an `if` as it is written, where there is one
     pub written_else : List ℕ → Arms → Else
     written_else scope no_other = no_else
     written_else scope (otherwise xs) = tree.otherwise (written_sts scope xs)

@@ -27,6 +27,7 @@ use Rattle.rebuild_model.specs.Members.{is_headed, is_filled}
 use Rattle.written_tree.specs.Names.{nowhere, modifier, written_type}
 use Rattle.written_tree.specs.Bodies.{written_sts}
 
+-- whether a column of this kind is the declaration of a method
 abbrev pub is_declaration : ColKind → Bool
 is_declaration kind.Dcl = true
 is_declaration kind.Fld = false
@@ -40,6 +41,7 @@ value_of_none Boolean zero = BoolLit false nowhere
 value_of_none Char zero = CastOf (record { base = base.Char; dim = 0; place = nowhere }) (IntLit (pos 0) nowhere) nowhere
 value_of_none _ _ = NullLit nowhere
 
+-- the body of a filler: it gives back the default of the result, or nothing where there is none
 abbrev pub filling : Option Ty → Statements
 filling None = no_statements
 filling (Some t) = and_then (ReturnOf (Some (value_of_none t.base t.dim)) nowhere) no_statements
@@ -50,6 +52,7 @@ parameters i [] = []
 parameters i (v ∷ vs) = i ∷ parameters (suc i) vs
 
 module _ (P : Plain) (R : Renaming) (H : Hierarchy) where
+  -- a parameter of a method, with the type of its row's node and its old name
   abbrev pub param : ℕ → PlainMethod → ℕ → PlainLocal → Param
   param m k i v = record { is_final = false; ty = written_type P H (R.row_type (variable_row m k i)) v.ty; name = v.name; place = nowhere }
 
@@ -63,6 +66,7 @@ module _ (P : Plain) (R : Renaming) (H : Hierarchy) where
     place = nowhere;
   }
 
+  -- the body of a method as it is written, where it has one
   abbrev pub body : ℕ → PlainMethod → Option Statements
   body m k = option_map (written_sts P R H m k (parameters 0 k.params)) k.body
 
@@ -70,12 +74,15 @@ module _ (P : Plain) (R : Renaming) (H : Hierarchy) where
   abbrev pub first_head : List Modifier → PlainSlot → List HeadTree
   first_head mods s = option_map_or (λ k. head mods (R.method_name s.first) s.first k ∷ []) (slice_get P.methods s.first) []
 
+  -- the head of a slot by its number, as a list of one
   abbrev pub slot_head : List Modifier → ℕ → List HeadTree
   slot_head mods x = option_map_or (first_head mods) (slice_get P.slots x) []
 
+  -- a field with its new type and its new name
   abbrev pub field_member : ℕ → PlainField → MemberTree
   field_member f k = FieldTree [] (written_type P H (R.row_type (row.Field f)) k.ty) (R.field_name f) nowhere
 
+  -- a method with its body, public and under its new name
   abbrev pub body_member : ℕ → PlainMethod → MemberTree
   body_member m k = MethodTree (head (modifier Public ∷ []) (R.method_name m) m k) (body m k) nowhere
 
@@ -84,6 +91,7 @@ module _ (P : Plain) (R : Renaming) (H : Hierarchy) where
   static_field_member c f k = when (k.is_static && (k.owner == c)) (FieldTree (modifier Public ∷ modifier Static ∷ [])
       (written_type P H (R.row_type (row.Field f)) k.ty) k.name nowhere ∷ [])
 
+  -- the static method m, where it is one of the class c, public and under its old name
   abbrev pub static_method_member : ℕ → ℕ → PlainMethod → List MemberTree
   static_method_member c m k = when (k.is_static && (k.owner == c)) (MethodTree (head (modifier Public ∷ modifier Static ∷ []) k.name m k)
       (body m k) nowhere ∷ [])
@@ -106,6 +114,7 @@ module _ (P : Plain) (R : Renaming) (F : Facts) (H : Hierarchy) where
   heads_of_slot mods n c None = []
   heads_of_slot mods n c (Some x) = when (is_headed F H n x && is_first_there F H n c x) (slot_head P R H mods x)
 
+  -- the head of a column that is a declaration, where one is written for it
   abbrev pub column_heads : List Modifier → ℕ → ℕ → ColumnInfo → List HeadTree
   column_heads mods n c k = when (is_declaration k.kind) (heads_of_slot mods n c k.slot)
 
@@ -129,5 +138,6 @@ module _ (P : Plain) (R : Renaming) (F : Facts) (H : Hierarchy) where
   abbrev pub class_members : List ColumnItem → ℕ → List MemberTree
   class_members items n = each (λ c k. when (stands_at H n c) (column_members items n c k)) 0 F.columns.items ++ each (filler n) 0 P.slots
 
+  -- the heads of an interface, by the columns that stand at its node
   abbrev pub interface_heads : ℕ → List HeadTree
   interface_heads n = each (λ c k. when (stands_at H n c) (column_heads [] n c k)) 0 F.columns.items

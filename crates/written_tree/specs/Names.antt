@@ -27,9 +27,11 @@ use Rattle.rebuild_model.specs.Renaming.{Places}
 abbrev pub nowhere : Place
 nowhere = record { at = 0; line = 0 }
 
+-- a name as an identifier of the tree
 abbrev pub id : List ℕ → Id
 id x = record { name = x; place = nowhere }
 
+-- the modifier that a keyword writes
 abbrev pub modifier : Keyword → Modifier
 modifier k = record { word = k; place = nowhere }
 
@@ -46,6 +48,7 @@ abbrev pub row_name : Plain → Hierarchy → Option ℕ → ℕ → List ℕ
 row_name P H (Some n) c = type_name H n
 row_name P H None c = class_name P c
 
+-- a base type as it is written; a class by the type of its row's node
 abbrev pub written_base : Plain → Hierarchy → Option ℕ → TyBase → TypeBase
 written_base P H n Int = base.Int
 written_base P H n Boolean = base.Boolean
@@ -64,6 +67,7 @@ prefix_mark un.Minus = marks.Minus
 prefix_mark un.Flip = marks.Flip
 prefix_mark un.Not = marks.Bang
 
+-- the mark of an arithmetic or a bitwise operation
 abbrev pub operation : Op → Mark
 operation op.Plus = marks.Plus
 operation op.Minus = marks.Minus
@@ -77,6 +81,7 @@ operation op.And = marks.And
 operation op.Or = marks.Or
 operation op.Xor = marks.Xor
 
+-- the mark of a binary operator
 abbrev pub infix_mark : BinOp → Mark
 infix_mark (bin.Int o) = operation o
 infix_mark bin.Same = marks.Equal

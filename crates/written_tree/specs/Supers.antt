@@ -13,6 +13,7 @@ use Rattle.written_tree.specs.Names.{id}
 abbrev pub is_above : Ordered → ℕ → ℕ → Bool
 is_above o a b = is_le o a b && not (a == b)
 
+-- whether b is an upper cover of a: strictly above it, and none is strictly between
 abbrev pub is_cover : Ordered → ℕ → ℕ → Bool
 is_cover o a b = is_above o a b && not (any_below (length o.live) (λ k. is_above o a k && is_above o k b))
 
@@ -29,9 +30,11 @@ module _ (F : Facts) (H : Hierarchy) where
   abbrev pub is_superclass : ℕ → ℕ → Bool
   is_superclass n a = is_class_above n a && not (any_below (length H.order.live) (λ b. is_class_above n b && not (is_le H.order a b)))
 
+  -- the lowest class node strictly above a node, where there is one
   abbrev pub superclass : ℕ → Option ℕ
   superclass n = first_below (length H.order.live) (λ a. when (is_superclass n a) a)
 
+  -- the name of a node's type as an identifier
   abbrev pub type_id : ℕ → Id
   type_id n = id (type_name H n)
 
@@ -39,8 +42,10 @@ module _ (F : Facts) (H : Hierarchy) where
   abbrev pub extended : ℕ → Option Id
   extended n = option_map type_id (superclass n)
 
+  -- the interfaces among a node's upper covers, which a class implements
   abbrev pub implemented : ℕ → List Id
   implemented n = map type_id (nodes_that H.order (λ a. is_cover H.order n a && not (is_class_node F H a)))
 
+  -- the types of all upper covers of a node, which an interface extends
   abbrev pub covering : ℕ → List Id
   covering n = map type_id (nodes_that H.order (λ a. is_cover H.order n a))

@@ -23,12 +23,15 @@ class_modifiers true = []
 class_modifiers false = modifier Abstract ∷ []
 
 module _ (P : Plain) (R : Renaming) (F : Facts) (H : Hierarchy) (items : List ColumnItem) where
+  -- the class of a node, with its supertypes and its members
   abbrev pub class_tree : ℕ → DeclTree
   class_tree n = ClassTree (class_modifiers (is_made_at F H n)) (type_name H n) (extended F H n) (implemented F H n) (class_members P R F H items n) nowhere
 
+  -- the interface of a node, with its supertypes and its heads
   abbrev pub interface_tree : ℕ → DeclTree
   interface_tree n = InterfaceTree [] (type_name H n) (covering F H n) (interface_heads P R F H n) nowhere
 
+  -- the type of a node: a class, or else an interface
   abbrev pub type_tree : Bool → ℕ → DeclTree
   type_tree true n = class_tree n
   type_tree false n = interface_tree n
