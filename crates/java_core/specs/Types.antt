@@ -234,7 +234,14 @@ is_plus _ = false
 
 abbrev pub binary_type : BinOp → Static → Static → Ty
 binary_type (bin.Int o) s t = sum_type (is_plus o && (is_string s || is_string t))
-binary_type _ s t = plain_type Boolean
+binary_type bin.Same s t = plain_type Boolean
+binary_type bin.Differs s t = plain_type Boolean
+binary_type bin.Less s t = plain_type Boolean
+binary_type bin.Greater s t = plain_type Boolean
+binary_type bin.AtMost s t = plain_type Boolean
+binary_type bin.AtLeast s t = plain_type Boolean
+binary_type bin.Both s t = plain_type Boolean
+binary_type bin.Either s t = plain_type Boolean
 
 -- the static type of an expression (Java Language Specification, chapter 15): what no rule allows gives nothing
 module _ (P : Plain) (g : Env) where

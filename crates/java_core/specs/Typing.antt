@@ -14,7 +14,9 @@ use Rattle.java_core.specs.Types.{Static, a_value, Env, env_of, class_in, class_
 -- what a prefix operator takes
 abbrev pub takes_one : UnOp → Static → Bool
 takes_one un.Not s = is_boolean s
-takes_one _ s = is_numeric s
+takes_one un.Plus s = is_numeric s
+takes_one un.Minus s = is_numeric s
+takes_one un.Flip s = is_numeric s
 
 abbrev pub joins : Static → Static → Bool
 joins s t = (is_string s && is_printable t) || (is_printable s && is_string t)
