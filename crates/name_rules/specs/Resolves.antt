@@ -29,7 +29,42 @@ abbrev pub un_op : Mark → UnOp
 un_op marks.Plus = un.Plus
 un_op marks.Minus = un.Minus
 un_op marks.Flip = un.Flip
-un_op _ = un.Not
+un_op marks.Bang = un.Not
+-- marks that are no such operator: they never come from a text
+un_op marks.OpenRound = un.Not
+un_op marks.CloseRound = un.Not
+un_op marks.OpenBrace = un.Not
+un_op marks.CloseBrace = un.Not
+un_op marks.OpenSquare = un.Not
+un_op marks.CloseSquare = un.Not
+un_op marks.Semi = un.Not
+un_op marks.Comma = un.Not
+un_op marks.Dot = un.Not
+un_op marks.Assign = un.Not
+un_op marks.Star = un.Not
+un_op marks.Slash = un.Not
+un_op marks.Percent = un.Not
+un_op marks.ShiftLeft = un.Not
+un_op marks.ShiftRight = un.Not
+un_op marks.ShiftRightLogical = un.Not
+un_op marks.And = un.Not
+un_op marks.Or = un.Not
+un_op marks.Xor = un.Not
+un_op marks.Both = un.Not
+un_op marks.Either = un.Not
+un_op marks.Equal = un.Not
+un_op marks.NotEqual = un.Not
+un_op marks.Less = un.Not
+un_op marks.Greater = un.Not
+un_op marks.AtMost = un.Not
+un_op marks.AtLeast = un.Not
+un_op marks.PlusAssign = un.Not
+un_op marks.MinusAssign = un.Not
+un_op marks.StarAssign = un.Not
+un_op marks.SlashAssign = un.Not
+un_op marks.PercentAssign = un.Not
+un_op marks.PlusPlus = un.Not
+un_op marks.MinusMinus = un.Not
 
 abbrev pub bin_op : Mark → BinOp
 bin_op marks.Plus = bin.Int op.Plus
@@ -50,7 +85,27 @@ bin_op marks.Greater = bin.Greater
 bin_op marks.AtMost = bin.AtMost
 bin_op marks.AtLeast = bin.AtLeast
 bin_op marks.Both = bin.Both
-bin_op _ = bin.Either
+bin_op marks.Either = bin.Either
+-- marks that are no such operator: they never come from a text
+bin_op marks.OpenRound = bin.Either
+bin_op marks.CloseRound = bin.Either
+bin_op marks.OpenBrace = bin.Either
+bin_op marks.CloseBrace = bin.Either
+bin_op marks.OpenSquare = bin.Either
+bin_op marks.CloseSquare = bin.Either
+bin_op marks.Semi = bin.Either
+bin_op marks.Comma = bin.Either
+bin_op marks.Dot = bin.Either
+bin_op marks.Assign = bin.Either
+bin_op marks.Flip = bin.Either
+bin_op marks.Bang = bin.Either
+bin_op marks.PlusAssign = bin.Either
+bin_op marks.MinusAssign = bin.Either
+bin_op marks.StarAssign = bin.Either
+bin_op marks.SlashAssign = bin.Either
+bin_op marks.PercentAssign = bin.Either
+bin_op marks.PlusPlus = bin.Either
+bin_op marks.MinusMinus = bin.Either
 
 -- what an assignment to an expression changes
 abbrev pub target : Ex → Target
