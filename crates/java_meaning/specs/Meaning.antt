@@ -229,7 +229,13 @@ test_class L b d t (Text n) s k = stop Wrong s
 abbrev pub after_left : BinOp → Value → State → (State → Outcome) → ToValue → Outcome
 after_left bin.Both v s right k = on_test v s right (λ s1. k (Truth false) s1)
 after_left bin.Either v s right k = on_test v s (λ s1. k (Truth true) s1) right
-after_left _ v s right k = right s
+after_left (bin.Int o) v s right k = right s
+after_left bin.Same v s right k = right s
+after_left bin.Differs v s right k = right s
+after_left bin.Less v s right k = right s
+after_left bin.Greater v s right k = right s
+after_left bin.AtMost v s right k = right s
+after_left bin.AtLeast v s right k = right s
 
 -- two texts are joined to a new string; two numbers, else a join where one side is a text
 abbrev pub join_values : Value → Value → State → ToValue → Outcome
@@ -247,7 +253,10 @@ operate bin.Same v w s k = with_some (same_value v w) s (λ b. k (Truth b) s)
 operate bin.Differs v w s k = with_some (same_value v w) s (λ b. on_bool b s (λ s1. k (Truth false) s1) (λ s1. k (Truth true) s1))
 operate bin.Both v w s k = with_some (truth_of w) s (λ b. k (Truth b) s)
 operate bin.Either v w s k = with_some (truth_of w) s (λ b. k (Truth b) s)
-operate o v w s k = with_some (number_of v) s (λ a. with_some (number_of w) s (λ b. with_some (compared o a b) s (λ t. k (Truth t) s)))
+operate bin.Less v w s k = with_some (number_of v) s (λ a. with_some (number_of w) s (λ b. with_some (compared bin.Less a b) s (λ t. k (Truth t) s)))
+operate bin.Greater v w s k = with_some (number_of v) s (λ a. with_some (number_of w) s (λ b. with_some (compared bin.Greater a b) s (λ t. k (Truth t) s)))
+operate bin.AtMost v w s k = with_some (number_of v) s (λ a. with_some (number_of w) s (λ b. with_some (compared bin.AtMost a b) s (λ t. k (Truth t) s)))
+operate bin.AtLeast v w s k = with_some (number_of v) s (λ a. with_some (number_of w) s (λ b. with_some (compared bin.AtLeast a b) s (λ t. k (Truth t) s)))
 
 -- a text is printed
 abbrev pub print_units : Bool → List ℕ → State → (State → Outcome) → Outcome

@@ -36,7 +36,11 @@ default_of t = default_in t.base t.dim
 -- what a value is once it flows into something of the type: a char becomes an int in an int (Java Language Specification, 5.1.2)
 abbrev pub widened : TyBase → ℕ → ℕ → Value
 widened Int zero c = Number (pos c)
-widened _ _ c = CodeUnit c
+widened Int (suc d) c = CodeUnit c
+widened Boolean d c = CodeUnit c
+widened Char d c = CodeUnit c
+widened Str d c = CodeUnit c
+widened (Class k) d c = CodeUnit c
 
 abbrev pub convert : Ty → Value → Value
 convert t (CodeUnit c) = widened t.base t.dim c
@@ -137,7 +141,10 @@ unary_value un.Flip v = option_map (λ a. Number (negated un.Flip a)) (number_of
 -- a cast to int or char; `(char)` keeps the low 16 bits
 abbrev pub cast_number : TyBase → ℤ → Value
 cast_number Char a = CodeUnit (cast_unsigned w32 a % 2 ^ 16)
-cast_number _ a = Number a
+cast_number Int a = Number a
+cast_number Boolean a = Number a
+cast_number Str a = Number a
+cast_number (Class k) a = Number a
 
 -- `==`: two numbers, two booleans, or two references
 abbrev pub same_bool : Bool → Bool → Bool
