@@ -66,6 +66,7 @@ un_op marks.PercentAssign = un.Not
 un_op marks.PlusPlus = un.Not
 un_op marks.MinusMinus = un.Not
 
+-- the binary operator of a mark; a mark that is none does not come from a text
 abbrev pub bin_op : Mark → BinOp
 bin_op marks.Plus = bin.Int op.Plus
 bin_op marks.Minus = bin.Int op.Minus
@@ -116,6 +117,7 @@ target (field t e n) = to_field t e n
 target (index t e i) = to_element t e i
 target _ = no_target
 
+-- the scope with one more local, of this name and number
 abbrev pub bound : List Bound → List ℕ → ℕ → List Bound
 bound scope n k = scope ++ record { name = n; number = k } ∷ []
 
@@ -127,6 +129,7 @@ pub data Counts : ℕ → List ℕ → ℕ → Type 0 where
 -- an expression in a body of the outline O: the class and kind of the method, and the parameters and locals in scope (Java Language Specification, 6.5)
 module _ (O : Plain) (here : Here) (scope : List Bound) where
   mutual
+    -- what an expression is once its names are resolved
     pub data ResolvesTo : Expression → Ex → Type 0 where
       r_number : {v : ℤ} {p : Place} → ResolvesTo (IntLit v p) (number (at_place p) v)
       r_character : {c : ℕ} {p : Place} → ResolvesTo (CharLit c p) (character (at_place p) c)
@@ -176,10 +179,12 @@ module _ (O : Plain) (here : Here) (scope : List Bound) where
       r_binary : {m : Mark} {e d : Expression} {x y : Ex} {p : Place} → ResolvesTo e x → ResolvesTo d y
           → ResolvesTo (BinaryOf m e d p) (binary (at_place p) (bin_op m) x y)
 
+    -- what a list of expressions is once its names are resolved, each by itself
     pub data AllResolve : Expressions → Exs → Type 0 where
       r_no_more : AllResolve no_more no_ex
       r_and_more : {e : Expression} {x : Ex} {es : Expressions} {xs : Exs} → ResolvesTo e x → AllResolve es xs → AllResolve (and_more e es) (ex_then x xs)
 
+  -- what an expression that may be absent is once its names are resolved
   pub data ResolvesIf : Option Expression → Option Ex → Type 0 where
     r_none : ResolvesIf None None
     r_some : {e : Expression} {x : Ex} → ResolvesTo e x → ResolvesIf (Some e) (Some x)
@@ -205,6 +210,7 @@ pub record IsLocal (O : Plain) (k : PlainMethod) (scope : List Bound) (u : TypeN
 -- a statement of the method k; whether a loop is around it, and the parameters and locals in scope (Java Language Specification, 6.3)
 module _ (O : Plain) (here : Here) (k : PlainMethod) where
   mutual
+    -- what a statement is once its names are resolved
     pub data StResolves : Bool → List Bound → Statement → St → Type 0 where
       -- the scope of a local begins with its own first value
       r_declare : {in_loop final : Bool} {scope : List Bound} {u : TypeName} {n : List ℕ} {v : Option Expression} {x : Option Ex} {p : Place} {i : ℕ}
@@ -257,6 +263,7 @@ module _ (O : Plain) (here : Here) (k : PlainMethod) where
 
 -- the locals that a body declares, by number, in the order of the text
 abbrev mutual
+  -- the locals that a statement declares, in the order of the text
   pub declares : St → List ℕ
   declares (declare t i e) = i ∷ []
   declares (block t xs) = declares_all xs
@@ -269,10 +276,12 @@ abbrev mutual
   declares (break t) = []
   declares (continue t) = []
 
+  -- the locals that a list of statements declares, in the order of the text
   pub declares_all : Sts → List ℕ
   declares_all no_st = []
   declares_all (st_then x xs) = declares x ++ declares_all xs
 
+  -- the locals that the arms of an `if` declare, in the order of the text
   pub declares_arms : Arms → List ℕ
   declares_arms no_other = []
   declares_arms (otherwise xs) = declares_all xs
