@@ -334,7 +334,7 @@ abbrev pub numbers_below : ℕ → List ℕ
 numbers_below zero = []
 numbers_below (suc n) = n ∷ numbers_below n
 
--- a method is well formed: its name, its variables, its result, its place and its body
+-- a method is well formed: its name, its variables, its result, its class, its slot and its body
 pub record IsFormedMethod (P : Plain) (k : PlainMethod) : Type 0 where
   pub name : IsName k.name
   pub variables : (v : PlainLocal) → Contains (variables_of k) v → IsFormedLocal P v
