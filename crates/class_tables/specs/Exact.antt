@@ -11,6 +11,7 @@ use Rattle.java_meaning.specs.Languages.{fresh_of}
 use Rattle.class_tables.specs.declared.classes.Classes.TheInside.{Inside}
 use Rattle.class_tables.specs.Known.{known, known_in}
 
+-- the program is well formed, and each entry of the tables agrees with it
 pub record IsExact (c : Inside) : Type 0 where
   pub formed : IsFormed (program_of c.program.now)
   -- by class and slot, the method that runs

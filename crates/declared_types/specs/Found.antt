@@ -23,6 +23,7 @@ fits n ls r s = is_signature n ls r (slot_seen s)
 abbrev pub with_method : Members → Heading → Members
 with_method m h = record { fields = m.fields; headings = m.headings ++ h ∷ []; slots = m.slots }
 
+-- the members with one field more
 abbrev pub with_field : Members → Field → Members
 with_field m f = record { fields = m.fields ++ f ∷ []; headings = m.headings; slots = m.slots }
 

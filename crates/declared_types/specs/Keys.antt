@@ -22,10 +22,12 @@ base_number (ty.Class c) = c.0
 abbrev pub type_mixed : ℕ → Ty → ℕ
 type_mixed hash t = mixed (mixed hash (base_number t.base)) t.dim
 
+-- a hash carried on by each of some types
 abbrev pub types_mixed : ℕ → List Ty → ℕ
 types_mixed hash [] = hash
 types_mixed hash (t ∷ ts) = types_mixed (type_mixed hash t) ts
 
+-- a hash carried on by a result, which may be void
 abbrev pub result_mixed : ℕ → Option Ty → ℕ
 result_mixed hash None = mixed hash 4294967291
 result_mixed hash (Some t) = type_mixed hash t

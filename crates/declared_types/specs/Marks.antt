@@ -12,12 +12,15 @@ use Rattle.name_tables.specs.Spots.{spots_of}
 abbrev pub mark_of : Heading → ℕ
 mark_of h = if h.is_private then 1 else option_map_or (λ s. s + 2) h.slot 1
 
+-- the mark of a type; a type that is not in the list has that of what may not meet
 abbrev pub mark_at : List ℕ → ℕ → ℕ
 mark_at marks t = slice_index_or marks t 1
 
+-- the mark of a type once a method of this mark has reached it: that of what may not meet where another was there
 abbrev pub merged : ℕ → ℕ → ℕ
 merged was mark = if (was == 0) || (was == mark) then mark else 1
 
+-- whether a method of this mark may reach a type of that mark: the type has none, or the same and one that may meet
 abbrev pub may_join : ℕ → ℕ → Bool
 may_join was mark = (was == 0) || ((was == mark) && not (mark == 1))
 
@@ -41,11 +44,13 @@ abbrev pub MarkedFrom : List (List Bool) → Option Heading → List ℕ → Lis
 MarkedFrom rows None old new quiet = new ≡ old
 MarkedFrom rows (Some h) old new quiet = Marked rows h.owner (mark_of h) old new quiet
 
+-- the mark of the method of a number; where there is none, that of what may not meet
 abbrev pub mark_in : List Heading → ℕ → ℕ
 mark_in all i = option_map_or mark_of (slice_get all i) 1
 
 -- ---- the methods that may clash
 
+-- whether the method of a number is suspected of a clash; one that is not in the list is
 abbrev pub is_suspect : List Bool → ℕ → Bool
 is_suspect suspects i = slice_index_or suspects i true
 
@@ -86,6 +91,7 @@ pub record TestedOne (rows : List (List Bool)) (all : List Heading) (at : ℕ) (
   pub marked : MarkedFrom rows (slice_get all at) marks after quiet
   pub suspects : new ≡ (if quiet then old else set old at true)
 
+-- one more of a list is marked and tested, or the list is at its end and nothing is done
 abbrev pub TestedNext : List (List Bool) → List Heading → Option ℕ → List ℕ → List ℕ → List Bool → List Bool → Type 0
 TestedNext rows all None marks after old new = (after ≡ marks) × (new ≡ old)
 TestedNext rows all (Some at) marks after old new = TestedOne rows all at marks after old new

@@ -10,6 +10,7 @@ use Rattle.java_core.specs.Classes.{supers_of, reaches}
 use Rattle.java_core.specs.Owned.{listed}
 use Rattle.java_core.specs.Squares.{square, in_row, is_below, AreRows}
 
+-- the class of a number, as the code holds it
 abbrev pub class_id : ℕ → ClassId
 class_id k = record { 0 = k }
 

@@ -8,6 +8,7 @@ use Rattle.flow_rules.specs.declared.faults.Counted.TheVariants as counted
 use Rattle.kaba_top.specs.declared.cause_words.Cause.{Cause}
 use Rattle.kaba_top.specs.declared.cause_words.Cause.TheVariants.{Form, Rule, Limit, Fault}
 
+-- what is printed of a cause: its word, and of a limit its number too
 abbrev pub cause_text : Cause → List ℕ
 cause_text (Form forms.Modifier) = codes "Modifier"
 cause_text (Form forms.Body) = codes "Body"

@@ -15,5 +15,6 @@ abbrev pub ShowsHierarchy : (bound : ℕ) (facts : Facts) → HasLattice bound f
 ShowsHierarchy bound facts has edits = Gives (edit_status (refusals bound facts has edits)) (hierarchy_text facts (edited bound facts has edits))
     (refusals bound facts has edits)
 
+-- the answers of `edit` for the facts of a program and the bytes of a script
 abbrev pub EditOf : ℕ → List ℕ → Facts → ℕ → List ℕ → List ℕ → Type 0
 EditOf bound script facts = ScriptAnswers bound script facts (ShowsHierarchy bound facts)

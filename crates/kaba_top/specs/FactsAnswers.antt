@@ -62,6 +62,7 @@ pub record TableOf (facts : Facts) (status : ℕ) (out err : List ℕ) : Type 0 
 abbrev pub shown : Bool → Facts → Lattice → List ℕ
 shown json facts lattice = if json then lattice_json facts lattice else lattice_text lattice
 
+-- the text that says that there are more concepts than are allowed
 abbrev pub too_many_concepts : ℕ → List ℕ
 too_many_concepts bound = codes "too many concepts: more than " ++ decimal bound
 
@@ -77,6 +78,7 @@ pub record IsShown (json : Bool) (bound : ℕ) (facts : Facts) (table : Table) (
   pub within : length lattice.concepts.items ≤ bound
   pub gives : Gives 0 (shown json facts lattice) [] status out err
 
+-- the answers of `lattice` for facts: the text or the JSON of the lattice, or that it has too many concepts
 pub record LatticeOf (json : Bool) (bound : ℕ) (facts : Facts) (status : ℕ) (out err : List ℕ) : Type 0 where
   pub table : Table
   pub is : IsTable facts table

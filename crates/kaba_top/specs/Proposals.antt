@@ -38,6 +38,7 @@ pub record IsProposal (bound : ℕ) (script : List ℕ) (facts : Facts) (p : Pro
   pub few : length edits ≤ most_edits
   pub is : IsEdited facts p.sets (start_from facts p.table p.lattice) edits p.edited
 
+-- the script was not run, as the reply says, or its edits led to this proposal
 abbrev pub IsProposed : ℕ → List ℕ → Facts → Proposed → Type 0
 IsProposed bound script facts (proposed.Refused reply) = IsNotRun bound script facts reply.status reply.out.items reply.err.items
 IsProposed bound script facts (proposed.Edited p) = IsProposal bound script facts p
@@ -53,6 +54,7 @@ pub record IsWritten (program : Program) (facts : Facts) (sets : PointsTo) (from
   pub is : IsTreeOf facts sets from log tree
   pub written : IsWrittenText program facts tree text
 
+-- the program of a tree of classes was written, or the steps end at a conflict
 abbrev pub IsWrittenOver : Program → Facts → PointsTo → Hierarchy → Regenerated → Type 0
 IsWrittenOver program facts sets from (regenerated.Written tree log text) = IsWritten program facts sets from tree log.items text.items
 IsWrittenOver program facts sets from (regenerated.Stuck fault) = IsStuck facts sets from fault

@@ -46,8 +46,10 @@ module _ (program : Program) (bound : ℕ) (facts : Facts) (has : HasLattice bou
     pub more : AreDropsAndFreshNames facts has.sets (start_of bound facts has) edits → ⊥
     pub gives : Gives 5 [] (refusals bound facts has edits ++ (log_text fault.log.items ++ line (no_tree_text fault))) status out err
 
+  -- the program of a tree of classes is written, or it is told that there is no tree
   abbrev pub IsRegeneration : Type 0
   IsRegeneration = IsRegenerated ⊎ IsWithoutTree
 
+-- the answers of `regen` for a program, its facts and the bytes of a script
 abbrev pub RegenOf : ℕ → List ℕ → Program → Facts → ℕ → List ℕ → List ℕ → Type 0
 RegenOf bound script program facts = ScriptAnswers bound script facts (IsRegeneration program bound facts)

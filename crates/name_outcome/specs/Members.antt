@@ -32,6 +32,7 @@ pub record Members : Type 0 where
 
 -- ---- parameters and results
 
+-- whether one of the parameters has this name
 abbrev pub has_local : List ℕ → List Local → Bool
 has_local n [] = false
 has_local n (l ∷ ls) = if bytes_eq l.name n then true else has_local n ls
@@ -42,18 +43,22 @@ param known ls q =
     with (type_of known q.ty) (λ u. if names_type known q.name then Err (TwoKinds q.name q.place) else if has_local q.name ls then Err (Twice q.name q.place)
     else Ok (ls ++ record { name = q.name; ty = u; place = q.place } ∷ []))
 
+-- the parameters of a method, each of a name of its own
 abbrev pub params_of : List Known → List Param → Result (List Local) Refusal
 params_of known ps = run (param known) [] ps
 
+-- the result of a method, where it has one
 abbrev pub result_of : List Known → Option TypeName → Result (Option Ty) Refusal
 result_of known None = Ok None
 result_of known (Some u) = with (type_of known u) (λ u. Ok (Some u))
 
 -- ---- slots
 
+-- whether two types are the same
 abbrev pub same_type : Ty → Ty → Bool
 same_type t u = is_base t.base u.base && (t.dim == u.dim)
 
+-- whether two results are the same: both void, or of the same type
 abbrev pub same_result : Option Ty → Option Ty → Bool
 same_result None None = true
 same_result (Some t) (Some u) = same_type t u
@@ -80,6 +85,7 @@ abbrev pub with_slot : Option ℕ → List ℕ → List Local → Option Ty → 
 with_slot (Some k) n ls r first ss = (k, ss)
 with_slot None n ls r first ss = (length ss, ss ++ record { name = n; params = map (λ l. l.ty) ls; result = r; first = first } ∷ [])
 
+-- the slot of a name, parameter types and result, and the slots with it where it is new
 abbrev pub slotted : List ℕ → List Local → Option Ty → ℕ → List PlainSlot → ℕ × List PlainSlot
 slotted n ls r first ss = with_slot (slot_in n ls r ss) n ls r first ss
 
@@ -89,6 +95,7 @@ slotted n ls r first ss = with_slot (slot_in n ls r ss) n ls r first ss
 abbrev pub is_texts : Ty → Bool
 is_texts t = is_base t.base ty.Str && (t.dim == 1)
 
+-- whether there is one parameter, a String[]
 abbrev pub takes_texts : List Local → Bool
 takes_texts [] = false
 takes_texts (l ∷ []) = is_texts l.ty
@@ -98,6 +105,7 @@ takes_texts (l ∷ m ∷ ls) = false
 abbrev pub is_main : Bool → List ℕ → List Local → Option Ty → Bool
 is_main static n ls r = ((static && is_none r) && bytes_eq (chars (codes "main")) n) && takes_texts ls
 
+-- what is known of a method of these parts before its body
 abbrev pub heading : ℕ → HeadTree → Flags → List Local → Option Ty → Option ℕ → Heading
 heading owner h f ls r slot =
     record {
@@ -110,6 +118,7 @@ heading owner h f ls r slot =
       place = h.place;
     }
 
+-- the members with one method more: a static one has no slot, another has that of its signature
 abbrev pub add_heading : Members → ℕ → HeadTree → Flags → List Local → Option Ty → Members
 add_heading m owner h f ls r =
     if f.is_static then record { fields = m.fields; headings = m.headings ++ heading owner h f ls r None ∷ []; slots = m.slots }
@@ -130,6 +139,7 @@ head_step known owner m h f =
 abbrev pub is_wrong_body : Bool → Bool → Bool → Bool
 is_wrong_body in_abstract abstract body = if abstract then body || not in_abstract else not body
 
+-- the members so far, and one more field, of a name that no type and no field of the class has
 abbrev pub field_step : List Known → ℕ → Members → Flags → TypeName → List ℕ → Place → Result Members Refusal
 field_step known owner m f u n p =
     with (type_of known u) (λ u. if names_type known n then Err (TwoKinds n p) else if is_some (field_in m.fields owner n) then Err (Twice n p)
@@ -147,6 +157,7 @@ member_step known owner in_abstract m (MethodTree h body p) =
     with (flags_of kinds.Method h.mods) (λ f. if is_wrong_body in_abstract f.is_abstract (is_some body) then Err (NotInProfile forms.Body h.place)
     else head_step known owner m h f)
 
+-- the members so far, and one more method of an interface
 abbrev pub interface_step : List Known → ℕ → Members → HeadTree → Result Members Refusal
 interface_step known owner m h = with (flags_of kinds.Head h.mods) (λ f. head_step known owner m h f)
 
@@ -154,18 +165,22 @@ interface_step known owner m h = with (flags_of kinds.Head h.mods) (λ f. head_s
 abbrev pub numbered : ℕ → Result Members Refusal → Result (ℕ × Members) Refusal
 numbered k w = with w (λ m. Ok (k + 1, m))
 
+-- the number of the next type and the members so far, with those of one declaration more
 abbrev pub decl_step : List Known → ℕ × Members → DeclTree → Result (ℕ × Members) Refusal
 decl_step known s (ClassTree mods n parent faces ms p) = with (flags_of kinds.Class mods) (λ f. numbered s.0 (run (member_step known s.0 f.is_abstract) s.1 ms))
 decl_step known s (InterfaceTree mods n parents hs p) = numbered s.0 (run (interface_step known s.0) s.1 hs)
 
+-- no fields, no methods and no slots
 abbrev pub no_members : Members
 no_members = record { fields = []; headings = []; slots = [] }
 
+-- the members of all declarations, the first of which has the number 1 behind Object
 abbrev pub members_of : List Known → List DeclTree → Result Members Refusal
 members_of known tree = with (run (decl_step known) (1, no_members) tree) (λ s. Ok s.1)
 
 -- ---- where methods of one name meet
 
+-- whether two methods have a slot, and the same
 abbrev pub same_slot : Option ℕ → Option ℕ → Bool
 same_slot (Some s) (Some t) = s == t
 same_slot None t = false
@@ -178,6 +193,7 @@ clash_of rows a b =
     else if not (same_slot a.slot b.slot) && meet rows a.owner b.owner then Some (Overload b.name b.place)
     else None
 
+-- why a method cannot stand with another before it, where the two have one name
 abbrev pub clash_with : List (List Bool) → Heading → Heading → Option Refusal
 clash_with rows b a = if bytes_eq a.name b.name then clash_of rows a b else None
 
@@ -185,12 +201,15 @@ clash_with rows b a = if bytes_eq a.name b.name then clash_of rows a b else None
 abbrev pub earlier_step : List (List Bool) → ℕ → Heading → ℕ → Heading → Result ℕ Refusal
 earlier_step rows k b j a = if j == k then Ok j else unless (clash_with rows b a) (Ok (j + 1))
 
+-- the number of the next method, where the one at hand clashes with none before it
 abbrev pub clash_step : List (List Bool) → List Heading → ℕ → Heading → Result ℕ Refusal
 clash_step rows all k b = with (run (earlier_step rows k b) 0 all) (λ _. Ok (k + 1))
 
+-- how many methods there are, none of which clashes with one before it
 abbrev pub clashes_of : List (List Bool) → List Heading → Result ℕ Refusal
 clashes_of rows all = run (clash_step rows all) 0 all
 
+-- the main method that was found, or that there is none
 abbrev pub or_no_main : Option ℕ → Result ℕ Refusal
 or_no_main None = Err NoMain
 or_no_main (Some k) = Ok k

@@ -25,6 +25,7 @@ number_of known n = position (λ k. bytes_eq k.name n) known
 abbrev pub names_type : List Known → List ℕ → Bool
 names_type known n = is_some (number_of known n) || is_apart n
 
+-- the number that was found, or the refusal of the name as unknown
 abbrev pub or_unknown : Option ℕ → List ℕ → Place → Result ℕ Refusal
 or_unknown (Some k) n p = Ok k
 or_unknown None n p = Err (Unknown n p)
@@ -33,9 +34,11 @@ or_unknown None n p = Err (Unknown n p)
 abbrev pub asked : List Known → List ℕ → Place → Result ℕ Refusal
 asked known n p = or_unknown (number_of known n) n p
 
+-- the base that a name means: String, or the class or interface of the name
 abbrev pub base_named : List Known → List ℕ → Place → Result TyBase Refusal
 base_named known n p = if bytes_eq (chars (codes "String")) n then Ok ty.Str else with (asked known n p) (λ k. Ok (ty.Class (record { 0 = k })))
 
+-- the base that is written: int, boolean, char or a name
 abbrev pub base_of : List Known → TypeBase → Place → Result TyBase Refusal
 base_of known bases.Int p = Ok ty.Int
 base_of known bases.Boolean p = Ok ty.Boolean

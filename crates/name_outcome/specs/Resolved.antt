@@ -25,6 +25,7 @@ abbrev pub bounds_from : ℕ → List Local → List Bound
 bounds_from k [] = []
 bounds_from k (l ∷ ls) = record { name = l.name; number = k } ∷ bounds_from (k + 1) ls
 
+-- the slot of the method that was found, where it has one
 abbrev pub slot_at : Option Heading → Option ℕ
 slot_at None = None
 slot_at (Some h) = h.slot
@@ -40,6 +41,7 @@ body_of t here ls k (Some ss) =
 abbrev pub Methods : Type 0
 Methods = List PlainMethod × ℕ
 
+-- a method of these parts
 abbrev pub method_of : ℕ → HeadTree → Flags → Option ℕ → List Local → Option Ty → List PlainLocal → Option Sts → PlainMethod
 method_of owner h f slot ls r locals body =
     record {
@@ -62,29 +64,37 @@ method_step t owner kind m h body =
     with (body_of t (record { owner = owner; is_static = f.is_static }) ls m.1 body)
     (λ b. Ok (m.0 ++ method_of owner h f (slot_at (slice_get t.headings (length m.0))) ls r b.0 b.1 ∷ [], b.2)))))
 
+-- the methods so far, and that of one more member of a class, with its body
 abbrev pub body_step : Table → ℕ → Methods → MemberTree → Result Methods Refusal
 body_step t owner m (FieldTree mods u n p) = Ok m
 body_step t owner m (MethodTree h body p) = method_step t owner kinds.Method m h body
 
+-- the methods so far, and one more of an interface, without a body
 abbrev pub head_body_step : Table → ℕ → Methods → HeadTree → Result Methods Refusal
 head_body_step t owner m h = method_step t owner kinds.Head m h None
 
+-- the number of the next type, with the methods so far
 abbrev pub numbered : ℕ → Result Methods Refusal → Result (ℕ × Methods) Refusal
 numbered k w = with w (λ m. Ok (k + 1, m))
 
+-- the number of the next type and the methods so far, with those of one declaration more
 abbrev pub decl_bodies : Table → ℕ × Methods → DeclTree → Result (ℕ × Methods) Refusal
 decl_bodies t s (ClassTree mods n parent faces ms p) = numbered s.0 (run (body_step t s.0) s.1 ms)
 decl_bodies t s (InterfaceTree mods n parents hs p) = numbered s.0 (run (head_body_step t s.0) s.1 hs)
 
+-- the methods of all declarations with their bodies, in the order of the text
 abbrev pub methods_of : Table → List DeclTree → Result (List PlainMethod) Refusal
 methods_of t tree = with (run (decl_bodies t) (1, ([], 0)) tree) (λ s. Ok s.1.0)
 
+-- the superclass of each class
 abbrev pub parents_of : List PlainClass → List (Option ClassId)
 parents_of cs = map (λ c. c.parent) cs
 
+-- the declarations as a body sees them, of these parts
 abbrev pub table : List Known → List PlainClass → List (List Bool) → Members → Table
 table known cs rows m = record { known = known; parents = parents_of cs; above = rows; fields = m.fields; headings = m.headings }
 
+-- the program of these parts
 abbrev pub program : List PlainClass → Members → ℕ → List PlainMethod → Plain
 program cs m main methods = record { classes = cs; fields = map field_seen m.fields; methods = methods; slots = m.slots; main = main }
 

@@ -20,6 +20,7 @@ abbrev pub parent_in : Option (Option ClassId) → Option ClassId
 parent_in None = None
 parent_in (Some c) = c
 
+-- the superclass at a class's place in the list
 abbrev pub parent_of : List (Option ClassId) → ℕ → Option ClassId
 parent_of parents c = parent_in (slice_get parents c)
 
@@ -27,6 +28,7 @@ parent_of parents c = parent_in (slice_get parents c)
 abbrev pub field_in : List Field → ℕ → List ℕ → Option ℕ
 field_in fs c n = position (λ f. (f.owner.0 == c) && bytes_eq f.name n) fs
 
+-- the number of the first method of a class with a name
 abbrev pub method_in : List Heading → ℕ → List ℕ → Option ℕ
 method_in hs c n = position (λ h. (h.owner == c) && bytes_eq h.name n) hs
 
@@ -45,6 +47,7 @@ abbrev pub nearest_in : Table → List ℕ → List (Option ClassId) → ℕ →
 nearest_in t n [] c = own_field t c n
 nearest_in t n (_ ∷ steps) c = or_above (own_field t c n) (parent_of t.parents c) (λ p. nearest_in t n steps p)
 
+-- the nearest field of a name in a class and its superclasses
 unfoldable pub nearest_field : Table → ℕ → List ℕ → Option ℕ
 nearest_field t c n = nearest_in t n t.parents c
 

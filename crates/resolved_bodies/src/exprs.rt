@@ -36,7 +36,42 @@ fn un_op(mark: Mark) -> UnOp
         Mark::Plus => UnOp::Plus,
         Mark::Minus => UnOp::Minus,
         Mark::Flip => UnOp::Flip,
-        _ => UnOp::Not,
+        Mark::Bang => UnOp::Not,
+        // marks that are no such operator: they never come from a text
+        Mark::OpenRound
+        | Mark::CloseRound
+        | Mark::OpenBrace
+        | Mark::CloseBrace
+        | Mark::OpenSquare
+        | Mark::CloseSquare
+        | Mark::Semi
+        | Mark::Comma
+        | Mark::Dot
+        | Mark::Assign
+        | Mark::Star
+        | Mark::Slash
+        | Mark::Percent
+        | Mark::ShiftLeft
+        | Mark::ShiftRight
+        | Mark::ShiftRightLogical
+        | Mark::And
+        | Mark::Or
+        | Mark::Xor
+        | Mark::Both
+        | Mark::Either
+        | Mark::Equal
+        | Mark::NotEqual
+        | Mark::Less
+        | Mark::Greater
+        | Mark::AtMost
+        | Mark::AtLeast
+        | Mark::PlusAssign
+        | Mark::MinusAssign
+        | Mark::StarAssign
+        | Mark::SlashAssign
+        | Mark::PercentAssign
+        | Mark::PlusPlus
+        | Mark::MinusMinus => UnOp::Not,
     }
 }
 
@@ -63,7 +98,27 @@ fn bin_op(mark: Mark) -> BinOp
         Mark::AtMost => BinOp::AtMost,
         Mark::AtLeast => BinOp::AtLeast,
         Mark::Both => BinOp::Both,
-        _ => BinOp::Either,
+        Mark::Either => BinOp::Either,
+        // marks that are no such operator: they never come from a text
+        Mark::OpenRound
+        | Mark::CloseRound
+        | Mark::OpenBrace
+        | Mark::CloseBrace
+        | Mark::OpenSquare
+        | Mark::CloseSquare
+        | Mark::Semi
+        | Mark::Comma
+        | Mark::Dot
+        | Mark::Assign
+        | Mark::Flip
+        | Mark::Bang
+        | Mark::PlusAssign
+        | Mark::MinusAssign
+        | Mark::StarAssign
+        | Mark::SlashAssign
+        | Mark::PercentAssign
+        | Mark::PlusPlus
+        | Mark::MinusMinus => BinOp::Either,
     }
 }
 
