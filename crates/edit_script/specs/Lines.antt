@@ -1,4 +1,4 @@
--- The lines of a script that are left.
+-- Mirror. The lines of a script that are left.
 use Rattle.std.specs.Prelude.{ℕ, List, [], Option, Some, None}
 use Rattle.std.specs.Borrow.{Bor}
 use Rattle.edit_script.specs.Script.{lines_of}

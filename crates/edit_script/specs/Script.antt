@@ -1,4 +1,4 @@
--- What a script says: its lines, its words, and the edits that they write.
+-- Believed. What a script says: its lines, its words, and the edits that they write.
 use Rattle.std.specs.Prelude.{◌≡◌, ◌⊎◌, ℕ, ◌+◌, ◌-◌, ◌<◌, ◌≤◌, ◌^◌, ◌==◌, Bool, true, false, List, [], ◌∷◌, ◌++◌, length, map, codes, slice_index}
 use Rattle.std.specs.List.{All, filter, slice_split}
 use Rattle.std.specs.Fmt.{decimal}

@@ -1,4 +1,4 @@
--- Subtyping of classes, and the body that an object of a class runs for a slot.
+-- Believed. Subtyping of classes, and the body that an object of a class runs for a slot.
 use Rattle.std.specs.Prelude.{◌≡◌, ℕ, suc, zero, ◌==◌, ◌&&◌, ◌||◌, Bool, true, false, List, [], ◌++◌, length, Contains, Option, Some, None, slice_get, position, option_and_then}
 use Rattle.std.specs.Option.{option_map_or, option_to_list}
 use Rattle.std.specs.List.{list_any}

@@ -1,4 +1,5 @@
--- The concept lattice of a table (Ganter and Wille, 1999). A table is its rows, each a set of columns below the width w.
+-- Believed. The concept lattice of a table (Ganter and Wille, 1999). A table is its rows, each a set of columns below
+-- the width w.
 use Rattle.std.specs.Prelude.{◌≡◌, ℕ, ◌<◌, ◌↔◌, Bool, true, List, length, map, slice_index_or, All, AllPairs}
 use Rattle.std.specs.declared.cmp.Ordering.{Ordering}
 use Rattle.std.specs.declared.cmp.Ordering.TheVariants.{Less}

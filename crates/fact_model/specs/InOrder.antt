@@ -1,4 +1,5 @@
--- Facts in order: what the facts of a program have beyond being in range, and what the table and the start of the hierarchy rest on.
+-- Believed. Facts in order: what the facts of a program have beyond being in range, and what the table and the start of
+-- the hierarchy rest on.
 use Rattle.std.specs.Prelude.{◌≡◌, ◌≢◌, ℕ, ◌<◌, ◌⊎◌, true, false, List, length, All, AllPairs, Contains, Some, None, is_some, codes}
 use Rattle.kaba_bits.specs.Sets.{bit, row}
 use Rattle.kaba_base.specs.Words.{is_name}

@@ -1,4 +1,4 @@
--- Facts in range: what every call that takes facts asks.
+-- Believed. Facts in range: what every call that takes facts asks.
 use Rattle.std.specs.Prelude.{ℕ, ◌<◌, length, All, IfSome}
 use Rattle.kaba_base.specs.declared.RowId.{RowId}
 use Rattle.kaba_base.specs.declared.ColId.{ColId}

@@ -1,4 +1,5 @@
--- What a number of the facts names. A number past the end of its list names nothing of interest: facts are in range.
+-- Believed. What a number of the facts names. A number past the end of its list names nothing of interest: facts are in
+-- range.
 use Rattle.std.specs.Prelude.{◌≡◌, ℕ, ◌<◌, ◌==◌, Bool, false, [], length, Option, None, slice_index_or}
 use Rattle.std.specs.Option.{option_map_or}
 use Rattle.kaba_base.specs.declared.ColId.{ColId}

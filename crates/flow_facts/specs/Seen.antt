@@ -1,4 +1,4 @@
--- What the numbers, the calls and the fields of the code are, as plain data.
+-- Mirror. What the numbers, the calls and the fields of the code are, as plain data.
 use Rattle.std.specs.Prelude.{nat_eq, List, [], ◌∷◌, map, Option}
 use Rattle.std.specs.Option.{option_map_or}
 use Rattle.flow_facts.specs.declared.numbering.Numbering.{Numbering}

@@ -1,4 +1,4 @@
--- What a part of the code is, as plain data.
+-- Mirror. What a part of the code is, as plain data.
 use Rattle.std.specs.Prelude.{ℕ, List, map, Option, Some, None, option_and_then}
 use Rattle.std.specs.Option.{option_map}
 use Rattle.java_core.specs.Programs.{Plain, PlainMethod}

@@ -1,4 +1,4 @@
--- What a walk over a tree adds to the parts of a body.
+-- Mirror. What a walk over a tree adds to the parts of a body.
 use Rattle.std.specs.Prelude.{◌≡◌, ℕ, ◌+◌, ◌++◌, ◌∷◌, Bool, true, List, length, Option}
 use Rattle.kaba_base.specs.declared.Place.{Place}
 use Rattle.java_core.specs.Trees.{Ex, Exs}

@@ -1,4 +1,4 @@
--- The facts of a program: each list has exactly the items that the text gives, in their order or as a set.
+-- Believed. The facts of a program: each list has exactly the items that the text gives, in their order or as a set.
 use Rattle.std.specs.Prelude.{◌≡◌, ◌↔◌, ℕ, zero, suc, ◌+◌, ◌==◌, ◌&&◌, ◌||◌, if◌then◌else◌, nat_lt, Bool, List, [], ◌∷◌, ◌++◌, length, map, drop, Contains, Option, Some, None, slice_get, option_and_then, codes}
 use Rattle.std.specs.Option.{option_map, option_map_or}
 use Rattle.std.specs.List.{flat_map, list_any}

@@ -1,4 +1,5 @@
--- Labels: each part of a body that facts come from takes the next number, in the order of the text. A call stands before its arguments, a cast before
+-- Believed. Labels: each part of a body that facts come from takes the next number, in the order of the text. A call
+-- stands before its arguments, a cast before
 -- its operand, an `instanceof` and an index after their left sides.
 use Rattle.std.specs.Prelude.{ℕ, ◌+◌, Option, Some, None}
 use Rattle.java_core.specs.Trees.{Tag, Ex, Exs, no_ex, ex_then, own_field, field, index, call, static_call, super_call, create, create_array, cast, instance_of, unary, binary, Target, to_local, to_static, to_own, to_field, to_element, no_target, St, Sts, Arms, declare, block, assign, act, print, choose, loop, return, no_st, st_then, no_other, otherwise, arm}

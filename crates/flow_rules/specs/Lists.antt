@@ -1,4 +1,5 @@
--- What each part of a body gives to each list of the facts (Andersen, 1994, for the sets; Snelting and Tip, 2000, for the table).
+-- Believed. What each part of a body gives to each list of the facts (Andersen, 1994, for the sets; Snelting and Tip,
+-- 2000, for the table).
 use Rattle.std.specs.Prelude.{ℕ, ◌==◌, ◌&&◌, ◌||◌, Bool, true, false, not, if◌then◌else◌, List, [], ◌∷◌, ◌++◌, map, Option, Some, None, slice_get}
 use Rattle.std.specs.Option.{option_map, option_map_or, is_some}
 use Rattle.kaba_base.specs.declared.Place.{Place}

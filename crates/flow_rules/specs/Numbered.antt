@@ -1,4 +1,4 @@
--- Rows, columns, sites and flow points, each numbered by its place.
+-- Believed. Rows, columns, sites and flow points, each numbered by its place.
 use Rattle.std.specs.Prelude.{ℕ, ◌==◌, ◌&&◌, ◌||◌, nat_lt, nat_eq, Bool, true, false, not, List, [], ◌∷◌, ◌++◌, length, map, Option, Some, None, slice_get, position}
 use Rattle.std.specs.Option.{option_map_or, is_some}
 use Rattle.std.specs.List.{flat_map}

@@ -1,4 +1,5 @@
--- What the facts see of an expression: the row that types it, its flow point, and its static type where a row can have it.
+-- Believed. What the facts see of an expression: the row that types it, its flow point, and its static type where a row
+-- can have it.
 use Rattle.std.specs.Prelude.{ℕ, ◌==◌, if◌then◌else◌, nat_lt, Bool, true, false, List, [], ◌∷◌, length, Option, Some, None, option_and_then}
 use Rattle.std.specs.Option.{option_map}
 use Rattle.java_core.specs.declared.Ty.{Ty}

@@ -1,4 +1,4 @@
--- Lists in the order of places, and each item once.
+-- Believed. Lists in the order of places, and each item once.
 use Rattle.std.specs.Prelude.{ℕ, ◌+◌, nat_lt, Bool, true, false, List, [], ◌∷◌, ◌++◌, if◌then◌else◌}
 use Rattle.std.specs.List.{list_any}
 use Rattle.indexmap.specs.IndexSet.{insert_key}

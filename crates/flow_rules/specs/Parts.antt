@@ -1,4 +1,5 @@
--- The parts of a body that facts come from, in the order of the text. This is the one recursion over trees: each list of the facts is read off the parts.
+-- Believed. The parts of a body that facts come from, in the order of the text. This is the one recursion over trees:
+-- each list of the facts is read off the parts.
 use Rattle.std.specs.Prelude.{ℕ, Bool, true, false, List, [], ◌∷◌, ◌++◌, Option, Some, None}
 use Rattle.kaba_base.specs.declared.Place.{Place}
 use Rattle.java_core.specs.declared.BinOp.{BinOp}

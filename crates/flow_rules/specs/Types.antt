@@ -1,4 +1,5 @@
--- The type of an expression, where a row can have it, step by step: the same as the static type, where a row can have that.
+-- Mirror. The type of an expression, where a row can have it, step by step: the same as the static type, where a row
+-- can have that.
 use Rattle.std.specs.Prelude.{ℕ, ◌==◌, ◌-◌, ◌++◌, if◌then◌else◌, Option, Some, None, slice_get, option_and_then}
 use Rattle.std.specs.Option.{option_map}
 use Rattle.java_core.specs.Trees.{Ex, this, local, static_field, own_field, field, index, call, static_call, super_call, create, create_array, cast}

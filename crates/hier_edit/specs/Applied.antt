@@ -1,4 +1,4 @@
--- What an edit makes of a hierarchy, and why it is refused.
+-- Believed. What an edit makes of a hierarchy, and why it is refused.
 use Rattle.std.specs.Prelude.{Option, Some, None, Result, Ok, Err}
 use Rattle.fact_model.specs.declared.facts.Facts.{Facts}
 use Rattle.fact_model.specs.declared.sets.PointsTo.{PointsTo}

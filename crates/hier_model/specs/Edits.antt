@@ -1,4 +1,5 @@
--- What an edit makes of a hierarchy, before its obligations are asked (after Streckenbach and Snelting, 2004).
+-- Believed. What an edit makes of a hierarchy, before its obligations are asked (after Streckenbach and Snelting,
+-- 2004).
 use Rattle.std.specs.Prelude.{ℕ, ◌<◌, ◌==◌, ◌&&◌, ◌||◌, Bool, true, false, not, if◌then◌else◌, List, [], ◌∷◌, length, map, Option, Some, None, is_some, unwrap_or, slice_index_or, slice_set, Result, Ok, Err}
 use Rattle.std.specs.Option.{option_map, option_and_then}
 use Rattle.std.specs.List.{list_any, range_with_len}

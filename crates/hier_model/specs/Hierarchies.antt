@@ -1,4 +1,4 @@
--- A class hierarchy over the rows and columns of a table, its places, and what is offered at a node.
+-- Believed. A class hierarchy over the rows and columns of a table, its places, and what is offered at a node.
 use Rattle.std.specs.Prelude.{◌≡◌, ℕ, suc, zero, ◌<◌, ◌↔◌, ◌==◌, ◌&&◌, ◌||◌, Bool, true, false, List, [], length, Option, Some, None, slice_index_or, IfSome}
 use Rattle.kaba_base.specs.declared.NodeId.{NodeId}
 use Rattle.kaba_base.specs.declared.ColId.{ColId}

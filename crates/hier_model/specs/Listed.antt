@@ -1,4 +1,4 @@
--- The nodes of a lattice's concepts, and the concepts that list a column or a row.
+-- Mirror. The nodes of a lattice's concepts, and the concepts that list a column or a row.
 use Rattle.std.specs.Prelude.{ℕ, ◌==◌, ◌&&◌, Bool, false, List, length, map, Option, unwrap_or, slice_get}
 use Rattle.std.specs.Option.{option_map_or}
 use Rattle.std.specs.List.{list_any}

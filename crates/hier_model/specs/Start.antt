@@ -1,4 +1,4 @@
--- The hierarchy that a concept lattice proposes (Snelting and Tip, 2000).
+-- Believed. The hierarchy that a concept lattice proposes (Snelting and Tip, 2000).
 use Rattle.std.specs.Prelude.{ℕ, ◌&&◌, ◌||◌, Bool, true, not, List, [], ◌∷◌, length, map, filter, Option, Some, unwrap_or, slice_index_or}
 use Rattle.std.specs.List.{list_any, list_all, range_with_len}
 use Rattle.kaba_base.specs.declared.NodeId.{NodeId}

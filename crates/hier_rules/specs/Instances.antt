@@ -1,4 +1,4 @@
--- Instances by the numbers of their nodes, row and column.
+-- Believed. Instances by the numbers of their nodes, row and column.
 use Rattle.std.specs.Prelude.{ℕ, Some, None}
 use Rattle.kaba_base.specs.declared.RowId.{RowId}
 use Rattle.kaba_base.specs.declared.ColId.{ColId}

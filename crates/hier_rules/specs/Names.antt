@@ -1,4 +1,5 @@
--- The obligation B8: names are identifiers, and apart from each other. Its first instance, by part, node and column.
+-- Believed. The obligation B8: names are identifiers, and apart from each other. Its first instance, by part, node and
+-- column.
 use Rattle.std.specs.Prelude.{ℕ, ◌==◌, ◌&&◌, ◌||◌, Bool, true, false, not, List, [], ◌∷◌, length, codes, Option, None}
 use Rattle.std.specs.List.{list_any}
 use Rattle.std.specs.Str.{bytes_eq}

@@ -1,4 +1,4 @@
--- What a script comes to on a hierarchy.
+-- Mirror. What a script comes to on a hierarchy.
 use Rattle.std.specs.Prelude.{◌≡◌, ℕ, ◌≤◌, List, length}
 use Rattle.fact_model.specs.declared.facts.Facts.{Facts}
 use Rattle.fact_model.specs.declared.sets.PointsTo.{PointsTo}

@@ -1,4 +1,4 @@
--- The line of an edit that was refused.
+-- Believed. The line of an edit that was refused.
 use Rattle.std.specs.Prelude.{ℕ, List, [], ◌∷◌, ◌++◌, codes, Option, Some, None}
 use Rattle.std.specs.Fmt.{decimal}
 use Rattle.kaba_base.specs.declared.RowId.{RowId}

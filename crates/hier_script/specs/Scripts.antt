@@ -1,4 +1,4 @@
--- What the edits of a script make of a hierarchy, and the lines of those that are refused.
+-- Believed. What the edits of a script make of a hierarchy, and the lines of those that are refused.
 use Rattle.std.specs.Prelude.{ℕ, List, [], ◌∷◌, ◌++◌, Result, Ok, Err}
 use Rattle.fact_model.specs.declared.facts.Facts.{Facts}
 use Rattle.fact_model.specs.declared.sets.PointsTo.{PointsTo}

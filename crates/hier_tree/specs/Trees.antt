@@ -1,4 +1,4 @@
--- How the class nodes become a tree: step by step, each by the first of its tries that is accepted.
+-- Believed. How the class nodes become a tree: step by step, each by the first of its tries that is accepted.
 use Rattle.std.specs.Prelude.{◌≡◌, ◌==◌, ◌&&◌, not, Bool, false, if◌then◌else◌, List, [], ◌∷◌, ◌++◌, length, filter, map, Option, Some, None, Result, Ok, Err}
 use Rattle.std.specs.List.{range_with_len}
 use Rattle.kaba_base.specs.declared.NodeId.{NodeId}

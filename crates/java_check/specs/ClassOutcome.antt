@@ -1,4 +1,5 @@
--- What is answered of a class or an interface: the rule that it breaks for the slot of the first method for which it breaks one.
+-- Mirror. What is answered of a class or an interface: the rule that it breaks for the slot of the first method for
+-- which it breaks one.
 use Rattle.std.specs.Prelude.{ℕ, suc, ◌&&◌, ◌||◌, Bool, true, false, not, List, [], ◌∷◌, Option, Some, None}
 use Rattle.std.specs.Option.{option_map_or, is_some}
 use Rattle.java_core.specs.Programs.{Plain, PlainClass, PlainMethod}

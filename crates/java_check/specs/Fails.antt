@@ -1,4 +1,4 @@
--- Which rule of types fails in a program, and where: one constructor a rule.
+-- Believed. Which rule of types fails in a program, and where: one constructor a rule.
 use Rattle.std.specs.Prelude.{◌≡◌, ◌&&◌, ℕ, Bool, true, false, List, [], ◌∷◌, Option, Some, None, slice_get}
 use Rattle.std.specs.Option.{is_some, option_map_or}
 use Rattle.kaba_base.specs.declared.Place.{Place}

@@ -1,4 +1,5 @@
--- What is answered of each form of a body: what it gives, or the first rule of types that fails, from the left and parts before the whole.
+-- Mirror. What is answered of each form of a body: what it gives, or the first rule of types that fails, from the left
+-- and parts before the whole.
 use Rattle.std.specs.Prelude.{ℕ, ◌&&◌, Bool, true, false, List, [], ◌∷◌, Option, Some, None, Result, Ok, Err, slice_get}
 use Rattle.std.specs.Option.{option_map_or, is_some}
 use Rattle.java_core.specs.declared.Ty.{Ty}

@@ -1,4 +1,4 @@
--- What is answered of a program: the first class that breaks a rule, then the first body in which one fails.
+-- Mirror. What is answered of a program: the first class that breaks a rule, then the first body in which one fails.
 use Rattle.std.specs.Prelude.{ℕ, suc, List, [], ◌∷◌, Option, Some, None, Result, Ok}
 use Rattle.java_core.specs.Trees.{Tag, Sts}
 use Rattle.java_core.specs.Programs.{Plain, PlainClass, PlainMethod}

@@ -1,4 +1,5 @@
--- What is answered of the classes for 64 slots at a time: bit i of the word of a class is for the slot 64 b + i.
+-- Mirror. What is answered of the classes for 64 slots at a time: bit i of the word of a class is for the slot 64 b +
+-- i.
 use Rattle.std.specs.Prelude.{◌≡◌, ℕ, ◌+◌, ◌*◌, ◌/◌, ◌<◌, ◌==◌, ◌&&◌, ◌||◌, Bool, true, false, not, List, [], ◌∷◌, Contains, Option, Some, None, slice_get, slice_index_or, bit_or, bit_and}
 use Rattle.std.specs.Option.{option_map_or, is_some}
 use Rattle.std.specs.Int.{bit_at}

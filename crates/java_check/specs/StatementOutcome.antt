@@ -1,4 +1,5 @@
--- What is answered of each statement: the first rule of types that fails, from the left and parts before the whole.
+-- Mirror. What is answered of each statement: the first rule of types that fails, from the left and parts before the
+-- whole.
 use Rattle.std.specs.Prelude.{ℕ, ◌&&◌, Option, Some, None, Result, Ok, slice_get}
 use Rattle.std.specs.Option.{is_some, is_none}
 use Rattle.java_core.specs.declared.Ty.{Ty}

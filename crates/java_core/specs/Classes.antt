@@ -1,4 +1,4 @@
--- Subtyping, and which field, method and body a class has under a name or for a slot.
+-- Believed. Subtyping, and which field, method and body a class has under a name or for a slot.
 use Rattle.std.specs.Prelude.{ℕ, zero, suc, ◌==◌, ◌&&◌, ◌||◌, Bool, true, false, not, List, [], ◌∷◌, ◌++◌, length, Contains, Option, Some, None, slice_get, position, option_and_then}
 use Rattle.std.specs.Option.{option_map_or, option_to_list, is_some}
 use Rattle.std.specs.List.{list_any, flat_map}

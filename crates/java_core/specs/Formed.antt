@@ -1,4 +1,5 @@
--- Which resolved programs are ones that some text has: numbers in range, names in their scopes, forms of the grammar, and none of the conditions that
+-- Believed. Which resolved programs are ones that some text has: numbers in range, names in their scopes, forms of the
+-- grammar, and none of the conditions that
 -- refuse a text's names.
 use Rattle.std.specs.Prelude.{◌≡◌, ◌≢◌, ◌↔◌, ◌⊎◌, ℕ, ℤ, zero, suc, ◌<◌, ◌≤◌, ◌||◌, Bool, true, false, List, [], ◌∷◌, ◌++◌, length, map, Contains, Option, Some, None, slice_get, codes, negsuc}
 use Rattle.std.specs.Option.{is_some}

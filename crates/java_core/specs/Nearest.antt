@@ -1,12 +1,12 @@
--- What stands nearest at or above a class, by numbers of names.
+-- Mirror. What stands nearest at or above a class, by numbers of names.
 use Rattle.std.specs.Prelude.{◌≡◌, ℕ, zero, suc, ◌&&◌, Bool, List, length, map, Option, Some, None, slice_get, position, if◌then◌else◌}
 use Rattle.std.specs.Option.{option_and_then}
 use Rattle.std.specs.Str.{bytes_eq}
 use Rattle.std.specs.declared.vec.Vec.{Vec}
 use Rattle.std.specs.declared.alloc.Global.{Global}
 use Rattle.kaba_base.specs.declared.ClassId.{ClassId}
-use Rattle.version_map.specs.declared.VersionMap.{VersionMap}
-use Rattle.version_map.specs.Held.{holds}
+use Rattle.kaba_versions.specs.declared.VersionMap.{VersionMap}
+use Rattle.kaba_versions.specs.Held.{holds}
 use Rattle.java_core.specs.declared.Class.{Class}
 use Rattle.java_core.specs.MemberKeys.{MemberKeys}
 use Rattle.java_core.specs.Classes.{first_or, is_slot}

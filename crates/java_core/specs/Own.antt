@@ -1,4 +1,4 @@
--- What a class itself has, by what is looked for.
+-- Mirror. What a class itself has, by what is looked for.
 use Rattle.std.specs.Prelude.{ℕ, ◌&&◌, not, Bool, List, [], ◌∷◌, Option, Some, None, position, if◌then◌else◌}
 use Rattle.std.specs.Option.{is_some}
 use Rattle.std.specs.Str.{bytes_eq}

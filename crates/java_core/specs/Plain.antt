@@ -1,4 +1,4 @@
--- A resolved program as plain data, and which plain data its parts are.
+-- Believed. A resolved program as plain data, and which plain data its parts are.
 use Rattle.std.specs.Prelude.{ℕ, Bool, List, Option, map}
 use Rattle.kaba_base.specs.declared.ClassId.{ClassId}
 use Rattle.java_core.specs.declared.Ty.{Ty}

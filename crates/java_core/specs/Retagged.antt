@@ -1,4 +1,4 @@
--- Expressions that are the same but for their tags. No rule of types and no rule of a run tells them apart.
+-- Believed. Expressions that are the same but for their tags. No rule of types and no rule of a run tells them apart.
 use Rattle.std.specs.Prelude.{ℕ, ℤ, Bool, List}
 use Rattle.java_core.specs.declared.Ty.{Ty}
 use Rattle.java_core.specs.declared.UnOp.{UnOp}

@@ -1,4 +1,4 @@
--- What an expression gives and the methods of a String, as the rules of types have them.
+-- Mirror. What an expression gives and the methods of a String, as the rules of types have them.
 use Rattle.std.specs.Prelude.{ℕ, Option, Some, None}
 use Rattle.java_core.specs.declared.Ty.{Ty}
 use Rattle.java_core.specs.declared.Program.{Program}

@@ -1,4 +1,5 @@
--- Which types are above which: for each type the types at or below it, as rows of bits, and a walk downwards that finds them.
+-- Believed. Which types are above which: for each type the types at or below it, as rows of bits, and a walk downwards
+-- that finds them.
 use Rattle.std.specs.Prelude.{◌≡◌, ℕ, ◌+◌, ◌<◌, ◌≤◌, ◌⊎◌, Bool, true, List, [], ◌++◌, length, Contains}
 use Rattle.std.specs.Option.{option_to_list}
 use Rattle.std.specs.declared.vec.Vec.{Vec}

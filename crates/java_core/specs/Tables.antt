@@ -1,4 +1,4 @@
--- The numbers of members by owner, by owner and name, by owner and slot, and by name.
+-- Mirror. The numbers of members by owner, by owner and name, by owner and slot, and by name.
 use Rattle.std.specs.Prelude.{◌≡◌, ℕ, ◌+◌, ◌*◌, ◌/◌, ◌%◌, List, ◌∷◌, length, map, Option, Some, None, []}
 use Rattle.std.specs.Str.{encode_utf8_all}
 use Rattle.java_core.specs.declared.Class.{Class}

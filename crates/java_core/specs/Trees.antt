@@ -1,4 +1,5 @@
--- Resolved trees as plain data: no boxes, no addresses, no capacities; and which plain tree each tree of a program is.
+-- Believed. Resolved trees as plain data: no boxes, no addresses, no capacities; and which plain tree each tree of a
+-- program is.
 use Rattle.std.specs.Prelude.{ℕ, ℤ, List, [], ◌∷◌, Option, Some, None, Bool, true, false}
 use Rattle.kaba_base.specs.declared.Place.{Place}
 use Rattle.java_core.specs.declared.Ty.{Ty}

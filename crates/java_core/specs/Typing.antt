@@ -1,4 +1,5 @@
--- Which expressions, statements and programs are typed: one constructor a form, and fitting is asked where values flow.
+-- Believed. Which expressions, statements and programs are typed: one constructor a form, and fitting is asked where
+-- values flow.
 use Rattle.std.specs.Prelude.{◌≡◌, ℕ, ℤ, ◌||◌, ◌&&◌, Bool, true, false, List, [], ◌∷◌, Option, Some, None, slice_get}
 use Rattle.std.specs.Option.{is_some}
 use Rattle.java_core.specs.declared.Ty.{Ty}

@@ -1,4 +1,5 @@
--- A program without the tags of its forms: trees whose forms all have one tag. Two programs that are one so are one, places aside.
+-- Believed. A program without the tags of its forms: trees whose forms all have one tag. Two programs that are one so
+-- are one, places aside.
 use Rattle.std.specs.Prelude.{Option, Some, None, map}
 use Rattle.java_core.specs.Trees.{Tag, Ex, Exs, no_ex, ex_then, number, character, text, truth, null, this, local, static_field, own_field, field, index, call, static_call, super_call, create, create_array, cast, instance_of, unary, binary, Target, to_local, to_static, to_own, to_field, to_element, no_target, St, Sts, Arms, declare, block, assign, act, print, choose, loop, return, break, continue, no_st, st_then, no_other, otherwise, arm}
 use Rattle.java_core.specs.Plain.{Plain, PlainClass, PlainField, PlainMethod, PlainLocal}

@@ -1,4 +1,4 @@
--- The heap as two lists, and what stands at a place in it.
+-- Mirror. The heap as two lists, and what stands at a place in it.
 use Rattle.std.specs.Prelude.{◌≡◌, ℕ, ◌+◌, ◌≤◌, List, [], ◌∷◌, length, map, take, drop, Option}
 use Rattle.std.specs.Option.{option_map}
 use Rattle.kaba_base.specs.declared.SiteId.{SiteId}

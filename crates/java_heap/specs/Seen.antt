@@ -1,4 +1,4 @@
--- Which value of the step meaning a value is.
+-- Mirror. Which value of the step meaning a value is.
 use Rattle.java_heap.specs.declared.values.Value.{Value}
 use Rattle.java_heap.specs.declared.values.Value.TheVariants.{Int, Bool, Char, Null, Str, Ref}
 use Rattle.java_heap.specs.declared.heap.CellKind.{CellKind}

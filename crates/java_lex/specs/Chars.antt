@@ -1,4 +1,4 @@
--- The classes of characters.
+-- Believed. The classes of characters.
 use Rattle.std.specs.Prelude.{ℕ, Bool, true, false, not, ◌||◌, ◌&&◌, ◌==◌, List, [], ◌∷◌}
 
 -- space, tab, form feed, CR and LF

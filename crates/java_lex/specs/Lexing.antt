@@ -1,4 +1,4 @@
--- The tokens of a text, and its first fault.
+-- Believed. The tokens of a text, and its first fault.
 use Rattle.std.specs.Prelude.{◌≡◌, ℕ, zero, suc, ◌+◌, ◌==◌, List, [], ◌∷◌, ◌++◌, take, count_by, Result, Ok, Err, if◌then◌else◌}
 use Rattle.std.specs.Char.{len_utf8}
 use Rattle.std.specs.Str.{chars, is_utf8}

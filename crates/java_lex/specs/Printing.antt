@@ -1,4 +1,4 @@
--- How characters are written in literals.
+-- Believed. How characters are written in literals.
 use Rattle.std.specs.Prelude.{ℕ, List, [], ◌∷◌, Option, Some, None, if◌then◌else◌, ◌==◌}
 
 -- the letter of the escape of a character that has one

@@ -1,4 +1,4 @@
--- Characters that are read as tokens of given kinds.
+-- Mirror. Characters that are read as tokens of given kinds.
 use Rattle.std.specs.Prelude.{◌≡◌, ℕ, List, ◌++◌, map, Result, Ok, Err}
 use Rattle.kaba_base.specs.declared.Place.{Place}
 use Rattle.java_lex.specs.declared.Token.{Token}

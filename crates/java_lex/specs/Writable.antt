@@ -1,4 +1,4 @@
--- The kinds of tokens that some text has.
+-- Believed. The kinds of tokens that some text has.
 use Rattle.std.specs.Prelude.{◌≡◌, ℕ, ◌<◌, true, List, [], ◌∷◌, ℤ, pos}
 use Rattle.std.specs.List.{flat_map}
 use Rattle.std.specs.Str.{all_scalars}

@@ -1,4 +1,5 @@
--- What holds in each statement of a body, and of those in it, where it is said what holds of an expression, a declaration, an assignment and what is returned.
+-- Believed. What holds in each statement of a body, and of those in it, where it is said what holds of an expression, a
+-- declaration, an assignment and what is returned.
 use Rattle.std.specs.Prelude.{ℕ, Option, Some, None}
 use Rattle.java_core.specs.Trees.{Ex, Target, St, Sts, Arms, declare, block, assign, act, print, choose, loop, return, break, continue, no_st, st_then, no_other, otherwise, arm}
 

@@ -1,4 +1,4 @@
--- What a run asks of a program, from its classes, fields and methods; and the run of a program.
+-- Believed. What a run asks of a program, from its classes, fields and methods; and the run of a program.
 use Rattle.std.specs.Prelude.{ℕ, zero, suc, ◌==◌, ◌&&◌, true, not, if◌then◌else◌, List, [], ◌∷◌, ◌++◌, length, map, Option, slice_get, position}
 use Rattle.std.specs.Option.{option_map, option_map_or, option_and_then}
 use Rattle.java_core.specs.Trees.{Ex, Sts}

@@ -1,4 +1,5 @@
--- What a program does: a run by recursion on the depth of its calls and loops and on the tree. A value goes to the function that takes it, and so
+-- Believed. What a program does: a run by recursion on the depth of its calls and loops and on the tree. A value goes
+-- to the function that takes it, and so
 -- does the end of a statement.
 use Rattle.std.specs.Prelude.{ℕ, zero, suc, ℤ, Bool, true, false, List, [], ◌∷◌, ◌++◌, length, Option, Some, None, slice_get, slice_set, ◌&&◌, ◌||◌}
 use Rattle.std.specs.Option.{option_and_then}

@@ -1,4 +1,4 @@
--- What a run has at a moment, how it ends, and what it asks of a program.
+-- Believed. What a run has at a moment, how it ends, and what it asks of a program.
 use Rattle.std.specs.Prelude.{ℕ, zero, suc, ℤ, Bool, true, false, List, [], Option, Some, None}
 use Rattle.std.specs.declared.result.Result.{Result}
 use Rattle.std.specs.declared.result.Result.TheVariants.{Ok, Err}

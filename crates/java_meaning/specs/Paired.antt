@@ -1,4 +1,5 @@
--- Two bodies in the same form, statement by statement, where it is said when two expressions are a pair, and two targets of an assignment, which are told
+-- Believed. Two bodies in the same form, statement by statement, where it is said when two expressions are a pair, and
+-- two targets of an assignment, which are told
 -- the value that is put there. Labels and places are free.
 use Rattle.std.specs.Prelude.{ℕ, Bool, Option, Some, None}
 use Rattle.java_core.specs.Trees.{Tag, Ex, Target, St, Sts, Arms, declare, block, assign, act, print, choose, loop, return, break, continue, no_st, st_then, no_other, otherwise, arm}

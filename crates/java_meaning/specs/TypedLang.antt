@@ -1,4 +1,4 @@
--- What a typed program gives its runs: the facts by which no run goes wrong.
+-- Mirror. What a typed program gives its runs: the facts by which no run goes wrong.
 use Rattle.std.specs.Prelude.{◌≡◌, ℕ, true, List, ◌++◌, map, Option, Some, None, slice_get}
 use Rattle.std.specs.Option.{is_some}
 use Rattle.java_core.specs.declared.Ty.{Ty}

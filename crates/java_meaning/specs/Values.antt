@@ -1,4 +1,5 @@
--- Values and what operators make of them (Java Language Specification, chapters 4, 5 and 15, the subset's part).
+-- Believed. Values and what operators make of them (Java Language Specification, chapters 4, 5 and 15, the subset's
+-- part).
 use Rattle.std.specs.Prelude.{ℕ, zero, suc, ◌+◌, ◌/◌, ◌%◌, ◌^◌, ◌==◌, ℤ, pos, negsuc, int_lt, int_le, int_rem, nat_le, Bool, true, false, not, if◌then◌else◌, List, [], ◌∷◌, ◌++◌, length, map, Option, Some, None, slice_get, replicate, codes}
 use Rattle.std.specs.declared.result.Result.{Result}
 use Rattle.std.specs.declared.result.Result.TheVariants.{Ok, Err}

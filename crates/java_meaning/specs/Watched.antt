@@ -1,4 +1,4 @@
--- Runs that are watched: over trees with labels, with a watch and a record.
+-- Believed. Runs that are watched: over trees with labels, with a watch and a record.
 use Rattle.std.specs.Prelude.{◌≡◌, ◌⊎◌, ℕ, Bool, List, Option, Some, None}
 use Rattle.std.specs.Option.{option_map, option_and_then}
 use Rattle.java_core.specs.declared.Ty.{Ty}

@@ -1,4 +1,4 @@
--- What stands at the front of a list of tokens.
+-- Mirror. What stands at the front of a list of tokens.
 use Rattle.std.specs.Prelude.{ℕ, pos, List, [], ◌∷◌, Option, Some, None, Bool, true, false, if◌then◌else◌, nat_le, nat_lt, ◌&&◌}
 use Rattle.kaba_base.specs.declared.Place.{Place}
 use Rattle.kaba_base.specs.declared.words.Keyword.{Keyword}

@@ -1,4 +1,4 @@
--- Which calls print, by their names and the count of their arguments.
+-- Mirror. Which calls print, by their names and the count of their arguments.
 use Rattle.std.specs.Prelude.{ℕ, List, codes, Bool, true, false, Option, Some, None, if◌then◌else◌, ◌&&◌, nat_lt}
 use Rattle.java_tree.specs.Statements.{is_called}
 

@@ -1,4 +1,4 @@
--- How declarations are read from the left, with one token of look-ahead.
+-- Mirror. How declarations are read from the left, with one token of look-ahead.
 use Rattle.std.specs.Prelude.{ℕ, List, [], ◌∷◌, ◌++◌, Option, Some, None, true, false}
 use Rattle.kaba_base.specs.declared.Place.{Place}
 use Rattle.kaba_base.specs.declared.words.Keyword.{Keyword}

@@ -1,4 +1,4 @@
--- How expressions and types are read from the left, with one token of look-ahead.
+-- Mirror. How expressions and types are read from the left, with one token of look-ahead.
 use Rattle.std.specs.Prelude.{ℕ, suc, negsuc, List, Some, None}
 use Rattle.kaba_base.specs.declared.Place.{Place}
 use Rattle.kaba_base.specs.declared.words.Keyword.TheVariants as keys

@@ -1,4 +1,4 @@
--- How statements are read from the left, with one token of look-ahead.
+-- Mirror. How statements are read from the left, with one token of look-ahead.
 use Rattle.std.specs.Prelude.{List, Option, Some, None, true, false}
 use Rattle.kaba_base.specs.declared.words.Keyword.TheVariants as keys
 use Rattle.java_lex.specs.declared.Token.{Token}

@@ -1,4 +1,4 @@
--- What the parser's functions give, as plain data.
+-- Mirror. What the parser's functions give, as plain data.
 use Rattle.std.specs.Prelude.{ℕ, List, Option, Some, None, Result, Ok, Err}
 use Rattle.std.specs.Borrow.{Bor}
 use Rattle.std.specs.declared.vec.Vec.{Vec}

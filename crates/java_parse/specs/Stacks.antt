@@ -1,4 +1,4 @@
--- The entries of a nesting stack, from the top.
+-- Mirror. The entries of a nesting stack, from the top.
 use Rattle.std.specs.Prelude.{List, [], ◌∷◌}
 use Rattle.java_tree.specs.declared.Entry.{Entry}
 use Rattle.java_parse.specs.declared.nest.Stack.{Stack, Empty, On'}

@@ -1,4 +1,5 @@
--- What the reader reads, and a reading as plain data: it gives a tree and the rest, or fails at a rest, or asks for a
+-- Mirror. What the reader reads, and a reading as plain data: it gives a tree and the rest, or fails at a rest, or asks
+-- for a
 -- part and goes on with it.
 use Rattle.std.specs.Prelude.{ℕ, List, Option}
 use Rattle.kaba_base.specs.declared.Place.{Place}

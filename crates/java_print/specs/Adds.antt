@@ -1,4 +1,4 @@
--- What a printer adds to a text.
+-- Mirror. What a printer adds to a text.
 use Rattle.std.specs.Prelude.{◌≡◌, ℕ, List, ◌∷◌, ◌++◌}
 use Rattle.std.specs.Str.{encode_utf8_all}
 use Rattle.kaba_base.specs.declared.Keyword.{Keyword}

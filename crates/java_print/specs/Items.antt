@@ -1,4 +1,4 @@
--- What a text is made of: tokens, spaces, ends of lines and margins.
+-- Believed. What a text is made of: tokens, spaces, ends of lines and margins.
 use Rattle.std.specs.Prelude.{ℕ, List, [], ◌∷◌, ◌++◌, replicate, unsigned_abs}
 use Rattle.std.specs.Char.Utf16.{utf16_lossy_chars}
 use Rattle.std.specs.List.{flat_map}

@@ -1,4 +1,4 @@
--- The layout of a tree, as items. `x_items x r` are the items of x before the items r.
+-- Believed. The layout of a tree, as items. `x_items x r` are the items of x before the items r.
 use Rattle.std.specs.Prelude.{ℕ, zero, suc, ◌+◌, ℤ, pos, negsuc, Bool, true, false, not, ◌&&◌, ◌||◌, ◌==◌, nat_lt, List, [], ◌∷◌, Option, Some, None, codes, nat_le, is_some, if◌then◌else◌}
 use Rattle.kaba_base.specs.declared.Keyword.{Keyword}
 use Rattle.kaba_base.specs.declared.Keyword.TheVariants as keys

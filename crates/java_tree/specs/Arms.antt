@@ -1,4 +1,4 @@
--- The size of one arm.
+-- Mirror. The size of one arm.
 use Rattle.std.specs.Prelude.{ℕ, ◌+◌}
 use Rattle.java_tree.specs.declared.Arm.{Arm}
 use Rattle.java_tree.specs.Syntax.{expr_of, stmts}

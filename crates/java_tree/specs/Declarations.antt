@@ -1,4 +1,4 @@
--- The grammar of declarations and programs, one case for each line of it.
+-- Believed. The grammar of declarations and programs, one case for each line of it.
 use Rattle.std.specs.Prelude.{◌≡◌, ℕ, List, [], ◌∷◌, Bool, true, Option, Some, None}
 use Rattle.kaba_base.specs.declared.Place.{Place}
 use Rattle.kaba_base.specs.declared.words.Keyword.{Keyword}

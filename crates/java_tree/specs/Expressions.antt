@@ -1,4 +1,5 @@
--- The grammar of expressions and types, one case for each line of it. `IsX ts rest x` says that the tokens of the
+-- Believed. The grammar of expressions and types, one case for each line of it. `IsX ts rest x` says that the tokens of
+-- the
 -- list `ts` up to its end `rest` are the x.
 use Rattle.std.specs.Prelude.{◌≡◌, ℕ, suc, ◌<◌, ◌≤◌, ℤ, negsuc, List, ◌∷◌, Bool, true, false}
 use Rattle.kaba_base.specs.declared.Place.{Place}

@@ -1,4 +1,4 @@
--- Trees that the grammar gives: what their parts may be.
+-- Believed. Trees that the grammar gives: what their parts may be.
 use Rattle.std.specs.Prelude.{◌≡◌, ℕ, ◌<◌, ◌≤◌, ℤ, negsuc, Bool, true, false, ◌||◌, List, [], ◌∷◌, Option, Some, None, is_some, Ok}
 use Rattle.java_lex.specs.declared.Token.{Token}
 use Rattle.java_lex.specs.Lexing.{tokens_of}

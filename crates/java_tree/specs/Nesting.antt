@@ -1,4 +1,4 @@
--- The nesting stack over a list of tokens.
+-- Believed. The nesting stack over a list of tokens.
 use Rattle.std.specs.Prelude.{ℕ, zero, suc, ◌<◌, ◌≤◌, List, [], ◌∷◌, length, Bool, true, false, if◌then◌else◌, ◌||◌, nat_lt, max, is_some}
 use Rattle.kaba_base.specs.declared.words.Keyword.{Keyword}
 use Rattle.kaba_base.specs.declared.words.Keyword.TheVariants as keys

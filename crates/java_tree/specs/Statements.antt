@@ -1,4 +1,4 @@
--- The grammar of statements, one case for each line of it.
+-- Believed. The grammar of statements, one case for each line of it.
 use Rattle.std.specs.Prelude.{◌≡◌, ℕ, pos, List, [], ◌∷◌, Bool, true, false, Option, Some, None, ◌&&◌, codes, if◌then◌else◌}
 use Rattle.std.specs.Str.{bytes_eq, encode_utf8_all}
 use Rattle.kaba_base.specs.declared.Place.{Place}

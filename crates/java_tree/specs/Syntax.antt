@@ -1,4 +1,5 @@
--- Trees as plain data: no boxes, no addresses, no capacities; and what plain tree each tree of the program is.
+-- Believed. Trees as plain data: no boxes, no addresses, no capacities; and what plain tree each tree of the program
+-- is.
 use Rattle.std.specs.Prelude.{ℕ, ℤ, List, [], ◌∷◌, Option, Some, None, Bool}
 use Rattle.kaba_base.specs.declared.Place.{Place}
 use Rattle.java_lex.specs.declared.Mark.{Mark}

@@ -1,4 +1,4 @@
--- Tokens as the grammar speaks of them.
+-- Believed. Tokens as the grammar speaks of them.
 use Rattle.std.specs.Prelude.{ℕ, List, [], ◌∷◌, Bool, true, false, Option, Some, None}
 use Rattle.kaba_base.specs.declared.Place.{Place}
 use Rattle.kaba_base.specs.declared.words.Keyword.{Keyword}

@@ -1,4 +1,4 @@
--- Keywords, and which texts are identifiers. All texts are lists of characters.
+-- Believed. Keywords, and which texts are identifiers. All texts are lists of characters.
 use Rattle.std.specs.Prelude.{ℕ, Bool, true, false, ◌||◌, ◌&&◌, ◌==◌, List, [], ◌∷◌, Option, Some, None, codes, if◌then◌else◌}
 use Rattle.std.specs.List.{list_all}
 use Rattle.std.specs.Str.{bytes_eq}

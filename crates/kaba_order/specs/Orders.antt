@@ -1,4 +1,4 @@
--- Partial orders on numbered nodes, and the least one that holds another and a new pair or union.
+-- Believed. Partial orders on numbered nodes, and the least one that holds another and a new pair or union.
 use Rattle.std.specs.Prelude.{◌≡◌, ◌≢◌, ℕ, ◌≤◌, ◌==◌, Bool, true, false, List, ◌||◌, ◌&&◌, not, length, cond, map}
 use Rattle.std.specs.List.{list_any}
 use Rattle.kaba_base.specs.declared.NodeId.{NodeId}

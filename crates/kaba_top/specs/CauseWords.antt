@@ -1,4 +1,5 @@
--- The words of causes: what the program prints of a form that the language leaves out, of a rule of types, of what there is too much of, with its limit,
+-- Believed. The words of causes: what the program prints of a form that the language leaves out, of a rule of types, of
+-- what there is too much of, with its limit,
 -- and of what went wrong in a run.
 use Rattle.std.specs.Prelude.{ℕ, List, codes}
 use Rattle.java_core.specs.declared.Fault.TheVariants as faults

@@ -1,4 +1,4 @@
--- The answers of `edit`, for the program of its file and the bytes of its script.
+-- Believed. The answers of `edit`, for the program of its file and the bytes of its script.
 use Rattle.std.specs.Prelude.{ℕ, ◌==◌, List, length, if◌then◌else◌}
 use Rattle.fact_model.specs.declared.facts.Facts.{Facts}
 use Rattle.hier_view.specs.Text.{hierarchy_text}

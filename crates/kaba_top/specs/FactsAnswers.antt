@@ -1,4 +1,4 @@
--- The answers of `table` and `lattice`, for the program of their file.
+-- Believed. The answers of `table` and `lattice`, for the program of their file.
 use Rattle.std.specs.Prelude.{◌≡◌, ◌⊎◌, ℕ, ◌≤◌, Bool, List, [], ◌++◌, length, codes, Some, None, if◌then◌else◌}
 use Rattle.std.specs.Fmt.{decimal}
 use Rattle.std.specs.Str.{encode_utf8_all}
@@ -11,7 +11,7 @@ use Rattle.fact_model.specs.Entries.{IsTable}
 use Rattle.fact_model.specs.Concepts.{AreMoreThan, IsLatticeOf}
 use Rattle.flow_rules.specs.declared.faults.Counted.{Counted}
 use Rattle.flow_rules.specs.Facts.{first_interface, too_many}
-use Rattle.program_facts.specs.Known.{AreProgramFacts}
+use Rattle.flow_program.specs.Known.{AreProgramFacts}
 use Rattle.lattice_view.specs.Table.{table_text}
 use Rattle.lattice_view.specs.Text.{lattice_text}
 use Rattle.lattice_view.specs.Json.{lattice_json}

@@ -1,4 +1,4 @@
--- What is known once a file was asked for.
+-- Mirror. What is known once a file was asked for.
 use Rattle.std.specs.Prelude.{◌≡◌, ◌⊎◌, ℕ, ◌≤◌, List, length, Option, Some}
 use Rattle.kaba_base.specs.Outside.{Files}
 use Rattle.kaba_top.specs.declared.answer.Fetched.{Fetched}

@@ -1,4 +1,4 @@
--- What an answer looks like: the status, the bytes for out and the bytes for err.
+-- Believed. What an answer looks like: the status, the bytes for out and the bytes for err.
 use Rattle.std.specs.Prelude.{◌≡◌, ℕ, List, [], ◌∷◌, ◌++◌, codes}
 
 -- a line for err

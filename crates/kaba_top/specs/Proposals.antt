@@ -1,4 +1,4 @@
--- What is known once a script was run on the hierarchy of a program, and once a tree of classes was looked for.
+-- Mirror. What is known once a script was run on the hierarchy of a program, and once a tree of classes was looked for.
 use Rattle.std.specs.Prelude.{◌≡◌, ℕ, ◌≤◌, List, length}
 use Rattle.java_core.specs.declared.Program.{Program}
 use Rattle.fact_model.specs.declared.facts.Facts.{Facts}
@@ -10,9 +10,9 @@ use Rattle.fact_model.specs.Concepts.{IsLatticeOf}
 use Rattle.fact_model.specs.Flowing.{AreSets}
 use Rattle.hier_model.specs.Hierarchies.{Hierarchy}
 use Rattle.hier_model.specs.Start.{start_from}
-use Rattle.hier_begin.specs.Laws.{AreAnalysed}
-use Rattle.tree_laws.specs.Kept.{HasNoInterface}
-use Rattle.tree_laws.specs.Reached.{IsReached}
+use Rattle.hier_laws.specs.Laws.{AreAnalysed}
+use Rattle.hier_tree.specs.Kept.{HasNoInterface}
+use Rattle.hier_tree.specs.Reached.{IsReached}
 use Rattle.tree_merge.specs.declared.steps.TreeStep.{TreeStep}
 use Rattle.tree_merge.specs.declared.trees.NoTree.{NoTree}
 use Rattle.edit_script.specs.declared.lines.Line.{Line}

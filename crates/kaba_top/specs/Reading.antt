@@ -1,4 +1,4 @@
--- What is answered where the bytes of a file are no typed program, and what follows where they are one.
+-- Believed. What is answered where the bytes of a file are no typed program, and what follows where they are one.
 use Rattle.std.specs.Prelude.{◌≡◌, ◌⊎◌, ℕ, ◌+◌, ◌-◌, ◌≤◌, ◌==◌, List, [], ◌++◌, length, take, count_by, Ok, Err, codes, Option, Some, None, slice_get}
 use Rattle.std.specs.Fmt.{decimal}
 use Rattle.std.specs.Str.{encode_utf8_all}

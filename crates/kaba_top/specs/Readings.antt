@@ -1,4 +1,4 @@
--- What is known once a text was read.
+-- Mirror. What is known once a text was read.
 use Rattle.std.specs.Prelude.{◌≡◌, ◌⊎◌, ℕ, ◌≤◌, List, length}
 use Rattle.kaba_base.specs.declared.Place.{Place}
 use Rattle.java_tree.specs.Syntax.{DeclTree}

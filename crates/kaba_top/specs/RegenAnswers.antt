@@ -1,4 +1,4 @@
--- The answers of `regen`, for the program of its file and the bytes of its script.
+-- Believed. The answers of `regen`, for the program of its file and the bytes of its script.
 use Rattle.std.specs.Prelude.{◌≡◌, ◌⊎◌, ℕ, List, [], ◌++◌, None}
 use Rattle.java_core.specs.declared.Program.{Program}
 use Rattle.fact_model.specs.declared.facts.Facts.{Facts}
@@ -10,7 +10,7 @@ use Rattle.edit_script.specs.declared.lines.Line.{Line}
 use Rattle.tree_merge.specs.declared.steps.TreeStep.{TreeStep}
 use Rattle.tree_merge.specs.declared.trees.NoTree.{NoTree}
 use Rattle.tree_merge.specs.Logs.{steps_of, AreEdits}
-use Rattle.tree_view.specs.Lines.{log_text, no_tree_text}
+use Rattle.hier_log.specs.Lines.{log_text, no_tree_text}
 use Rattle.java_write.specs.Written.{IsWrittenText}
 use Rattle.kaba_top.specs.Lines.{Gives, line}
 use Rattle.kaba_top.specs.ScriptAnswers.{HasLattice, ScriptAnswers, start_of, edited, refusals}

@@ -1,4 +1,4 @@
--- What a script comes to on the hierarchy at which a program starts.
+-- Believed. What a script comes to on the hierarchy at which a program starts.
 use Rattle.std.specs.Prelude.{◌⊎◌, ℕ, ◌≤◌, List, ◌++◌, length, codes}
 use Rattle.std.specs.Fmt.{decimal}
 use Rattle.fact_model.specs.declared.facts.Facts.{Facts}

@@ -1,4 +1,4 @@
--- The words of the command line, and the commands that they say.
+-- Believed. The words of the command line, and the commands that they say.
 use Rattle.std.specs.Prelude.{◌≡◌, ℕ, ◌<◌, ◌≤◌, Bool, true, false, List, [], ◌∷◌, length, map, codes, string_bytes}
 use Rattle.std.specs.List.{All}
 use Rattle.std.specs.Fmt.{decimal}

@@ -1,4 +1,4 @@
--- What a name with a number is the name of.
+-- Mirror. What a name with a number is the name of.
 use Rattle.std.specs.Prelude.{ℕ, List}
 use Rattle.kaba_work.specs.declared.names.Kind.{Kind}
 use Rattle.kaba_work.specs.declared.names.Kind.TheVariants as kinds

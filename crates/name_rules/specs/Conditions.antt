@@ -1,4 +1,5 @@
--- The conditions that refuse a tree's names, each with the place at which it holds (Java Language Specification, 6.3 to 6.5, 8.1, 8.3, 8.4, 9.1, 14.15, 15.12).
+-- Believed. The conditions that refuse a tree's names, each with the place at which it holds (Java Language
+-- Specification, 6.3 to 6.5, 8.1, 8.3, 8.4, 9.1, 14.15, 15.12).
 use Rattle.std.specs.Prelude.{◌≡◌, ◌≢◌, ◌⊎◌, ℕ, suc, ◌<◌, ◌||◌, Bool, true, false, List, [], ◌∷◌, ◌++◌, map, Contains, Option, Some, None, slice_get, codes}
 use Rattle.std.specs.Option.{is_some}
 use Rattle.kaba_base.specs.declared.Place.{Place}

@@ -1,4 +1,5 @@
--- What a name means in a body: a variable, a class, a member. `O` is the outline of the program: its classes, fields and methods.
+-- Believed. What a name means in a body: a variable, a class, a member. `O` is the outline of the program: its classes,
+-- fields and methods.
 use Rattle.std.specs.Prelude.{◌≡◌, ℕ, ◌&&◌, not, Bool, true, false, List, [], ◌∷◌, map, Option, Some, None, slice_get, if◌then◌else◌}
 use Rattle.std.specs.Option.{is_none}
 use Rattle.std.specs.List.{list_any}

@@ -1,4 +1,5 @@
--- What the declarations of a tree say: the types by number, who names whom as a supertype, and the fields and methods in the order of the text with
+-- Believed. What the declarations of a tree say: the types by number, who names whom as a supertype, and the fields and
+-- methods in the order of the text with
 -- their owners.
 use Rattle.std.specs.Prelude.{ℕ, suc, ◌||◌, Bool, true, false, List, [], ◌∷◌, ◌++◌, map, Option, Some, None, codes, if◌then◌else◌, position}
 use Rattle.std.specs.Option.{option_map, is_some}

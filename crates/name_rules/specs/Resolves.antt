@@ -1,4 +1,5 @@
--- Which program a tree is once its names are resolved: the meaning of each name as a relation, one constructor a meaning.
+-- Believed. Which program a tree is once its names are resolved: the meaning of each name as a relation, one
+-- constructor a meaning.
 use Rattle.std.specs.Prelude.{◌≡◌, ℕ, ℤ, suc, ◌<◌, ◌≤◌, Bool, true, false, List, [], ◌∷◌, ◌++◌, length, map, Option, Some, None, slice_get}
 use Rattle.std.specs.Option.{is_some}
 use Rattle.kaba_base.specs.declared.Place.{Place}

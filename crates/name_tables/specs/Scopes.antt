@@ -1,4 +1,4 @@
--- What is in scope, by the tables of the blocks around.
+-- Mirror. What is in scope, by the tables of the blocks around.
 use Rattle.std.specs.Prelude.{ℕ, List, [], ◌++◌, map, string_bytes}
 use Rattle.std.specs.Str.{chars}
 use Rattle.std.specs.declared.alloc.Global.{Global}

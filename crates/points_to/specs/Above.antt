@@ -1,4 +1,4 @@
--- The classes at or above a class, found by a walk upwards.
+-- Mirror. The classes at or above a class, found by a walk upwards.
 use Rattle.std.specs.Prelude.{◌≡◌, ℕ, ◌+◌, ◌<◌, ◌≤◌, ◌⊎◌, Bool, true, List, length, Contains}
 use Rattle.kaba_base.specs.declared.ClassId.{ClassId}
 use Rattle.kaba_bits.specs.Sets.{bit, row, size, HasWidth}

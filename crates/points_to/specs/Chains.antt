@@ -1,4 +1,4 @@
--- Chains of bodies, by a number for their class and slot.
+-- Mirror. Chains of bodies, by a number for their class and slot.
 use Rattle.std.specs.Prelude.{◌≡◌, ℕ, ◌+◌, ◌*◌, ◌%◌, ◌<◌, ◌≤◌, false, List, length, Option, Some, None, slice_index_or}
 use Rattle.std.specs.Option.{unwrap_or}
 use Rattle.fact_model.specs.Items.{column_at, column_class, column_kind, column_slot}

@@ -1,4 +1,4 @@
--- What the facts ask for, and sets that have it.
+-- Mirror. What the facts ask for, and sets that have it.
 use Rattle.std.specs.Prelude.{◌≡◌, ℕ, ◌+◌, ◌<◌, ◌++◌, Bool, true, List, length, map, All, Contains, Option, Some}
 use Rattle.std.specs.List.{filter_map, flat_map, range_with_len}
 use Rattle.std.specs.Option.{option_map}

@@ -1,4 +1,4 @@
--- What is looked up of the facts again and again.
+-- Mirror. What is looked up of the facts again and again.
 use Rattle.std.specs.Prelude.{◌≡◌, ℕ, ◌<◌, List, [], length, Contains, Some, slice_get, slice_index_or}
 use Rattle.std.specs.Option.{option_map_or}
 use Rattle.std.specs.declared.vec.Vec.{Vec}

@@ -1,4 +1,4 @@
--- How far a turn over reads, writes and runs has come.
+-- Mirror. How far a turn over reads, writes and runs has come.
 use Rattle.std.specs.Prelude.{◌≡◌, ℕ, ◌<◌, ◌≤◌, ◌⊎◌, Bool, true, List, length, Contains, Option, Some, None}
 use Rattle.kaba_bits.specs.Sets.{bit, row, IsSubset}
 use Rattle.fact_model.specs.declared.facts.Facts.{Facts}

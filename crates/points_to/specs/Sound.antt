@@ -1,4 +1,4 @@
--- Sets so far: they show only what holds.
+-- Mirror. Sets so far: they show only what holds.
 use Rattle.std.specs.Prelude.{◌≡◌, ℕ, ◌+◌, ◌-◌, Bool, true, cond, nat_lt, List, length}
 use Rattle.kaba_bits.specs.Sets.{bit, row, HasWidth}
 use Rattle.fact_model.specs.Flowing.{Fact, in_point, in_cell, Holds, IsInRow}

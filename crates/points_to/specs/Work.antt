@@ -1,4 +1,4 @@
--- What the rules ask for, and sets that have it.
+-- Mirror. What the rules ask for, and sets that have it.
 use Rattle.std.specs.Prelude.{◌≡◌, ℕ, ◌+◌, ◌<◌, Bool, true, List, length, All, Contains, Option, Some, None, IfSome}
 use Rattle.kaba_bits.specs.Sets.{bit, row, IsSubset}
 use Rattle.kaba_base.specs.declared.ClassId.{ClassId}

@@ -1,4 +1,5 @@
--- When a body is another with new names and types: in the same form, statement by statement and expression by expression. Labels, places and the
+-- Believed. When a body is another with new names and types: in the same form, statement by statement and expression by
+-- expression. Labels, places and the
 -- numbers of creations are free.
 use Rattle.std.specs.Prelude.{◌≡◌, ℕ, ℤ, Bool, true, List, Option, Some, slice_get}
 use Rattle.std.specs.Option.{is_some}

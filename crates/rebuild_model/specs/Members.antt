@@ -1,4 +1,5 @@
--- What the members of the new program are: the fields, bodies, heads and fillers of its nodes' types, and the static members of its holders.
+-- Believed. What the members of the new program are: the fields, bodies, heads and fillers of its nodes' types, and the
+-- static members of its holders.
 use Rattle.std.specs.Prelude.{◌≡◌, ℕ, ◌&&◌, ◌||◌, ◌==◌, Bool, true, false, not, List, [], ◌∷◌, length, Some, None, slice_get}
 use Rattle.std.specs.Option.{is_some}
 use Rattle.kaba_base.specs.declared.NodeId.{NodeId}

@@ -1,4 +1,5 @@
--- When a program is another one over a new class hierarchy (after Streckenbach and Snelting, 2004, who write the program of a hierarchy).
+-- Believed. When a program is another one over a new class hierarchy (after Streckenbach and Snelting, 2004, who write
+-- the program of a hierarchy).
 use Rattle.std.specs.Prelude.{◌≡◌, ◌≢◌, ◌↔◌, ◌⊎◌, ℕ, true, false, not, [], Some, None, slice_get}
 use Rattle.java_core.specs.Programs.{Plain, PlainClass, PlainField, PlainMethod}
 use Rattle.java_core.specs.Classes.{IsSubclass}

@@ -1,4 +1,5 @@
--- What types, fields and methods are called in the new program: by the rows, columns and slots of the old one.
+-- Believed. What types, fields and methods are called in the new program: by the rows, columns and slots of the old
+-- one.
 use Rattle.std.specs.Prelude.{ℕ, List, [], Option, Some, None}
 use Rattle.std.specs.Option.{option_map, option_map_or}
 use Rattle.java_core.specs.declared.Ty.{Ty}

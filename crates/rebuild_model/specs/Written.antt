@@ -1,4 +1,5 @@
--- What a written program has beyond the rebuild relation: public instance methods in its classes, and default results of what fills in for a body.
+-- Believed. What a written program has beyond the rebuild relation: public instance methods in its classes, and default
+-- results of what fills in for a body.
 use Rattle.std.specs.Prelude.{◌≡◌, ℕ, pos, true, false, Option, Some, None, slice_get}
 use Rattle.java_core.specs.declared.Ty.{Ty}
 use Rattle.java_core.specs.declared.TyBase.TheVariants.{Int, Boolean, Char}

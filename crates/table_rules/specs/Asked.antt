@@ -1,4 +1,4 @@
--- What a column asks of the rows that have it: further columns, those of a `this` among them.
+-- Mirror. What a column asks of the rows that have it: further columns, those of a `this` among them.
 use Rattle.std.specs.Prelude.{◌≡◌, ℕ, ◌%◌, ◌<◌, ◌⊎◌, ◌&&◌, not, Bool, true, List, length, Contains, Option, Some, None}
 use Rattle.std.specs.declared.vec.Vec.{Vec}
 use Rattle.std.specs.declared.alloc.Global.{Global}

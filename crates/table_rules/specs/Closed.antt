@@ -1,4 +1,4 @@
--- Tables that are closed under one rule, or under all.
+-- Mirror. Tables that are closed under one rule, or under all.
 use Rattle.std.specs.Prelude.{◌≡◌, ℕ, ◌<◌, Bool, true, List, length, All, Some}
 use Rattle.std.specs.Bool.{OnFalse}
 use Rattle.kaba_bits.specs.Sets.{bit, row, IsSubset, IsStep}

@@ -1,4 +1,4 @@
--- Tables so far: they have only entries that hold, and what was marked stays.
+-- Mirror. Tables so far: they have only entries that hold, and what was marked stays.
 use Rattle.std.specs.Prelude.{◌≡◌, ℕ, ◌<◌, Bool, true, List, length, All, Some}
 use Rattle.kaba_bits.specs.Sets.{bit, row, IsSubset, HasWidth}
 use Rattle.kaba_base.specs.declared.ColId.{ColId}

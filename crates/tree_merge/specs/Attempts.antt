@@ -1,4 +1,4 @@
--- What tries are made for, and what is known of each try of a conflict, of each attempt and of each step.
+-- Mirror. What tries are made for, and what is known of each try of a conflict, of each attempt and of each step.
 use Rattle.std.specs.Prelude.{◌≡◌, ℕ, zero, suc, ◌+◌, ◌<◌, ◌&&◌, not, Bool, true, false, List, [], ◌∷◌, length, map, slice_index_or, All, Option, Some, None, Ok, Err}
 use Rattle.kaba_base.specs.declared.NodeId.{NodeId}
 use Rattle.kaba_order.specs.Orders.{Ordered, is_le, is_live, is_among}

@@ -1,4 +1,4 @@
--- The log of the steps towards a tree, and where there is none.
+-- Believed. The log of the steps towards a tree, and where there is none.
 use Rattle.std.specs.Prelude.{List, map, All}
 use Rattle.fact_model.specs.declared.facts.Facts.{Facts}
 use Rattle.fact_model.specs.declared.sets.PointsTo.{PointsTo}
