@@ -45,7 +45,7 @@ pub record PlainMethod : Type 0 where
   pub body : Option Sts
   pub tag : Tag
 
--- a slot, which a method and all that override it share: their name, types and first declaration
+-- a slot, which all instance methods of one name, parameter types and result share, and the first of these methods
 pub record PlainSlot : Type 0 where
   pub name : List ℕ
   pub params : List Ty
