@@ -27,7 +27,10 @@ IsClass P c = c < length P.classes
 -- the base of a type is int, boolean, char or String, or a class of the program
 abbrev pub IsKnownBase : Plain → TyBase → Type 0
 IsKnownBase P (Class c) = IsClass P c.0
-IsKnownBase P _ = Unit {0}
+IsKnownBase P Int = Unit {0}
+IsKnownBase P Boolean = Unit {0}
+IsKnownBase P Char = Unit {0}
+IsKnownBase P Str = Unit {0}
 
 -- a type whose class is one of the program
 abbrev pub IsType : Plain → Ty → Type 0
