@@ -2,7 +2,7 @@
 -- stands before its arguments, a cast before
 -- its operand, an `instanceof` and an index after their left sides.
 use Rattle.std.specs.Prelude.{ℕ, ◌+◌, Option, Some, None}
-use Rattle.java_core.specs.Trees.{Tag, Ex, Exs, no_ex, ex_then, own_field, field, index, call, static_call, super_call, create, create_array, cast, instance_of, unary, binary, Target, to_local, to_static, to_own, to_field, to_element, no_target, St, Sts, Arms, declare, block, assign, act, print, choose, loop, return, no_st, st_then, no_other, otherwise, arm}
+use Rattle.java_core.specs.Trees.{Tag, Ex, Exs, number, character, text, truth, null, this, local, static_field, no_ex, ex_then, own_field, field, index, call, static_call, super_call, create, create_array, cast, instance_of, unary, binary, Target, to_local, to_static, to_own, to_field, to_element, no_target, St, Sts, Arms, declare, block, assign, act, print, choose, loop, return, break, continue, no_st, st_then, no_other, otherwise, arm}
 
 -- how many labels an expression takes: a literal, `null`, `this`, a variable and a static field take none
 abbrev mutual
@@ -20,7 +20,14 @@ abbrev mutual
   size (instance_of t n e c) = size e + 1
   size (unary t o e) = size e
   size (binary t o e d) = size e + size d + 1
-  size _ = 0
+  size (number t z) = 0
+  size (character t u) = 0
+  size (text t us) = 0
+  size (truth t b) = 0
+  size (null t) = 0
+  size (this t) = 0
+  size (local t i) = 0
+  size (static_field t f) = 0
 
   -- the number of labels in a list of arguments
   pub sizes : Exs → ℕ
@@ -47,7 +54,14 @@ abbrev mutual
   label n (instance_of t i e c) = instance_of (labelled (n + size e) t) i (label n e) c
   label n (unary t o e) = unary t o (label n e)
   label n (binary t o e d) = binary t o (label n e) (label (n + size e) d)
-  label n e = e
+  label n (number t z) = number t z
+  label n (character t u) = character t u
+  label n (text t us) = text t us
+  label n (truth t b) = truth t b
+  label n (null t) = null t
+  label n (this t) = this t
+  label n (local t i) = local t i
+  label n (static_field t f) = static_field t f
 
   -- arguments with their labels from n on, one after the other
   pub label_all : ℕ → Exs → Exs
@@ -99,7 +113,8 @@ abbrev mutual
   size_st (choose t xs) = size_arms xs
   size_st (loop t is_while first test step body) = size_sts first + size_if test + size_sts step + size_sts body
   size_st (return t e) = size_put e
-  size_st _ = 0
+  size_st (break t) = 0
+  size_st (continue t) = 0
 
   -- the number of labels in a list of statements
   pub size_sts : Sts → ℕ
@@ -126,7 +141,8 @@ abbrev mutual
       loop t is_while (label_sts n first) (label_if (n + size_sts first) test) (label_sts (n + size_sts first + size_if test) step)
       (label_sts (n + size_sts first + size_if test + size_sts step) body)
   label_st n (return t e) = return t (label_if n e)
-  label_st n x = x
+  label_st n (break t) = break t
+  label_st n (continue t) = continue t
 
   -- a list of statements with their labels from n on
   pub label_sts : ℕ → Sts → Sts

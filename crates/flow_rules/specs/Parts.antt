@@ -41,7 +41,25 @@ pub data Part : Type 0 where
 -- a creation here is the base of a field access where it makes an object: `.length` of an array is none
 abbrev pub is_accessed : Ex → Bool
 is_accessed (create_array t n u e) = false
-is_accessed _ = true
+is_accessed (number t z) = true
+is_accessed (character t u) = true
+is_accessed (text t us) = true
+is_accessed (truth t b) = true
+is_accessed (null t) = true
+is_accessed (this t) = true
+is_accessed (local t i) = true
+is_accessed (static_field t f) = true
+is_accessed (own_field t f) = true
+is_accessed (field t e x) = true
+is_accessed (index t e i) = true
+is_accessed (call t e x es) = true
+is_accessed (static_call t m es) = true
+is_accessed (super_call t x es) = true
+is_accessed (create t n c es) = true
+is_accessed (cast t n u e) = true
+is_accessed (instance_of t n e c) = true
+is_accessed (unary t o e) = true
+is_accessed (binary t o e d) = true
 
 -- an operand without a row, a flow point, a type or a creation
 abbrev pub nothing : Operand

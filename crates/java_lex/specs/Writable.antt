@@ -36,7 +36,9 @@ IsWritable (kinds.Word w) = IsName w
 IsWritable (kinds.Int z) = IsSmall z
 IsWritable (kinds.Char u) = IsUnit u
 IsWritable (kinds.Str us) = IsText us
-IsWritable _ = Unit {0}
+IsWritable (kinds.Key k) = Unit {0}
+IsWritable kinds.Least = Unit {0}
+IsWritable (kinds.Mark m) = Unit {0}
 
 -- some text has each of these tokens
 abbrev pub AllWritable : List Token → Type 0

@@ -262,13 +262,19 @@ abbrev pub print_head : Bool → List ℕ
 print_head true = codes "System.out.println("
 print_head false = codes "System.out.print("
 
--- a statement without its margin and its semicolon
+-- a statement that may stand in the round brackets of a `for`, without its margin and its semicolon; of others nothing
 abbrev pub simple_items : Statement → List Item → List Item
 simple_items (LocalOf f t n v p) r = local_items f t n v r
 simple_items (AssignOf t v p) r = assign_items t v r
 simple_items (DoOf c p) r = call_items c r
 simple_items (PrintOf l v p) r = print_items l v r
-simple_items _ r = r
+simple_items (BlockOf xs p) r = r
+simple_items (IfOf arms o p) r = r
+simple_items (WhileOf c xs p) r = r
+simple_items (ForOf i c s xs p) r = r
+simple_items (ReturnOf v p) r = r
+simple_items (BreakOf p) r = r
+simple_items (ContinueOf p) r = r
 
 -- the parts of a for
 abbrev pub first_items : OptionalStatement → List Item → List Item

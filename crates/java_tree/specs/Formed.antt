@@ -32,13 +32,16 @@ pub data IsNumber : ℤ → Type 0 where
 -- a type without brackets: `int`, `boolean`, `char`, or a name that tokens have
 abbrev pub IsFormedBase : TypeBase → Type 0
 IsFormedBase (bases.Named n) = IsName n
-IsFormedBase _ = Unit {0}
+IsFormedBase bases.Int = Unit {0}
+IsFormedBase bases.Boolean = Unit {0}
+IsFormedBase bases.Char = Unit {0}
 
 -- the type of a cast
 abbrev pub IsCastBase : TypeBase → Type 0
 IsCastBase bases.Boolean = ⊥
 IsCastBase (bases.Named n) = IsName n
-IsCastBase _ = Unit {0}
+IsCastBase bases.Int = Unit {0}
+IsCastBase bases.Char = Unit {0}
 
 -- whether an assignment may change it: a name, a field or an element of an array
 abbrev pub is_target : Expression → Bool

@@ -8,7 +8,7 @@ use Rattle.java_tree.specs.declared.Param.{Param}
 use Rattle.java_tree.specs.Syntax.{Expression, IntLit, BoolLit, NullLit, CastOf, ReturnOf, Statements, no_statements, and_then, HeadTree, MemberTree, FieldTree, MethodTree}
 use Rattle.java_core.specs.declared.Ty.{Ty}
 use Rattle.java_core.specs.declared.TyBase.{TyBase}
-use Rattle.java_core.specs.declared.TyBase.TheVariants.{Int, Boolean, Char}
+use Rattle.java_core.specs.declared.TyBase.TheVariants.{Int, Boolean, Char, Str, Class}
 use Rattle.java_core.specs.Programs.{Plain, PlainField, PlainLocal, PlainMethod, PlainSlot}
 use Rattle.fact_model.specs.declared.facts.Facts.{Facts}
 use Rattle.fact_model.specs.declared.facts.ColumnInfo.{ColumnInfo}
@@ -39,7 +39,11 @@ abbrev pub value_of_none : TyBase → ℕ → Expression
 value_of_none Int zero = IntLit (pos 0) nowhere
 value_of_none Boolean zero = BoolLit false nowhere
 value_of_none Char zero = CastOf (record { base = base.Char; dim = 0; place = nowhere }) (IntLit (pos 0) nowhere) nowhere
-value_of_none _ _ = NullLit nowhere
+value_of_none Int (suc d) = NullLit nowhere
+value_of_none Boolean (suc d) = NullLit nowhere
+value_of_none Char (suc d) = NullLit nowhere
+value_of_none Str d = NullLit nowhere
+value_of_none (Class c) d = NullLit nowhere
 
 -- the body of a filler: it gives back the default of the result, or nothing where there is none
 abbrev pub filling : Option Ty → Statements
