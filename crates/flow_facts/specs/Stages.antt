@@ -1,4 +1,4 @@
--- What the code numbers in a program, before the lists that stand on the numbers.
+-- Mirror. What the code numbers in a program, before the lists that stand on the numbers.
 use Rattle.std.specs.Prelude.{◌≡◌, ℕ, ◌+◌, ◌<◌, ◌≤◌, List, length, map, None}
 use Rattle.java_core.specs.Programs.{Plain}
 use Rattle.flow_facts.specs.declared.stages.Numbered.{Numbered}

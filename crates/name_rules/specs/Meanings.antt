@@ -1,4 +1,5 @@
--- What a name means in a body: a variable, a class, a member. `O` is the outline of the program: its classes, fields and methods.
+-- Believed. What a name means in a body: a variable, a class, a member. `O` is the outline of the program: its classes,
+-- fields and methods.
 use Rattle.std.specs.Prelude.{◌≡◌, ℕ, ◌&&◌, not, Bool, true, false, List, [], ◌∷◌, map, Option, Some, None, slice_get, if◌then◌else◌}
 use Rattle.std.specs.Option.{is_none}
 use Rattle.std.specs.List.{list_any}
@@ -18,6 +19,7 @@ use Rattle.name_rules.specs.Outline.{type_named, is_text_type}
 
 -- ---- types
 
+-- the names of the classes and interfaces by number
 abbrev pub type_names : Plain → List (List ℕ)
 type_names O = map (λ k. k.name) O.classes
 
@@ -45,6 +47,7 @@ pub data MeansCastBase (O : Plain) : TypeBase → TyBase → Type 0 where
   to_char : MeansCastBase O bases.Char ty.Char
   to_class : {n : List ℕ} {c : ℕ} → class_named O n ≡ Some c → MeansCastBase O (bases.Named n) (ty.Class (class_id c))
 
+-- the type that the name of a type means in a cast: its base, and as many brackets as are written
 pub record MeansCast (O : Plain) (u : TypeName) (t : Ty) : Type 0 where
   pub base : MeansCastBase O u.base t.base
   pub dim : t.dim ≡ u.dim
