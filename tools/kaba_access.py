@@ -53,11 +53,11 @@ class Uses:
     """The uses of members within the bodies of a program, with the static type of what they are used on."""
 
     def __init__(self, types):
-        self.types, self.found = types, []
+        self.types, self.found, self.call = types, [], None
         for name, it in types.types.items():
             for member in it.members:
                 if member.kind == "Method" and member.body:
-                    self.within = name
+                    self.within, self.member = name, member
                     self.known = {param.name.name: (param.type.name, param.type.dims) for param in member.params}
                     self.all(member.body)
 
