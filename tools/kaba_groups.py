@@ -142,4 +142,4 @@ def said(word):
 
 def members_at(program, nodes):
     """The members that stand at these nodes, as a plan names them."""
-    return member_words(program, [c for k in sorted(nodes) for c in program.lattice.own_columns[k]])
+    return member_words(program, sorted(c for k in nodes for c in program.lattice.own_columns[k]))

@@ -1,5 +1,5 @@
 """The script that a plan comes to, tried by `kaba edit`, and what is refused in the plan's words."""
-from kaba_groups import Group, Groups
+from kaba_groups import Groups
 from kaba_hierarchy import MOST_CONCEPTS, asked, nodes_in, refusals_in
 from kaba_plan import owner_of
 from kaba_tools import class_of
@@ -132,8 +132,8 @@ class Script:
 
     def of_B1(self, group, refusal):
         number = refusal["nodes"][0]
-        between = self.group_of.get(number) or Group("", {number})
-        above, below = (group.nodes & self.groups.reach(between, way) for way in (self.program.up, self.program.down))
+        between = self.group_of[number].nodes if number in self.group_of else {number}
+        above, below = (group.nodes & set().union(*(way[k] for k in between)) for way in (self.program.up, self.program.down))
         said = f"below {self.groups.words(above)}, and above {self.groups.words(below)}"
         return f"{self.node_words(number)} lies between what becomes this class: {said}"
 
