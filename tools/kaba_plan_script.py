@@ -20,6 +20,16 @@ class Refused(Exception):
         self.faults = faults
 
 
+def reached(near, n):
+    """What is reached from a node by steps, without the node."""
+    found, waiting = set(), [n]
+    while waiting:
+        new = near[waiting.pop()] - found
+        found |= new
+        waiting += new
+    return found - {n}
+
+
 def listed(nodes):
     return " ".join(f"n{k}" for k in sorted(nodes))
 
@@ -32,7 +42,6 @@ class Script:
         self.groups = Groups(program, plan)
         self.group_of = {k: group for group in self.groups.all() for k in group.nodes}
         self.edits = [*self.merges(), *self.unders(), *self.moves(), *self.drops()]
-        self.nodes = self.tried()
 
     def first(self, group):
         return min(group.nodes)
@@ -61,6 +70,23 @@ class Script:
             above = next((up for up in self.program.chain(name)[1:-1] if up in homes), None)
             if above:
                 yield Edit(f"under n{self.first(group)} n{self.first(homes[above])}", group, True)
+
+    def model(self):
+        """The nodes that come of the edits, if all are accepted: as those of `kaba edit`, but all nodes above each."""
+        group_of = {k: self.first(self.group_of[k]) if k in self.group_of else k for k in self.program.nodes}
+        near = {n: set() for n in group_of.values()}
+        for k, n in group_of.items():
+            near[n] |= {group_of[up] for up in self.program.up[k]} - {n}
+        at = {c: group_of[k] for c, k in self.program.node_of_column.items()}
+        for edit in self.edits:
+            word, *numbers = edit.text.split(" ")
+            if word == "under":
+                near[int(numbers[0][1:])].add(int(numbers[1][1:]))
+            if word == "move":
+                at[int(numbers[0][1:])] = int(numbers[1][1:])
+        above = {n: reached(near, n) for n in near}
+        rows = {r: group_of[k] for r, k in self.program.node_of_row.items()}
+        return [{"number": n, "above": above[n], "columns": [c for c in at if at[c] == n], "rows": [r for r in rows if rows[r] == n]} for n in near]
 
     def moves(self):
         """A member that stands with a class below its own goes back to its own."""

@@ -129,8 +129,9 @@ class Program:
         rows = [r for r, label in enumerate(self.lattice.rows) if label.startswith("new ")]
         return {r: walked.into.get(at, []) for r, at in zip(rows, sorted(walked.made))}
 
-    def line_of_row(self, r):
-        return self.analysis.row_lines[r]
+    def objects(self):
+        """The rows of the creations of objects, without those of arrays."""
+        return [r for r in self.creations if "[" not in self.lattice.rows[r]]
 
     def chain(self, name):
         """A class and those above it, with Object."""

@@ -4,7 +4,7 @@ import textwrap
 from kaba_groups import members_at
 from kaba_hierarchy import MADE, MOST_CONCEPTS, asked, nodes_in, tree_in, with_steps
 from kaba_plan import BadPlan, Plan, owner_of
-from kaba_plan_script import Refused, Script
+from kaba_plan_script import Refused, Script, reached
 
 WIDTH = 118
 
@@ -12,38 +12,31 @@ WIDTH = 118
 class Figures:
     """How many members the objects of a program carry and do not need, by the class to which the members belong.
 
-    A member counts once for each creation: a field, or a method of which the object has the declaration or the body.
+    A member counts once for each creation: a field, or a method where the object needs none of this name.
     """
 
     def __init__(self, program):
         self.program, self.lattice, self.analysis = program, program.lattice, program.analysis
-        labels = self.lattice.rows
-        self.sites = [r for r, label in enumerate(labels) if label.startswith("new ") and "[" not in label]
+        self.sites = program.objects()
         self.before = self.counted({r: set(self.analysis.inherited(program.row_classes[r])) for r in self.sites})
 
     def counted(self, carried):
         """The members that the creations carry and do not need, by class."""
         found = dict.fromkeys(self.program.classes, 0)
         for r, columns in carried.items():
-            unused = {(self.analysis.member(c), self.analysis.is_method(c)) for c in columns - self.analysis.needs[r]}
-            for member, _ in unused:
-                found[member.split(".")[0]] += 1
+            needs = self.analysis.needs[r]
+            called = {self.analysis.member(c).split(".")[1] for c in needs if self.analysis.is_method(c)}
+            unused = {(*self.analysis.member(c).split("."), self.analysis.is_method(c)) for c in columns - needs}
+            for owner, name, is_method in unused:
+                found[owner] += not (is_method and name in called)
         return found
 
     def after(self, nodes):
         """The same of a hierarchy."""
-        by_number = {node["number"]: node for node in nodes}
-        offered = {}
-
-        def offers(number):
-            if number not in offered:
-                node = by_number[number]
-                offered[number] = set(node["columns"]).union(*(offers(up) for up in node["above"]))
-            return offered[number]
-
+        above, columns = all_above(nodes), {node["number"]: set(node["columns"]) for node in nodes}
         at = {r: node["number"] for node in nodes for r in node["rows"]}
         marks = {c for c, label in enumerate(self.lattice.columns) if label.startswith("is(")}
-        return self.counted({r: offers(at[r]) - marks for r in self.sites})
+        return self.counted({r: columns[at[r]].union(*(columns[up] for up in above[at[r]])) - marks for r in self.sites})
 
 
 def crosses(one, other):
@@ -77,7 +70,8 @@ class Parting:
     def __init__(self, program, name, homes):
         self.program, self.name = program, name
         self.nodes = [k for k in program.nodes if homes[k] == name]
-        sites = {k: frozenset(r for r in program.lattice.extents[k] if r in program.creations) for k in self.nodes}
+        objects = set(program.objects())
+        sites = {k: frozenset(program.lattice.extents[k] & objects) for k in self.nodes}
         sets = tree_of_sets({it for it in sites.values() if it})
         top = frozenset().union(*sets)
         self.sets = sets | {top}
@@ -152,7 +146,7 @@ class Proposal:
     def line_of(self, parting, sites):
         nodes = parting.of_set(sites)
         members = members_at(self.program, nodes)
-        rows = [r for k in nodes for r in self.program.lattice.own_rows[k] if r in self.program.creations]
+        rows = [r for k in nodes for r in self.program.lattice.own_rows[k] if r in self.program.objects()]
         return self.name_of(parting.name, rows or sorted(sites), members), members + self.creation_words(rows)
 
     def creation_words(self, rows):
@@ -200,14 +194,40 @@ class Proposal:
     def is_line(self, name):
         return any(part == name for lines in self.lines.values() for part, _ in lines)
 
+    def script(self):
+        """The script of the plan, before it is tried; None where the plan is none."""
+        try:
+            return Script(self.program, Plan(self.text().encode(), self.program))
+        except BadPlan:
+            return None
+
     def nodes(self):
         """The nodes of the hierarchy that the plan comes to, with the steps to the tree; None where it comes to none."""
+        script = self.script()
         try:
-            script = Script(self.program, Plan(self.text().encode(), self.program)).bytes()
-        except (BadPlan, Refused):
+            nodes = script.tried() if script else None
+        except Refused:
             return None
-        status, _, error = asked("regen", self.program.analysis.file, "", script, MOST_CONCEPTS)
-        if status != MADE:
-            return None
-        whole = with_steps(script, tree_in(error)["steps"])
-        return nodes_in(asked("edit", self.program.analysis.file, "", whole, MOST_CONCEPTS)[1])
+        if nodes is None or is_tree(self.program, nodes):
+            return nodes
+        file = self.program.analysis.file
+        status, _, error = asked("regen", file, "", script.bytes(), MOST_CONCEPTS)
+        whole = with_steps(script.bytes(), tree_in(error)["steps"])
+        return nodes_in(asked("edit", file, "", whole, MOST_CONCEPTS)[1]) if status == MADE else None
+
+
+def all_above(nodes):
+    """The numbers of the nodes above each node."""
+    near = {node["number"]: set(node["above"]) for node in nodes}
+    return {number: reached(near, number) for number in near}
+
+
+def is_tree(program, nodes):
+    """Whether the classes at and above each class are a chain."""
+    above = all_above(nodes)
+    labels = program.lattice.columns
+    objects = set(program.objects())
+    made = {n["number"] for n in nodes if objects & set(n["rows"]) or any(labels[c][:3] in ("fld", "def") for c in n["columns"])}
+    classes = {n for n in above if n in made or above[n] & made}
+    chains = [(above[n] | {n}) & classes for n in classes]
+    return all(one in above[other] or other in above[one] for chain in chains for one in chain for other in chain if one < other)
