@@ -130,7 +130,7 @@ class Rewriting:
     def form(self, old, new):
         """A statement or expression, or none."""
         if old is None or new is None:
-            return self.need(old is new, (old or new).first)
+            return self.need(old is new, old and old.first)
         if old.kind == "Name":
             return self.put_name(old.name, self.simple(old, new))
         if old.kind == "Call" and old.base is None:
