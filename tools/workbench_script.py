@@ -111,10 +111,15 @@ class Script:
             raise Fault(f"cannot read {self.path}: {error.strerror}") from None
         return now != self.known
 
+    def guard(self):
+        """Nothing is written over what another program wrote."""
+        if self.changed_outside():
+            raise Fault(f"{self.path} was changed by another program since it was read here: read it again first")
+
     def put(self, steps, undone, force=False):
         """Makes these the steps; the file is written before anything else changes."""
-        if not force and self.changed_outside():
-            raise Fault(f"{self.path} was changed by another program since it was read here: read it again first")
+        if not force:
+            self.guard()
         before = self.steps, self.undone
         self.steps, self.undone = steps, undone
         data = self.whole().encode()

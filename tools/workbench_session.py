@@ -121,6 +121,7 @@ class Session:
             check_edits(edits)
         with self.lock:
             self.check(revision)
+            self.script.guard()
             told = None
             for edits in choices[:MOST_TRIES]:
                 steps, refused, _ = self.tried(edits, title)
@@ -187,12 +188,19 @@ class Session:
             script = scripts.Script(self.script.path)
             script.read()
             if self.program.changed_on_disk():
-                self.program = Program(self.program.file, self.folder, self.most)
-                self.answers.clear()
-                self.start = self.asked("")["nodes"]
+                self.read_program()
             self.asked(script.text())
             self.script = script
             return self.state()
+
+    def read_program(self):
+        """Takes the program's new text, where it is one that can be shown."""
+        answer = self.runner.kaba("lattice", "-j", "-c", self.most, self.program.file)
+        if answer.status:
+            raise Fault(f"{answer.error or 'memory is short'}; the text before is kept")
+        self.program = Program(self.program.file, self.folder, self.most)
+        self.answers.clear()
+        self.start = self.asked("")["nodes"]
 
     def keep_mine(self):
         """Writes the script over what another program wrote."""

@@ -157,8 +157,10 @@ export function nameInPlace(number, columns = null) {
   field.style.left = place.left - size.left + "px";
   field.style.top = place.top - size.top + "px";
   field.style.width = Math.max(150, place.width) + "px";
+  let open = true;
   const finish = (take) => {
-    if (!field.isConnected) return;
+    if (!open) return;
+    open = false;
     const wanted = field.value;
     field.remove();
     at("diagram").focus();
