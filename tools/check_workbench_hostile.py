@@ -1,1 +1,86 @@
-PARTS = []
+"""Tests of the workbench on texts that would break a careless page, and on large ones."""
+import time
+
+from workbench_browser import Page, Workbench
+
+LETTERS = 10000
+TYPES = 500
+MOST_SECONDS = 1.0  # from an edit to its answer on a program of 2,000 lines
+
+STRINGS = [
+    "</script><script>window.broken = 1</script>",
+    "<img src=x onerror='window.broken = 2'>",
+    "\\\"><svg onload=window.broken=3>",
+    "]]>--> {{broken}} ${window.broken = 4} &lt;b&gt;",
+]
+
+
+def hostile():
+    """A program with markup in its strings and comments, names of many letters, and many types."""
+    long_class, long_field, long_method = ("C" + "x" * LETTERS, "f" + "y" * LETTERS, "m" + "z" * LETTERS)
+    lines = ["// </script><script>window.broken = 5</script> <b>", "class Main {", "  static void main(String[] args) {"]
+    lines += [f'    System.out.println("{it}");' for it in STRINGS]
+    lines += [f"    {long_class} v = new {long_class}();", f"    v.{long_field} = 1;", f"    v.{long_method}();"]
+    lines += [f"    P a{n} = new P(); a{n}.f{n} = {n};" for n in range(TYPES)]
+    lines += ["  }", "}", f"class {long_class} {{ int {long_field}; int {long_method}() {{ return {long_field}; }} }}", "class P {"]
+    return "\n".join([*lines, *(f"  int f{n};" for n in range(TYPES)), "}", ""])
+
+
+def check_hostile(tests):
+    """Text is shown as text, whatever it has; many types stay fluid."""
+    folder = tests.place("</script>")
+    file = folder / "</title><img src=x>.java"
+    folder.rename(folder.with_name("hostile"))
+    file = tests.folder / "hostile" / "Hostile<b>.java"
+    file.write_text(hostile())
+    with Workbench(file) as workbench, Page() as page:
+        page.open(workbench.address)
+        page.until("all types are known", lambda: len(page.state()["nodes"]) > TYPES)
+        shown = page.text("#view-source")
+        tests.check("the strings are shown as they are", all(it in shown for it in STRINGS))
+        for name in ("classes", "script", "tree", "java"):
+            page.tab(name)
+        page.tab("source")
+        page.one("#find").send_keys("Cxxxx")
+        page.until("the long name is found", lambda: page.all("#found li"))
+        page.one("#found li").click()
+        page.until("and selected", lambda: page.selected())
+        number = page.selected()[0]
+        page.until("it is in the picture", lambda: page.all(f"#n{number}"))
+        tests.check("a long name is cut in the picture", page.one(f"#n{number}").rect["width"] < 500)
+        page.one("#name-type").clear()
+        page.one("#name-type").send_keys("<b>bold</b>")
+        page.press_text("Name", "#side")
+        page.until("a name with markup is refused", lambda: "'<b>bold</b>' is no name" in page.text("#refusal"))
+        broken = page.script("return [window.broken, document.querySelectorAll('#view-source script, img, #refusal b').length]")
+        tests.check("nothing of the text runs or becomes markup", broken == [None, 0], str(broken))
+        wide = page.script("return document.documentElement.scrollWidth")
+        tests.check("the page is not wider than its window", wide <= 1280, str(wide))
+        tests.check("each frame of a pan comes soon", frames(page) < 100, f"{frames(page)} ms")
+        faults = page.faults()
+        tests.check("the browser complains of nothing", not faults, "\n".join(faults))
+
+
+FRAMES = """const done = arguments[0];
+import('./diagram.js').then(async (it) => {
+  it.fit();
+  const times = [];
+  let last = performance.now();
+  for (let k = 0; k < 40; k++) {
+    it.view.x += k % 20 < 10 ? 9 : -9;
+    it.redraw();
+    await new Promise((next) => requestAnimationFrame(() => requestAnimationFrame(next)));
+    times.push((performance.now() - last) / 2);
+    last = performance.now();
+  }
+  done(times.sort((a, b) => a - b)[20]);
+});"""
+
+
+def frames(page):
+    """The middle time of a frame, in milliseconds, while the whole picture is moved."""
+    page.driver.set_script_timeout(60)
+    return round(page.driver.execute_async_script(FRAMES), 1)
+
+
+PARTS = [check_hostile]

@@ -12,7 +12,7 @@ import workbench_layout as layout
 import workbench_texts as texts
 from kaba_tools import HERE
 from workbench_runs import Fault, has_tool
-from workbench_session import Stale
+from workbench_session import Stale, Superseded
 
 PAGE = HERE / "tools" / "workbench-page"
 KINDS = {".html": "text/html", ".css": "text/css", ".js": "text/javascript", ".svg": "image/svg+xml"}
@@ -181,6 +181,8 @@ class Handler(BaseHTTPRequestHandler):
             make(self.server.session)
         except Stale as stale:
             self.send_json(409, {"why": str(stale), "state": self.server.session.state()})
+        except Superseded:
+            self.send_json(200, {"superseded": True})
         except Fault as fault:
             self.send_json(422, {"why": str(fault)})
         except (KeyError, TypeError, ValueError, RecursionError):

@@ -1,6 +1,7 @@
 """What the workbench keeps of one program: its script, the hierarchy after it, and what was undone."""
 import threading
 from collections import OrderedDict
+from concurrent.futures import Future
 from pathlib import Path
 
 import workbench_script as scripts
@@ -17,6 +18,10 @@ MOST_TRIES = 8
 
 class Stale(Exception):
     """The page spoke of another state of the script."""
+
+
+class Superseded(Exception):
+    """The run was stopped, since one for a later state of the script began."""
 
 
 class Session:
@@ -47,23 +52,30 @@ class Session:
         finally:
             file.unlink(missing_ok=True)
         if answer.status == STOPPED:
-            raise Fault("the run was stopped, since a later one was asked for")
+            raise Superseded if "purpose" in how else Fault("the run was stopped")
         if answer.status not in (MADE, REFUSED, NO_TREE):
             raise Fault(answer.error or f"the program ends with {answer.status}: memory is short")
         return answer
 
     def remembered(self, key, make):
-        """An answer that was had before, or a new one."""
+        """An answer that was had before, one that another caller is getting, or a new one."""
         with self.writing:
-            if key in self.answers:
-                self.answers.move_to_end(key)
-                return self.answers[key]
-        made = make()
-        with self.writing:
-            self.answers[key] = made
+            found = self.answers.get(key)
+            mine = found is None
+            if mine:
+                found = self.answers[key] = Future()
+            self.answers.move_to_end(key)
             while len(self.answers) > KEPT_ANSWERS:
                 self.answers.popitem(last=False)
-        return made
+        if mine:
+            try:
+                found.set_result(make())
+            except BaseException as fault:
+                with self.writing:
+                    if self.answers.get(key) is found:
+                        del self.answers[key]
+                found.set_exception(fault)
+        return found.result()
 
     def asked(self, text):
         """The hierarchy after a script, and its refused edits."""

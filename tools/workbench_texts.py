@@ -4,6 +4,7 @@ import re
 
 from kaba_tools import FILE_LIMIT
 from workbench_runs import STOPPED, Fault, has_tool
+from workbench_session import Superseded
 
 RUN_SECONDS, TOOL_SECONDS = 60, 300
 MOST_SHOWN = 200000
@@ -50,6 +51,8 @@ def patch_of(session, text):
     try:
         words = ["--output", target, session.program.copy, script]
         answer = session.runner.tool("patch", *words, purpose="patch", seconds=TOOL_SECONDS)
+        if answer.status == STOPPED:
+            raise Superseded
         if not target.is_file():
             raise Fault(answer.error or "tools/patch wrote nothing")
         return target.read_text(encoding="utf-8", errors="replace")

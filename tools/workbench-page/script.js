@@ -73,7 +73,7 @@ async function showTree() {
   at("view-tree").replaceChildren(make("p", { class: "quiet" }, "Looking for a tree .."));
   try {
     const tree = await ask("tree");
-    if (mine !== treeTurn) return;
+    if (mine !== treeTurn || tree.superseded) return;
     badge.textContent = tree.found ? (tree.steps.length ? `tree: by ${tree.steps.length} steps` : "tree: found") : "tree: none";
     badge.className = "badge " + (tree.found ? "good" : "bad");
     at("view-tree").replaceChildren(...treeShown(tree));

@@ -53,7 +53,7 @@ async function showJava() {
   view.replaceChildren(make("p", { class: "quiet" }, "Writing the program .."));
   try {
     const answer = await tell("java", { form: chosenForm() });
-    if (mine !== turn) return;
+    if (mine !== turn || answer.superseded) return;
     const bodies = [];
     for (let k = 0; k < answer.rows.length; k += CHUNK) bodies.push(make("tbody", {}, answer.rows.slice(k, k + CHUNK).map(diffRow)));
     const table = make("table", { class: "diff mono", id: "diff" }, make("caption", { class: "unseen" }, "The old text on the left, the new one on the right"), bodies);
@@ -96,6 +96,7 @@ function buildRuns() {
     answer.replaceChildren(make("p", { class: "quiet" }, "Running both .."));
     try {
       const both = await tell("run", { words: wordsIn(given.value), steps: Number(steps.value), form: chosenForm() });
+      if (both.superseded) throw new Error("The script changed in the meantime: run both again.");
       answer.replaceChildren(make("p", { class: both.same ? "good" : "fault" }, both.same ? "Both print the same, and end alike." : "They differ."),
         make("div", { class: "two" }, runShown("The old program", both.old), runShown("The new program", both.new)));
     } catch (fault) {
