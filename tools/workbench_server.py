@@ -9,6 +9,7 @@ from http.server import BaseHTTPRequestHandler, ThreadingHTTPServer
 from pathlib import Path
 
 import workbench_layout as layout
+import workbench_plans as plans
 import workbench_texts as texts
 from kaba_tools import HERE
 from workbench_runs import Fault, has_tool
@@ -58,13 +59,16 @@ POST = {
     "java": lambda session, given: texts.java_beside(session, form(given)),
     "run": lambda session, given: texts.runs(session, words(given, "words"), number(given, "steps"), form(given)),
     "layout": lambda session, given: layout.asked(given),
-    "plan": lambda session, given: {"edits": texts.edits_of_plan(session, text(given, "plan"))},
-    "propose": lambda session, given: {"plan": texts.proposal(session, words(given, "classes"))},
+    "plan": lambda session, given: {"edits": plans.edits_of_plan(session, text(given, "plan"))},
+    "plan-of": lambda session, given: plans.plan_of(session),
+    "propose": lambda session, given: {"plan": plans.proposal(session, words(given, "classes"))},
 }
 DOWNLOADS = {
     "script.edits": lambda session: session.script.text().encode(),
     "written.java": lambda session: texts.java(session, texts.WRITTEN).encode(),
     "patched.java": lambda session: texts.java(session, texts.PATCHED).encode(),
+    "patched.diff": lambda session: texts.patched(session)["diff"],
+    "plan": lambda session: plans.plan_of(session)["plan"].encode(),
 }
 
 
@@ -171,7 +175,8 @@ class Handler(BaseHTTPRequestHandler):
 
     def download(self, name, session):
         body = DOWNLOADS[name](session)
-        own = Path(session.script.path if name == "script.edits" else session.program.file).name
+        file = Path(session.program.file)
+        own = {"script.edits": Path(session.script.path).name, "patched.diff": file.stem + ".diff", "plan": file.stem + ".plan"}.get(name, file.name)
         plain = "".join(c if c.isascii() and (c.isalnum() or c in "._-") else "_" for c in own)
         self.send(200, "application/octet-stream", body, [("Content-Disposition", f'attachment; filename="{plain}"')])
 

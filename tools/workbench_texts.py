@@ -1,6 +1,5 @@
-"""The texts of the workbench: the new Java beside the old, runs of both, plans and proposals."""
+"""The texts of the workbench: the new Java beside the old, and runs of both."""
 import difflib
-import re
 
 from kaba_tools import FILE_LIMIT
 from workbench_runs import STOPPED, Fault, has_tool
@@ -49,13 +48,16 @@ def patch_of(session, text):
     script, target = session.temporary(".edits"), session.temporary(".java")
     script.write_text(text, encoding="utf-8")
     try:
-        words = ["--output", target, session.program.copy, script]
+        words = ["-o", target, session.program.copy, script]
         answer = session.runner.tool("patch", *words, purpose="patch", seconds=TOOL_SECONDS)
         if answer.status == STOPPED:
             raise Superseded
         if not target.is_file():
             raise Fault(answer.error or "tools/patch wrote nothing")
-        return target.read_text(encoding="utf-8", errors="replace")
+        said = [line for line in answer.error.split("\n") if line.startswith("patch: ")]
+        diff = answer.output.replace(str(session.program.copy).lstrip("/").encode(), session.program.copy.name.encode())
+        diff = diff.replace(str(session.program.copy).encode(), session.program.copy.name.encode())
+        return {"text": target.read_text(encoding="utf-8", errors="replace"), "diff": diff, "said": "".join(said)}
     finally:
         script.unlink(missing_ok=True)
         target.unlink(missing_ok=True)
@@ -66,7 +68,7 @@ def java(session, form):
     made = session.regenerated()
     if not made["found"]:
         raise Fault("no tree is found, so no program is written: the conflict stands at the tree")
-    return patched(session) if form == PATCHED else made["text"]
+    return patched(session)["text"] if form == PATCHED else made["text"]
 
 
 def java_beside(session, form):
@@ -74,7 +76,8 @@ def java_beside(session, form):
     old = session.program.data.decode(errors="replace")
     rows = beside(old, text)
     changed = sum(1 for row in rows if row[0] != "same")
-    return {"rows": rows, "changed": changed, "forms": [WRITTEN] + [PATCHED] * has_tool("patch"), "form": form}
+    said = patched(session)["said"] if form == PATCHED else ""
+    return {"rows": rows, "changed": changed, "form": form, "said": said}
 
 
 def shown_run(answer):
@@ -103,38 +106,3 @@ def runs(session, given, steps, form):
     finally:
         file.unlink(missing_ok=True)
     return {"old": shown_run(old), "new": shown_run(new), "same": old == new}
-
-
-def edits_in_order(text):
-    """The edits of a script's text."""
-    return [line for line in text.split("\n") if line and not line.startswith("#")]
-
-
-def edits_of_plan(session, plan):
-    """The edits that tools/plan makes of a plan, and what it says of those that are refused."""
-    if not has_tool("plan"):
-        raise Fault("tools/plan is not there")
-    file = session.temporary(".plan")
-    file.write_text(plan, encoding="utf-8")
-    try:
-        answer = session.runner.tool("plan", session.program.copy, file, seconds=TOOL_SECONDS)
-    finally:
-        file.unlink(missing_ok=True)
-    if answer.status:
-        raise Fault(re.sub(re.escape(str(file)), "plan", answer.error) or "tools/plan made no script")
-    return edits_in_order(answer.output.decode(errors="replace"))
-
-
-def proposal(session, classes):
-    """The plan that tools/propose writes."""
-    if not has_tool("propose"):
-        raise Fault("tools/propose is not there")
-    key = ("propose", *classes)
-    return session.remembered(key, lambda: proposal_of(session, classes))
-
-
-def proposal_of(session, classes):
-    answer = session.runner.tool("propose", session.program.copy, *classes, seconds=TOOL_SECONDS)
-    if answer.status:
-        raise Fault(answer.error or "tools/propose has no proposal")
-    return answer.output.decode(errors="replace")

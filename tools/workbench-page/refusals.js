@@ -1,7 +1,7 @@
 // A refused edit, told at the types that it names, with what would mend it.
 import { at, button, make, say } from "./dom.js";
 import { apply } from "./actions.js";
-import { onScreen, reveal } from "./diagram.js";
+import { onScreen, redraw, reveal, view } from "./diagram.js";
 import { emit, on, select, setRefusal, store } from "./store.js";
 
 const MARGIN = 12;
@@ -46,20 +46,37 @@ export function close() {
   at("diagram").focus();
 }
 
-// Beside the first type that is named, within the diagram; else at the top.
+// Where it stands beside a box without covering it: to the right, to the left, below or above.
+function placeBeside(near, own, size) {
+  const places = [
+    { x: near.x + near.width + MARGIN, y: near.y },
+    { x: near.x - own.width - MARGIN, y: near.y },
+    { x: near.x, y: near.y + near.height + MARGIN },
+    { x: near.x, y: near.y - own.height - MARGIN },
+  ].map(({ x, y }, k) => k < 2 ? { x, y: within(y, own.height, size.height) } : { x: within(x, own.width, size.width), y });
+  return places.find(({ x, y }) => x >= MARGIN && y >= MARGIN && x + own.width <= size.width - MARGIN && y + own.height <= size.height - MARGIN);
+}
+
+const within = (from, length, most) => Math.max(MARGIN, Math.min(from, most - length - MARGIN));
+
+// Beside the first type that is named; else in the corner.
 function stand() {
   const refusal = store.refusal, box = at("refusal");
   if (!refusal) return;
-  const near = refusal.where.nodes.map(onScreen).find((it) => it);
   const size = at("canvas").getBoundingClientRect(), own = box.getBoundingClientRect();
-  let x = size.width - own.width - MARGIN, y = MARGIN;
-  if (near) {
-    x = near.x + near.width + MARGIN;
-    if (x + own.width > size.width - MARGIN) x = near.x - own.width - MARGIN;
-    y = near.y;
-  }
-  box.style.left = Math.max(MARGIN, Math.min(x, size.width - own.width - MARGIN)) + "px";
-  box.style.top = Math.max(MARGIN, Math.min(y, size.height - own.height - MARGIN)) + "px";
+  const near = refusal.where.nodes.map(onScreen).find((it) => it && it.x + it.width > 0 && it.y + it.height > 0 && it.x < size.width && it.y < size.height);
+  const place = (near && placeBeside(near, own, size)) || { x: size.width - own.width - MARGIN, y: MARGIN };
+  box.style.left = Math.max(MARGIN, place.x) + "px";
+  box.style.top = Math.max(MARGIN, place.y) + "px";
+}
+
+// Moves the picture where the words would cover the type that they are about.
+function makeRoom(n) {
+  const near = onScreen(n), size = at("canvas").getBoundingClientRect(), own = at("refusal").getBoundingClientRect();
+  if (!near || placeBeside(near, own, size)) return;
+  view.x += 2 * MARGIN - near.x;
+  view.y += Math.min(0, size.height / 3 - near.y);
+  redraw();
 }
 
 let last = null;
@@ -70,6 +87,8 @@ on("refusal", () => {
   if (!fresh) return;
   say("refused: " + store.refusal.text);
   const first = store.refusal.where.nodes.find((n) => store.model.nodes.has(n));
-  if (first !== undefined) reveal(first);
+  if (first === undefined) return;
+  reveal(first);
+  makeRoom(first);
 });
 on("painted", stand);

@@ -11,9 +11,10 @@ function stepEntry(step, k, undone) {
   const go = undone ? () => actions.undo(-(k + 1)) : () => actions.undo(steps.length - k - 1);
   const text = undone ? "Redo up to here" : "Back to here";
   const last = !undone && k === steps.length - 1;
-  const lines = step.lines.filter((line) => !/^# \d+ edits:/.test(line));
-  return make("li", { class: undone ? "undone" : "" }, make("div", { class: "row" }, make("span", {}, short(step.title, 90)), last ? null : button(text, go, { class: "link" })),
-    make("pre", { class: "mono" }, lines.map((line) => short(line, 200)).join("\n")));
+  const lines = step.lines.filter((line) => !/^# \d+ edits:/.test(line)), grouped = lines.length < step.lines.length;
+  const shown = make("pre", { class: "mono" }, lines.map((line) => short(line, 200)).join("\n"));
+  return make("li", { class: undone ? "undone" : "" },
+    make("div", { class: "row" }, grouped ? make("span", {}, short(step.title, 90)) : shown, last ? null : button(text, go, { class: "link" })), grouped ? shown : null);
 }
 
 function refusedPart() {
@@ -91,7 +92,8 @@ function buildProposals() {
   const text = make("textarea", { id: "plan-text", class: "mono", rows: "18", spellcheck: "false", "aria-label": "The plan" });
   const fault = make("p", { class: "fault", role: "alert", id: "plan-fault" });
   const boxes = classes.filter((it) => it.columns.length).map((it) => make("label", {}, make("input", { type: "checkbox", value: it.name }), " " + short(it.name, 40)));
-  const guarded = (what) => async () => { fault.textContent = ""; try { await what(); } catch (wrong) { fault.textContent = wrong.message; } };
+  const said = make("p", { class: "quiet", role: "status", id: "plan-said" });
+  const guarded = (what) => async () => { fault.textContent = said.textContent = ""; try { await what(); } catch (wrong) { fault.textContent = wrong.message; } };
   const propose = guarded(async () => {
     const picked = boxes.map((it) => it.querySelector("input")).filter((it) => it.checked).map((it) => it.value);
     say("proposing");
@@ -102,10 +104,18 @@ function buildProposals() {
     if (store.state.steps.length) await actions.undo(store.state.steps.length);
     await actions.apply(edits, "the plan");
   });
+  const shown = guarded(async () => {
+    const plan = await tell("plan-of", {});
+    text.value = plan.plan;
+    said.textContent = plan.said;
+  });
   at("view-proposals").replaceChildren(
     tools.propose ? make("fieldset", {}, make("legend", {}, "Propose to part (none: those whose objects leave most unused)"), boxes, button("Propose", propose, { id: "propose", class: "main" })) : "",
     make("p", { class: "quiet" }, "A plan speaks of the program as it was at first. When it is applied, the steps until then are undone."),
-    text, make("div", { class: "bar" }, button("Apply the plan", apply, { id: "apply-plan", class: "main" })), fault);
+    text,
+    make("div", { class: "bar" }, button("Apply the plan", apply, { id: "apply-plan", class: "main" }), button("The plan of what is shown", shown, { id: "plan-of" }),
+      make("a", { href: "get/plan", download: "", class: "button" }, "Download that plan")),
+    fault, said);
 }
 
 on("program", buildProposals);

@@ -13,11 +13,12 @@ const chosenForm = () => forms().includes(form) ? form : forms()[0];
 
 // A changed line, the part that differs marked.
 function parted(text, other, kind) {
-  if (kind !== "changed" || !text) return [text];
+  if (kind !== "changed" || !text || !other) return [text];
   let front = 0, back = 0;
   const most = Math.min(text.length, other.length);
   while (front < most && text[front] === other[front]) front++;
   while (back < most - front && text[text.length - 1 - back] === other[other.length - 1 - back]) back++;
+  if ((front + back) * 3 < most) return [text];
   return [text.slice(0, front), make("mark", {}, text.slice(front, text.length - back)), text.slice(text.length - back)];
 }
 
@@ -56,12 +57,14 @@ async function showJava() {
     if (mine !== turn || answer.superseded) return;
     const bodies = [];
     for (let k = 0; k < answer.rows.length; k += CHUNK) bodies.push(make("tbody", {}, answer.rows.slice(k, k + CHUNK).map(diffRow)));
-    const table = make("table", { class: "diff mono", id: "diff" }, make("caption", { class: "unseen" }, "The old text on the left, the new one on the right"), bodies);
+    const table = make("table", { class: "diff mono", id: "diff" }, make("caption", { class: "unseen" }, "The old text on the left, the new one on the right"),
+      make("colgroup", {}, make("col", { class: "number" }), make("col"), make("col", { class: "number" }), make("col")), bodies);
     const file = answer.form + ".java";
     view.replaceChildren(
       make("div", { class: "bar" }, make("label", {}, "The new text ", formField()), button("Next difference", () => nextChange(table, 1)),
         button("The one before", () => nextChange(table, -1)), make("a", { href: "get/" + file, download: "", class: "button", id: "get-java" }, "Download"),
-        make("span", { class: "quiet" }, `${answer.changed} of ${answer.rows.length} lines differ`)),
+        answer.form === "patched" ? make("a", { href: "get/patched.diff", download: "", class: "button" }, "As a diff") : null,
+        make("span", { class: "quiet" }, `${answer.changed} of ${answer.rows.length} lines differ${answer.said ? "; " + answer.said : ""}`)),
       make("div", { class: "scroll", tabindex: "0", "aria-label": "Old and new text beside each other" }, table));
   } catch (fault) {
     if (mine === turn) view.replaceChildren(make("div", { class: "bar" }, make("label", {}, "The new text ", formField())), make("p", { class: "fault" }, fault.message));
