@@ -1,10 +1,13 @@
 """Tests of the workbench's page: a person's way through it, in a headless Chromium."""
 import shutil
 import signal
+import subprocess
+import sys
 
 from check_workbench_server import EXAMPLES, house
-from kaba_tools import kaba
+from kaba_tools import HERE, kaba
 from workbench_browser import Page, Workbench, wait_for_file
+from workbench_runs import has_tool
 from workbench_script import Step, edits_of
 
 LAMP, HEATER, METER = 55, 56, 57  # the types of the three creations of the tutorial's program
@@ -239,4 +242,62 @@ def check_conflict(tests):
         tests.check("a bound script is opened whole", len(page.state()["steps"]) == 2)
 
 
-PARTS = [check_first_sight, check_refused, check_tutorial, check_conflict]
+def check_plans(tests):
+    """A proposal is applied by three clicks, and gives what the commands give; so does the change of the old text."""
+    if not has_tool("propose") or not has_tool("plan"):
+        print("left out: proposals in the workbench; tools/propose is not there")
+        return
+    file = house(tests, "plans")
+    plan, script = file.with_suffix(".plan"), file.with_name("by-plan.edits")
+    plan.write_bytes(tool("propose", file))
+    script.write_bytes(tool("plan", file, plan))
+    with Workbench(file) as workbench, Page(1920, 1080) as page:
+        page.open(workbench.address)
+        page.tab("proposals")
+        page.press("#propose")
+        page.until("a proposal", lambda: "class Lamp: Device.on" in page.one("#plan-text").get_attribute("value"))
+        page.press("#apply-plan")
+        page.settled(1)
+        got = edits_in(file.with_suffix(".edits").read_text())
+        tests.check("the proposal's script is that of tools/plan", got == edits_in(script.read_text()), "\n".join(got))
+        page.press("#plan-of")
+        page.until("the plan of what is shown", lambda: "exactly the types that are shown" in page.text("#plan-said"))
+        tests.check("it names what stands there", "class Heater: Device.wanted" in page.one("#plan-text").get_attribute("value"))
+        if has_tool("patch"):
+            check_patched(tests, page, file, script)
+        page.one("#plan-text").clear()
+        page.tab("proposals")
+        page.one("#plan-text").send_keys("class Lamp: Device.nothing")
+        page.press("#apply-plan")
+        page.until("a bad plan is told with its line", lambda: page.text("#plan-fault").startswith("plan:1:"))
+        page.press("#undo")
+        page.settled(0)
+        check_opened_plan(tests, file, plan)
+
+
+def check_opened_plan(tests, file, plan):
+    """A plan on the command line becomes a script of its name, which must not be there."""
+    words = (file, plan)
+    file.with_suffix(".edits").unlink()
+    with Workbench(*words) as workbench:
+        tests.check("a plan is opened", workbench.ask("api/state")[1].count('"name": "Lamp"') == 1, workbench.said)
+        tests.check("as a script beside it", "type n11 Lamp" in plan.with_suffix(".edits").read_text())
+    with Workbench(*words) as workbench:
+        tests.check("a script that is there is not written over", "is there already" in workbench.said and not workbench.address, workbench.said)
+
+
+def check_patched(tests, page, file, script):
+    """The Java as a change of the old text is that of tools/patch."""
+    new = file.with_name("patched.java")
+    tool("patch", "-o", new, file, script)
+    page.tab("java")
+    page.until("the old text, changed", lambda: page.all("#diff tr.same") and page.one("#java-form").get_attribute("value") == "patched")
+    shown = page.script("return [...document.querySelectorAll('#diff tr')].filter((it) => it.children[2].textContent).map((it) => it.children[3].textContent).join('\\n')")
+    tests.check("the change of the old text is that of tools/patch", shown == new.read_text().rstrip("\n"), shown[:600])
+
+
+def tool(name, *words):
+    return subprocess.run([sys.executable, str(HERE / "tools" / name), *map(str, words)], capture_output=True).stdout
+
+
+PARTS = [check_first_sight, check_refused, check_tutorial, check_conflict, check_plans]
