@@ -265,8 +265,8 @@ def check_plans(tests):
         tests.check("it names what stands there", "class Heater: Device.wanted" in page.one("#plan-text").get_attribute("value"))
         if has_tool("patch"):
             check_patched(tests, page, file, script)
-        page.one("#plan-text").clear()
         page.tab("proposals")
+        page.one("#plan-text").clear()
         page.one("#plan-text").send_keys("class Lamp: Device.nothing")
         page.press("#apply-plan")
         page.until("a bad plan is told with its line", lambda: page.text("#plan-fault").startswith("plan:1:"))
