@@ -1,4 +1,4 @@
--- What is given to find concepts, and for each of them.
+-- Mirror. What is given to find concepts, and for each of them.
 use Rattle.std.specs.Prelude.{◌≡◌, ◌<◌, ◌^◌, length}
 use Rattle.kaba_bits.specs.Sets.{HasWidth}
 use Rattle.fact_model.specs.Concepts.{AreAllConcepts}

@@ -1,4 +1,4 @@
--- A table has one lattice.
+-- Mirror. A table has one lattice.
 use Rattle.std.specs.Prelude.{◌≡◌, ℕ, ◌≤◌, Bool, List, map, length}
 use Rattle.kaba_base.specs.declared.RowId.{RowId}
 use Rattle.kaba_base.specs.declared.ColId.{ColId}

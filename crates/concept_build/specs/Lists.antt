@@ -1,4 +1,4 @@
--- Lists of concepts in their order, and what the call answers.
+-- Mirror. Lists of concepts in their order, and what the call answers.
 use Rattle.std.specs.Prelude.{◌≡◌, ℕ, ◌<◌, ◌≤◌, Bool, true, false, List, [], ◌∷◌, ◌++◌, length, map, slice_index_or, All, AllPairs, Contains, Option, MatchOption}
 use Rattle.std.specs.Bool.{MatchBool}
 use Rattle.std.specs.declared.vec.Vec.{Vec}

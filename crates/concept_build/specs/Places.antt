@@ -1,4 +1,4 @@
--- Places in a list of rows: those in the sets of some columns, and those whose rows are passed over.
+-- Mirror. Places in a list of rows: those in the sets of some columns, and those whose rows are passed over.
 use Rattle.std.specs.Prelude.{◌≡◌, ℕ, ◌↔◌, Bool, true, false, List, slice_index, All}
 use Rattle.kaba_bits.specs.Sets.{bit, row}
 use Rattle.concept_build.specs.declared.columns.Columns.{Columns}

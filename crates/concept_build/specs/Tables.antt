@@ -1,4 +1,4 @@
--- Intersections of rows of a table, and what is counted of its rows and columns.
+-- Mirror. Intersections of rows of a table, and what is counted of its rows and columns.
 use Rattle.std.specs.Prelude.{◌≡◌, ℕ, ◌<◌, ◌^◌, ◌↔◌, Bool, true, false, List, ◌&&◌, length, map, slice_index_or, All, Contains}
 use Rattle.kaba_bits.specs.Sets.{bit, row, size, IsSubset, HasWidth}
 use Rattle.concept_build.specs.declared.columns.Columns.{Columns}

@@ -1,4 +1,4 @@
--- What is known once words or a line were read.
+-- Mirror. What is known once words or a line were read.
 use Rattle.std.specs.Prelude.{◌≡◌, ℕ, ◌≤◌, true, List, [], ◌∷◌, length, map, Option, Some, None, MatchOption}
 use Rattle.std.specs.List.{All}
 use Rattle.std.specs.Str.{all_scalars, encode_utf8_all}
@@ -24,6 +24,7 @@ IsReading line readings.Bad = IsBadLine line
 abbrev pub NoNode : List (List ℕ) → Type 0
 NoNode words = (n : NodeId) (more : List (List ℕ)) → IsNode n → words ≡ node_word n ∷ more → ⊥
 
+-- the first word is that of no column
 abbrev pub NoColumn : List (List ℕ) → Type 0
 NoColumn words = (c : ColId) (more : List (List ℕ)) → IsId c.0 → words ≡ column_word c ∷ more → ⊥
 
@@ -31,6 +32,7 @@ NoColumn words = (c : ColId) (more : List (List ℕ)) → IsId c.0 → words ≡
 abbrev pub IsNameIn : List (List ℕ) → List ℕ → Type 0
 IsNameIn words name = (words ≡ encode_utf8_all name ∷ []) × (all_scalars name ≡ true)
 
+-- the words are not one word that is a name
 abbrev pub NoName : List (List ℕ) → Type 0
 NoName words = (name : List ℕ) → words ≡ encode_utf8_all name ∷ [] → ⊥
 
@@ -38,6 +40,7 @@ NoName words = (name : List ℕ) → words ≡ encode_utf8_all name ∷ [] → �
 abbrev pub AreNodesIn : List (List ℕ) → List NodeId → Type 0
 AreNodesIn words nodes = (words ≡ map node_word nodes) × All IsNode nodes
 
+-- the words are not all those of nodes
 abbrev pub NoNodes : List (List ℕ) → Type 0
 NoNodes words = (nodes : List NodeId) → All IsNode nodes → words ≡ map node_word nodes → ⊥
 
@@ -45,6 +48,7 @@ NoNodes words = (nodes : List NodeId) → All IsNode nodes → words ≡ map nod
 abbrev pub NoMerge : List (List ℕ) → Type 0
 NoMerge words = (nodes : List NodeId) → 2 ≤ length nodes → All IsNode nodes → words ≡ map node_word nodes → ⊥
 
+-- the words after `drop` are not the one word of a node
 abbrev pub NoDrop : List (List ℕ) → Type 0
 NoDrop words = (n : NodeId) → IsNode n → words ≡ node_word n ∷ [] → ⊥
 
@@ -52,5 +56,6 @@ NoDrop words = (n : NodeId) → IsNode n → words ≡ node_word n ∷ [] → �
 abbrev pub IsNodeRead : List (List ℕ) → List (List ℕ) → Option NodeId → Type 0
 IsNodeRead words more read = MatchOption read (NoNode words) (λ n. words ≡ node_word n ∷ more)
 
+-- the first word is that of the column, and these are left; or it is that of no column
 abbrev pub IsColumnRead : List (List ℕ) → List (List ℕ) → Option ColId → Type 0
 IsColumnRead words more read = MatchOption read (NoColumn words) (λ c. words ≡ column_word c ∷ more)

@@ -1,4 +1,4 @@
--- What a script says: its lines, its words, and the edits that they write.
+-- Believed. What a script says: its lines, its words, and the edits that they write.
 use Rattle.std.specs.Prelude.{◌≡◌, ◌⊎◌, ℕ, ◌+◌, ◌-◌, ◌<◌, ◌≤◌, ◌^◌, ◌==◌, Bool, true, false, List, [], ◌∷◌, ◌++◌, length, map, codes, slice_index}
 use Rattle.std.specs.List.{All, filter, slice_split}
 use Rattle.std.specs.Fmt.{decimal}
@@ -13,6 +13,7 @@ use Rattle.edit_script.specs.declared.lines.Line.{Line}
 abbrev pub is_line_end : ℕ → Bool
 is_line_end b = b == 10
 
+-- the lines of a text, without their line feeds
 abbrev pub lines_of : List ℕ → List (List ℕ)
 lines_of bytes = slice_split is_line_end bytes
 
@@ -20,13 +21,16 @@ lines_of bytes = slice_split is_line_end bytes
 abbrev pub is_space : ℕ → Bool
 is_space b = b == 32
 
+-- whether a word has any bytes
 abbrev pub is_there : List ℕ → Bool
 is_there [] = false
 is_there (b ∷ bytes) = true
 
+-- what stands between the spaces of a line; between two spaces in a row it is empty
 abbrev pub parts_of : List ℕ → List (List ℕ)
 parts_of line = slice_split is_space line
 
+-- the words of a line, with no empty one among them
 abbrev pub words_in : List ℕ → List (List ℕ)
 words_in line = filter is_there (parts_of line)
 
@@ -34,6 +38,7 @@ words_in line = filter is_there (parts_of line)
 abbrev pub node_word : NodeId → List ℕ
 node_word n = codes "n" ++ decimal n.0
 
+-- the word of a column: a c and its number
 abbrev pub column_word : ColId → List ℕ
 column_word c = codes "c" ++ decimal c.0
 
@@ -50,6 +55,7 @@ words_of (Drop n) = codes "drop" ∷ node_word n ∷ []
 abbrev pub IsId : ℕ → Type 0
 IsId n = n < 2 ^ 32
 
+-- the number of the node may stand in a script
 abbrev pub IsNode : NodeId → Type 0
 IsNode n = IsId n.0
 
@@ -96,6 +102,7 @@ abbrev pub IsNext : ℕ → List ℕ → (List Line → Type 0) → List Line �
 IsNext k line K [] = ⊥
 IsNext k line K (e ∷ edits) = (e.number ≡ k) × IsEditLine line e.edit × K edits
 
+-- there is no further edit
 abbrev pub IsNone : List Line → Type 0
 IsNone [] = Unit {0}
 IsNone (e ∷ edits) = ⊥

@@ -4,7 +4,7 @@ use Rattle.std.specs.List.{AllByRecursion}
 use Rattle.std.specs.Option.{option_to_list}
 use Rattle.std.proofs.lemmas.Bool.{cases_Bool, false≢true}
 use Rattle.std.proofs.lemmas.List.Elements.{Contains-append_cases, Contains-append_right, All-contains, All-from_recursion}
-use Rattle.derivations.proofs.Derivations.{each_weaker}
+use Rattle.kaba_derivations.proofs.Derivations.{each_weaker}
 use Rattle.kaba_base.specs.declared.ClassId.{ClassId}
 use Rattle.fact_model.specs.Classes.{parent_of, faces_of, supers_of, IsBelow, same, through, is_interface}
 use Rattle.fact_model.specs.InOrder.{InOrder}

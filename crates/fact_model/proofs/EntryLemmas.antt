@@ -1,6 +1,6 @@
 -- A table with exactly the derivable entries is closed under each rule.
 use Rattle.std.proofs.Common.{◌≡◌, ℕ, ◌<◌, true, [], ◌∷◌, length, Some, Contains}
-use Rattle.derivations.proofs.Derivations.{derivable_by, each_weaker}
+use Rattle.kaba_derivations.proofs.Derivations.{derivable_by, each_weaker}
 use Rattle.kaba_bits.specs.Sets.{bit, row, IsSubset}
 use Rattle.kaba_base.specs.declared.ColId.{ColId}
 use Rattle.fact_model.specs.Items.{site_at, site_class, site_row, row_this, IsColumn}

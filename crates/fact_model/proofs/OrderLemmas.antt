@@ -3,14 +3,14 @@ use Rattle.std.proofs.Common.{◌≡◌, ◌≢◌, ℕ, ◌<◌, ◌⊎◌, ⊎
 use Rattle.std.specs.List.{AllByRecursion}
 use Rattle.std.proofs.lemmas.Bool.{cases_eq, eq-eqb, false≢true}
 use Rattle.std.proofs.lemmas.List.Elements.{All-contains}
-use Rattle.derivations.proofs.Derivations.{derivable_by, derivable_least}
+use Rattle.kaba_derivations.proofs.Derivations.{derivable_by, derivable_least}
 use Rattle.kaba_base.specs.declared.ColId.{ColId}
 use Rattle.kaba_base.specs.declared.RowId.{RowId}
 use Rattle.fact_model.specs.Items.{site_at, site_class, site_row, row_class, row_this, is_object_row, column_class, column_kind}
 use Rattle.fact_model.specs.Classes.{IsBelow, same, IsStrictlyBelow, finds}
 use Rattle.fact_model.specs.Flowing.{Holds, in_point, Inclusion, by_this as flow_this, Runs, IsInRow, by_point}
 use Rattle.fact_model.specs.Entries.{Entry, Entails, by_access, by_need, by_this, by_declared, by_body, by_super, by_tie, by_site, by_hiding, by_test, by_array, IsEntry}
-use Rattle.derivations.specs.Derivation.{IsDerivable}
+use Rattle.kaba_derivations.specs.Derivation.{IsDerivable}
 use Rattle.std.specs.Prelude.{is_some}
 use Rattle.fact_model.specs.InRange.{InRange}
 use Rattle.fact_model.specs.InOrder.{InOrder, IsThisOf, IsDef, HasOneThis, IsNearestAbove}

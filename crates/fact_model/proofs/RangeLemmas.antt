@@ -4,7 +4,7 @@ use Rattle.std.specs.List.{AllByRecursion}
 use Rattle.std.proofs.lemmas.Bool.{cases_lt}
 use Rattle.std.proofs.lemmas.List.{get_or_past}
 use Rattle.std.proofs.lemmas.List.Elements.{All-contains}
-use Rattle.derivations.proofs.Derivations.{derivable_least}
+use Rattle.kaba_derivations.proofs.Derivations.{derivable_least}
 use Rattle.kaba_base.specs.declared.ColId.{ColId}
 use Rattle.fact_model.specs.Items.{column_kind, row_this}
 use Rattle.fact_model.specs.declared.facts.RowInfo.{RowInfo}

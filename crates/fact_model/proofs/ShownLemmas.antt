@@ -1,7 +1,7 @@
 -- The solved sets are closed under each inclusion, and the rows' sets are their unions.
 use Rattle.std.proofs.Common.{◌≡◌, ℕ, ◌<◌, true, List, [], ◌∷◌, length, Some, Contains, refl, subst}
 use Rattle.std.specs.List.{AllByRecursion}
-use Rattle.derivations.proofs.Derivations.{derivable_by, each_weaker}
+use Rattle.kaba_derivations.proofs.Derivations.{derivable_by, each_weaker}
 use Rattle.kaba_bits.specs.Sets.{bit, row, IsSubset}
 use Rattle.fact_model.specs.Items.{cell_at, point_row, site_class}
 use Rattle.fact_model.specs.Classes.{IsBelow}

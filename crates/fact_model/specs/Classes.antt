@@ -1,4 +1,4 @@
--- Subtyping of classes, and the body that an object of a class runs for a slot.
+-- Believed. Subtyping of classes, and the body that an object of a class runs for a slot.
 use Rattle.std.specs.Prelude.{◌≡◌, ℕ, suc, zero, ◌==◌, ◌&&◌, ◌||◌, Bool, true, false, List, [], ◌++◌, length, Contains, Option, Some, None, slice_get, position, option_and_then}
 use Rattle.std.specs.Option.{option_map_or, option_to_list}
 use Rattle.std.specs.List.{list_any}
@@ -45,15 +45,18 @@ reaches F (suc n) a b = (a == b) || list_any (λ c. reaches F n c.0 b) (supers_o
 abbrev pub below : Facts → ℕ → ℕ → Bool
 below F a b = reaches F (length F.classes.items) a b
 
+-- whether the number is that of an interface
 abbrev pub is_interface : Facts → ℕ → Bool
 is_interface F a = option_map_or (λ k. k.is_interface) (slice_get F.classes.items a) false
 
+-- whether a column of this kind stands for a body of an instance method
 abbrev pub is_def : ColKind → Bool
 is_def Def = true
 is_def Fld = false
 is_def Dcl = false
 is_def Is = false
 
+-- whether a column has a slot, and it is x
 abbrev pub is_slot : Option ℕ → ℕ → Bool
 is_slot None x = false
 is_slot (Some y) x = y == x

@@ -1,7 +1,7 @@
--- What closed sets and tables are, in terms of what they show.
+-- Mirror. What closed sets and tables are, in terms of what they show.
 use Rattle.std.specs.Prelude.{◌≡◌, ℕ, ◌<◌, ◌⊎◌, Bool, true, false, length}
 use Rattle.kaba_bits.specs.Sets.{bit, row}
-use Rattle.derivations.specs.Laws.{IsClosed}
+use Rattle.kaba_derivations.specs.Laws.{IsClosed}
 use Rattle.fact_model.specs.Items.{cell_at, point_row}
 use Rattle.fact_model.specs.Classes.{IsBelow, is_interface}
 use Rattle.fact_model.specs.Flowing.{Fact, in_point, in_cell, Inclusion}

@@ -1,4 +1,5 @@
--- The concept lattice of a table (Ganter and Wille, 1999). A table is its rows, each a set of columns below the width w.
+-- Believed. The concept lattice of a table (Ganter and Wille, 1999). A table is its rows, each a set of columns below
+-- the width w.
 use Rattle.std.specs.Prelude.{◌≡◌, ℕ, ◌<◌, ◌↔◌, Bool, true, List, length, map, slice_index_or, All, AllPairs}
 use Rattle.std.specs.declared.cmp.Ordering.{Ordering}
 use Rattle.std.specs.declared.cmp.Ordering.TheVariants.{Less}
@@ -28,6 +29,7 @@ pub record IsConcept (T : List (List Bool)) (w : ℕ) (A B : List Bool) : Type 0
 abbrev pub Pair : Type 0
 Pair = List Bool × List Bool
 
+-- the extent and the intent of a concept
 abbrev pub pair_of : Concept → Pair
 pair_of k = (k.extent, k.intent)
 

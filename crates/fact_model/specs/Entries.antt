@@ -1,7 +1,7 @@
--- The table of rows against columns, closed under the rules T1 to T11 (after Snelting and Tip, 2000).
+-- Believed. The table of rows against columns, closed under the rules T1 to T11 (after Snelting and Tip, 2000).
 use Rattle.std.specs.Prelude.{◌≡◌, ℕ, ◌<◌, ◌↔◌, ◌⊎◌, true, List, [], ◌∷◌, length, Contains, Some}
 use Rattle.kaba_bits.specs.Sets.{bit, row, HasWidth}
-use Rattle.derivations.specs.Derivation.{IsDerivable}
+use Rattle.kaba_derivations.specs.Derivation.{IsDerivable}
 use Rattle.kaba_base.specs.declared.ColId.{ColId}
 use Rattle.fact_model.specs.Items.{site_at, site_class, site_row, row_this, column_class, column_kind, column_slot, IsColumn}
 use Rattle.fact_model.specs.Classes.{IsStrictlyBelow, finds}

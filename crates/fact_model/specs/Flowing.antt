@@ -1,7 +1,7 @@
--- Points-to sets, by Andersen's inclusions (1994).
+-- Believed. Points-to sets, by Andersen's inclusions (1994).
 use Rattle.std.specs.Prelude.{◌≡◌, ℕ, ◌<◌, ◌↔◌, true, List, [], ◌∷◌, length, Contains, Option, Some, None, slice_index_or}
 use Rattle.kaba_bits.specs.Sets.{bit, row, HasWidth}
-use Rattle.derivations.specs.Derivation.{IsDerivable}
+use Rattle.kaba_derivations.specs.Derivation.{IsDerivable}
 use Rattle.kaba_base.specs.declared.ColId.{ColId}
 use Rattle.fact_model.specs.Items.{cell_at, point_row, site_class}
 use Rattle.fact_model.specs.Classes.{IsBelow, finds}

@@ -1,4 +1,5 @@
--- Facts in order: what the facts of a program have beyond being in range, and what the table and the start of the hierarchy rest on.
+-- Believed. Facts in order: what the facts of a program have beyond being in range, and what the table and the start of
+-- the hierarchy rest on.
 use Rattle.std.specs.Prelude.{◌≡◌, ◌≢◌, ℕ, ◌<◌, ◌⊎◌, true, false, List, length, All, AllPairs, Contains, Some, None, is_some, codes}
 use Rattle.kaba_bits.specs.Sets.{bit, row}
 use Rattle.kaba_base.specs.Words.{is_name}
@@ -17,6 +18,7 @@ use Rattle.fact_model.specs.declared.facts.TestInfo.{TestInfo}
 use Rattle.fact_model.specs.declared.facts.ColKind.TheVariants.{Fld, Dcl, Def, Is}
 
 module _ (F : Facts) where
+  -- a column that is the body of an instance method
   abbrev pub IsDef : ℕ → Type 0
   IsDef d = column_kind F d ≡ Def
 
@@ -129,6 +131,7 @@ module _ (F : Facts) where
     pub cells : (s : ℕ) → s < length F.sites.items → 0 < (site_at F s).dim → HasOneCell s
     pub array_marks : (s : ℕ) → s < length F.sites.items → 0 < (site_at F s).dim → HasMark (site_class F s)
 
+  -- the name of the class or member that a column stands for
   abbrev pub name_of : ℕ → List ℕ
   name_of c = (column_at F c).name
 
@@ -160,6 +163,7 @@ module _ (F : Facts) where
     pub others : (c : ℕ) → c < length F.columns.items → column_kind F c ≡ Fld → (name_of c ≢ codes "Object") × (name_of c ≢ codes "String")
         × (name_of c ≢ codes "System")
 
+-- all of these: classes, types, owners, bodies, sites, tests, members and names are in order
 pub record InOrder (F : Facts) : Type 0 where
   pub classes : AreClassesInOrder F
   pub types : AreTypesInOrder F

@@ -1,4 +1,4 @@
--- Facts in range: what every call that takes facts asks.
+-- Believed. Facts in range: what every call that takes facts asks.
 use Rattle.std.specs.Prelude.{ℕ, ◌<◌, length, All, IfSome}
 use Rattle.kaba_base.specs.declared.RowId.{RowId}
 use Rattle.kaba_base.specs.declared.ColId.{ColId}
@@ -19,18 +19,23 @@ pub record AreCounted (F : Facts) : Type 0 where
   pub tests : length F.tests.items < 4294967295
 
 module _ (F : Facts) where
+  -- the id is that of a row of the facts
   abbrev pub IsRow : RowId → Type 0
   IsRow r = r.0 < length F.rows.items
 
+  -- the id is that of a column of the facts
   abbrev pub IsCol : ColId → Type 0
   IsCol c = c.0 < length F.columns.items
 
+  -- the id is that of a creation site of the facts
   abbrev pub IsSite : SiteId → Type 0
   IsSite s = s.0 < length F.sites.items
 
+  -- the id is that of a class or interface of the facts
   abbrev pub IsClass : ClassId → Type 0
   IsClass a = a.0 < length F.classes.items
 
+  -- the number is that of a flow point of the facts
   abbrev pub IsPoint : ℕ → Type 0
   IsPoint p = p < length F.points.items
 

@@ -1,4 +1,5 @@
--- What a number of the facts names. A number past the end of its list names nothing of interest: facts are in range.
+-- Believed. What a number of the facts names. A number past the end of its list names nothing of interest: facts are in
+-- range.
 use Rattle.std.specs.Prelude.{◌≡◌, ℕ, ◌<◌, ◌==◌, Bool, false, [], length, Option, None, slice_index_or}
 use Rattle.std.specs.Option.{option_map_or}
 use Rattle.kaba_base.specs.declared.ColId.{ColId}
@@ -10,15 +11,19 @@ use Rattle.fact_model.specs.declared.facts.CellInfo.{CellInfo}
 use Rattle.fact_model.specs.declared.facts.ColKind.{ColKind}
 use Rattle.fact_model.specs.declared.facts.ColKind.TheVariants.{Is}
 
+-- the creation site of a number
 abbrev pub site_at : Facts → ℕ → SiteInfo
 site_at F s = slice_index_or F.sites.items s (record { row = record { 0 = 0 }; class = record { 0 = 0 }; dim = 0 })
 
+-- the cell of a number: a field, or the elements, of what a site creates
 abbrev pub cell_at : Facts → ℕ → CellInfo
 cell_at F c = slice_index_or F.cells.items c (record { site = record { 0 = 0 }; column = None; row = record { 0 = 0 } })
 
+-- the row of a number
 abbrev pub row_at : Facts → ℕ → RowInfo
 row_at F r = slice_index_or F.rows.items r (record { label = []; class = record { 0 = 0 }; dim = 0; site = None; this_of = None })
 
+-- the column of a number
 abbrev pub column_at : Facts → ℕ → ColumnInfo
 column_at F c = slice_index_or F.columns.items c (record { kind = Is; class = record { 0 = 0 }; slot = None; name = []; label = [] })
 
@@ -30,6 +35,7 @@ point_row F p = (slice_index_or F.points.items p (record { 0 = 0 })).0
 abbrev pub site_class : Facts → ℕ → ℕ
 site_class F s = (site_at F s).class.0
 
+-- the row of a site's creation
 abbrev pub site_row : Facts → ℕ → ℕ
 site_row F s = (site_at F s).row.0
 
@@ -45,12 +51,15 @@ row_this F r = (row_at F r).this_of
 abbrev pub is_object_row : Facts → ℕ → Bool
 is_object_row F r = option_map_or (λ s. (site_at F s.0).dim == 0) (row_at F r).site false
 
+-- the class or interface that a column belongs to
 abbrev pub column_class : Facts → ℕ → ℕ
 column_class F c = (column_at F c).class.0
 
+-- what a column stands for: a field, a declaration, a body or the mark of a type
 abbrev pub column_kind : Facts → ℕ → ColKind
 column_kind F c = (column_at F c).kind
 
+-- the slot of the method that a column stands for; a field and a mark have none
 abbrev pub column_slot : Facts → ℕ → Option ℕ
 column_slot F c = (column_at F c).slot
 

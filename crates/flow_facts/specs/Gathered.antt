@@ -1,4 +1,4 @@
--- What the parts of bodies give to the lists of the facts.
+-- Mirror. What the parts of bodies give to the lists of the facts.
 use Rattle.std.specs.Prelude.{◌≡◌, ℕ, ◌++◌, List, Option}
 use Rattle.std.specs.List.{flat_map}
 use Rattle.java_core.specs.Programs.{Plain}

@@ -1,4 +1,4 @@
--- Which classes have static members.
+-- Mirror. Which classes have static members.
 use Rattle.std.specs.Prelude.{◌≡◌, ℕ, ◌<◌, Bool, false, List, length, get_or}
 use Rattle.java_core.specs.Programs.{Plain}
 use Rattle.flow_rules.specs.Facts.{is_holder}

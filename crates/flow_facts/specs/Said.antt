@@ -1,4 +1,4 @@
--- What is said of what is numbered, before the facts stand whole.
+-- Mirror. What is said of what is numbered, before the facts stand whole.
 use Rattle.std.specs.Prelude.{◌≡◌, List, map}
 use Rattle.std.specs.List.{flat_map}
 use Rattle.std.specs.Str.{bytes_eq, encode_utf8_all}

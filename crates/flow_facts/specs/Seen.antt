@@ -1,4 +1,4 @@
--- What the numbers, the calls and the fields of the code are, as plain data.
+-- Mirror. What the numbers, the calls and the fields of the code are, as plain data.
 use Rattle.std.specs.Prelude.{nat_eq, List, [], ◌∷◌, map, Option}
 use Rattle.std.specs.Option.{option_map_or}
 use Rattle.flow_facts.specs.declared.numbering.Numbering.{Numbering}
@@ -22,6 +22,7 @@ numbers_seen n =
 abbrev pub call_at : PlacedCall → Placed PlainCall
 call_at c = record { place = c.place; item = plain.call_seen c.call }
 
+-- the calls of a list as plain data, each at its place
 abbrev pub calls_seen : List PlacedCall → List (Placed PlainCall)
 calls_seen cs = map call_at cs
 

@@ -1,4 +1,4 @@
--- What the code numbers in a program, before the lists that stand on the numbers.
+-- Mirror. What the code numbers in a program, before the lists that stand on the numbers.
 use Rattle.std.specs.Prelude.{◌≡◌, ℕ, ◌+◌, ◌<◌, ◌≤◌, List, length, map, None}
 use Rattle.java_core.specs.Programs.{Plain}
 use Rattle.flow_facts.specs.declared.stages.Numbered.{Numbered}
@@ -20,7 +20,6 @@ pub record IsListed {T K : Type 0} (key : T → K) (limit : ℕ) (wanted list : 
 
 -- what a fault says of a count and its limit
 abbrev pub IsAbove : ℕ → ℕ → Counted → FactsFault → Type 0
-IsAbove n limit what (fault.HasInterface x) = ⊥
 IsAbove n limit what (fault.TooMany kind k) = (limit < n) × (kind ≡ what) × (k ≡ limit + 1)
 IsAbove n limit what fault.Memory = Unit {0}
 

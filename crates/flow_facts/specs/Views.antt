@@ -1,4 +1,4 @@
--- What a part of the code is, as plain data.
+-- Mirror. What a part of the code is, as plain data.
 use Rattle.std.specs.Prelude.{ℕ, List, map, Option, Some, None, option_and_then}
 use Rattle.std.specs.Option.{option_map}
 use Rattle.java_core.specs.Programs.{Plain, PlainMethod}
@@ -17,6 +17,7 @@ use Rattle.flow_rules.specs.declared.items.Outline.{Outline}
 use Rattle.flow_rules.specs.Parts as plain
 use Rattle.flow_rules.specs.Numbered as numbered
 
+-- a part of a body, with its operands as they are
 abbrev pub part_seen : Part → plain.Part
 part_seen (the.Load p b f o) = plain.a_load p b f o
 part_seen (the.Element p b o) = plain.an_element p b o
@@ -31,6 +32,7 @@ part_seen (the.Store p b f o) = plain.a_store p b f o
 part_seen (the.ElementStore p b o) = plain.an_element_store p b o
 part_seen (the.Return o) = plain.a_return o
 
+-- the parts of a list, in their order
 abbrev pub parts_seen : List Part → List plain.Part
 parts_seen xs = map part_seen xs
 
@@ -42,12 +44,15 @@ labelled_operand m n r t = record { point = Some (point.Expr m n); row = r; ty =
 abbrev pub load_operand : Plain → ℕ → ℕ → Option ObjectType → List ℕ → Operand
 load_operand P m n s x = labelled_operand m n (option_map row.Field (object_field P s x)) (option_and_then (field_object P) (object_field P s x))
 
+-- a call of an instance method: the row and the type of what its slot gives back
 abbrev pub call_operand : Plain → ℕ → ℕ → Option ObjectType → List ℕ → Operand
 call_operand P m n s x = labelled_operand m n (option_map row.Return (call_slot P s x)) (option_and_then (slot_object P) (call_slot P s x))
 
+-- a call of a static method: the row and the type of what the method gives back
 abbrev pub static_operand : Plain → ℕ → ℕ → ℕ → Operand
 static_operand P m n d = labelled_operand m n (Some (row.Result d)) (method_object P d)
 
+-- a super call: the row of what its slot gives back, and the type that the method gives back
 abbrev pub super_operand : Plain → ℕ → ℕ → ℕ → List ℕ → Operand
 super_operand P m n c x = labelled_operand m n (option_map row.Return (super_slot P c x)) (option_and_then (method_object P) (super_method P c x))
 
@@ -55,6 +60,7 @@ super_operand P m n c x = labelled_operand m n (option_map row.Return (super_slo
 abbrev pub variable_operand : ℕ → PlainMethod → ℕ → Operand
 variable_operand m k i = record { point = Some (point.Local m i); row = Some (variable_row m k i); ty = variable_object k i; created = None }
 
+-- a static field as it is read or assigned to
 abbrev pub static_place : Plain → ℕ → Operand
 static_place P f = record { point = Some (point.Static f); row = Some (row.Field f); ty = field_object P f; created = None }
 
@@ -62,5 +68,6 @@ static_place P f = record { point = Some (point.Static f); row = Some (row.Field
 abbrev pub body_seen : Body → numbered.Body
 body_seen b = record { number = b.number; slot = b.slot; parts = parts_seen b.parts.items }
 
+-- the place of a body and what may be its flow points, as plain data
 abbrev pub outline_seen : Outline → numbered.Outline
 outline_seen o = record { place = o.place; points = o.points.items }

@@ -1,4 +1,4 @@
--- What a walk over a tree adds to the parts of a body.
+-- Mirror. What a walk over a tree adds to the parts of a body.
 use Rattle.std.specs.Prelude.{◌≡◌, ℕ, ◌+◌, ◌++◌, ◌∷◌, Bool, true, List, length, Option}
 use Rattle.kaba_base.specs.declared.Place.{Place}
 use Rattle.java_core.specs.Trees.{Ex, Exs}
@@ -54,6 +54,7 @@ module _ (P : Plain) (m : ℕ) (k : PlainMethod) where
   abbrev pub args_from : ℕ → Exs → List Operand
   args_from n es = operands_of P (object_type P k) m k (label_all n es)
 
+  -- the parts of arguments with their labels from n on; u tells whether a creation there is a flow point
   abbrev pub parts_from : Bool → ℕ → Exs → List plain.Part
   parts_from u n es = plain.parts_all P (object_type P k) m k u (label_all n es)
 

@@ -1,4 +1,4 @@
--- The facts of a program: each list has exactly the items that the text gives, in their order or as a set.
+-- Believed. The facts of a program: each list has exactly the items that the text gives, in their order or as a set.
 use Rattle.std.specs.Prelude.{◌≡◌, ◌↔◌, ℕ, zero, suc, ◌+◌, ◌==◌, ◌&&◌, ◌||◌, if◌then◌else◌, nat_lt, Bool, List, [], ◌∷◌, ◌++◌, length, map, drop, Contains, Option, Some, None, slice_get, option_and_then, codes}
 use Rattle.std.specs.Option.{option_map, option_map_or}
 use Rattle.std.specs.List.{flat_map, list_any}
@@ -46,18 +46,23 @@ pub record TooMany : Type 0 where
 abbrev pub class_text : Plain → ℕ → List ℕ
 class_text P c = option_map_or (λ k. encode_utf8_all k.name) (slice_get P.classes c) []
 
+-- a member: its class, a dot and its name
 abbrev pub member_text : Plain → ℕ → List ℕ → List ℕ
 member_text P c x = class_text P c ++ codes "." ++ encode_utf8_all x
 
+-- a field: its class, a dot and its name
 abbrev pub field_text : Plain → ℕ → List ℕ
 field_text P f = option_map_or (λ k. member_text P k.owner k.name) (slice_get P.fields f) []
 
+-- a method: its class, a dot and its name
 abbrev pub method_text : Plain → ℕ → List ℕ
 method_text P m = option_map_or (λ k. member_text P k.owner k.name) (slice_get P.methods m) []
 
+-- the name of a parameter or local of a method, by its number among both
 abbrev pub variable_name : Plain → ℕ → ℕ → List ℕ
 variable_name P m i = option_map_or (λ k. option_map_or (λ v. v.name) (slice_get (k.params ++ k.locals) i) []) (slice_get P.methods m) []
 
+-- a parameter or local: its method, a dot and its name
 abbrev pub variable_text : Plain → ℕ → ℕ → List ℕ
 variable_text P m i = method_text P m ++ codes "." ++ encode_utf8_all (variable_name P m i)
 
@@ -65,13 +70,16 @@ variable_text P m i = method_text P m ++ codes "." ++ encode_utf8_all (variable_
 abbrev pub first_of : Plain → ℕ → ℕ
 first_of P s = option_map_or (λ z. z.first) (slice_get P.slots s) 0
 
+-- a pair of brackets for each dimension of an array
 abbrev pub brackets : ℕ → List ℕ
 brackets zero = []
 brackets (suc d) = codes "[]" ++ brackets d
 
+-- the line of a place, after an at sign
 abbrev pub at_line : Place → List ℕ
 at_line p = codes "@" ++ decimal p.line
 
+-- the label of a row, of its item, the name of its class, its dimension and its place
 abbrev pub row_text : Plain → RowItem → List ℕ → ℕ → Place → List ℕ
 row_text P (row.Field f) t d p = field_text P f
 row_text P (row.This m) t d p = method_text P m ++ codes ".this"
@@ -83,9 +91,11 @@ row_text P (row.New n) t d p = codes "new " ++ t ++ brackets d ++ at_line p
 row_text P (row.Cast n) t d p = codes "cast " ++ t ++ at_line p
 row_text P (row.Test n) t d p = codes "instanceof " ++ t ++ at_line p
 
+-- the label of a row as characters
 abbrev pub row_label : Plain → Row → List ℕ
 row_label P r = chars (row_text P r.item (class_text P r.ty.class.0) r.ty.dim r.place)
 
+-- the label of a column: its kind, and in parentheses the member or the class
 abbrev pub column_text : Plain → ColumnItem → List ℕ
 column_text P (column.Fld f) = codes "fld(" ++ field_text P f ++ codes ")"
 column_text P (column.Dcl m) = codes "dcl(" ++ method_text P m ++ codes ")"
@@ -99,24 +109,28 @@ kind_of (column.Dcl m) = kind.Dcl
 kind_of (column.Def m) = kind.Def
 kind_of (column.Is c) = kind.Is
 
+-- the class or interface that declares the member of a column, or whose mark it is
 abbrev pub owner_of : Plain → ColumnItem → ℕ
 owner_of P (column.Fld f) = option_map_or (λ k. k.owner) (slice_get P.fields f) 0
 owner_of P (column.Dcl m) = option_map_or (λ k. k.owner) (slice_get P.methods m) 0
 owner_of P (column.Def m) = option_map_or (λ k. k.owner) (slice_get P.methods m) 0
 owner_of P (column.Is c) = c.0
 
+-- the slot of the method of a column; a field and a mark have none
 abbrev pub slot_in : Plain → ColumnItem → Option ℕ
 slot_in P (column.Fld f) = None
 slot_in P (column.Dcl m) = option_and_then (λ k. k.slot) (slice_get P.methods m)
 slot_in P (column.Def m) = option_and_then (λ k. k.slot) (slice_get P.methods m)
 slot_in P (column.Is c) = None
 
+-- the simple name of the member or class of a column
 abbrev pub name_in : Plain → ColumnItem → List ℕ
 name_in P (column.Fld f) = option_map_or (λ k. k.name) (slice_get P.fields f) []
 name_in P (column.Dcl m) = option_map_or (λ k. k.name) (slice_get P.methods m) []
 name_in P (column.Def m) = option_map_or (λ k. k.name) (slice_get P.methods m) []
 name_in P (column.Is c) = option_map_or (λ k. k.name) (slice_get P.classes c.0) []
 
+-- a column as the facts list it
 abbrev pub column_info : Plain → ColumnItem → ColumnInfo
 column_info P i = record { kind = kind_of i; class = record { 0 = owner_of P i }; slot = slot_in P i; name = name_in P i; label = chars (column_text P i) }
 
@@ -127,9 +141,11 @@ pub record PlainBody : Type 0 where
   pub params : List (Option ℕ)
   pub result : Option ℕ
 
+-- a body of the facts as plain data
 abbrev pub body_seen : BodyInfo → PlainBody
 body_seen b = record { column = b.column.0; this = b.this; params = b.params.items; result = b.result }
 
+-- a call of the facts as plain data
 abbrev pub call_seen : CallInfo → PlainCall
 call_seen c = record { receiver = c.receiver; slot = c.slot; args = c.args.items; result = c.result }
 
@@ -147,12 +163,15 @@ pub record ClassFacts : Type 0 where
   pub is_interface : Bool
   pub holder : Bool
 
+-- a class of the facts as plain data
 abbrev pub class_seen : ClassInfo → ClassFacts
 class_seen k = record { name = k.name; parent = k.parent; faces = k.faces.items; is_interface = k.is_interface; holder = k.holder }
 
+-- whether a class declares a static field or a static method
 abbrev pub is_holder : Plain → ℕ → Bool
 is_holder P c = list_any (λ f. f.is_static && (f.owner == c)) P.fields || list_any (λ m. m.is_static && (m.owner == c)) P.methods
 
+-- the entry of the class c of the program, as a list of one
 abbrev pub class_facts : Plain → ℕ → PlainClass → List ClassFacts
 class_facts P c k = record { name = k.name; parent = k.parent; faces = k.faces; is_interface = k.is_interface; holder = is_holder P c } ∷ []
 
@@ -170,11 +189,13 @@ module _ (N : Numbers) where
   site_of_row (row.New n) = option_map (λ s. record { 0 = s }) (N.site n)
   site_of_row _ = None
 
+  -- the column of the body whose `this` a row is; other rows have none
   abbrev pub this_of_row : RowItem → Option ColId
   this_of_row (row.This m) = option_map (λ c. record { 0 = c }) (N.column (column.Def m))
   this_of_row _ = None
 
 module _ (N : Numbers) (P : Plain) where
+  -- a row as the facts list it
   abbrev pub row_info : Row → RowInfo
   row_info r = record { label = row_label P r; class = r.ty.class; dim = r.ty.dim; site = site_of_row N r.item; this_of = this_of_row N r.item }
 
@@ -183,28 +204,34 @@ module _ (N : Numbers) (P : Plain) where
   field_if c o None = []
   field_if c o (Some r) = record { column = c; row = r; owner = o } ∷ []
 
+  -- the field that the column of number c is, where it has a row; other columns give none
   abbrev pub field_at : ℕ → ColumnItem → List FieldCell
   field_at c (column.Fld f) = field_if c (owner_of P (column.Fld f)) (N.row (row.Field f))
   field_at c (column.Dcl m) = []
   field_at c (column.Def m) = []
   field_at c (column.Is b) = []
 
+  -- the fields that have a row, in the order of their columns
   abbrev pub fields_of : List Column → List FieldCell
   fields_of cs = each (λ c k. field_at c k.item) 0 cs
 
+  -- the flow point of each parameter of a method, where it has one
   abbrev pub param_points : ℕ → PlainMethod → List (Option ℕ)
   param_points m k = each (λ i v. N.point (point.Local m i) ∷ []) 0 k.params
 
+  -- a method's body with its column, and its points, where its `this` has one
   abbrev pub body_if : ℕ → ℕ → PlainMethod → Option ℕ → List PlainBody
   body_if c m k None = []
   body_if c m k (Some t) = record { column = c; this = t; params = param_points m k; result = N.point (point.Result m) } ∷ []
 
+  -- the body that a column is; other columns give none
   abbrev pub column_body : ℕ → ColumnItem → List PlainBody
   column_body c (column.Def m) = option_map_or (λ k. body_if c m k (N.point (point.This m))) (slice_get P.methods m) []
   column_body c (column.Fld f) = []
   column_body c (column.Dcl m) = []
   column_body c (column.Is a) = []
 
+-- a creation site as the facts list it
 abbrev pub site_info : Site → SiteInfo
 site_info s = record { row = record { 0 = s.row }; class = s.ty.class; dim = s.ty.dim }
 
@@ -212,6 +239,7 @@ site_info s = record { row = record { 0 = s.row }; class = s.ty.class; dim = s.t
 abbrev pub field_cell : Plain → ℕ → ℕ → FieldCell → List CellInfo
 field_cell P i a k = when (below P a k.owner) (record { site = record { 0 = i }; column = Some (record { 0 = k.column }); row = record { 0 = k.row } } ∷ [])
 
+-- the one cell of the array site i, whose elements are typed by the row r
 abbrev pub array_cell : ℕ → ℕ → List CellInfo
 array_cell i r = record { site = record { 0 = i }; column = None; row = record { 0 = r } } ∷ []
 
@@ -228,6 +256,7 @@ abbrev pub all_variables : Plain → List (List ℕ)
 all_variables P = map (λ f. f.name) P.fields ++ flat_map variable_names P.methods
 
 module _ (P : Plain) where
+  -- the numbers that rows, columns, sites and flow points of a program have by their place
   unfoldable pub numbers : Numbers
   numbers = record { row = row_number P; column = column_number P; site = site_number P; point = point_number P }
 
@@ -280,24 +309,11 @@ too_many P =
     (over 8192 (length (columns_of P)) counted.Columns
     (over 8192 (length (sites_of P)) counted.Sites (over 65536 (length (points_of P) + length (cells_of P)) counted.Points None)))
 
--- the name of the first interface
-abbrev pub first_interface : List PlainClass → Option (List ℕ)
-first_interface [] = None
-first_interface (k ∷ ks) = if k.is_interface then Some k.name else first_interface ks
-
--- what a fault says of what there is too much of
-abbrev pub IsOver : Plain → FactsFault → Type 0
-IsOver P (fault.HasInterface x) = ⊥
-IsOver P (fault.TooMany what n) = too_many P ≡ Some (record { what = what; number = n })
-IsOver P fault.Memory = Unit {0}
-
 -- what a fault says of the program
 abbrev pub IsRefused : Plain → FactsFault → Type 0
-IsRefused P (fault.HasInterface x) = first_interface P.classes ≡ Some x
-IsRefused P (fault.TooMany what n) = (first_interface P.classes ≡ None) × (too_many P ≡ Some (record { what = what; number = n }))
+IsRefused P (fault.TooMany what n) = too_many P ≡ Some (record { what = what; number = n })
 IsRefused P fault.Memory = Unit {0}
 
--- a program of which the facts can be given
+-- a program of which the facts can be given: there is not too much of anything
 pub record IsWithin (P : Plain) : Type 0 where
-  pub interfaces : first_interface P.classes ≡ None
   pub counts : too_many P ≡ None

@@ -1,4 +1,5 @@
--- What each part of a body gives to each list of the facts (Andersen, 1994, for the sets; Snelting and Tip, 2000, for the table).
+-- Believed. What each part of a body gives to each list of the facts (Andersen, 1994, for the sets; Snelting and Tip,
+-- 2000, for the table).
 use Rattle.std.specs.Prelude.{ℕ, ◌==◌, ◌&&◌, ◌||◌, Bool, true, false, not, if◌then◌else◌, List, [], ◌∷◌, ◌++◌, map, Option, Some, None, slice_get}
 use Rattle.std.specs.Option.{option_map, option_map_or, is_some}
 use Rattle.kaba_base.specs.declared.Place.{Place}
@@ -40,6 +41,7 @@ both (Some a) (Some b) f = f a b ∷ []
 both (Some a) None f = []
 both None b f = []
 
+-- one item where all three are there
 abbrev pub these : {A B C D : Type 0} → Option A → Option B → Option C → (A → B → C → D) → List D
 these (Some a) b c f = both b c (f a)
 these None b c f = []
@@ -56,6 +58,7 @@ pub record Placed (A : Type 0) : Type 0 where
   pub place : Place
   pub item : A
 
+-- whether a point is the `this` of a method
 abbrev pub is_this : Option PointItem → Bool
 is_this None = false
 is_this (Some (point.This m)) = true
@@ -64,9 +67,11 @@ is_this (Some (point.Local m i)) = false
 is_this (Some (point.Result m)) = false
 is_this (Some (point.Expr m l)) = false
 
+-- whether two types are of one class and one dimension
 abbrev pub same_type : ObjectType → ObjectType → Bool
 same_type s t = (s.class.0 == t.class.0) && (s.dim == t.dim)
 
+-- whether an operator is `==` or `!=`
 abbrev pub is_comparison : BinOp → Bool
 is_comparison bin.Same = true
 is_comparison bin.Differs = true
@@ -80,6 +85,7 @@ moved p q = both p q (λ a b. record { from = a; to = b })
 abbrev pub tied : Option ℕ → Option ℕ → List TieInfo
 tied r q = both r q (λ a b. record { lower = record { 0 = a }; upper = record { 0 = b } })
 
+-- a row that accesses a column, where both have a number
 abbrev pub accessed : Option ℕ → Option ℕ → List AccessInfo
 accessed r c = both r c (λ a b. record { row = record { 0 = a }; column = record { 0 = b } })
 
@@ -89,9 +95,11 @@ abbrev pub left_is_lower : Bool → Bool → Bool → Bool → Bool
 left_is_lower created_left this_left created_right this_right = (created_left && not created_right) || (this_left && not (created_right || this_right))
 
 module _ (P : Plain) where
+  -- whether the type s is at or below t: of one dimension, and its class at or below that of t
   abbrev pub narrower : ObjectType → ObjectType → Bool
   narrower s t = (s.dim == t.dim) && below P s.class.0 t.class.0
 
+  -- whether T8 puts the row of the left operand of `==` or `!=` below that of the right, by their types
   abbrev pub is_left_lower : Operand → Operand → ObjectType → ObjectType → Bool
   is_left_lower l r s t = if same_type s t then left_is_lower (is_some l.created) (is_this l.point) (is_some r.created) (is_this r.point) else narrower s t
 
@@ -105,16 +113,20 @@ module _ (N : Numbers) where
   point_in None = None
   point_in (Some i) = N.point i
 
+  -- the number of a row, where there is one
   abbrev pub row_in : Option RowItem → Option ℕ
   row_in None = None
   row_in (Some i) = N.row i
 
+  -- the number of an operand's flow point
   abbrev pub point_at : Operand → Option ℕ
   point_at o = point_in o.point
 
+  -- the number of the row that types an operand
   abbrev pub row_at : Operand → Option ℕ
   row_at o = row_in o.row
 
+  -- the number of the site of a creation, where there is one
   abbrev pub site_in : Option ℕ → Option ℕ
   site_in None = None
   site_in (Some n) = N.site n
@@ -127,6 +139,7 @@ module _ (N : Numbers) where
   abbrev pub created_args : ℕ → List Operand → List NewInfo
   created_args d es = each (λ i o. created o (N.point (point.Local d i))) 0 es
 
+  -- the flows of arguments into the parameters of the one body d that a static or a super call runs
   abbrev pub moved_args : ℕ → List Operand → List FlowInfo
   moved_args d es = each (λ i o. moved (point_at o) (N.point (point.Local d i))) 0 es
 
@@ -149,28 +162,33 @@ module _ (N : Numbers) where
       (N.point (point.This d))
   flows_of m _ = []
 
+  -- reads of an instance field or of an element
   abbrev pub loads_of : Part → List LoadInfo
   loads_of (a_load p b (Some f) o) =
       these (point_at b) (N.column (column.Fld f)) (point_at o) (λ a c q. record { base = a; column = Some (record { 0 = c }); into = q })
   loads_of (an_element p b o) = both (point_at b) (point_at o) (λ a q. record { base = a; column = None; into = q })
   loads_of _ = []
 
+  -- writes of an instance field or of an element
   abbrev pub stores_of : Part → List StoreInfo
   stores_of (a_store p b (Some f) o) =
       these (point_at b) (N.column (column.Fld f)) (point_at o) (λ a c q. record { base = a; column = Some (record { 0 = c }); value = q; place = p })
   stores_of (an_element_store p b o) = both (point_at b) (point_at o) (λ a q. record { base = a; column = None; value = q; place = p })
   stores_of _ = []
 
+  -- the calls of an instance method, whose body the receiver's sites decide
   abbrev pub calls_of : Part → List (Placed PlainCall)
   calls_of (a_call p b (Some s) d es o) =
       option_map_or (λ r. record { place = p; item = record { receiver = r; slot = s; args = map point_at es; result = point_at o } }
       ∷ []) (point_at b) []
   calls_of _ = []
 
+  -- the flow of what a cast or `instanceof` lets pass into a point of its own
   abbrev pub casts_of : Part → List CastInfo
   casts_of (a_test p e o) = these (point_at e) (point_at o) o.ty (λ a q t. record { from = a; into = q; class = t.class })
   casts_of _ = []
 
+  -- the test of a cast or `instanceof`: its operand, its own row and the class asked for
   abbrev pub tests_of : Part → List TestInfo
   tests_of (a_test p e o) = these (point_at e) (row_at o) o.ty (λ a r t. record { from = a; target = record { 0 = r }; class = t.class; place = p })
   tests_of _ = []
@@ -189,6 +207,7 @@ module _ (N : Numbers) where
   supers_of m _ = []
 
   module _ (P : Plain) where
+    -- T8 for `==` and `!=`: the rows of both operands, where both have a type that a row can have
     abbrev pub pair_ties : Operand → Operand → Option ObjectType → Option ObjectType → List TieInfo
     pair_ties l r (Some s) (Some t) = if is_left_lower P l r s t then tied (row_at l) (row_at r) else tied (row_at r) (row_at l)
     pair_ties l r (Some s) None = []
@@ -200,9 +219,11 @@ module _ (N : Numbers) where
     test_ties e o (Some s) None = []
     test_ties e o None t = []
 
+    -- T8 for the call of a slot: each argument's row below the row of the slot's parameter
     abbrev pub slot_ties : ℕ → List Operand → List TieInfo
     slot_ties s es = each (λ i o. tied (row_at o) (N.row (row.Param s i))) 0 es
 
+    -- T8 for a static or a super call: each argument's row below that of the method's parameter
     abbrev pub method_ties : ℕ → List Operand → List TieInfo
     method_ties d es = each (λ i o. tied (row_at o) (row_in (param_row P d i))) 0 es
 

@@ -1,4 +1,5 @@
--- What the facts see of an expression: the row that types it, its flow point, and its static type where a row can have it.
+-- Believed. What the facts see of an expression: the row that types it, its flow point, and its static type where a row
+-- can have it.
 use Rattle.std.specs.Prelude.{ℕ, ◌==◌, if◌then◌else◌, nat_lt, Bool, true, false, List, [], ◌∷◌, length, Option, Some, None, option_and_then}
 use Rattle.std.specs.Option.{option_map}
 use Rattle.java_core.specs.declared.Ty.{Ty}
@@ -23,13 +24,16 @@ object_in Boolean d = None
 object_in Char d = None
 object_in Str d = None
 
+-- a static type as one that a row can have; `int`, `String` and the like are none
 abbrev pub object_of : Ty → Option ObjectType
 object_of t = object_in t.base t.dim
 
+-- a type, where there is one, as one that a row can have; the result of a `void` method is none
 abbrev pub object_if : Option Ty → Option ObjectType
 object_if None = None
 object_if (Some t) = object_of t
 
+-- the static type of an expression as one that a row can have; `null` and no value are none
 abbrev pub object_static : Static → Option ObjectType
 object_static (a_value t) = object_of t
 object_static null_value = None
@@ -41,6 +45,7 @@ variable_in (Some s) true m i = row.Param s i
 variable_in (Some s) false m i = row.Local m i
 variable_in None b m i = row.Local m i
 
+-- the row of a parameter or local of a method, by its number among both
 abbrev pub variable_row : ℕ → PlainMethod → ℕ → RowItem
 variable_row m k i = variable_in k.slot (nat_lt i (length k.params)) m i
 
@@ -53,6 +58,7 @@ result_in None m = row.Result m
 abbrev pub class_at : ObjectType → Option ℕ
 class_at t = if t.dim == 0 then Some t.class.0 else None
 
+-- the class of a type, where it is that of an object and no array
 abbrev pub object_class : Option ObjectType → Option ℕ
 object_class None = None
 object_class (Some t) = class_at t
@@ -61,9 +67,11 @@ object_class (Some t) = class_at t
 abbrev pub object_field : Plain → Option ObjectType → List ℕ → Option ℕ
 object_field P s x = option_and_then (λ c. member_field P c x) (object_class s)
 
+-- the slot of the method that a call of the name x on a type finds statically
 abbrev pub call_slot : Plain → Option ObjectType → List ℕ → Option ℕ
 call_slot P s x = option_and_then (λ c. slot_of P c x) (object_class s)
 
+-- the declaration that is found statically for a call of the name x on a type
 abbrev pub call_declaration : Plain → Option ObjectType → List ℕ → Option ℕ
 call_declaration P s x = option_and_then (λ c. declaration_of P c x) (object_class s)
 
@@ -124,9 +132,11 @@ module _ (P : Plain) (type : Ex → Option ObjectType) (m : ℕ) (k : PlainMetho
   created_by (create_array t n u e) = Some n
   created_by _ = None
 
+  -- all that the facts see of an expression in a method's body
   abbrev pub operand_of : Ex → Operand
   operand_of e = record { point = point_of e; row = row_of e; ty = type e; created = created_by e }
 
+  -- the same of each argument
   abbrev pub operands_of : Exs → List Operand
   operands_of no_ex = []
   operands_of (ex_then e es) = operand_of e ∷ operands_of es

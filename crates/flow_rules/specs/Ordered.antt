@@ -1,4 +1,4 @@
--- Lists in the order of places, and each item once.
+-- Believed. Lists in the order of places, and each item once.
 use Rattle.std.specs.Prelude.{ℕ, ◌+◌, nat_lt, Bool, true, false, List, [], ◌∷◌, ◌++◌, if◌then◌else◌}
 use Rattle.std.specs.List.{list_any}
 use Rattle.indexmap.specs.IndexSet.{insert_key}
@@ -29,6 +29,7 @@ abbrev pub each : {A B : Type 0} → (ℕ → A → List B) → ℕ → List A �
 each f n [] = []
 each f n (x ∷ xs) = f n x ++ each f (n + 1) xs
 
+-- a list, or the empty one where the test fails
 abbrev pub when : {A : Type 0} → Bool → List A → List A
 when true xs = xs
 when false xs = []

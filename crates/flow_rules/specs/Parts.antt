@@ -1,4 +1,5 @@
--- The parts of a body that facts come from, in the order of the text. This is the one recursion over trees: each list of the facts is read off the parts.
+-- Believed. The parts of a body that facts come from, in the order of the text. This is the one recursion over trees:
+-- each list of the facts is read off the parts.
 use Rattle.std.specs.Prelude.{ℕ, Bool, true, false, List, [], ◌∷◌, ◌++◌, Option, Some, None}
 use Rattle.kaba_base.specs.declared.Place.{Place}
 use Rattle.java_core.specs.declared.BinOp.{BinOp}
@@ -10,6 +11,7 @@ use Rattle.flow_rules.specs.declared.items.Operand.{Operand}
 use Rattle.flow_rules.specs.Labels.{label_sts}
 use Rattle.flow_rules.specs.Operands.{object_field, call_slot, call_declaration, operand_of, operands_of, this_operand, test_operand, type_in}
 
+-- a form of a body that the facts come from, with its operands
 pub data Part : Type 0 where
   -- a read of a field (none: the length of an array): the base, the field, and the read itself
   a_load : Place → Operand → Option ℕ → Operand → Part
@@ -39,8 +41,27 @@ pub data Part : Type 0 where
 -- a creation here is the base of a field access where it makes an object: `.length` of an array is none
 abbrev pub is_accessed : Ex → Bool
 is_accessed (create_array t n u e) = false
-is_accessed _ = true
+is_accessed (number t z) = true
+is_accessed (character t u) = true
+is_accessed (text t us) = true
+is_accessed (truth t b) = true
+is_accessed (null t) = true
+is_accessed (this t) = true
+is_accessed (local t i) = true
+is_accessed (static_field t f) = true
+is_accessed (own_field t f) = true
+is_accessed (field t e x) = true
+is_accessed (index t e i) = true
+is_accessed (call t e x es) = true
+is_accessed (static_call t m es) = true
+is_accessed (super_call t x es) = true
+is_accessed (create t n c es) = true
+is_accessed (cast t n u e) = true
+is_accessed (instance_of t n e c) = true
+is_accessed (unary t o e) = true
+is_accessed (binary t o e d) = true
 
+-- an operand without a row, a flow point, a type or a creation
 abbrev pub nothing : Operand
 nothing = record { point = None; row = None; ty = None; created = None }
 
@@ -49,6 +70,7 @@ module _ (P : Plain) (type : Ex → Option ObjectType) (m : ℕ) (k : PlainMetho
   -- the parts of an expression, and whether a creation there is a flow point: the receiver or an argument of an instance call, the base of an access,
   -- the operand of a cast or `instanceof`, and what is stored in a field or an element
   abbrev mutual
+    -- the parts of one expression; u tells whether a creation there is a flow point
     pub parts : Bool → Ex → List Part
     parts u (number t n) = []
     parts u (character t c) = []
@@ -75,22 +97,27 @@ module _ (P : Plain) (type : Ex → Option ObjectType) (m : ℕ) (k : PlainMetho
     parts u (unary t o e) = parts false e
     parts u (binary t o e d) = parts false e ++ parts false d ++ a_pair o (operand_of P type m k e) (operand_of P type m k d) ∷ []
 
+    -- the parts of a list of arguments; u tells of each whether a creation there is a flow point
     pub parts_all : Bool → Exs → List Part
     parts_all u no_ex = []
     parts_all u (ex_then e es) = parts u e ++ parts_all u es
 
+  -- the parts of an expression that may be left out; a creation there is no flow point
   abbrev pub parts_if : Option Ex → List Part
   parts_if None = []
   parts_if (Some e) = parts false e
 
+  -- a variable declared with a value, where it has one: the parts of the value, and then its assignment
   abbrev pub parts_set : Ex → Option Ex → List Part
   parts_set v None = []
   parts_set v (Some e) = parts false e ++ a_set (operand_of P type m k v) (operand_of P type m k e) ∷ []
 
+  -- a `return`: the parts of its value, and then that the value is given back
   abbrev pub parts_return : Option Ex → List Part
   parts_return None = []
   parts_return (Some e) = parts false e ++ a_return (operand_of P type m k e) ∷ []
 
+  -- an assignment: the parts of its target and of its value, and then the set or the store
   abbrev pub parts_assign : Place → Target → Ex → List Part
   parts_assign p (to_local t i) e = parts false e ++ a_set (operand_of P type m k (local t i)) (operand_of P type m k e) ∷ []
   parts_assign p (to_static t f) e = parts false e ++ a_set (operand_of P type m k (static_field t f)) (operand_of P type m k e) ∷ []
@@ -102,6 +129,7 @@ module _ (P : Plain) (type : Ex → Option ObjectType) (m : ℕ) (k : PlainMetho
   parts_assign p no_target e = parts false e ++ a_set nothing (operand_of P type m k e) ∷ []
 
   abbrev mutual
+    -- the parts of a statement, in the order of its text
     pub parts_st : St → List Part
     parts_st (declare t i e) = parts_set (local t i) e
     parts_st (block t xs) = parts_sts xs
@@ -114,10 +142,12 @@ module _ (P : Plain) (type : Ex → Option ObjectType) (m : ℕ) (k : PlainMetho
     parts_st (break t) = []
     parts_st (continue t) = []
 
+    -- the parts of a list of statements
     pub parts_sts : Sts → List Part
     parts_sts no_st = []
     parts_sts (st_then x xs) = parts_st x ++ parts_sts xs
 
+    -- the parts of the arms of an `if` and of its `else`
     pub parts_arms : Arms → List Part
     parts_arms no_other = []
     parts_arms (otherwise xs) = parts_sts xs
@@ -128,5 +158,6 @@ abbrev pub parts_body : Plain → (Ex → Option ObjectType) → ℕ → PlainMe
 parts_body P type m k None = []
 parts_body P type m k (Some xs) = parts_sts P type m k (label_sts 0 xs)
 
+-- the parts of the body of the method m, and none where it has no body
 unfoldable pub parts_of : Plain → ℕ → PlainMethod → List Part
 parts_of P m k = parts_body P (type_in P m k) m k k.body

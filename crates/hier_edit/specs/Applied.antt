@@ -1,4 +1,4 @@
--- What an edit makes of a hierarchy, and why it is refused.
+-- Believed. What an edit makes of a hierarchy, and why it is refused.
 use Rattle.std.specs.Prelude.{Option, Some, None, Result, Ok, Err}
 use Rattle.fact_model.specs.declared.facts.Facts.{Facts}
 use Rattle.fact_model.specs.declared.sets.PointsTo.{PointsTo}
@@ -22,6 +22,7 @@ fault_of (change.NotEmpty n) = NotEmpty n
 fault_of (change.Cycle n) = Breaks (record { rule = B1; nodes = One n; row = None; column = None })
 fault_of change.Memory = Memory
 
+-- a hierarchy, or the refusal that names an instance against an obligation
 abbrev pub unless_broken : Hierarchy → Option Broken → Result Hierarchy ApplyFault
 unless_broken H None = Ok H
 unless_broken H (Some b) = Err (Breaks b)
@@ -30,6 +31,7 @@ unless_broken H (Some b) = Err (Breaks b)
 abbrev pub tested : Facts → PointsTo → Hierarchy → Result Hierarchy ApplyFault
 tested F pt H = unless_broken H (first_of_edit F pt H)
 
+-- the hierarchy that a change made, where it meets its obligations, or why it is refused
 abbrev pub outcome : Facts → PointsTo → Result Hierarchy ChangeFault → Result Hierarchy ApplyFault
 outcome F pt (Ok H) = tested F pt H
 outcome F pt (Err fault) = Err (fault_of fault)

@@ -1,3 +1,4 @@
 pub mod Shapes
 pub mod Obligations
 pub mod Starts
+pub mod Laws

@@ -1,4 +1,4 @@
--- The obligations B2 to B7. Each is split into the half that stays where an order grows, and the rest.
+-- Mirror. The obligations B2 to B7. Each is split into the half that stays where an order grows, and the rest.
 use Rattle.std.specs.Prelude.{◌≡◌, ◌≢◌, ℕ, true, Some}
 use Rattle.hier_laws.specs.Shapes.{Given, Shape, Offers}
 

@@ -1,4 +1,4 @@
--- What the obligations ask of the facts, the sets and the table, and what they ask of a hierarchy.
+-- Mirror. What the obligations ask of the facts, the sets and the table, and what they ask of a hierarchy.
 use Rattle.std.specs.Prelude.{◌≡◌, ℕ, Bool, true, Option, Some}
 
 -- what the facts, the sets and the table say

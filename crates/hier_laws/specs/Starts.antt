@@ -1,4 +1,5 @@
--- Facts in order with their closed table, and the start: nodes are the concepts with an extent that is not empty.
+-- Mirror. Facts in order with their closed table, and the start: nodes are the concepts with an extent that is not
+-- empty.
 use Rattle.std.specs.Prelude.{◌≡◌, ◌≢◌, ◌↔◌, ◌⊎◌, ℕ, List, Bool, true, false, Some}
 use Rattle.hier_laws.specs.Shapes.{Given, Shape}
 

@@ -1,4 +1,5 @@
--- What an edit makes of a hierarchy, before its obligations are asked (after Streckenbach and Snelting, 2004).
+-- Believed. What an edit makes of a hierarchy, before its obligations are asked (after Streckenbach and Snelting,
+-- 2004).
 use Rattle.std.specs.Prelude.{ℕ, ◌<◌, ◌==◌, ◌&&◌, ◌||◌, Bool, true, false, not, if◌then◌else◌, List, [], ◌∷◌, length, map, Option, Some, None, is_some, unwrap_or, slice_index_or, slice_set, Result, Ok, Err}
 use Rattle.std.specs.Option.{option_map, option_and_then}
 use Rattle.std.specs.List.{list_any, range_with_len}
@@ -120,6 +121,7 @@ first_unknown o (n ∷ ns) = if is_live o n.0 then first_unknown o ns else Some 
 abbrev pub is_placed : Hierarchy → ColId → Bool
 is_placed H c = is_some (place_of_column H c.0)
 
+-- whether a column of this kind is the mark of a type
 abbrev pub is_mark : ColKind → Bool
 is_mark Is = true
 is_mark kind = false

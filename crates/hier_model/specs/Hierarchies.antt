@@ -1,4 +1,4 @@
--- A class hierarchy over the rows and columns of a table, its places, and what is offered at a node.
+-- Believed. A class hierarchy over the rows and columns of a table, its places, and what is offered at a node.
 use Rattle.std.specs.Prelude.{◌≡◌, ℕ, suc, zero, ◌<◌, ◌↔◌, ◌==◌, ◌&&◌, ◌||◌, Bool, true, false, List, [], length, Option, Some, None, slice_index_or, IfSome}
 use Rattle.kaba_base.specs.declared.NodeId.{NodeId}
 use Rattle.kaba_base.specs.declared.ColId.{ColId}
@@ -28,6 +28,7 @@ abbrev pub hierarchy_of : Ordered → List (Option NodeId) → List NodeId → L
 hierarchy_of order columns rows types members origins table =
     record { order = order; columns = columns; rows = rows; types = types; members = members; origins = origins; table = table }
 
+-- the id of a node by its number
 abbrev pub node : ℕ → NodeId
 node n = record { 0 = n }
 
@@ -39,9 +40,11 @@ place_of_column H c = slice_index_or H.columns c None
 abbrev pub place_of_row : Hierarchy → ℕ → ℕ
 place_of_row H r = (slice_index_or H.rows r (node 0)).0
 
+-- the name of the type of a node
 abbrev pub type_name : Hierarchy → ℕ → List ℕ
 type_name H n = slice_index_or H.types n []
 
+-- the name that the field or method of a column has in the hierarchy
 abbrev pub member_name : Hierarchy → ℕ → List ℕ
 member_name H c = slice_index_or H.members c []
 

@@ -1,4 +1,4 @@
--- The nodes of a lattice's concepts, and the concepts that list a column or a row.
+-- Mirror. The nodes of a lattice's concepts, and the concepts that list a column or a row.
 use Rattle.std.specs.Prelude.{ℕ, ◌==◌, ◌&&◌, Bool, false, List, length, map, Option, unwrap_or, slice_get}
 use Rattle.std.specs.Option.{option_map_or}
 use Rattle.std.specs.List.{list_any}
@@ -15,6 +15,7 @@ use Rattle.hier_model.specs.Start.{concept_at, is_filled, is_subset}
 abbrev pub extent_of : List Concept → ℕ → List Bool
 extent_of concepts k = (concept_at (map pair_of concepts) k).0
 
+-- the columns of the concept at a number
 abbrev pub intent_of : List Concept → ℕ → List Bool
 intent_of concepts k = (concept_at (map pair_of concepts) k).1
 
@@ -26,6 +27,7 @@ is_above_concept concepts a b = is_filled (extent_of concepts a) && is_subset (e
 abbrev pub lists_column : List Concept → ℕ → ℕ → Bool
 lists_column concepts k c = option_map_or (λ x. list_any (λ d. d.0 == c) x.columns.items) (slice_get concepts k) false
 
+-- whether the concept at k lists a row
 abbrev pub lists_row : List Concept → ℕ → ℕ → Bool
 lists_row concepts k r = option_map_or (λ x. list_any (λ q. q.0 == r) x.rows.items) (slice_get concepts k) false
 
@@ -38,11 +40,14 @@ lists concepts k (entry.Row r) = lists_row concepts k r.0
 abbrev pub listed : List Concept → Entry → Option NodeId
 listed concepts e = first_below (length concepts) (λ k. when (lists concepts k e) (node k))
 
+-- the node of the first concept that lists a column
 abbrev pub listed_column : List Concept → ℕ → Option NodeId
 listed_column concepts c = first_below (length concepts) (λ k. when (lists_column concepts k c) (node k))
 
+-- the node of the first concept that lists a row
 abbrev pub listed_row : List Concept → ℕ → Option NodeId
 listed_row concepts r = first_below (length concepts) (λ k. when (lists_row concepts k r) (node k))
 
+-- the node that lists a row, and node 0 where none does
 abbrev pub row_node : List Concept → ℕ → NodeId
 row_node concepts r = unwrap_or (listed_row concepts r) (node 0)

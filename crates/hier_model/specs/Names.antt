@@ -1,4 +1,4 @@
--- The names that a hierarchy starts with.
+-- Believed. The names that a hierarchy starts with.
 use Rattle.std.specs.Prelude.{ℕ, suc, zero, ◌+◌, ◌==◌, ◌&&◌, max, Bool, true, false, not, if◌then◌else◌, List, [], ◌∷◌, ◌++◌, length, Option, Some, None, unwrap_or, slice_index_or, slice_get, replicate}
 use Rattle.std.specs.Option.{option_map_or}
 use Rattle.std.specs.List.{list_any}
@@ -35,6 +35,7 @@ underscores taken name = unwrap_or (first_below (longest taken + 2) (λ k. when 
 abbrev pub free_name : List (List ℕ) → List ℕ → List ℕ
 free_name taken name = lengthened name (underscores taken name)
 
+-- whether a column of this kind is a field
 abbrev pub is_field : ColKind → Bool
 is_field Fld = true
 is_field kind = false
@@ -51,6 +52,7 @@ is_namesake_above F c d = is_field (column_kind F d) && bytes_eq (name_of F c) (
 abbrev pub is_shared : Facts → ℕ → Bool
 is_shared F c = is_field (column_kind F c) && any_below (length F.columns.items) (λ d. is_namesake_above F c d)
 
+-- the name of a class or interface in the program
 abbrev pub class_name : Facts → ℕ → List ℕ
 class_name F a = option_map_or (λ k. k.name) (slice_get F.classes.items a) []
 

@@ -1,4 +1,4 @@
--- What the tests of a node are asked for.
+-- Mirror. What the tests of a node are asked for.
 use Rattle.std.specs.Prelude.{◌≡◌, ℕ, true}
 use Rattle.kaba_order.specs.Orders.{is_live}
 use Rattle.fact_model.specs.InRange.{InRange}

@@ -1,4 +1,4 @@
--- The hierarchy that a concept lattice proposes (Snelting and Tip, 2000).
+-- Believed. The hierarchy that a concept lattice proposes (Snelting and Tip, 2000).
 use Rattle.std.specs.Prelude.{ℕ, ◌&&◌, ◌||◌, Bool, true, not, List, [], ◌∷◌, length, map, filter, Option, Some, unwrap_or, slice_index_or}
 use Rattle.std.specs.List.{list_any, list_all, range_with_len}
 use Rattle.kaba_base.specs.declared.NodeId.{NodeId}
@@ -69,6 +69,7 @@ owners F columns = filter (λ k. not (is_interface F k.0)) (map (λ c. (column_a
 abbrev pub start_origin : Facts → List Bool → Option ClassId
 start_origin F intent = Some (unwrap_or (lowest F (owners F intent)) (record { 0 = 0 }))
 
+-- the origin of the node of each concept, in their order
 abbrev pub origins_of : Facts → List Pair → List (Option ClassId)
 origins_of F concepts = map (λ k. start_origin F k.1) concepts
 

@@ -1,4 +1,4 @@
--- The names that a table of texts holds.
+-- Mirror. The names that a table of texts holds.
 use Rattle.std.specs.Prelude.{◌≡◌, ℕ, List, map, String, string_bytes}
 use Rattle.std.specs.Str.{chars}
 use Rattle.std.specs.declared.alloc.Global.{Global}

@@ -1,4 +1,4 @@
--- What the obligations ask of the facts and of their sets, as tests.
+-- Believed. What the obligations ask of the facts and of their sets, as tests.
 use Rattle.std.specs.Prelude.{ℕ, ◌+◌, ◌==◌, ◌&&◌, ◌||◌, max, nat_lt, Bool, true, false, not, List, [], ◌∷◌, length, Option, Some, None}
 use Rattle.std.specs.List.{list_any}
 use Rattle.kaba_base.specs.declared.ColId.{ColId}

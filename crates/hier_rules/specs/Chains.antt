@@ -1,4 +1,4 @@
--- What the search for unordered class nodes makes.
+-- Mirror. What the search for unordered class nodes makes.
 use Rattle.std.specs.Prelude.{◌≡◌, ℕ, suc, zero, ◌+◌, ◌<◌, ◌==◌, ◌&&◌, nat_lt, not, cond, length, List, Bool, slice_index_or}
 use Rattle.kaba_bits.specs.Sets.{bit}
 use Rattle.fact_model.specs.declared.facts.Facts.{Facts}

@@ -1,4 +1,4 @@
--- The first instance of the first broken obligation.
+-- Believed. The first instance of the first broken obligation.
 use Rattle.std.specs.Prelude.{◌≡◌, Option, None}
 use Rattle.kaba_bits.specs.Sets.{or_else}
 use Rattle.fact_model.specs.declared.facts.Facts.{Facts}

@@ -1,4 +1,4 @@
--- What the obligations are asked of.
+-- Mirror. What the obligations are asked of.
 use Rattle.fact_model.specs.InRange.{InRange}
 use Rattle.fact_model.specs.Flowing.{AreSets}
 use Rattle.hier_model.specs.Hierarchies.{IsHierarchyOf}

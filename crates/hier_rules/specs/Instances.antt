@@ -1,4 +1,4 @@
--- Instances by the numbers of their nodes, row and column.
+-- Believed. Instances by the numbers of their nodes, row and column.
 use Rattle.std.specs.Prelude.{ℕ, Some, None}
 use Rattle.kaba_base.specs.declared.RowId.{RowId}
 use Rattle.kaba_base.specs.declared.ColId.{ColId}
@@ -7,9 +7,11 @@ use Rattle.hier_rules.specs.declared.broken.Rule.{Rule}
 use Rattle.hier_rules.specs.declared.broken.Broken.{Broken}
 use Rattle.hier_rules.specs.declared.broken.Nodes.TheVariants.{One, Two, Three}
 
+-- the id of a row by its number
 abbrev pub row_id : ℕ → RowId
 row_id r = record { 0 = r }
 
+-- the id of a column by its number
 abbrev pub column_id : ℕ → ColId
 column_id c = record { 0 = c }
 

@@ -1,4 +1,5 @@
--- The obligation B8: names are identifiers, and apart from each other. Its first instance, by part, node and column.
+-- Believed. The obligation B8: names are identifiers, and apart from each other. Its first instance, by part, node and
+-- column.
 use Rattle.std.specs.Prelude.{ℕ, ◌==◌, ◌&&◌, ◌||◌, Bool, true, false, not, List, [], ◌∷◌, length, codes, Option, None}
 use Rattle.std.specs.List.{list_any}
 use Rattle.std.specs.Str.{bytes_eq}
@@ -51,12 +52,15 @@ module _ (F : Facts) (H : Hierarchy) where
   abbrev pub unwritable_type : ℕ → Option Broken
   unwritable_type n = when (is_live H.order n && not (is_name (type_name H n))) (of_node B8 n)
 
+  -- whether a field or method stands at a node under a name that is no identifier, or a keyword
   abbrev pub is_unwritable : ℕ → ℕ → Bool
   is_unwritable n c = stands_at H n c && is_member (column_kind F c) && not (is_name (member_name H c))
 
+  -- the instance of a column whose name at a node is unwritable
   abbrev pub unwritable : ℕ → ℕ → Option Broken
   unwritable n c = when (is_unwritable n c) (of_column B8 n c)
 
+  -- the first instance against part 1: by node, its type before its columns
   abbrev pub first_unwritable : Option Broken
   first_unwritable = first_below (length H.order.live) (λ n. or_else (unwritable_type n) (first_below (length F.columns.items) (unwritable n)))
 
@@ -68,9 +72,11 @@ module _ (F : Facts) (H : Hierarchy) where
   abbrev pub is_taken_type : ℕ → Bool
   is_taken_type n = is_other_type n (type_name H n) || is_reserved F (type_name H n) || is_variable F (type_name H n)
 
+  -- the instance of a node whose type has a name that is taken
   abbrev pub taken_type : ℕ → Option Broken
   taken_type n = when (is_live H.order n && is_taken_type n) (of_node B8 n)
 
+  -- the first instance against part 2, by node
   abbrev pub first_taken_type : Option Broken
   first_taken_type = first_below (length H.order.live) taken_type
 
@@ -82,9 +88,11 @@ module _ (F : Facts) (H : Hierarchy) where
   abbrev pub is_taken_name : ℕ → Bool
   is_taken_name c = is_type (member_name H c) || is_reserved F (member_name H c)
 
+  -- the instance of a field whose name at a node is taken
   abbrev pub taken_field : ℕ → ℕ → Option Broken
   taken_field n c = when (stands_at H n c && is_field (column_kind F c) && is_taken_name c) (of_column B8 n c)
 
+  -- the first instance against part 3, by node and column
   abbrev pub first_taken_field : Option Broken
   first_taken_field = first_below (length H.order.live) (λ n. first_below (length F.columns.items) (taken_field n))
 
@@ -98,11 +106,14 @@ module _ (F : Facts) (H : Hierarchy) where
   abbrev pub is_confused : ℕ → ℕ → Bool
   is_confused n d = is_offered H n d && any_below d (λ c. is_offered H n c && clash c d)
 
+  -- the instance of a column that has the name of one before it, at a node that offers both
   abbrev pub confused : ℕ → ℕ → Option Broken
   confused n d = when (is_confused n d) (of_column B8 n d)
 
+  -- the first instance against part 4, by node and column
   abbrev pub first_confused : Option Broken
   first_confused = first_below (length H.order.live) (λ n. first_below (length F.columns.items) (confused n))
 
+  -- the first instance against B8: the parts are asked in their order
   abbrev pub first_misnamed : Option Broken
   first_misnamed = or_else first_unwritable (or_else first_taken_type (or_else first_taken_field first_confused))

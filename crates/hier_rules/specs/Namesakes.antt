@@ -1,4 +1,4 @@
--- What the search for members of one name makes.
+-- Mirror. What the search for members of one name makes.
 use Rattle.std.specs.Prelude.{◌≡◌, ℕ, suc, zero, ◌<◌, ◌≤◌, ◌&&◌, cond, Bool, true, not, List, length, Contains, Option, Some, None, slice_index_or}
 use Rattle.std.specs.List.Sorted.{IsNonDecreasingBy}
 use Rattle.std.specs.Str.{bytes_eq}

@@ -1,4 +1,5 @@
--- The obligations B2 to B7 and B9: for each the first instance against it, in the order in which they are asked.
+-- Believed. The obligations B2 to B7 and B9: for each the first instance against it, in the order in which they are
+-- asked.
 use Rattle.std.specs.Prelude.{ℕ, ◌==◌, ◌&&◌, ◌||◌, nat_lt, Bool, true, false, not, length, cond, Option, Some, None}
 use Rattle.std.specs.Option.{option_and_then}
 use Rattle.kaba_base.specs.declared.NodeId.{NodeId}
@@ -53,6 +54,7 @@ module _ (F : Facts) (H : Hierarchy) where
   abbrev pub unoffered : ℕ → ℕ → Option Broken
   unoffered r c = when (bit (row H.table r) c && not (is_offered H (place_of_row H r) c)) (of_both B2 (place_of_row H r) r c)
 
+  -- the first instance against B2, by row and column
   abbrev pub first_unoffered : Option Broken
   first_unoffered = first_below (length F.rows.items) (λ r. first_below (length F.columns.items) (unoffered r))
 
@@ -64,6 +66,7 @@ module _ (F : Facts) (H : Hierarchy) where
   abbrev pub is_nearer : ℕ → ℕ → ℕ → Bool
   is_nearer n d e = is_other_body F d e && is_offered H n e && column_le H e d
 
+  -- whether some other body that a node offers is nearer than d
   abbrev pub has_nearer : ℕ → ℕ → Bool
   has_nearer n d = any_below (length F.columns.items) (is_nearer n d)
 
@@ -75,6 +78,7 @@ module _ (F : Facts) (H : Hierarchy) where
   abbrev pub is_between : ℕ → ℕ → ℕ → Bool
   is_between r d e = is_other_body F d e && is_above H (place_of_row H r) e && (column_le H e d || (column_class F e == row_class F r))
 
+  -- whether some other body is between the row r and d
   abbrev pub has_between : ℕ → ℕ → Bool
   has_between r d = any_below (length F.columns.items) (is_between r d)
 
@@ -82,6 +86,7 @@ module _ (F : Facts) (H : Hierarchy) where
   abbrev pub wrong_super : ℕ → ℕ → Option Broken
   wrong_super r c = when (is_super F r c && (not (is_above H (place_of_row H r) c) || has_between r c)) (of_both B5 (place_of_row H r) r c)
 
+  -- the first instance against B5, by row and column
   abbrev pub first_wrong_super : Option Broken
   first_wrong_super = first_below (length F.rows.items) (λ r. first_below (length F.columns.items) (wrong_super r))
 
@@ -93,6 +98,7 @@ module _ (F : Facts) (H : Hierarchy) where
   abbrev pub two_bodies : ℕ → ℕ → ℕ → Option Broken
   two_bodies n c d = when (is_body_at n c && (is_body_at n d && nat_lt c d && is_one_slot (column_slot F c) (column_slot F d))) (of_column B6 n d)
 
+  -- the first instance against B6, by node and columns
   abbrev pub first_two_bodies : Option Broken
   first_two_bodies = first_below (length H.order.live) (λ n. first_below (length F.columns.items) (λ c. first_below (length F.columns.items) (two_bodies n c)))
 
@@ -104,6 +110,7 @@ module _ (F : Facts) (H : Hierarchy) where
   abbrev pub unchained : ℕ → ℕ → ℕ → Option Broken
   unchained n x y = when (is_class_above n x && (is_class_above n y && nat_lt x y && not (is_le H.order x y) && not (is_le H.order y x))) (of_three B9 n x y)
 
+  -- the first instance against B9, by node and then the two above it
   abbrev pub first_unchained : Option Broken
   first_unchained = first_below (length H.order.live) (λ n. first_below (length H.order.live) (λ x. first_below (length H.order.live) (unchained n x)))
 
@@ -112,14 +119,17 @@ module _ (F : Facts) (pt : PointsTo) (H : Hierarchy) where
   abbrev pub unheld : ℕ → ℕ → Option Broken
   unheld o v = when (bit (row pt.rows.items v) o && not (row_le H (site_row F o) v)) (of_row B3 (place_of_site F H o) (place_of_row H v) (site_row F o))
 
+  -- the first instance against B3: the ties before the sites
   abbrev pub first_untied : Option Broken
   first_untied = or_else
       (first_below (length F.rows.items) (λ l. first_below (length F.rows.items) (untied F H l)))
       (first_below (length F.sites.items) (λ o. first_below (length F.rows.items) (unheld o)))
 
+  -- the instance against B4 of a site and a slot, where some call of the slot may meet the site
   abbrev pub wrong_need : ℕ → ℕ → Option Broken
   wrong_need s x = cond (is_called F pt s x) (option_and_then (wrong_body F H s) (finds F (site_class F s) x)) None
 
+  -- the first instance against B4, by site and slot
   abbrev pub first_wrong_need : Option Broken
   first_wrong_need = first_below (length F.sites.items) (λ s. first_below (slots_of F) (wrong_need s))
 
@@ -134,5 +144,6 @@ module _ (F : Facts) (pt : PointsTo) (H : Hierarchy) where
   abbrev pub first_wrong_of_place : ℕ → Option Broken
   first_wrong_of_place p = first_below (length F.rows.items) (λ t. first_below (length F.sites.items) (wrong_outcome p t))
 
+  -- the first instance against B7, by the place of the test or the store
   abbrev pub first_wrong_outcome : Option Broken
   first_wrong_outcome = first_below (places_of F) first_wrong_of_place

@@ -1,4 +1,4 @@
--- What rows of bits that are made of pairs are.
+-- Mirror. What rows of bits that are made of pairs are.
 use Rattle.std.specs.Prelude.{◌≡◌, ℕ, Bool, List, length}
 use Rattle.kaba_bits.specs.Sets.{bit, row, HasWidth}
 

@@ -1,4 +1,4 @@
--- The names that types and fields cannot have, as sets.
+-- Mirror. The names that types and fields cannot have, as sets.
 use Rattle.std.specs.Prelude.{◌≡◌, ℕ, List, length}
 use Rattle.fact_model.specs.declared.facts.Facts.{Facts}
 use Rattle.hier_model.specs.Hierarchies.{Hierarchy}

@@ -1,4 +1,4 @@
--- What a script comes to on a hierarchy.
+-- Mirror. What a script comes to on a hierarchy.
 use Rattle.std.specs.Prelude.{◌≡◌, ℕ, ◌≤◌, List, length}
 use Rattle.fact_model.specs.declared.facts.Facts.{Facts}
 use Rattle.fact_model.specs.declared.sets.PointsTo.{PointsTo}
@@ -25,6 +25,7 @@ pub record WasEdited (F : Facts) (pt : PointsTo) (H : Hierarchy) (script : List 
   pub few : length edits ≤ most_edits
   pub is : IsEdited F pt H edits e
 
+-- what a script comes to: its first bad line, too many edits, or the hierarchy that its edits make
 abbrev pub IsScripted : Facts → PointsTo → Hierarchy → List ℕ → Scripted → Type 0
 IsScripted F pt H script (scripted.BadLine n) = IsFirstBadLine script n
 IsScripted F pt H script scripted.TooManyEdits = HasTooManyEdits script

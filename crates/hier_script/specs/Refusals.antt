@@ -1,4 +1,4 @@
--- The line of an edit that was refused.
+-- Believed. The line of an edit that was refused.
 use Rattle.std.specs.Prelude.{ℕ, List, [], ◌∷◌, ◌++◌, codes, Option, Some, None}
 use Rattle.std.specs.Fmt.{decimal}
 use Rattle.kaba_base.specs.declared.RowId.{RowId}
@@ -24,6 +24,7 @@ rule_text B7 = codes "B7"
 rule_text B8 = codes "B8"
 rule_text B9 = codes "B9"
 
+-- the one, two or three nodes that an instance names
 abbrev pub nodes_text : Nodes → List ℕ
 nodes_text (One n) = node_word n
 nodes_text (Two n m) = node_word n ++ (codes " " ++ node_word m)
@@ -34,6 +35,7 @@ abbrev pub some_row_text : Option RowId → List ℕ
 some_row_text None = codes "-"
 some_row_text (Some r) = codes "r" ++ decimal r.0
 
+-- a column, or a dash where there is none
 abbrev pub some_column_text : Option ColId → List ℕ
 some_column_text None = codes "-"
 some_column_text (Some c) = column_word c

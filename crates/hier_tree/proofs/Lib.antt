@@ -1,2 +1,12 @@
 pub mod GrowLemmas
 pub mod ConflictLemmas
+pub mod OriginLemmas
+pub mod GrownLemmas
+pub mod ReadLemmas
+pub mod MadeLemmas
+pub mod NameLemmas
+pub mod KeptLemmas
+pub mod ReachedLemmas
+pub mod FoundLemmas
+pub mod StartKept
+pub mod TreeIsFound

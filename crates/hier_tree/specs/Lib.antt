@@ -1,1 +1,5 @@
 pub mod Trees
+pub mod Origins
+pub mod Kept
+pub mod Reached
+pub mod Laws

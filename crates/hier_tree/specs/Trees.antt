@@ -1,4 +1,4 @@
--- How the class nodes become a tree: step by step, each by the first of its tries that is accepted.
+-- Believed. How the class nodes become a tree: step by step, each by the first of its tries that is accepted.
 use Rattle.std.specs.Prelude.{◌≡◌, ◌==◌, ◌&&◌, not, Bool, false, if◌then◌else◌, List, [], ◌∷◌, ◌++◌, length, filter, map, Option, Some, None, Result, Ok, Err}
 use Rattle.std.specs.List.{range_with_len}
 use Rattle.kaba_base.specs.declared.NodeId.{NodeId}
@@ -33,6 +33,7 @@ conflict_at (One n) = record { lower = n; first = n; second = n }
 conflict_at (Two n x) = record { lower = n; first = x; second = x }
 conflict_at (Three n x y) = record { lower = n; first = x; second = y }
 
+-- the conflict of an instance against B9
 abbrev pub conflict_of : Broken → Conflict
 conflict_of b = conflict_at b.nodes
 
@@ -49,9 +50,13 @@ nodes_from H k = map node (filter (λ n. is_live H.order n && is_from k (origin_
 abbrev pub tries_of_one : Hierarchy → ClassId → NodeId → NodeId → List Try
 tries_of_one H k x y = MakeOne (x ∷ y ∷ []) ∷ MakeOne (nodes_from H k) ∷ PutUnder x y ∷ PutUnder y x ∷ []
 
--- a node whose origin is strictly below that of another
+-- two nodes of which the first has the lower origin, strictly below that of the second
 abbrev pub tries_of_lower : NodeId → NodeId → List Try
-tries_of_lower l h = PutUnder l h ∷ MakeOne (l ∷ h ∷ []) ∷ PutUnder h l ∷ []
+tries_of_lower x y = PutUnder x y ∷ MakeOne (x ∷ y ∷ []) ∷ PutUnder y x ∷ []
+
+-- and two of which the first has the higher origin: the merge names them in the same order
+abbrev pub tries_of_higher : NodeId → NodeId → List Try
+tries_of_higher x y = PutUnder y x ∷ MakeOne (x ∷ y ∷ []) ∷ PutUnder x y ∷ []
 
 -- two nodes of which one has no origin, or whose origins are not comparable
 abbrev pub tries_of_others : NodeId → NodeId → List Try
@@ -62,10 +67,11 @@ module _ (F : Facts) where
   abbrev pub tries_by : Hierarchy → NodeId → NodeId → Option ClassId → Option ClassId → List Try
   tries_by H x y (Some k) (Some l) =
       if k.0 == l.0 then tries_of_one H k x y
-      else (if below F k.0 l.0 then tries_of_lower x y else (if below F l.0 k.0 then tries_of_lower y x else tries_of_others x y))
+      else (if below F k.0 l.0 then tries_of_lower x y else (if below F l.0 k.0 then tries_of_higher x y else tries_of_others x y))
   tries_by H x y None l = tries_of_others x y
   tries_by H x y (Some k) None = tries_of_others x y
 
+  -- the tries for a conflict, in their order, by the origins of its two nodes
   abbrev pub tries_of : Hierarchy → Conflict → List Try
   tries_of H c = tries_by H c.first c.second (origin_of H c.first.0) (origin_of H c.second.0)
 

@@ -1,7 +1,10 @@
 //! The steps that bring the class nodes of a hierarchy into a tree, as definitions.
+//!
+//! A tree of classes is always found where a script only drops nodes and gives fresh names: a law, and its lemmas.
 #![tactic(auto)]
 
 ghost use Rattle.hier_tree.specs.Trees.{OneTree};
+ghost use Rattle.hier_tree.specs.Laws.{TreeIsFound};
 
 use kaba_base::NodeId;
 
@@ -21,4 +24,11 @@ pub struct Conflict {
 /// and so are their ends, with the hierarchy that each leaves.
 pub fn one_tree()
     ensures { OneTree }
+{}
+
+/// For facts in order in which all types are classes, with their sets, their closed table and its lattice: the
+/// steps towards a tree from the lattice's hierarchy, after accepted drops and fresh renames, end at a tree and
+/// not at a conflict whose tries are all refused (after Streckenbach and Snelting, 2004, who search for one).
+pub fn tree_is_found()
+    ensures { TreeIsFound }
 {}

@@ -1,4 +1,4 @@
--- The text of a hierarchy.
+-- Believed. The text of a hierarchy.
 use Rattle.std.specs.Prelude.{ℕ, suc, zero, ◌==◌, ◌&&◌, Bool, true, false, not, List, [], ◌∷◌, ◌++◌, length, codes, Option, Some, None, slice_get, if◌then◌else◌}
 use Rattle.std.specs.List.{flat_map}
 use Rattle.std.specs.Fmt.{decimal}
@@ -29,9 +29,11 @@ is_between o a b k = is_lt o a k && is_lt o k b
 abbrev pub is_upper_cover : Ordered → ℕ → ℕ → Bool
 is_upper_cover o a b = is_lt o a b && not (any_below (length o.live) (is_between o a b))
 
+-- the numbers of the live nodes, rising
 abbrev pub live_nodes : Hierarchy → List ℕ
 live_nodes H = those_below (length H.order.live) (is_live H.order)
 
+-- the upper covers of a node, by rising number
 abbrev pub covers_of : Hierarchy → ℕ → List ℕ
 covers_of H n = those_below (length H.order.live) (is_upper_cover H.order n)
 
@@ -39,6 +41,7 @@ covers_of H n = those_below (length H.order.live) (is_upper_cover H.order n)
 abbrev pub columns_at : Facts → Hierarchy → ℕ → List ℕ
 columns_at F H n = those_below (length F.columns.items) (stands_at H n)
 
+-- the rows that stand at a node, by rising number
 abbrev pub rows_at : Facts → Hierarchy → ℕ → List ℕ
 rows_at F H n = those_below (length F.rows.items) (λ r. place_of_row H r == n)
 
@@ -47,9 +50,11 @@ abbrev pub name_part : Bool → List ℕ → List ℕ
 name_part true name = []
 name_part false name = codes ":" ++ encode_utf8_all name
 
+-- a column: its number, and the name that its member has
 abbrev pub column_part : Facts → Hierarchy → ℕ → List ℕ
 column_part F H c = codes " c" ++ (decimal c ++ name_part (is_mark (column_kind F c)) (member_name H c))
 
+-- columns one after the other, and a dash for none
 abbrev pub column_parts : Facts → Hierarchy → List ℕ → List ℕ
 column_parts F H [] = codes " -"
 column_parts F H (c ∷ cs) = flat_map (column_part F H) (c ∷ cs)
@@ -58,6 +63,7 @@ column_parts F H (c ∷ cs) = flat_map (column_part F H) (c ∷ cs)
 abbrev pub columns_text : Facts → Hierarchy → List ℕ → List ℕ
 columns_text F H columns = codes " columns:" ++ column_parts F H columns
 
+-- the name of a class of the program; nothing where there is none
 abbrev pub name_in : Option ClassInfo → List ℕ
 name_in None = []
 name_in (Some k) = encode_utf8_all k.name
@@ -67,6 +73,7 @@ abbrev pub origin_text : Facts → Option ClassId → List ℕ
 origin_text F None = codes "-"
 origin_text F (Some k) = name_in (slice_get F.classes.items k.0)
 
+-- the word for a node that is a class, and for one that is an interface
 abbrev pub kind_text : Bool → List ℕ
 kind_text true = codes "class"
 kind_text false = codes "interface"
@@ -85,6 +92,7 @@ node_line F H n =
     ++ (columns_text F H (columns_at F H n)
     ++ (part_text (codes " rows:") (codes "r") (rows_at F H n) ++ codes "\n")))
 
+-- the lines of some nodes, one after the other
 abbrev pub node_lines : Facts → Hierarchy → List ℕ → List ℕ
 node_lines F H nodes = flat_map (node_line F H) nodes
 

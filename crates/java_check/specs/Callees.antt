@@ -1,4 +1,4 @@
--- What a call calls, and its signature.
+-- Mirror. What a call calls, and its signature.
 use Rattle.std.specs.Prelude.{[], None}
 use Rattle.std.specs.Option.{unwrap_or}
 use Rattle.java_core.specs.Programs.{Plain}

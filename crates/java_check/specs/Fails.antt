@@ -1,4 +1,4 @@
--- Which rule of types fails in a program, and where: one constructor a rule.
+-- Believed. Which rule of types fails in a program, and where: one constructor a rule.
 use Rattle.std.specs.Prelude.{◌≡◌, ◌&&◌, ℕ, Bool, true, false, List, [], ◌∷◌, Option, Some, None, slice_get}
 use Rattle.std.specs.Option.{is_some, option_map_or}
 use Rattle.kaba_base.specs.declared.Place.{Place}
@@ -131,6 +131,7 @@ module _ (P : Plain) (g : Env) where
 
   -- a rule fails in a statement, a list of statements or the arms of an `if`
   mutual
+    -- a statement breaks a rule, itself or in a part, at this place
     pub data FailsSt : St → Kind → Place → Type 0 where
       itself_st : {x : St} {k : Kind} {p : Place} → BreaksSt x k p → FailsSt x k p
       in_ex : {x : St} {e : Ex} {k : Kind} {p : Place} → HasEx x e → Fails e k p → FailsSt x k p
@@ -143,10 +144,12 @@ module _ (P : Plain) (g : Env) where
       in_body : {t : Tag} {is_while : Bool} {first step body : Sts} {test : Option Ex} {k : Kind} {p : Place} → FailsSts body k p
           → FailsSt (loop t is_while first test step body) k p
 
+    -- one of a list of statements breaks a rule
     pub data FailsSts : Sts → Kind → Place → Type 0 where
       here : {x : St} {xs : Sts} {k : Kind} {p : Place} → FailsSt x k p → FailsSts (st_then x xs) k p
       later : {x : St} {xs : Sts} {k : Kind} {p : Place} → FailsSts xs k p → FailsSts (st_then x xs) k p
 
+    -- the arms of an `if` break a rule: in a test or in a body
     pub data FailsArms : Arms → Kind → Place → Type 0 where
       in_else : {xs : Sts} {k : Kind} {p : Place} → FailsSts xs k p → FailsArms (otherwise xs) k p
       in_test : {e : Ex} {xs : Sts} {more : Arms} {k : Kind} {p : Place} → Fails e k p → FailsArms (arm e xs more) k p

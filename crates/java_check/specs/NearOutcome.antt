@@ -1,4 +1,4 @@
--- What is kept on a walk upwards from a class: for each slot the first method that a class on the way declares.
+-- Mirror. What is kept on a walk upwards from a class: for each slot the first method that a class on the way declares.
 use Rattle.std.specs.Prelude.{ℕ, zero, suc, List, Option, None, slice_index_or}
 use Rattle.std.specs.Option.{option_and_then}
 use Rattle.kaba_base.specs.declared.ClassId.{ClassId}

@@ -1,4 +1,5 @@
--- What is answered of each form of a body: what it gives, or the first rule of types that fails, from the left and parts before the whole.
+-- Mirror. What is answered of each form of a body: what it gives, or the first rule of types that fails, from the left
+-- and parts before the whole.
 use Rattle.std.specs.Prelude.{ℕ, ◌&&◌, Bool, true, false, List, [], ◌∷◌, Option, Some, None, Result, Ok, Err, slice_get}
 use Rattle.std.specs.Option.{option_map_or, is_some}
 use Rattle.java_core.specs.declared.Ty.{Ty}
@@ -20,6 +21,7 @@ use Rattle.java_core.specs.Statics.{static_seen as seen, given_of}
 abbrev pub env_in : Plain → ℕ → Env
 env_in P m = option_map_or (λ k. env_of m k) (slice_get P.methods m) (record { body = m; self = 0; locals = []; result = None })
 
+-- what the check of an expression gives: its static type, or the rule that it breaks
 abbrev pub Answer : Type 0
 Answer = Result declared.Static CheckFault
 
@@ -28,6 +30,7 @@ abbrev pub and_then : {A B : Type 0} → Result A CheckFault → (A → Result B
 and_then (Ok x) f = f x
 and_then (Err e) f = Err e
 
+-- the refusal by a rule, at the place of a tag
 abbrev pub refused : {A : Type 0} → Kind → Tag → Result A CheckFault
 refused k t = Err (IllTyped k t.place)
 
@@ -36,10 +39,12 @@ abbrev pub asked : {A : Type 0} → Bool → Kind → Tag → A → Result A Che
 asked true k t x = Ok x
 asked false k t x = refused k t
 
+-- the answer for a field: its type, or that there is none
 abbrev pub member_answer : Option Ty → Tag → Answer
 member_answer None t = refused NoMember t
 member_answer (Some u) t = Ok (Value u)
 
+-- the answer for a creation: the class must be one of which objects can be made, and there are no arguments
 abbrev pub create_answer : Bool → Exs → ℕ → Tag → Answer
 create_answer false es c t = refused AbstractNew t
 create_answer true no_ex c t = Ok (Value (class_type c))
@@ -50,16 +55,19 @@ abbrev pub call_answer : Option Signature → (List Ty → Result (Unit {0}) Che
 call_answer None args t = refused NoMember t
 call_answer (Some s) args t = and_then (args s.params) (λ _. Ok (given_of s.result))
 
+-- the answer for a call on `super` of a method that was found: it must have a body
 abbrev pub super_body : Plain → Bool → ℕ → (List Ty → Result (Unit {0}) CheckFault) → Tag → Answer
 super_body P false m args t = refused MissingBody t
 super_body P true m args t = call_answer (signature_of_method P m) args t
 
+-- the answer for a call on `super`: the method must be there and have a body
 abbrev pub super_answer : Plain → Option ℕ → (List Ty → Result (Unit {0}) CheckFault) → Tag → Answer
 super_answer P None args t = refused MissingBody t
 super_answer P (Some m) args t = super_body P (has_body P m) m args t
 
 module _ (P : Plain) (g : Env) where
   abbrev mutual
+    -- the answer for an expression: its static type, or the first rule that it breaks
     pub answer : Ex → Answer
     answer (number t n) = Ok (Value (plain_type Int))
     answer (character t c) = Ok (Value (plain_type Char))

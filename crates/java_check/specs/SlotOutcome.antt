@@ -1,4 +1,5 @@
--- What is answered of the classes for 64 slots at a time: bit i of the word of a class is for the slot 64 b + i.
+-- Mirror. What is answered of the classes for 64 slots at a time: bit i of the word of a class is for the slot 64 b +
+-- i.
 use Rattle.std.specs.Prelude.{◌≡◌, ℕ, ◌+◌, ◌*◌, ◌/◌, ◌<◌, ◌==◌, ◌&&◌, ◌||◌, Bool, true, false, not, List, [], ◌∷◌, Contains, Option, Some, None, slice_get, slice_index_or, bit_or, bit_and}
 use Rattle.std.specs.Option.{option_map_or, is_some}
 use Rattle.std.specs.Int.{bit_at}
@@ -18,6 +19,7 @@ abbrev pub batch_place : ℕ → Option ℕ → ℕ
 batch_place slots None = slots / 64 + 1
 batch_place slots (Some s) = s / 64
 
+-- the number under which a method is listed, by its slot
 abbrev pub method_batch : ℕ → Method → ℕ
 method_batch slots m = batch_place slots m.slot
 
@@ -91,6 +93,7 @@ abbrev pub is_nearest_at : Plain → List ℕ → List ℕ → List ℕ → ℕ 
 is_nearest_at P table having lacking none c =
     is_within (own_at lacking c) (word_at table c) && is_within (parent_word P table none c) (bit_or (word_at table c) (own_at having c))
 
+-- whether the word of c has its own bits, those of its superclass and those of its interfaces
 abbrev pub is_above_at : Plain → List ℕ → List ℕ → ℕ → Bool
 is_above_at P table start c =
     is_within (own_at start c) (word_at table c)
@@ -136,6 +139,7 @@ IsFineFor P b c = (m i : ℕ) (k : PlainMethod) → slice_get P.methods m ≡ So
 abbrev pub is_bare : Plain → ℕ → Bool
 is_bare P m = option_map_or (λ k. not (is_some k.body)) (slice_get P.methods m) false
 
+-- whether one of these methods has no body
 abbrev pub has_bare : Plain → List ℕ → Bool
 has_bare P [] = false
 has_bare P (m ∷ ms) = is_bare P m || has_bare P ms

@@ -1,4 +1,5 @@
--- What is answered of each statement: the first rule of types that fails, from the left and parts before the whole.
+-- Mirror. What is answered of each statement: the first rule of types that fails, from the left and parts before the
+-- whole.
 use Rattle.std.specs.Prelude.{ℕ, ◌&&◌, Option, Some, None, Result, Ok, slice_get}
 use Rattle.std.specs.Option.{is_some, is_none}
 use Rattle.java_core.specs.declared.Ty.{Ty}
@@ -18,6 +19,7 @@ module _ (P : Plain) (g : Env) where
   field_answer None t = refused NoMember t
   field_answer (Some f) t = Ok (given_of (field_type P f))
 
+  -- the answer for the target of an assignment: its static type, or the rule that it breaks
   abbrev pub target_answer : Tag → Target → Answer
   target_answer a (to_local t i) = Ok (given_of (slice_get g.locals i))
   target_answer a (to_static t f) = Ok (given_of (field_type P f))
@@ -28,21 +30,26 @@ module _ (P : Plain) (g : Env) where
       (given_of (element_of (seen s)))))
   target_answer a no_target = refused Assign a
 
+  -- the answer for a test: it must be a boolean
   abbrev pub condition_answer : Ex → Result (Unit {0}) CheckFault
   condition_answer e = and_then (answer P g e) (λ s. asked (is_boolean (seen s)) Condition (tag_of e) (tt {0}))
 
+  -- the answer for the test of a loop, where it has one
   abbrev pub test_answer : Option Ex → Result (Unit {0}) CheckFault
   test_answer None = Ok (tt {0})
   test_answer (Some e) = condition_answer e
 
+  -- the answer for a value that flows into something of the type: it must fit
   abbrev pub assign_answer : Answer → Static → Tag → Result (Unit {0}) CheckFault
   assign_answer r d t = and_then r (λ s. asked (fits_in P (seen s) d) Assign t (tt {0}))
 
+  -- the answer for a `return` with a value: the method must have a result, and the value must fit it
   abbrev pub return_answer : Option Ty → declared.Static → Tag → Result (Unit {0}) CheckFault
   return_answer None s t = refused Return t
   return_answer (Some u) s t = asked (fits P (seen s) u) Return t (tt {0})
 
   abbrev mutual
+    -- the answer for a statement: the first rule that it breaks, where it breaks one
     pub st_answer : St → Result (Unit {0}) CheckFault
     st_answer (declare t i None) = Ok (tt {0})
     st_answer (declare t i (Some e)) = assign_answer (answer P g e) (or_nothing (slice_get g.locals i)) t
@@ -59,10 +66,12 @@ module _ (P : Plain) (g : Env) where
     st_answer (break t) = Ok (tt {0})
     st_answer (continue t) = Ok (tt {0})
 
+    -- the answer for a list of statements: the first refusal among them
     pub sts_answer : Sts → Result (Unit {0}) CheckFault
     sts_answer no_st = Ok (tt {0})
     sts_answer (st_then x xs) = and_then (st_answer x) (λ _. sts_answer xs)
 
+    -- the answer for the arms of an `if`: the first refusal among them
     pub arms_answer : Arms → Result (Unit {0}) CheckFault
     arms_answer no_other = Ok tt
     arms_answer (otherwise xs) = sts_answer xs

@@ -13,8 +13,8 @@ use Rattle.std.proofs.lemmas.Slice.Eq.{bytes_eq-Decides}
 use Rattle.std.specs.declared.vec.Vec.{Vec}
 use Rattle.std.specs.declared.alloc.Global.{Global}
 use Rattle.kaba_base.specs.declared.ClassId.{ClassId}
-use Rattle.version_map.specs.declared.VersionMap.{VersionMap}
-use Rattle.version_map.specs.Held.{holds}
+use Rattle.kaba_versions.specs.declared.VersionMap.{VersionMap}
+use Rattle.kaba_versions.specs.Held.{holds}
 use Rattle.java_core.specs.declared.Class.{Class}
 use Rattle.java_core.specs.Plain.{Plain, class_seen}
 use Rattle.java_core.specs.Subtypes.{of_classes}

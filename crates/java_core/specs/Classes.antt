@@ -1,4 +1,4 @@
--- Subtyping, and which field, method and body a class has under a name or for a slot.
+-- Believed. Subtyping, and which field, method and body a class has under a name or for a slot.
 use Rattle.std.specs.Prelude.{ℕ, zero, suc, ◌==◌, ◌&&◌, ◌||◌, Bool, true, false, not, List, [], ◌∷◌, ◌++◌, length, Contains, Option, Some, None, slice_get, position, option_and_then}
 use Rattle.std.specs.Option.{option_map_or, option_to_list, is_some}
 use Rattle.std.specs.List.{list_any, flat_map}
@@ -10,9 +10,11 @@ use Rattle.java_core.specs.Plain.{Plain, PlainField, PlainMethod}
 abbrev pub parent_of : Plain → ℕ → Option ClassId
 parent_of P a = option_and_then (λ k. k.parent) (slice_get P.classes a)
 
+-- the interfaces that a class or interface names itself; none for a number of no class
 abbrev pub faces_of : Plain → ℕ → List ClassId
 faces_of P a = option_map_or (λ k. k.faces) (slice_get P.classes a) []
 
+-- the direct supertypes of a class or interface: its superclass, then the interfaces that it names
 abbrev pub supers_of : Plain → ℕ → List ClassId
 supers_of P a = option_to_list (parent_of P a) ++ faces_of P a
 
@@ -41,6 +43,7 @@ abbrev pub first_or : Option ℕ → Option ℕ → Option ℕ
 first_or (Some x) other = Some x
 first_or None other = other
 
+-- what f gives at the class, else at the nearest of its superclasses where f gives something, at most n steps up
 abbrev pub nearest : Plain → (ℕ → Option ℕ) → ℕ → ℕ → Option ℕ
 nearest P f zero c = f c
 nearest P f (suc n) c = first_or (f c) (option_and_then (λ p. nearest P f n p.0) (parent_of P c))
@@ -49,6 +52,7 @@ nearest P f (suc n) c = first_or (f c) (option_and_then (λ p. nearest P f n p.0
 abbrev pub nearest_of : Plain → (ℕ → Option ℕ) → ℕ → Option ℕ
 nearest_of P f c = nearest P f (length P.classes) c
 
+-- whether a field is declared in this class under this name
 abbrev pub is_field_of : ℕ → List ℕ → PlainField → Bool
 is_field_of c x f = (f.owner == c) && bytes_eq f.name x
 
@@ -60,13 +64,16 @@ own_field_of P c x = position (λ f. is_field_of c x f) P.fields
 unfoldable pub field_of : Plain → ℕ → List ℕ → Option ℕ
 field_of P c x = nearest_of P (λ k. own_field_of P k x) c
 
+-- whether a field is static; a number of no field is that of none
 abbrev pub is_static_field : Plain → ℕ → Bool
 is_static_field P f = option_map_or (λ k. k.is_static) (slice_get P.fields f) false
 
+-- the field, unless it is static
 abbrev pub if_instance : ℕ → Bool → Option ℕ
 if_instance f true = None
 if_instance f false = Some f
 
+-- the field that was found, where it is an instance field
 abbrev pub when_instance : Plain → Option ℕ → Option ℕ
 when_instance P None = None
 when_instance P (Some f) = if_instance f (is_static_field P f)
@@ -75,6 +82,7 @@ when_instance P (Some f) = if_instance f (is_static_field P f)
 unfoldable pub member_field : Plain → ℕ → List ℕ → Option ℕ
 member_field P c x = when_instance P (field_of P c x)
 
+-- whether a method is an instance method that this class declares under this name
 abbrev pub is_method_of : ℕ → List ℕ → PlainMethod → Bool
 is_method_of c x m = (m.owner == c) && (not m.is_static && bytes_eq m.name x)
 
@@ -97,6 +105,7 @@ chain P (suc n) c = c ∷ option_map_or (λ p. chain P n p.0) (parent_of P c) []
 unfoldable pub search_order : Plain → ℕ → List ℕ
 search_order P c = chain P (length P.classes) c ++ flat_map (λ k. faces_above P (length P.classes) k) (chain P (length P.classes) c)
 
+-- what f gives for the first of the classes for which it gives something
 abbrev pub first_found : (ℕ → Option ℕ) → List ℕ → Option ℕ
 first_found f [] = None
 first_found f (c ∷ cs) = first_or (f c) (first_found f cs)
@@ -105,6 +114,7 @@ first_found f (c ∷ cs) = first_or (f c) (first_found f cs)
 unfoldable pub declaration_of : Plain → ℕ → List ℕ → Option ℕ
 declaration_of P c x = first_found (λ k. own_method P k x) (search_order P c)
 
+-- the slot of a method; a static method has none
 abbrev pub slot_of_method : Plain → ℕ → Option ℕ
 slot_of_method P m = option_and_then (λ k. k.slot) (slice_get P.methods m)
 
@@ -112,10 +122,12 @@ slot_of_method P m = option_and_then (λ k. k.slot) (slice_get P.methods m)
 abbrev pub slot_of : Plain → ℕ → List ℕ → Option ℕ
 slot_of P c x = option_and_then (slot_of_method P) (declaration_of P c x)
 
+-- whether the slot of a method is there and is this one
 abbrev pub is_slot : Option ℕ → ℕ → Bool
 is_slot None s = false
 is_slot (Some r) s = r == s
 
+-- whether a method is declared in this class for this slot
 abbrev pub has_slot : ℕ → ℕ → PlainMethod → Bool
 has_slot c s m = (m.owner == c) && is_slot m.slot s
 
@@ -123,6 +135,7 @@ has_slot c s m = (m.owner == c) && is_slot m.slot s
 abbrev pub own_declaration : Plain → ℕ → ℕ → Option ℕ
 own_declaration P c s = position (λ m. has_slot c s m) P.methods
 
+-- the method with a body that a class declares itself for a slot
 abbrev pub own_body : Plain → ℕ → ℕ → Option ℕ
 own_body P c s = position (λ m. has_slot c s m && is_some m.body) P.methods
 
@@ -138,9 +151,11 @@ nearest_declaration P c s = nearest_of P (λ k. own_declaration P k s) c
 unfoldable pub super_method : Plain → ℕ → List ℕ → Option ℕ
 super_method P c x = option_and_then (λ p. nearest_of P (λ k. own_method P k x) p.0) (parent_of P c)
 
+-- whether a method has a body
 abbrev pub has_body : Plain → ℕ → Bool
 has_body P m = option_map_or (λ k. is_some k.body) (slice_get P.methods m) false
 
+-- whether a number is that of an interface
 abbrev pub is_interface : Plain → ℕ → Bool
 is_interface P c = option_map_or (λ k. k.is_interface) (slice_get P.classes c) false
 

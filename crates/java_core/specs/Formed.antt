@@ -1,4 +1,5 @@
--- Which resolved programs are ones that some text has: numbers in range, names in their scopes, forms of the grammar, and none of the conditions that
+-- Believed. Which resolved programs are ones that some text has: numbers in range, names in their scopes, forms of the
+-- grammar, and none of the conditions that
 -- refuse a text's names.
 use Rattle.std.specs.Prelude.{◌≡◌, ◌≢◌, ◌↔◌, ◌⊎◌, ℕ, ℤ, zero, suc, ◌<◌, ◌≤◌, ◌||◌, Bool, true, false, List, [], ◌∷◌, ◌++◌, length, map, Contains, Option, Some, None, slice_get, codes, negsuc}
 use Rattle.std.specs.Option.{is_some}
@@ -6,7 +7,7 @@ use Rattle.kaba_base.specs.declared.ClassId.{ClassId}
 use Rattle.java_lex.specs.Writable.{IsName, IsText, IsUnit, IsSmall}
 use Rattle.java_core.specs.declared.Ty.{Ty}
 use Rattle.java_core.specs.declared.TyBase.{TyBase}
-use Rattle.java_core.specs.declared.TyBase.TheVariants.{Int, Char, Str, Class}
+use Rattle.java_core.specs.declared.TyBase.TheVariants.{Int, Boolean, Char, Str, Class}
 use Rattle.java_core.specs.declared.UnOp.{UnOp}
 use Rattle.java_core.specs.declared.BinOp.{BinOp}
 use Rattle.java_core.specs.Trees.{Tag, Ex, Exs, no_ex, ex_then, number, character, text, truth, null, this, local, static_field, own_field, field, index, call, static_call, super_call, create, create_array, cast, instance_of, unary, binary, Target, to_local, to_static, to_own, to_field, to_element, no_target, St, Sts, Arms, declare, block, assign, act, print, choose, loop, return, break, continue, no_st, st_then, no_other, otherwise, arm}
@@ -23,9 +24,13 @@ pub data IsLiteral : ℤ → Type 0 where
 abbrev pub IsClass : Plain → ℕ → Type 0
 IsClass P c = c < length P.classes
 
+-- the base of a type is int, boolean, char or String, or a class of the program
 abbrev pub IsKnownBase : Plain → TyBase → Type 0
 IsKnownBase P (Class c) = IsClass P c.0
-IsKnownBase P _ = Unit {0}
+IsKnownBase P Int = Unit {0}
+IsKnownBase P Boolean = Unit {0}
+IsKnownBase P Char = Unit {0}
+IsKnownBase P Str = Unit {0}
 
 -- a type whose class is one of the program
 abbrev pub IsType : Plain → Ty → Type 0
@@ -48,11 +53,13 @@ pub record IsNewLocal (k : PlainMethod) (scope : List ℕ) (i : ℕ) : Type 0 wh
   pub no_parameter : length k.params ≤ i
   pub other : (j : ℕ) (v : PlainLocal) → Contains scope j → slice_get (variables_of k) j ≡ Some v → v.name ≢ variable.name
 
+-- the number is that of a static field
 pub record IsStaticField (P : Plain) (f : ℕ) : Type 0 where
   pub member : PlainField
   pub stands : slice_get P.fields f ≡ Some member
   pub kind : member.is_static ≡ true
 
+-- the number is that of a static method
 pub record IsStaticMethod (P : Plain) (m : ℕ) : Type 0 where
   pub member : PlainMethod
   pub stands : slice_get P.methods m ≡ Some member
@@ -70,6 +77,7 @@ abbrev pub scope_after : List ℕ → St → List ℕ
 scope_after scope (declare t i e) = i ∷ scope
 scope_after scope _ = scope
 
+-- the locals in scope behind a list of statements
 abbrev pub scope_after_all : List ℕ → Sts → List ℕ
 scope_after_all scope no_st = scope
 scope_after_all scope (st_then x xs) = scope_after_all (scope_after scope x) xs
@@ -108,6 +116,7 @@ is_call _ = false
 -- the body of a method, with the locals in scope and whether a loop is around
 module _ (P : Plain) (k : PlainMethod) where
   mutual
+    -- an expression is well formed where these locals are in scope: its literals, names and numbers are in order
     pub data FormedEx (scope : List ℕ) : Ex → Type 0 where
       f_number : {t : Tag} {n : ℤ} → IsLiteral n → FormedEx scope (number t n)
       f_character : {t : Tag} {c : ℕ} → IsUnit c → FormedEx scope (character t c)
@@ -130,10 +139,12 @@ module _ (P : Plain) (k : PlainMethod) where
       f_unary : {t : Tag} {o : UnOp} {e : Ex} → FormedEx scope e → FormedEx scope (unary t o e)
       f_binary : {t : Tag} {o : BinOp} {e d : Ex} → FormedEx scope e → FormedEx scope d → FormedEx scope (binary t o e d)
 
+    -- each expression of a list is well formed
     pub data FormedExs (scope : List ℕ) : Exs → Type 0 where
       f_no_ex : FormedExs scope no_ex
       f_ex_then : {e : Ex} {es : Exs} → FormedEx scope e → FormedExs scope es → FormedExs scope (ex_then e es)
 
+  -- the target of an assignment is well formed: a variable in scope, a field, or an element
   pub data FormedTarget (scope : List ℕ) : Target → Type 0 where
     f_to_local : {t : Tag} {i : ℕ} → Contains scope i → i < length (variables_of k) → FormedTarget scope (to_local t i)
     f_to_static : {t : Tag} {f : ℕ} → IsStaticField P f → FormedTarget scope (to_static t f)
@@ -141,11 +152,13 @@ module _ (P : Plain) (k : PlainMethod) where
     f_to_field : {t : Tag} {e : Ex} {x : List ℕ} → FormedEx scope e → IsName x → FormedTarget scope (to_field t e x)
     f_to_element : {t : Tag} {e i : Ex} → FormedEx scope e → FormedEx scope i → FormedTarget scope (to_element t e i)
 
+  -- an expression that may be absent is well formed where it is there
   pub data FormedOption (scope : List ℕ) : Option Ex → Type 0 where
     f_none : FormedOption scope None
     f_some : {e : Ex} → FormedEx scope e → FormedOption scope (Some e)
 
   mutual
+    -- a statement is well formed, inside a loop or not, where these locals are in scope
     pub data FormedSt : Bool → List ℕ → St → Type 0 where
       f_declare : {in_loop : Bool} {scope : List ℕ} {t : Tag} {i : ℕ} {e : Option Ex} → IsNewLocal k scope i → FormedOption (i ∷ scope) e
           → FormedSt in_loop scope (declare t i e)
@@ -165,11 +178,13 @@ module _ (P : Plain) (k : PlainMethod) where
       f_break : {in_loop : Bool} {scope : List ℕ} {t : Tag} → in_loop ≡ true → FormedSt in_loop scope (break t)
       f_continue : {in_loop : Bool} {scope : List ℕ} {t : Tag} → in_loop ≡ true → FormedSt in_loop scope (continue t)
 
+    -- statements are well formed one after another, each in the scope that those before it leave
     pub data FormedSts : Bool → List ℕ → Sts → Type 0 where
       f_no_st : {in_loop : Bool} {scope : List ℕ} → FormedSts in_loop scope no_st
       f_st_then : {in_loop : Bool} {scope : List ℕ} {x : St} {xs : Sts} → FormedSt in_loop scope x → FormedSts in_loop (scope_after scope x) xs
           → FormedSts in_loop scope (st_then x xs)
 
+    -- the arms of an `if` are well formed: their tests and their bodies
     pub data FormedArms : Bool → List ℕ → Arms → Type 0 where
       f_no_other : {in_loop : Bool} {scope : List ℕ} → FormedArms in_loop scope no_other
       f_otherwise : {in_loop : Bool} {scope : List ℕ} {xs : Sts} → FormedSts in_loop scope xs → FormedArms in_loop scope (otherwise xs)
@@ -178,6 +193,7 @@ module _ (P : Plain) (k : PlainMethod) where
 
 -- the numbers of the creations, casts and instanceof of trees
 abbrev mutual
+  -- the numbers of the creations, casts and `instanceof` of an expression, from left to right
   pub numbers : Ex → List ℕ
   numbers (number t n) = []
   numbers (character t c) = []
@@ -200,14 +216,17 @@ abbrev mutual
   numbers (unary t o e) = numbers e
   numbers (binary t o e d) = numbers e ++ numbers d
 
+  -- the same of a list of expressions
   pub numbers_all : Exs → List ℕ
   numbers_all no_ex = []
   numbers_all (ex_then e es) = numbers e ++ numbers_all es
 
+-- the same of an expression that may be absent
 abbrev pub numbers_if : Option Ex → List ℕ
 numbers_if None = []
 numbers_if (Some e) = numbers e
 
+-- the same of the target of an assignment
 abbrev pub numbers_target : Target → List ℕ
 numbers_target (to_local t i) = []
 numbers_target (to_static t f) = []
@@ -217,6 +236,7 @@ numbers_target (to_element t e i) = numbers e ++ numbers i
 numbers_target no_target = []
 
 abbrev mutual
+  -- the same of a statement
   pub numbers_st : St → List ℕ
   numbers_st (declare t i e) = numbers_if e
   numbers_st (block t xs) = numbers_sts xs
@@ -229,19 +249,23 @@ abbrev mutual
   numbers_st (break t) = []
   numbers_st (continue t) = []
 
+  -- the same of a list of statements
   pub numbers_sts : Sts → List ℕ
   numbers_sts no_st = []
   numbers_sts (st_then x xs) = numbers_st x ++ numbers_sts xs
 
+  -- the same of the arms of an `if`
   pub numbers_arms : Arms → List ℕ
   numbers_arms no_other = []
   numbers_arms (otherwise xs) = numbers_sts xs
   numbers_arms (arm e xs more) = numbers e ++ numbers_sts xs ++ numbers_arms more
 
+-- the same of the body of a method; none where there is no body
 abbrev pub numbers_body : Option Sts → List ℕ
 numbers_body None = []
 numbers_body (Some xs) = numbers_sts xs
 
+-- the same of all methods, in their order
 abbrev pub numbers_methods : List PlainMethod → List ℕ
 numbers_methods [] = []
 numbers_methods (k ∷ ks) = numbers_body k.body ++ numbers_methods ks
@@ -290,6 +314,7 @@ pub record IsFormedField (P : Plain) (f : PlainField) : Type 0 where
   pub stands : slice_get P.classes f.owner ≡ Some holder
   pub class : holder.is_interface ≡ false
 
+-- a parameter or local has a variable's name and a type of the program
 pub record IsFormedLocal (P : Plain) (v : PlainLocal) : Type 0 where
   pub name : IsVariableName P v.name
   pub type : IsType P v.ty
@@ -303,6 +328,7 @@ pub record IsInSlot (P : Plain) (s : ℕ) (k : PlainMethod) : Type 0 where
   pub params : types_of k.params ≡ slot.params
   pub result : k.result ≡ slot.result
 
+-- the result of a method is void or a type of the program
 abbrev pub IsKnownResult : Plain → Option Ty → Type 0
 IsKnownResult P None = Unit {0}
 IsKnownResult P (Some t) = IsType P t
@@ -312,6 +338,7 @@ abbrev pub numbers_below : ℕ → List ℕ
 numbers_below zero = []
 numbers_below (suc n) = n ∷ numbers_below n
 
+-- a method is well formed: its name, its variables, its result, its class, its slot and its body
 pub record IsFormedMethod (P : Plain) (k : PlainMethod) : Type 0 where
   pub name : IsName k.name
   pub variables : (v : PlainLocal) → Contains (variables_of k) v → IsFormedLocal P v

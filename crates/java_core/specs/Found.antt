@@ -1,4 +1,4 @@
--- What the look-ups of members find, as relations.
+-- Mirror. What the look-ups of members find, as relations.
 use Rattle.std.specs.Prelude.{◌≡◌, ℕ, List, false, Option, Some, None, slice_get}
 use Rattle.kaba_base.specs.declared.ClassId.{ClassId}
 use Rattle.java_core.specs.Plain.{Plain, PlainMethod}

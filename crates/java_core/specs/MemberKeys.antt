@@ -1,4 +1,4 @@
--- What members are looked for by.
+-- Mirror. What members are looked for by.
 use Rattle.std.specs.Prelude.{ℕ, not, Bool, true, List, Option, None}
 use Rattle.java_core.specs.declared.Field.{Field}
 use Rattle.java_core.specs.declared.Method.{Method}

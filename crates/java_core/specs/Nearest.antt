@@ -1,12 +1,12 @@
--- What stands nearest at or above a class, by numbers of names.
+-- Mirror. What stands nearest at or above a class, by numbers of names.
 use Rattle.std.specs.Prelude.{◌≡◌, ℕ, zero, suc, ◌&&◌, Bool, List, length, map, Option, Some, None, slice_get, position, if◌then◌else◌}
 use Rattle.std.specs.Option.{option_and_then}
 use Rattle.std.specs.Str.{bytes_eq}
 use Rattle.std.specs.declared.vec.Vec.{Vec}
 use Rattle.std.specs.declared.alloc.Global.{Global}
 use Rattle.kaba_base.specs.declared.ClassId.{ClassId}
-use Rattle.version_map.specs.declared.VersionMap.{VersionMap}
-use Rattle.version_map.specs.Held.{holds}
+use Rattle.kaba_versions.specs.declared.VersionMap.{VersionMap}
+use Rattle.kaba_versions.specs.Held.{holds}
 use Rattle.java_core.specs.declared.Class.{Class}
 use Rattle.java_core.specs.MemberKeys.{MemberKeys}
 use Rattle.java_core.specs.Classes.{first_or, is_slot}
@@ -22,6 +22,7 @@ has_name keys x a = (keys a).is_inherited && bytes_eq (keys a).name x
 abbrev pub name_number : {A : Type 0} → (A → MemberKeys) → List A → List ℕ → Option ℕ
 name_number keys members x = position (λ a. has_name keys x a) members
 
+-- the number of a member's name; a member that is not looked for from below has none
 abbrev pub number_of : {A : Type 0} → (A → MemberKeys) → List A → A → Option ℕ
 number_of keys members a = if (keys a).is_inherited then name_number keys members (keys a).name else None
 
@@ -39,6 +40,7 @@ numbered_among numbers i own = first_among (λ o. is_slot o i) numbers own
 abbrev pub superclasses : List Class → List (Option ClassId)
 superclasses classes = map (λ k. k.parent) classes
 
+-- the superclass at a class's place in the list of superclasses
 abbrev pub parent_at : List (Option ClassId) → ℕ → Option ClassId
 parent_at parents c = option_and_then (λ o. o) (slice_get parents c)
 

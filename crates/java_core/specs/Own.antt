@@ -1,4 +1,4 @@
--- What a class itself has, by what is looked for.
+-- Mirror. What a class itself has, by what is looked for.
 use Rattle.std.specs.Prelude.{ℕ, ◌&&◌, not, Bool, List, [], ◌∷◌, Option, Some, None, position, if◌then◌else◌}
 use Rattle.std.specs.Option.{is_some}
 use Rattle.std.specs.Str.{bytes_eq}
@@ -8,6 +8,7 @@ use Rattle.java_core.specs.declared.classes.Named.TheVariants as named
 use Rattle.java_core.specs.Plain.{Plain, PlainMethod}
 use Rattle.java_core.specs.Classes.{below, own_field_of, own_method}
 
+-- the field or method, as is asked, that a class declares itself under a name
 abbrev pub own_named : Plain → Named → ℕ → List ℕ → Option ℕ
 own_named P named.Field c x = own_field_of P c x
 own_named P named.Method c x = own_method P c x

@@ -1,4 +1,4 @@
--- What each class or interface declares itself, by numbers.
+-- Believed. What each class or interface declares itself, by numbers.
 use Rattle.std.specs.Prelude.{◌≡◌, ℕ, ◌+◌, ◌==◌, Bool, false, cond, List, [], ◌∷◌, Option, Some, None, slice_get, if◌then◌else◌}
 use Rattle.std.specs.Option.{option_map_or}
 use Rattle.std.specs.declared.vec.Vec.{Vec}
@@ -17,6 +17,7 @@ listed lists c = option_map_or (λ v. v.items) (slice_get lists c) []
 pub record AreOwned (owners : List ℕ) (lists : List (Vec ℕ Global)) : Type 0 where
   pub exact : (c : ℕ) → listed lists c ≡ owned_from 0 c owners
 
+-- whether there is something and it passes the test
 abbrev pub passes : {A : Type 0} → (A → Bool) → Option A → Bool
 passes p None = false
 passes p (Some x) = p x

@@ -1,4 +1,4 @@
--- A resolved program as plain data, and which plain data its parts are.
+-- Believed. A resolved program as plain data, and which plain data its parts are.
 use Rattle.std.specs.Prelude.{ℕ, Bool, List, Option, map}
 use Rattle.kaba_base.specs.declared.ClassId.{ClassId}
 use Rattle.java_core.specs.declared.Ty.{Ty}
@@ -24,6 +24,7 @@ pub record PlainClass : Type 0 where
   pub faces : List ClassId
   pub tag : Tag
 
+-- a field: the class that declares it, its name, whether it is static, its type
 pub record PlainField : Type 0 where
   pub owner : ℕ
   pub name : List ℕ
@@ -31,6 +32,7 @@ pub record PlainField : Type 0 where
   pub ty : Ty
   pub tag : Tag
 
+-- a method: the class that declares it, its heading, its slot, its variables and its body
 pub record PlainMethod : Type 0 where
   pub owner : ℕ
   pub name : List ℕ
@@ -43,6 +45,7 @@ pub record PlainMethod : Type 0 where
   pub body : Option Sts
   pub tag : Tag
 
+-- a slot, which all instance methods of one name, parameter types and result share, and the first of these methods
 pub record PlainSlot : Type 0 where
   pub name : List ℕ
   pub params : List Ty
@@ -61,13 +64,16 @@ pub record Plain : Type 0 where
 abbrev pub local_seen : Local → PlainLocal
 local_seen l = record { name = l.name; ty = l.ty; tag = at_place l.place }
 
+-- what a class of the code says, as a value of the specification
 abbrev pub class_seen : Class → PlainClass
 class_seen c =
     record { name = c.name; is_interface = c.is_interface; is_abstract = c.is_abstract; parent = c.parent; faces = c.faces.items; tag = at_place c.place }
 
+-- what a field of the code says, as a value of the specification
 abbrev pub field_seen : Field → PlainField
 field_seen f = record { owner = f.owner.0; name = f.name; is_static = f.is_static; ty = f.ty; tag = at_place f.place }
 
+-- what a method of the code says, as a value of the specification
 abbrev pub method_seen : Method → PlainMethod
 method_seen m =
     record {
@@ -83,5 +89,6 @@ method_seen m =
       tag = at_place m.place;
     }
 
+-- what a slot of the code says, as a value of the specification
 abbrev pub slot_seen : Slot → PlainSlot
 slot_seen s = record { name = s.name; params = s.params.items; result = s.result; first = s.first.0 }

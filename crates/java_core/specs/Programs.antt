@@ -1,4 +1,4 @@
--- Which plain program a program is.
+-- Believed. Which plain program a program is.
 use Rattle.std.specs.Prelude.{◌≡◌, map}
 use Rattle.std.specs.declared.vec.Vec.{Vec}
 use Rattle.std.specs.declared.alloc.Global.{Global}

@@ -1,4 +1,4 @@
--- Expressions that are the same but for their tags. No rule of types and no rule of a run tells them apart.
+-- Believed. Expressions that are the same but for their tags. No rule of types and no rule of a run tells them apart.
 use Rattle.std.specs.Prelude.{ℕ, ℤ, Bool, List}
 use Rattle.java_core.specs.declared.Ty.{Ty}
 use Rattle.java_core.specs.declared.UnOp.{UnOp}
@@ -6,6 +6,7 @@ use Rattle.java_core.specs.declared.BinOp.{BinOp}
 use Rattle.java_core.specs.Trees.{Tag, Ex, Exs, no_ex, ex_then, number, character, text, truth, null, this, local, static_field, own_field, field, index, call, static_call, super_call, create, create_array, cast, instance_of, unary, binary, Target, to_local, to_static, to_own, to_field, to_element, no_target}
 
 mutual
+  -- two expressions are the same but for their tags
   pub data Retagged : Ex → Ex → Type 0 where
     s_field : {t s : Tag} {e d : Ex} {x : List ℕ} → Retagged e d → Retagged (field t e x) (field s d x)
     s_index : {t s : Tag} {e d i j : Ex} → Retagged e d → Retagged i j → Retagged (index t e i) (index s d j)
@@ -28,10 +29,12 @@ mutual
     s_character : {t s : Tag} {c : ℕ} → Retagged (character t c) (character s c)
     s_number : {t s : Tag} {n : ℤ} → Retagged (number t n) (number s n)
 
+  -- two lists of expressions are the same but for their tags
   pub data RetaggedAll : Exs → Exs → Type 0 where
     s_no_ex : RetaggedAll no_ex no_ex
     s_ex_then : {e d : Ex} {es ds : Exs} → Retagged e d → RetaggedAll es ds → RetaggedAll (ex_then e es) (ex_then d ds)
 
+-- two targets of an assignment are the same but for their tags
 pub data RetaggedTarget : Target → Target → Type 0 where
   s_to_local : {t s : Tag} {i : ℕ} → RetaggedTarget (to_local t i) (to_local s i)
   s_to_static : {t s : Tag} {f : ℕ} → RetaggedTarget (to_static t f) (to_static s f)

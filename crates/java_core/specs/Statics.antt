@@ -1,4 +1,4 @@
--- What an expression gives and the methods of a String, as the rules of types have them.
+-- Mirror. What an expression gives and the methods of a String, as the rules of types have them.
 use Rattle.std.specs.Prelude.{ℕ, Option, Some, None}
 use Rattle.java_core.specs.declared.Ty.{Ty}
 use Rattle.java_core.specs.declared.Program.{Program}
@@ -12,6 +12,7 @@ use Rattle.java_core.specs.declared.statics.Static.TheVariants as form
 use Rattle.java_core.specs.declared.statics.StringMethod.{StringMethod}
 use Rattle.java_core.specs.declared.statics.StringMethod.TheVariants as string
 
+-- the static type that a value of the code stands for
 abbrev pub static_seen : Static → types.Static
 static_seen (form.Value t) = a_value t
 static_seen form.Null = null_value
@@ -26,6 +27,7 @@ abbrev pub given_of : Option Ty → Static
 given_of None = form.Nothing
 given_of (Some t) = form.Value t
 
+-- the method of String that a value of the code stands for
 abbrev pub string_seen : StringMethod → types.StringMethod
 string_seen string.Length = LengthOf
 string_seen string.CharAt = CharAt

@@ -1,4 +1,5 @@
--- Which types are above which: for each type the types at or below it, as rows of bits, and a walk downwards that finds them.
+-- Believed. Which types are above which: for each type the types at or below it, as rows of bits, and a walk downwards
+-- that finds them.
 use Rattle.std.specs.Prelude.{◌≡◌, ℕ, ◌+◌, ◌<◌, ◌≤◌, ◌⊎◌, Bool, true, List, [], ◌++◌, length, Contains}
 use Rattle.std.specs.Option.{option_to_list}
 use Rattle.std.specs.declared.vec.Vec.{Vec}
@@ -10,6 +11,7 @@ use Rattle.java_core.specs.Classes.{supers_of, reaches}
 use Rattle.java_core.specs.Owned.{listed}
 use Rattle.java_core.specs.Squares.{square, in_row, is_below, AreRows}
 
+-- the class of a number, as the code holds it
 abbrev pub class_id : ℕ → ClassId
 class_id k = record { 0 = k }
 

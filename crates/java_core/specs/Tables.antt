@@ -1,4 +1,4 @@
--- The numbers of members by owner, by owner and name, by owner and slot, and by name.
+-- Mirror. The numbers of members by owner, by owner and name, by owner and slot, and by name.
 use Rattle.std.specs.Prelude.{◌≡◌, ℕ, ◌+◌, ◌*◌, ◌/◌, ◌%◌, List, ◌∷◌, length, map, Option, Some, None, []}
 use Rattle.std.specs.Str.{encode_utf8_all}
 use Rattle.java_core.specs.declared.Class.{Class}
@@ -52,6 +52,7 @@ pub record AreMemberTables {A : Type 0} (keys : A → MemberKeys) (parents : Lis
   pub named : AreMembersBy keys key.Name members t.named.items
   pub nearest : AreVersions parents (name_numbers keys members) t.own.items t.nearest.items
 
+-- the tables have each field where it belongs
 abbrev pub AreFieldTables : List (Option ClassId) → List Field → MemberTables → Type 0
 AreFieldTables = AreMemberTables field_keys
 
@@ -60,6 +61,7 @@ pub record AreMethodTables (parents : List (Option ClassId)) (methods : List Met
   pub members : AreMemberTables method_keys parents methods t.members
   pub by_slot : AreMembersBy method_keys key.OwnerAndSlot methods t.by_slot.items
 
+-- the tables of a program have its superclasses, and each field and method where it belongs
 pub record AreTables (cs : List Class) (fs : List Field) (ms : List Method) (t : Tables) : Type 0 where
   pub parents : t.parents.items ≡ superclasses cs
   pub fields : AreFieldTables t.parents.items fs t.fields

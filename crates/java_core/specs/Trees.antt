@@ -1,4 +1,5 @@
--- Resolved trees as plain data: no boxes, no addresses, no capacities; and which plain tree each tree of a program is.
+-- Believed. Resolved trees as plain data: no boxes, no addresses, no capacities; and which plain tree each tree of a
+-- program is.
 use Rattle.std.specs.Prelude.{ℕ, ℤ, List, [], ◌∷◌, Option, Some, None, Bool, true, false}
 use Rattle.kaba_base.specs.declared.Place.{Place}
 use Rattle.java_core.specs.declared.Ty.{Ty}
@@ -20,6 +21,7 @@ pub record Tag : Type 0 where
 
 -- an expression. A call by its simple name is one on `this`
 mutual
+  -- an expression with its names resolved: fields, methods and classes stand as numbers
   pub data Ex : Type 0 where
     number : Tag → ℤ → Ex
     character : Tag → ℕ → Ex
@@ -44,6 +46,7 @@ mutual
     unary : Tag → UnOp → Ex → Ex
     binary : Tag → BinOp → Ex → Ex → Ex
 
+  -- a list of expressions
   pub data Exs : Type 0 where
     no_ex : Exs
     ex_then : Ex → Exs → Exs
@@ -60,6 +63,7 @@ pub data Target : Type 0 where
 
 -- a statement. A `while` and a `for` are a loop, which says whether it is a `while`; its first and its last part are lists of at most one statement
 mutual
+  -- a statement with its names resolved: locals stand as numbers
   pub data St : Type 0 where
     declare : Tag → ℕ → Option Ex → St
     block : Tag → Sts → St
@@ -72,6 +76,7 @@ mutual
     break : Tag → St
     continue : Tag → St
 
+  -- a list of statements
   pub data Sts : Type 0 where
     no_st : Sts
     st_then : St → Sts → Sts
@@ -88,6 +93,7 @@ at_place p = record { label = 0; place = p }
 
 -- which plain tree a tree is: each form carries its place
 abbrev mutual
+  -- the expression that a tree of the code stands for
   pub expr_of : RExpr → Ex
   expr_of (ex.Int v p) = number (at_place p) v
   expr_of (ex.Char c p) = character (at_place p) c
@@ -110,14 +116,17 @@ abbrev mutual
   expr_of (ex.Unary' o b e p) = unary (at_place p) o (expr_of e)
   expr_of (ex.Binary' o b l c r p) = binary (at_place p) o (expr_of l) (expr_of r)
 
+  -- the call of a method by name, on an expression or on `this` where none is written
   pub call_of : ex.Held-RExpr-Call-0 → List ℕ → Exs → Place → Ex
   call_of ex.None' n args p = call (at_place p) (this (at_place p)) n args
   call_of (ex.Some' b e) n args p = call (at_place p) (expr_of e) n args
 
+  -- the list that a row of expressions of the code stands for
   pub exprs_of : {n : _} → ex.Row_of-RExpr n → Exs
   exprs_of ex.end_of-RExpr = no_ex
   exprs_of (ex.more_of-RExpr e rest) = ex_then (expr_of e) (exprs_of rest)
 
+-- the expression that may be absent, as the code holds it
 abbrev pub value_of : Option RExpr → Option Ex
 value_of None = None
 value_of (Some e) = Some (expr_of e)
@@ -132,6 +141,7 @@ target_of (ex.Index' b e c i p) = to_element (at_place p) (expr_of e) (expr_of i
 target_of _ = no_target
 
 abbrev mutual
+  -- the statement that a tree of the code stands for
   pub stmt_of : RStmt → St
   stmt_of (st.Local n v p) = declare (at_place p) n (value_of v)
   stmt_of (st.Block' s items p) = block (at_place p) (stmts_of items)
@@ -145,18 +155,22 @@ abbrev mutual
   stmt_of (st.Break p) = break (at_place p)
   stmt_of (st.Continue p) = continue (at_place p)
 
+  -- the last arm of an `if`: its `else`, where it has one
   pub else_of : st.Held-RStmt-If-1 → Arms
   else_of st.RStmt-If-1-None' = no_other
   else_of (st.RStmt-If-1-Some' s body) = otherwise (stmts_of body)
 
+  -- the step of a `for`: at most one statement
   pub step_of : st.Held-RStmt-For-0 → Sts
   step_of st.RStmt-For-0-None' = no_st
   step_of (st.RStmt-For-0-Some' b s) = st_then (stmt_of s) no_st
 
+  -- the list that a row of statements of the code stands for
   pub stmts_of : {n : _} → st.Row_of-RStmt n → Sts
   stmts_of st.end_of-RStmt = no_st
   stmts_of (st.more_of-RStmt s rest) = st_then (stmt_of s) (stmts_of rest)
 
+  -- the arms that a row of arms of the code stands for, with those that come behind them
   pub arms_of : {n : _} → st.Row_of-RArm n → Arms → Arms
   arms_of st.end_of-RArm other = other
   arms_of (st.more_of-RArm t s body rest) other = arm (expr_of t) (stmts_of body) (arms_of rest other)
@@ -166,10 +180,12 @@ abbrev pub exprs : List RExpr → Exs
 exprs [] = no_ex
 exprs (e ∷ es) = ex_then (expr_of e) (exprs es)
 
+-- the statements that a vector of the code stands for
 abbrev pub stmts : List RStmt → Sts
 stmts [] = no_st
 stmts (s ∷ ss) = st_then (stmt_of s) (stmts ss)
 
+-- the arms that a vector of the code stands for, with those that come behind them
 abbrev pub arms_seen : List RArm → Arms → Arms
 arms_seen [] other = other
 arms_seen (a ∷ more) other = arm (expr_of a.test) (stmts a.body.items) (arms_seen more other)
@@ -179,10 +195,12 @@ abbrev pub else_seen : Option (Vec RStmt Global) → Arms
 else_seen None = no_other
 else_seen (Some v) = otherwise (stmts v.items)
 
+-- the step of a `for` that the code holds: at most one statement
 abbrev pub step_seen : Option (Box RStmt Global) → Sts
 step_seen None = no_st
 step_seen (Some b) = st_then (stmt_of b.value) no_st
 
+-- the body of a method that the code holds, where it has one
 abbrev pub body_seen : Option (Vec RStmt Global) → Option Sts
 body_seen None = None
 body_seen (Some v) = Some (stmts v.items)

@@ -1,4 +1,4 @@
--- The static type of each expression, and which types fit where.
+-- Believed. The static type of each expression, and which types fit where.
 use Rattle.std.specs.Prelude.{ℕ, zero, suc, ◌==◌, ◌&&◌, ◌||◌, Bool, true, false, not, if◌then◌else◌, List, [], ◌∷◌, ◌++◌, map, Option, Some, None, slice_get, option_and_then, codes}
 use Rattle.std.specs.Option.{option_map}
 use Rattle.std.specs.Str.{bytes_eq}
@@ -28,18 +28,23 @@ pub record Env : Type 0 where
   pub locals : List Ty
   pub result : Option Ty
 
+-- the types of parameters or locals, in their order
 abbrev pub types_of : List PlainLocal → List Ty
 types_of ls = map (λ l. l.ty) ls
 
+-- what the body of a method sees
 abbrev pub env_of : ℕ → PlainMethod → Env
 env_of m k = record { body = m; self = k.owner; locals = types_of (k.params ++ k.locals); result = k.result }
 
+-- the type of a base, without brackets
 abbrev pub plain_type : TyBase → Ty
 plain_type b = record { base = b; dim = 0 }
 
+-- the type of the objects of a class
 abbrev pub class_type : ℕ → Ty
 class_type c = plain_type (Class (record { 0 = c }))
 
+-- a value of the type, where there is one, else nothing
 abbrev pub or_nothing : Option Ty → Static
 or_nothing None = no_value
 or_nothing (Some t) = a_value t
@@ -53,6 +58,7 @@ class_in Boolean d = None
 class_in Char d = None
 class_in Str d = None
 
+-- the class of an object that an expression gives, where it gives one
 abbrev pub class_of : Static → Option ℕ
 class_of (a_value t) = class_in t.base t.dim
 class_of null_value = None
@@ -63,11 +69,13 @@ abbrev pub element_in : TyBase → ℕ → Option Ty
 element_in b zero = None
 element_in b (suc d) = Some (record { base = b; dim = d })
 
+-- the type of the elements of an array that an expression gives, where it gives one
 abbrev pub element_of : Static → Option Ty
 element_of (a_value t) = element_in t.base t.dim
 element_of null_value = None
 element_of no_value = None
 
+-- whether two bases of types are the same
 abbrev pub is_base : TyBase → TyBase → Bool
 is_base Int Int = true
 is_base Boolean Boolean = true
@@ -86,9 +94,11 @@ is_only b no_value = false
 abbrev pub is_numeric : Static → Bool
 is_numeric s = is_only Int s || is_only Char s
 
+-- whether it is a boolean
 abbrev pub is_boolean : Static → Bool
 is_boolean s = is_only Boolean s
 
+-- whether it is a String
 abbrev pub is_string : Static → Bool
 is_string s = is_only Str s
 
@@ -96,6 +106,7 @@ is_string s = is_only Str s
 abbrev pub is_printable : Static → Bool
 is_printable s = is_numeric s || (is_boolean s || is_string s)
 
+-- whether the base of a type is a class
 abbrev pub is_class : TyBase → Bool
 is_class (Class c) = true
 is_class Int = false
@@ -111,6 +122,7 @@ is_object t = not (t.dim == 0) || is_class t.base
 abbrev pub is_reference : Ty → Bool
 is_reference t = is_object t || is_base t.base Str
 
+-- whether one base is a subtype of another: a class at or below the other, else the same base
 abbrev pub is_sub_base : Plain → TyBase → TyBase → Bool
 is_sub_base P (Class c) (Class d) = below P c.0 d.0
 is_sub_base P Int b = is_base Int b
@@ -129,6 +141,7 @@ fits P (a_value s) t = is_subtype P s t || (is_only Char (a_value s) && is_only 
 fits P null_value t = is_reference t
 fits P no_value t = false
 
+-- what can be assigned to a variable of which the static type is known: what fits its type
 abbrev pub fits_in : Plain → Static → Static → Bool
 fits_in P s (a_value t) = fits P s t
 fits_in P s null_value = false
@@ -151,16 +164,19 @@ pub data StringMethod : Type 0 where
   CharAt : StringMethod
   Equals : StringMethod
 
+-- the method of String that has this name, where one has
 abbrev pub string_method : List ℕ → Option StringMethod
 string_method x =
     if bytes_eq x (codes "length") then Some LengthOf else if bytes_eq x (codes "charAt") then Some CharAt else if bytes_eq x (codes "equals") then
     Some Equals else None
 
+-- the types of what a method of String takes
 abbrev pub string_params : StringMethod → List Ty
 string_params LengthOf = []
 string_params CharAt = plain_type Int ∷ []
 string_params Equals = plain_type Str ∷ []
 
+-- the type of what a method of String gives
 abbrev pub string_result : StringMethod → Ty
 string_result LengthOf = plain_type Int
 string_result CharAt = plain_type Char
@@ -171,12 +187,15 @@ pub record Signature : Type 0 where
   pub params : List Ty
   pub result : Option Ty
 
+-- what the methods of a slot take and give
 abbrev pub signature_of_slot : Plain → ℕ → Option Signature
 signature_of_slot P s = option_map (λ k. record { params = k.params; result = k.result }) (slice_get P.slots s)
 
+-- what a method takes and gives
 abbrev pub signature_of_method : Plain → ℕ → Option Signature
 signature_of_method P m = option_map (λ k. record { params = types_of k.params; result = k.result }) (slice_get P.methods m)
 
+-- what a method of String takes and gives
 abbrev pub signature_of_string : StringMethod → Signature
 signature_of_string m = record { params = string_params m; result = Some (string_result m) }
 
@@ -185,12 +204,15 @@ abbrev pub object_signature : Plain → Option ℕ → List ℕ → Option Signa
 object_signature P None x = None
 object_signature P (Some c) x = option_and_then (signature_of_slot P) (slot_of P c x)
 
+-- what a call of a name on an expression of this static type takes and gives, where it calls something
 unfoldable pub call_signature : Plain → Static → List ℕ → Option Signature
 call_signature P s x = if is_string s then option_map signature_of_string (string_method x) else object_signature P (class_of s) x
 
+-- what a call of a name on `super` in a class takes and gives, where it calls something
 unfoldable pub super_signature : Plain → ℕ → List ℕ → Option Signature
 super_signature P c x = option_and_then (signature_of_method P) (super_method P c x)
 
+-- the static type of a call: what its signature gives, and nothing where it calls nothing
 abbrev pub result_of : Option Signature → Static
 result_of None = no_value
 result_of (Some g) = or_nothing g.result
@@ -207,6 +229,7 @@ field_in P s x = option_and_then (λ c. member_field P c x) (class_of s)
 abbrev pub value_type : Plain → Static → List ℕ → Option Ty
 value_type P s x = option_and_then (field_type P) (field_in P s x)
 
+-- whether a name is `length`
 abbrev pub is_length : List ℕ → Bool
 is_length x = bytes_eq x (codes "length")
 
@@ -215,29 +238,42 @@ abbrev pub length_or : Option Ty → Option Ty → List ℕ → Option Ty
 length_or (Some u) t x = if is_length x then Some (plain_type Int) else None
 length_or None t x = t
 
+-- the type of a field access on an expression of this static type
 unfoldable pub access_type : Plain → Static → List ℕ → Option Ty
 access_type P s x = length_or (element_of s) (value_type P s x) x
 
+-- the type of what a prefix operator gives: boolean for `!`, else int
 abbrev pub unary_type : UnOp → Ty
 unary_type un.Plus = plain_type Int
 unary_type un.Minus = plain_type Int
 unary_type un.Flip = plain_type Int
 unary_type un.Not = plain_type Boolean
 
+-- the type of what an operator on ints gives: a String where it joins, else an int
 abbrev pub sum_type : Bool → Ty
 sum_type true = plain_type Str
 sum_type false = plain_type Int
 
+-- whether it is `+`
 abbrev pub is_plus : Op → Bool
 is_plus op.Plus = true
 is_plus _ = false
 
+-- the type of what a binary operator gives on sides of these static types
 abbrev pub binary_type : BinOp → Static → Static → Ty
 binary_type (bin.Int o) s t = sum_type (is_plus o && (is_string s || is_string t))
-binary_type _ s t = plain_type Boolean
+binary_type bin.Same s t = plain_type Boolean
+binary_type bin.Differs s t = plain_type Boolean
+binary_type bin.Less s t = plain_type Boolean
+binary_type bin.Greater s t = plain_type Boolean
+binary_type bin.AtMost s t = plain_type Boolean
+binary_type bin.AtLeast s t = plain_type Boolean
+binary_type bin.Both s t = plain_type Boolean
+binary_type bin.Either s t = plain_type Boolean
 
 -- the static type of an expression (Java Language Specification, chapter 15): what no rule allows gives nothing
 module _ (P : Plain) (g : Env) where
+  -- the static type of an expression in a body
   abbrev pub static : Ex → Static
   static (number t n) = a_value (plain_type Int)
   static (character t c) = a_value (plain_type Char)

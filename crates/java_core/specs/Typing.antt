@@ -1,4 +1,5 @@
--- Which expressions, statements and programs are typed: one constructor a form, and fitting is asked where values flow.
+-- Believed. Which expressions, statements and programs are typed: one constructor a form, and fitting is asked where
+-- values flow.
 use Rattle.std.specs.Prelude.{◌≡◌, ℕ, ℤ, ◌||◌, ◌&&◌, Bool, true, false, List, [], ◌∷◌, Option, Some, None, slice_get}
 use Rattle.std.specs.Option.{is_some}
 use Rattle.java_core.specs.declared.Ty.{Ty}
@@ -14,8 +15,11 @@ use Rattle.java_core.specs.Types.{Static, a_value, Env, env_of, class_in, class_
 -- what a prefix operator takes
 abbrev pub takes_one : UnOp → Static → Bool
 takes_one un.Not s = is_boolean s
-takes_one _ s = is_numeric s
+takes_one un.Plus s = is_numeric s
+takes_one un.Minus s = is_numeric s
+takes_one un.Flip s = is_numeric s
 
+-- whether `+` joins the two: one is a String and the other can be printed
 abbrev pub joins : Static → Static → Bool
 joins s t = (is_string s && is_printable t) || (is_printable s && is_string t)
 
@@ -43,6 +47,7 @@ can_cast P s t = (is_numeric (a_value t) && is_numeric s) || are_related P (clas
 
 module _ (P : Plain) (g : Env) where
   mutual
+    -- an expression is typed: each of its parts is, and each gives what the form around it takes
     pub data Typed : Ex → Type 0 where
       t_number : {t : Tag} {n : ℤ} → Typed (number t n)
       t_character : {t : Tag} {c : ℕ} → Typed (character t c)
@@ -68,10 +73,12 @@ module _ (P : Plain) (g : Env) where
       t_unary : {t : Tag} {o : UnOp} {e : Ex} → Typed e → takes_one o (static P g e) ≡ true → Typed (unary t o e)
       t_binary : {t : Tag} {o : BinOp} {e d : Ex} → Typed e → Typed d → takes_two P o (static P g e) (static P g d) ≡ true → Typed (binary t o e d)
 
+    -- the arguments of a call are typed, as many as the parameters, and each fits its parameter's type
     pub data TypedArgs : Exs → List Ty → Type 0 where
       t_no_ex : TypedArgs no_ex []
       t_ex_then : {e : Ex} {es : Exs} {u : Ty} {us : List Ty} → Typed e → fits P (static P g e) u ≡ true → TypedArgs es us → TypedArgs (ex_then e es) (u ∷ us)
 
+  -- the target of an assignment is typed: its parts are, and there is a field or an element to set
   pub data TypedTarget : Target → Type 0 where
     t_to_local : {t : Tag} {i : ℕ} → TypedTarget (to_local t i)
     t_to_static : {t : Tag} {f : ℕ} → TypedTarget (to_static t f)
@@ -86,6 +93,7 @@ module _ (P : Plain) (g : Env) where
     t_test : {e : Ex} → Typed e → is_boolean (static P g e) ≡ true → TypedTest (Some e)
 
   mutual
+    -- a statement is typed: its expressions and statements are, and each value fits where it goes
     pub data TypedSt : St → Type 0 where
       t_declare : {t : Tag} {i : ℕ} → TypedSt (declare t i None)
       t_declare_as : {t : Tag} {i : ℕ} {e : Ex} → Typed e → fits_in P (static P g e) (target_type P g (to_local t i)) ≡ true → TypedSt (declare t i (Some e))
@@ -102,10 +110,12 @@ module _ (P : Plain) (g : Env) where
       t_break : {t : Tag} → TypedSt (break t)
       t_continue : {t : Tag} → TypedSt (continue t)
 
+    -- each statement of a list is typed
     pub data TypedSts : Sts → Type 0 where
       t_no_st : TypedSts no_st
       t_st_then : {x : St} {xs : Sts} → TypedSt x → TypedSts xs → TypedSts (st_then x xs)
 
+    -- the arms of an `if` are typed, and each test is a boolean
     pub data TypedArms : Arms → Type 0 where
       t_no_other : TypedArms no_other
       t_otherwise : {xs : Sts} → TypedSts xs → TypedArms (otherwise xs)
@@ -122,6 +132,7 @@ pub record Offers (P : Plain) (c s m : ℕ) : Type 0 where
 unfoldable pub HasBodies : Plain → ℕ → Type 0
 HasBodies P c = (s m : ℕ) → Offers P c s m → (d : ℕ) × (nearest_declaration P c s ≡ Some d) × (has_body P d ≡ true)
 
+-- whether the method that was found is public; true where none was found
 abbrev pub is_public_method : Plain → Option ℕ → Bool
 is_public_method P None = true
 is_public_method P (Some d) = public_of (slice_get P.methods d)
@@ -139,6 +150,7 @@ pub record IsTypedClass (P : Plain) (c : ℕ) : Type 0 where
   pub bodies : is_concrete P c ≡ true → HasBodies P c
   pub public_methods : is_interface P c ≡ false → HasPublicMethods P c
 
+-- the body of a method is typed, where it has one
 unfoldable pub IsTypedMethod : Plain → ℕ → PlainMethod → Type 0
 IsTypedMethod P m k = (xs : Sts) → k.body ≡ Some xs → TypedSts P (env_of m k) xs
 

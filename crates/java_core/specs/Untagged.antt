@@ -1,4 +1,5 @@
--- A program without the tags of its forms: trees whose forms all have one tag. Two programs that are one so are one, places aside.
+-- Believed. A program without the tags of its forms: trees whose forms all have one tag. Two programs that are one so
+-- are one, places aside.
 use Rattle.std.specs.Prelude.{Option, Some, None, map}
 use Rattle.java_core.specs.Trees.{Tag, Ex, Exs, no_ex, ex_then, number, character, text, truth, null, this, local, static_field, own_field, field, index, call, static_call, super_call, create, create_array, cast, instance_of, unary, binary, Target, to_local, to_static, to_own, to_field, to_element, no_target, St, Sts, Arms, declare, block, assign, act, print, choose, loop, return, break, continue, no_st, st_then, no_other, otherwise, arm}
 use Rattle.java_core.specs.Plain.{Plain, PlainClass, PlainField, PlainMethod, PlainLocal}
@@ -9,6 +10,7 @@ bare_tag = record { label = 0; place = record { at = 0; line = 0 } }
 
 -- trees whose forms all have this tag
 abbrev mutual
+  -- an expression with the same tag at each of its nodes
   pub bare : Ex → Ex
   bare (number t n) = number bare_tag n
   bare (character t c) = character bare_tag c
@@ -31,14 +33,17 @@ abbrev mutual
   bare (unary t o e) = unary bare_tag o (bare e)
   bare (binary t o e d) = binary bare_tag o (bare e) (bare d)
 
+  -- a list of expressions with the same tag everywhere
   pub bare_all : Exs → Exs
   bare_all no_ex = no_ex
   bare_all (ex_then e es) = ex_then (bare e) (bare_all es)
 
+-- an expression that may be absent, with the same tag everywhere
 abbrev pub bare_if : Option Ex → Option Ex
 bare_if None = None
 bare_if (Some e) = Some (bare e)
 
+-- the target of an assignment with the same tag everywhere
 abbrev pub bare_target : Target → Target
 bare_target (to_local t i) = to_local bare_tag i
 bare_target (to_static t f) = to_static bare_tag f
@@ -48,6 +53,7 @@ bare_target (to_element t e i) = to_element bare_tag (bare e) (bare i)
 bare_target no_target = no_target
 
 abbrev mutual
+  -- a statement with the same tag everywhere
   pub bare_st : St → St
   bare_st (declare t i e) = declare bare_tag i (bare_if e)
   bare_st (block t xs) = block bare_tag (bare_sts xs)
@@ -60,28 +66,35 @@ abbrev mutual
   bare_st (break t) = break bare_tag
   bare_st (continue t) = continue bare_tag
 
+  -- a list of statements with the same tag everywhere
   pub bare_sts : Sts → Sts
   bare_sts no_st = no_st
   bare_sts (st_then x xs) = st_then (bare_st x) (bare_sts xs)
 
+  -- the arms of an `if` with the same tag everywhere
   pub bare_arms : Arms → Arms
   bare_arms no_other = no_other
   bare_arms (otherwise xs) = otherwise (bare_sts xs)
   bare_arms (arm e xs more) = arm (bare e) (bare_sts xs) (bare_arms more)
 
+-- the body of a method with the same tag everywhere, where it has one
 abbrev pub untag_body : Option Sts → Option Sts
 untag_body None = None
 untag_body (Some xs) = Some (bare_sts xs)
 
+-- a parameter or local with the same tag as all others
 abbrev pub untag_local : PlainLocal → PlainLocal
 untag_local v = record v { tag = bare_tag }
 
+-- a class with the same tag as all others
 abbrev pub untag_class : PlainClass → PlainClass
 untag_class k = record k { tag = bare_tag }
 
+-- a field with the same tag as all others
 abbrev pub untag_field : PlainField → PlainField
 untag_field k = record k { tag = bare_tag }
 
+-- a method with the same tag as all others, at itself, its variables and its body
 abbrev pub untag_method : PlainMethod → PlainMethod
 untag_method k = record k { params = map untag_local k.params; locals = map untag_local k.locals; body = untag_body k.body; tag = bare_tag }
 

@@ -2,7 +2,7 @@
 #![tactic(auto)]
 
 ghost use Rattle.std.specs.Prelude.{◌≡◌, ℕ, ◌<◌, ◌&&◌, ◌==◌, Option, IfSome, position, option_and_then};
-ghost use Rattle.version_map.specs.Held.{holds};
+ghost use Rattle.kaba_versions.specs.Held.{holds};
 ghost use Rattle.java_core.specs.MemberKeys.{MemberKeys};
 ghost use Rattle.java_core.specs.Tables.{AreMemberTables};
 ghost use Rattle.java_core.specs.Nearest.{has_name, IsAbove, IsNearestBy};
@@ -10,7 +10,7 @@ ghost use Rattle.java_core.specs.Nearest.{has_name, IsAbove, IsNearestBy};
 use crate::nearest::{MANY, name_number, parent_at};
 use crate::tables::{Member, MemberTables};
 use kaba_base::{ClassId, Name};
-use version_map::VersionMap;
+use kaba_versions::VersionMap;
 
 /// The version of a class's superclass, where it is known.
 fn version_above<'a>(

@@ -22,7 +22,7 @@ impl Model for Checked {
     ghost use Rattle.std.specs.Coded.{codes};
     ghost use Rattle.java_core.specs.contracts.RExpr as expr;
     ghost use Rattle.java_core.specs.contracts.RStmt as stmt;
-    ghost use Rattle.version_map.specs.contracts.Tree as tree;
+    ghost use Rattle.kaba_versions.specs.contracts.Tree as tree;
 
     ghost coded = { Prim.hlevel (codes, expr.the_row.coded, stmt.the_row.coded, tree.the_row.coded) };
 

@@ -2,8 +2,8 @@
 #![tactic(auto)]
 
 ghost use Rattle.std.specs.Prelude.{◌≡◌, ℕ, ◌<◌, ◌∷◌, [], length, map, Some, IfOk, IfSome, OnOk, slice_get, set};
-ghost use Rattle.version_map.specs.Held.{holds};
-ghost use Rattle.version_map.specs.declared.VersionMap.{VersionMap};
+ghost use Rattle.kaba_versions.specs.Held.{holds};
+ghost use Rattle.kaba_versions.specs.declared.VersionMap.{VersionMap};
 ghost use Rattle.java_core.specs.Classes.{first_or, is_slot};
 ghost use Rattle.java_core.specs.Owned.{passes};
 ghost use Rattle.java_core.specs.declared.tables.MemberKey.TheVariants as key;
@@ -14,8 +14,8 @@ use crate::Tried;
 use crate::owned::{first_among, listed_under};
 use crate::tables::{Member, name_bucket};
 use kaba_base::{ClassId, Name};
+use kaba_versions::VersionMap;
 use std::alloc::Global;
-use version_map::VersionMap;
 
 /// Members are numbered in 32 bits.
 pub const MANY: usize = 4294967295;

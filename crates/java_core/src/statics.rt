@@ -293,7 +293,14 @@ pub fn binary_type(op: BinOp, left: Static, right: Static) -> Ty
     match op {
         BinOp::Int(Op::Plus) if is_string(left) || is_string(right) => plain_type(TyBase::Str),
         BinOp::Int(_) => plain_type(TyBase::Int),
-        _ => plain_type(TyBase::Boolean),
+        BinOp::Same
+        | BinOp::Differs
+        | BinOp::Less
+        | BinOp::Greater
+        | BinOp::AtMost
+        | BinOp::AtLeast
+        | BinOp::Both
+        | BinOp::Either => plain_type(TyBase::Boolean),
     }
 }
 

@@ -9,8 +9,8 @@ use crate::nearest::nearest_members;
 use crate::owned::note_under;
 use crate::{Field, Method, Tried};
 use kaba_base::{ClassId, Name, made};
+use kaba_versions::VersionMap;
 use std::alloc::{AllocError, Global};
-use version_map::VersionMap;
 
 /// What a member is looked for by.
 #[derive(Clone, Copy)]

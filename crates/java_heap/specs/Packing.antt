@@ -1,4 +1,4 @@
--- Values as a tag and a word each.
+-- Mirror. Values as a tag and a word each.
 use Rattle.std.specs.Prelude.{ℕ, List, [], ◌∷◌, ◌%◌, true, false, if◌then◌else◌}
 use Rattle.std.specs.Int.{w32, cast_signed}
 use Rattle.java_heap.specs.declared.values.Value.{Value}

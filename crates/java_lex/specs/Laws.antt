@@ -1,4 +1,4 @@
--- What each mark and each keyword is read as.
+-- Mirror. What each mark and each keyword is read as.
 use Rattle.std.specs.Prelude.{◌≡◌, [], ◌∷◌, Ok}
 use Rattle.kaba_base.specs.declared.Keyword.{Keyword}
 use Rattle.kaba_base.specs.Words.{key_text}

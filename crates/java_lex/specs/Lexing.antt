@@ -1,4 +1,4 @@
--- The tokens of a text, and its first fault.
+-- Believed. The tokens of a text, and its first fault.
 use Rattle.std.specs.Prelude.{◌≡◌, ℕ, zero, suc, ◌+◌, ◌==◌, List, [], ◌∷◌, ◌++◌, take, count_by, Result, Ok, Err, if◌then◌else◌}
 use Rattle.std.specs.Char.{len_utf8}
 use Rattle.std.specs.Str.{chars, is_utf8}
@@ -16,6 +16,7 @@ use Rattle.java_lex.specs.declared.LexFault.{LexFault}
 use Rattle.java_lex.specs.declared.LexFault.TheVariants as faults
 use Rattle.java_lex.specs.Piece.{piece_of}
 
+-- what lexing comes to: the tokens, or the first fault
 abbrev pub Outcome : Type 0
 Outcome = Result (List Token) LexFault
 
@@ -23,6 +24,7 @@ Outcome = Result (List Token) LexFault
 abbrev pub past : Place → ℕ → Place
 past p c = record { at = p.at + len_utf8 c; line = if c == 10 then p.line + 1 else p.line }
 
+-- the place behind all these characters, the first of which stands at p
 abbrev pub moved : Place → List ℕ → Place
 moved p [] = p
 moved p (c ∷ cs) = moved (past p c) cs
@@ -32,19 +34,23 @@ abbrev pub width : List ℕ → ℕ
 width [] = 0
 width (c ∷ cs) = len_utf8 c + width cs
 
+-- the place of the first character of a text: byte 0, line 1
 abbrev pub start : Place
 start = record { at = 0; line = 1 }
 
+-- the fault of this kind at this place
 abbrev pub fault_at : FaultKind → Place → LexFault
 fault_at kinds.BadByte p = faults.BadByte p
 fault_at kinds.OpenComment p = faults.OpenComment p
 fault_at kinds.OpenString p = faults.OpenString p
 fault_at kinds.BigLiteral p = faults.BigLiteral p
 
+-- an outcome with these tokens before its own; a fault stays as it is
 abbrev pub led : List Token → Outcome → Outcome
 led ts (Ok us) = Ok (ts ++ us)
 led ts (Err f) = Err f
 
+-- the token of this kind at this place
 abbrev pub token : TokenKind → Place → Token
 token k p = record { kind = k; place = p }
 
@@ -64,6 +70,7 @@ lexed (c ∷ cs) zero p = from_piece (piece_of c cs) p (c ∷ cs) (λ n. lexed c
 abbrev pub byte_place : List ℕ → ℕ → Place
 byte_place bytes n = record { at = n; line = 1 + count_by (λ b. b == 10) (take n bytes) }
 
+-- the tokens of a text in bytes, or its first fault, which is the first wrong byte where they are no UTF-8
 abbrev pub tokens_of : List ℕ → Outcome
 tokens_of bytes = if is_utf8 bytes then lexed (chars bytes) 0 start else Err (faults.BadByte (byte_place bytes (utf8_valid_len bytes)))
 

@@ -1,4 +1,4 @@
--- How the marks are written, and the table of them.
+-- Believed. How the marks are written, and the table of them.
 use Rattle.std.specs.Prelude.{◌≡◌, ℕ, ◌≤◌, true, List, [], ◌∷◌, Option, codes, length}
 use Rattle.kaba_base.specs.Words.{first_that}
 use Rattle.java_lex.specs.declared.Mark.{Mark}

@@ -1,4 +1,4 @@
--- Characters that are read as tokens of given kinds.
+-- Mirror. Characters that are read as tokens of given kinds.
 use Rattle.std.specs.Prelude.{◌≡◌, ℕ, List, ◌++◌, map, Result, Ok, Err}
 use Rattle.kaba_base.specs.declared.Place.{Place}
 use Rattle.java_lex.specs.declared.Token.{Token}
@@ -6,13 +6,16 @@ use Rattle.java_lex.specs.declared.TokenKind.{TokenKind}
 use Rattle.java_lex.specs.declared.LexFault.{LexFault}
 use Rattle.java_lex.specs.Lexing.{Outcome, lexed}
 
+-- the kind of a token
 abbrev pub kind_of : Token → TokenKind
 kind_of t = t.kind
 
+-- an outcome of lexing with the kinds of its tokens alone
 abbrev pub kinds_of : Outcome → Result (List TokenKind) LexFault
 kinds_of (Ok ts) = Ok (map kind_of ts)
 kinds_of (Err f) = Err f
 
+-- such an outcome with these kinds before its own; a fault stays as it is
 abbrev pub kinds_led : List TokenKind → Result (List TokenKind) LexFault → Result (List TokenKind) LexFault
 kinds_led ks (Ok ls) = Ok (ks ++ ls)
 kinds_led ks (Err f) = Err f

@@ -1,4 +1,4 @@
--- The kinds of tokens that some text has.
+-- Believed. The kinds of tokens that some text has.
 use Rattle.std.specs.Prelude.{◌≡◌, ℕ, ◌<◌, true, List, [], ◌∷◌, ℤ, pos}
 use Rattle.std.specs.List.{flat_map}
 use Rattle.std.specs.Str.{all_scalars}
@@ -25,17 +25,22 @@ pub record IsSmall (z : ℤ) : Type 0 where
   pub is : z ≡ pos value
   pub small : value < 2147483648
 
+-- the value of a character literal: a code unit that is a whole character
 pub record IsUnit (u : ℕ) : Type 0 where
   pub scalar : all_scalars (u ∷ []) ≡ true
   pub small : u < 65536
 
+-- some text has a token of this kind, as its name, number, character or string can be written
 abbrev pub IsWritable : TokenKind → Type 0
 IsWritable (kinds.Word w) = IsName w
 IsWritable (kinds.Int z) = IsSmall z
 IsWritable (kinds.Char u) = IsUnit u
 IsWritable (kinds.Str us) = IsText us
-IsWritable _ = Unit {0}
+IsWritable (kinds.Key k) = Unit {0}
+IsWritable kinds.Least = Unit {0}
+IsWritable (kinds.Mark m) = Unit {0}
 
+-- some text has each of these tokens
 abbrev pub AllWritable : List Token → Type 0
 AllWritable [] = Unit {0}
 AllWritable (t ∷ ts) = IsWritable t.kind × AllWritable ts

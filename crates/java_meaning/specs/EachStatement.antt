@@ -1,4 +1,5 @@
--- What holds in each statement of a body, and of those in it, where it is said what holds of an expression, a declaration, an assignment and what is returned.
+-- Believed. What holds in each statement of a body, and of those in it, where it is said what holds of an expression, a
+-- declaration, an assignment and what is returned.
 use Rattle.std.specs.Prelude.{ℕ, Option, Some, None}
 use Rattle.java_core.specs.Trees.{Ex, Target, St, Sts, Arms, declare, block, assign, act, print, choose, loop, return, break, continue, no_st, st_then, no_other, otherwise, arm}
 
@@ -16,6 +17,7 @@ pub record Asked : Type 1 where
 
 module _ (A : Asked) where
   abbrev mutual
+    -- what is asked holds of each expression, declaration, assignment and return in a statement
     pub InSt : St → Type 0
     InSt (declare t i e) = A.Declared i e
     InSt (block t xs) = InSts xs
@@ -28,10 +30,12 @@ module _ (A : Asked) where
     InSt (break t) = Unit {0}
     InSt (continue t) = Unit {0}
 
+    -- the same of each statement of a list
     pub InSts : Sts → Type 0
     InSts no_st = Unit {0}
     InSts (st_then x xs) = InSt x × InSts xs
 
+    -- the same of each test and each body of the arms of an `if`
     pub InArms : Arms → Type 0
     InArms no_other = Unit {0}
     InArms (otherwise xs) = InSts xs

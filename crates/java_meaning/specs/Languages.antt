@@ -1,4 +1,4 @@
--- What a run asks of a program, from its classes, fields and methods; and the run of a program.
+-- Believed. What a run asks of a program, from its classes, fields and methods; and the run of a program.
 use Rattle.std.specs.Prelude.{ℕ, zero, suc, ◌==◌, ◌&&◌, true, not, if◌then◌else◌, List, [], ◌∷◌, ◌++◌, length, map, Option, slice_get, position}
 use Rattle.std.specs.Option.{option_map, option_map_or, option_and_then}
 use Rattle.java_core.specs.Trees.{Ex, Sts}
@@ -14,6 +14,7 @@ abbrev pub own_fields_from : ℕ → ℕ → List PlainField → List ℕ
 own_fields_from c n [] = []
 own_fields_from c n (f ∷ fs) = (if (f.owner == c) && not f.is_static then n ∷ [] else []) ++ own_fields_from c (suc n) fs
 
+-- the instance fields that a class declares itself, in their order
 abbrev pub own_fields : Plain → ℕ → List ℕ
 own_fields P c = own_fields_from c 0 P.fields
 
@@ -22,9 +23,11 @@ abbrev pub layout_in : Plain → ℕ → ℕ → List ℕ
 layout_in P zero c = own_fields P c
 layout_in P (suc n) c = option_map_or (λ p. layout_in P n p.0) (parent_of P c) [] ++ own_fields P c
 
+-- the instance fields of an object of the class, in the order in which its values stand
 unfoldable pub layout : Plain → ℕ → List ℕ
 layout P c = layout_in P (length P.classes) c
 
+-- the default of the type of a field
 abbrev pub default_at : Plain → ℕ → Value
 default_at P f = option_map_or default_of (field_type P f) Nothing
 
@@ -32,6 +35,7 @@ default_at P f = option_map_or default_of (field_type P f) Nothing
 abbrev pub index_of : Plain → ℕ → ℕ → Option ℕ
 index_of P c f = position (λ g. g == f) (layout P c)
 
+-- the values of a new object of a class: the defaults of its fields
 abbrev pub fresh_of : Plain → ℕ → List Value
 fresh_of P c = map (λ f. default_at P f) (layout P c)
 
@@ -47,6 +51,7 @@ body_with m k xs =
       code = xs;
     }
 
+-- the body of a method, where it has one
 abbrev pub body_of : Plain → ℕ → Option Body
 body_of P m = option_and_then (λ k. option_map (λ xs. body_with m k xs) k.body) (slice_get P.methods m)
 
@@ -54,6 +59,7 @@ body_of P m = option_and_then (λ k. option_map (λ xs. body_with m k xs) k.body
 abbrev pub slot_in : Plain → Env → Ex → List ℕ → Option ℕ
 slot_in P g e x = option_and_then (λ c. slot_of P c x) (class_of (static P g e))
 
+-- the values of the static fields at the start: their defaults, one for each field of the program
 abbrev pub statics_of : Plain → List Value
 statics_of P = map (λ f. default_of f.ty) P.fields
 

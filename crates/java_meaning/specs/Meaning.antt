@@ -1,4 +1,5 @@
--- What a program does: a run by recursion on the depth of its calls and loops and on the tree. A value goes to the function that takes it, and so
+-- Believed. What a program does: a run by recursion on the depth of its calls and loops and on the tree. A value goes
+-- to the function that takes it, and so
 -- does the end of a statement.
 use Rattle.std.specs.Prelude.{ℕ, zero, suc, ℤ, Bool, true, false, List, [], ◌∷◌, ◌++◌, length, Option, Some, None, slice_get, slice_set, ◌&&◌, ◌||◌}
 use Rattle.std.specs.Option.{option_and_then}
@@ -25,6 +26,7 @@ pub data Flow : Type 0 where
 abbrev pub ToValue : Type 0
 ToValue = Value → State → Outcome
 
+-- where a statement's end goes, with the frame and the state at it
 abbrev pub ToFlow : Type 0
 ToFlow = Flow → Frame → State → Outcome
 
@@ -54,12 +56,15 @@ with_cell (Text a) s go = stop Wrong s
 abbrev pub add_cell : Cell → State → State
 add_cell c s = record s { cells = s.cells ++ c ∷ [] }
 
+-- the state with one more string
 abbrev pub add_string : List ℕ → State → State
 add_string u s = record s { strings = s.strings ++ u ∷ [] }
 
+-- the state where the value i of the cell a, which is c, is set
 abbrev pub set_value : ℕ → Cell → ℕ → Value → State → State
 set_value a c i v s = record s { cells = slice_set s.cells a (record c { values = slice_set c.values i v }) }
 
+-- the frame where a local is set
 abbrev pub set_local : Frame → ℕ → Value → Frame
 set_local f x v = record f { locals = slice_set f.locals x v }
 
@@ -71,6 +76,7 @@ give_string u s k = k (Text (length s.strings)) (add_string u s)
 abbrev pub read_static : ℕ → State → ToValue → Outcome
 read_static x s k = with_some (slice_get s.statics x) s (λ v. k v s)
 
+-- a static field is set, to the value as its type holds it
 abbrev pub write_static : Lang → ℕ → Value → State → (State → Outcome) → Outcome
 write_static L x v s k =
     with_some (L.field_type x) s (λ t. with_some (slice_get s.statics x) s (λ old. look L (set_static x) (convert t v) s (λ s1.
@@ -82,6 +88,7 @@ read_field L b e d x a c s k =
     with_some (own_class c.kind) s (λ t. with_some x s (λ j. with_some (L.index t j) s (λ i. with_some (slice_get c.values i) s (λ u.
     look L (touched b e j) (Object a) s (λ s1. look L (held b d) u s1 (λ s2. k u s2))))))
 
+-- a field of an object is set, to the value as its type holds it
 abbrev pub write_field : Lang → ℕ → Ex → Option ℕ → Value → ℕ → Cell → State → (State → Outcome) → Outcome
 write_field L b e x v a c s k =
     with_some (own_class c.kind) s
@@ -103,14 +110,17 @@ abbrev pub element_type : Kind → Option Ty
 element_type (an_object c) = None
 element_type (an_array t) = element_in t.base t.dim
 
+-- the place of an array that a number names, where it has one
 abbrev pub place_in : Cell → ℤ → Option ℕ
 place_in c i = option_and_then (λ n. option_and_then (λ v. Some n) (slice_get c.values n)) (natural_of i)
 
+-- an element of an array is read
 abbrev pub read_element : Lang → ℕ → Ex → Value → ℤ → State → ToValue → Outcome
 read_element L b d v i s k =
     with_cell v s (λ a c. with_some (element_type c.kind) s (λ t. or_fault fault.Bounds (option_and_then (λ n. slice_get c.values n) (natural_of i)) s (λ u.
     look L (held b d) u s (λ s1. k u s1))))
 
+-- goes on where the value may be stored in an array of elements of the type; else the store is a fault
 abbrev pub on_fitting : Lang → Value → Ty → State → (State → Outcome) → Outcome
 on_fitting L (Object b) t s go = with_some (slice_get s.cells b) s (λ d. on_bool (L.is_sub (own_type d.kind) t) s go (stop (Faulted fault.ArrayStore)))
 on_fitting L (Number n) t s go = go s
@@ -119,6 +129,7 @@ on_fitting L (CodeUnit n) t s go = go s
 on_fitting L Nothing t s go = go s
 on_fitting L (Text n) t s go = go s
 
+-- an element of an array is set
 abbrev pub write_element : Lang → Value → ℤ → Value → State → (State → Outcome) → Outcome
 write_element L v i u s k =
     with_cell v s (λ a c. with_some (element_type c.kind) s (λ t. or_fault fault.Bounds (place_in c i) s (λ n. on_fitting L u t s (λ s1.
@@ -182,10 +193,12 @@ call_super L later g d x v vs s k =
 abbrev pub make_cell : Lang → ℕ → Ex → Cell → State → ToValue → Outcome
 make_cell L b d c s k = look L (held b d) (Object (length s.cells)) (add_cell c s) (λ s1. k (Object (length s.cells)) s1)
 
+-- a new object of a class, with the defaults of its fields; a creation takes no arguments
 abbrev pub make_object : Lang → Env → Ex → ℕ → ℕ → List Value → State → ToValue → Outcome
 make_object L g d n c [] s k = step s (λ s1. make_cell L g.body d (record { site = Some n; kind = an_object c; values = L.fresh c }) s1 k)
 make_object L g d n c (v ∷ vs) s k = stop Wrong s
 
+-- a new array of so many elements, each at its type's default; a negative size is a fault
 abbrev pub make_array : Lang → Env → Ex → ℕ → Ty → ℤ → State → ToValue → Outcome
 make_array L g d n t size s k =
     with_some (element_in t.base t.dim) s (λ u. or_fault fault.NegativeSize (natural_of size) s (λ many.
@@ -201,6 +214,7 @@ is_number_type Boolean n = false
 is_number_type Str n = false
 is_number_type (Class c) n = false
 
+-- a cast of null, an object or an array: what is of no subtype of the type is a fault
 abbrev pub cast_object : Lang → ℕ → Ex → Ty → Value → State → ToValue → Outcome
 cast_object L b d t Nothing s k = k Nothing s
 cast_object L b d t (Object a) s k =
@@ -211,10 +225,12 @@ cast_object L b d t (Truth n) s k = stop Wrong s
 cast_object L b d t (CodeUnit n) s k = stop Wrong s
 cast_object L b d t (Text n) s k = stop Wrong s
 
+-- a cast of a value to a type
 abbrev pub cast_to : Lang → ℕ → Ex → Ty → Value → State → ToValue → Outcome
 cast_to L b d t v s k = on_bool (is_number_type t.base t.dim) s (λ s1. with_some (number_of v) s1 (λ a. k (cast_number t.base a) s1))
     (λ s1. cast_object L b d t v s1 k)
 
+-- `instanceof`: whether an object is of the class or below it; null is not
 abbrev pub test_class : Lang → ℕ → Ex → ℕ → Value → State → ToValue → Outcome
 test_class L b d t Nothing s k = k (Truth false) s
 test_class L b d t (Object a) s k =
@@ -229,25 +245,36 @@ test_class L b d t (Text n) s k = stop Wrong s
 abbrev pub after_left : BinOp → Value → State → (State → Outcome) → ToValue → Outcome
 after_left bin.Both v s right k = on_test v s right (λ s1. k (Truth false) s1)
 after_left bin.Either v s right k = on_test v s (λ s1. k (Truth true) s1) right
-after_left _ v s right k = right s
+after_left (bin.Int o) v s right k = right s
+after_left bin.Same v s right k = right s
+after_left bin.Differs v s right k = right s
+after_left bin.Less v s right k = right s
+after_left bin.Greater v s right k = right s
+after_left bin.AtMost v s right k = right s
+after_left bin.AtLeast v s right k = right s
 
 -- two texts are joined to a new string; two numbers, else a join where one side is a text
 abbrev pub join_values : Value → Value → State → ToValue → Outcome
 join_values v w s k =
     with_some (text_of s.strings v) s (λ a. with_some (text_of s.strings w) s (λ b. with_result (join a b) s (λ u. give_string u s k)))
 
+-- an operator on ints: on two numbers its result, else a join where one is asked for
 abbrev pub compute : Bool → Option ℤ → Option ℤ → Value → Value → Op → State → ToValue → Outcome
 compute joins (Some a) (Some b) v w o s k = with_result (arith o a b) s (λ n. k (Number n) s)
 compute joins (Some a) None v w o s k = on_bool joins s (λ s1. join_values v w s1 k) (stop Wrong)
 compute joins None b v w o s k = on_bool joins s (λ s1. join_values v w s1 k) (stop Wrong)
 
+-- what a binary operator gives once both sides are there
 abbrev pub operate : BinOp → Value → Value → State → ToValue → Outcome
 operate (bin.Int o) v w s k = compute (is_plus o && (is_text v || is_text w)) (number_of v) (number_of w) v w o s k
 operate bin.Same v w s k = with_some (same_value v w) s (λ b. k (Truth b) s)
 operate bin.Differs v w s k = with_some (same_value v w) s (λ b. on_bool b s (λ s1. k (Truth false) s1) (λ s1. k (Truth true) s1))
 operate bin.Both v w s k = with_some (truth_of w) s (λ b. k (Truth b) s)
 operate bin.Either v w s k = with_some (truth_of w) s (λ b. k (Truth b) s)
-operate o v w s k = with_some (number_of v) s (λ a. with_some (number_of w) s (λ b. with_some (compared o a b) s (λ t. k (Truth t) s)))
+operate bin.Less v w s k = with_some (number_of v) s (λ a. with_some (number_of w) s (λ b. with_some (compared bin.Less a b) s (λ t. k (Truth t) s)))
+operate bin.Greater v w s k = with_some (number_of v) s (λ a. with_some (number_of w) s (λ b. with_some (compared bin.Greater a b) s (λ t. k (Truth t) s)))
+operate bin.AtMost v w s k = with_some (number_of v) s (λ a. with_some (number_of w) s (λ b. with_some (compared bin.AtMost a b) s (λ t. k (Truth t) s)))
+operate bin.AtLeast v w s k = with_some (number_of v) s (λ a. with_some (number_of w) s (λ b. with_some (compared bin.AtLeast a b) s (λ t. k (Truth t) s)))
 
 -- a text is printed
 abbrev pub print_units : Bool → List ℕ → State → (State → Outcome) → Outcome
@@ -266,6 +293,7 @@ after_one Broke f s on k = k Broke f s
 after_one Continued f s on k = k Continued f s
 after_one (Gave v) f s on k = k (Gave v) f s
 
+-- what a loop does after a turn of its body: goes on, ends, or hands on what the body gave
 abbrev pub after_turn : Flow → Frame → State → (Frame → State → Outcome) → ToFlow → Outcome
 after_turn Next f s on k = on f s
 after_turn Continued f s on k = on f s
@@ -274,6 +302,7 @@ after_turn (Gave v) f s on k = k (Gave v) f s
 
 module _ (L : Lang) (later : Later) where
   abbrev mutual
+    -- the value of an expression, and the state after it
     pub value : Ex → Frame → State → ToValue → Outcome
     value (number t n) f s k = k (Number n) s
     value (character t c) f s k = k (CodeUnit c) s
@@ -296,6 +325,7 @@ module _ (L : Lang) (later : Later) where
     value (unary t o e) f s k = value e f s (λ v s1. with_some (unary_value o v) s1 (λ u. k u s1))
     value (binary t o e d) f s k = value e f s (λ v s1. after_left o v s1 (λ s2. value d f s2 (λ w s3. operate o v w s3 k)) k)
 
+    -- the values of a list of expressions, from left to right
     pub values : Exs → Frame → State → (List Value → State → Outcome) → Outcome
     values no_ex f s k = k [] s
     values (ex_then e es) f s k = value e f s (λ v s1. values es f s1 (λ vs s2. k (v ∷ vs) s2))
@@ -315,6 +345,7 @@ module _ (L : Lang) (later : Later) where
   run_initial x None f s k = k Next f s
   run_initial x (Some e) f s k = value e f s (λ v s1. write_local L x v f s1 k)
 
+  -- the declaration of a local, with its initial value where it has one
   abbrev pub run_declare : ℕ → Option Ex → Frame → State → ToFlow → Outcome
   run_declare x e f s k = with_some (slice_get f.env.locals x) s (λ t. with_some (slice_get f.locals x) s
       (λ old. run_initial x e (set_local f x (default_of t)) s k))
@@ -337,6 +368,7 @@ module _ (L : Lang) (later : Later) where
   run_assign no_target d f s k = stop Wrong s
 
   abbrev mutual
+    -- what one statement does
     pub run_one : St → Frame → State → ToFlow → Outcome
     run_one (declare t x e) f s k = run_declare x e f s k
     run_one (block t xs) f s k = run_all xs f s k
@@ -353,10 +385,12 @@ module _ (L : Lang) (later : Later) where
     run_one (break t) f s k = k Broke f s
     run_one (continue t) f s k = k Continued f s
 
+    -- what a list of statements does, one after another, until one ends otherwise than by coming to its end
     pub run_all : Sts → Frame → State → ToFlow → Outcome
     run_all no_st f s k = k Next f s
     run_all (st_then x xs) f s k = run_one x f s (λ w f1 s1. after_one w f1 s1 (λ f2 s2. run_all xs f2 s2 k) k)
 
+    -- what the arms of an `if` do: the first whose test is true runs, else the `else`
     pub run_arms : Arms → Frame → State → ToFlow → Outcome
     run_arms no_other f s k = k Next f s
     run_arms (otherwise xs) f s k = run_all xs f s k
@@ -372,12 +406,15 @@ abbrev pub texts : ℕ → ℕ → List Value
 texts first zero = []
 texts first (suc n) = Text first ∷ texts (suc first) n
 
+-- the type of the words of a run: an array of String
 abbrev pub words_type : Ty
 words_type = record { base = Str; dim = 1 }
 
+-- the array of the words of a run
 abbrev pub words_cell : List (List ℕ) → Cell
 words_cell words = record { site = None; kind = an_array words_type; values = texts 0 (length words) }
 
+-- the state at the start of a run on these words, with n steps
 abbrev pub start : Lang → List (List ℕ) → ℕ → State
 start L words n = record { cells = words_cell words ∷ []; strings = words; statics = L.statics; out = []; left = n; met = [] }
 

@@ -1,4 +1,4 @@
--- What a run has at a moment, how it ends, and what it asks of a program.
+-- Believed. What a run has at a moment, how it ends, and what it asks of a program.
 use Rattle.std.specs.Prelude.{ℕ, zero, suc, ℤ, Bool, true, false, List, [], Option, Some, None}
 use Rattle.std.specs.declared.result.Result.{Result}
 use Rattle.std.specs.declared.result.Result.TheVariants.{Ok, Err}
@@ -33,6 +33,7 @@ abbrev pub own_type : Kind → Ty
 own_type (an_object c) = class_type c
 own_type (an_array t) = t
 
+-- the class of an object; an array has none
 abbrev pub own_class : Kind → Option ℕ
 own_class (an_object c) = Some c
 own_class (an_array t) = None
@@ -94,6 +95,7 @@ pub record Outcome : Type 0 where
   pub left : ℕ
   pub met : List Met
 
+-- the outcome of a run that ends here
 abbrev pub stop : End → State → Outcome
 stop e s = record { end = e; out = s.out; left = s.left; met = s.met }
 
@@ -136,6 +138,7 @@ abbrev pub step_of : ℕ → State → (State → Outcome) → Outcome
 step_of zero s go = stop Going s
 step_of (suc n) s go = go (record s { left = n })
 
+-- goes on with one step less, where one is left
 abbrev pub step : State → (State → Outcome) → Outcome
 step s go = step_of s.left s go
 
@@ -149,10 +152,12 @@ abbrev pub or_fault : {A : Type 0} → Fault → Option A → State → (A → O
 or_fault x None s go = stop (Faulted x) s
 or_fault x (Some a) s go = go a
 
+-- goes on with the result where there is one, else the run ends by the fault
 abbrev pub with_result : {A : Type 0} → Result A Fault → State → (A → Outcome) → Outcome
 with_result (Err x) s go = stop (Faulted x) s
 with_result (Ok a) s go = go a
 
+-- the two ways of a test whose value is known
 abbrev pub on_bool : Bool → State → (State → Outcome) → (State → Outcome) → Outcome
 on_bool true s then_go else_go = then_go s
 on_bool false s then_go else_go = else_go s

@@ -1,4 +1,5 @@
--- Two bodies in the same form, statement by statement, where it is said when two expressions are a pair, and two targets of an assignment, which are told
+-- Believed. Two bodies in the same form, statement by statement, where it is said when two expressions are a pair, and
+-- two targets of an assignment, which are told
 -- the value that is put there. Labels and places are free.
 use Rattle.std.specs.Prelude.{ℕ, Bool, Option, Some, None}
 use Rattle.java_core.specs.Trees.{Tag, Ex, Target, St, Sts, Arms, declare, block, assign, act, print, choose, loop, return, break, continue, no_st, st_then, no_other, otherwise, arm}
@@ -10,6 +11,7 @@ module _ (E : Ex → Ex → Type 0) (T : Ex → Target → Target → Type 0) wh
     pair_some : {e d : Ex} → E e d → PairedIf (Some e) (Some d)
 
   mutual
+    -- two statements are of the same form, and their expressions and targets are related
     pub data PairedSt : St → St → Type 0 where
       pair_declare : {t u : Tag} {i : ℕ} {e d : Option Ex} → PairedIf e d → PairedSt (declare t i e) (declare u i d)
       pair_block : {t u : Tag} {xs ys : Sts} → PairedSts xs ys → PairedSt (block t xs) (block u ys)
@@ -24,10 +26,12 @@ module _ (E : Ex → Ex → Type 0) (T : Ex → Target → Target → Type 0) wh
       pair_break : {t u : Tag} → PairedSt (break t) (break u)
       pair_continue : {t u : Tag} → PairedSt (continue t) (continue u)
 
+    -- two lists of statements are as long as one another, and paired one by one
     pub data PairedSts : Sts → Sts → Type 0 where
       pair_no_st : PairedSts no_st no_st
       pair_st_then : {x y : St} {xs ys : Sts} → PairedSt x y → PairedSts xs ys → PairedSts (st_then x xs) (st_then y ys)
 
+    -- the arms of two `if` are as many, and their tests and bodies are paired one by one
     pub data PairedArms : Arms → Arms → Type 0 where
       pair_no_other : PairedArms no_other no_other
       pair_otherwise : {xs ys : Sts} → PairedSts xs ys → PairedArms (otherwise xs) (otherwise ys)

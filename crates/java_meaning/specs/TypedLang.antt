@@ -1,4 +1,4 @@
--- What a typed program gives its runs: the facts by which no run goes wrong.
+-- Mirror. What a typed program gives its runs: the facts by which no run goes wrong.
 use Rattle.std.specs.Prelude.{◌≡◌, ℕ, true, List, ◌++◌, map, Option, Some, None, slice_get}
 use Rattle.std.specs.Option.{is_some}
 use Rattle.java_core.specs.declared.Ty.{Ty}
@@ -14,6 +14,7 @@ use Rattle.java_meaning.specs.EachStatement.{OfOption, Asked, InSts}
 -- what a body names is there: its locals, the fields and the static methods
 module _ (P : Plain) (g : Env) where
   abbrev mutual
+    -- the variables, fields and methods that an expression names by number are there
     pub Stands : Ex → Type 0
     Stands (local t i) = is_some (slice_get g.locals i) ≡ true
     Stands (static_field t f) = is_some (field_type P f) ≡ true
@@ -31,10 +32,12 @@ module _ (P : Plain) (g : Env) where
     Stands (binary t o e d) = Stands e × Stands d
     Stands e = Unit {0}
 
+    -- the same of each expression of a list
     pub StandAll : Exs → Type 0
     StandAll no_ex = Unit {0}
     StandAll (ex_then e es) = Stands e × StandAll es
 
+  -- the same of the target of an assignment
   abbrev pub StandsTarget : Target → Type 0
   StandsTarget (to_local t i) = is_some (slice_get g.locals i) ≡ true
   StandsTarget (to_static t f) = is_some (field_type P f) ≡ true
@@ -70,6 +73,7 @@ pub record HasBody (P : Plain) (found : Option Body) (c : ℕ) (sig : Signature)
   pub above : below P c body.env.self ≡ true
   pub typed : TypedBody P body sig
 
+-- there is a body, and it is typed by the signature
 pub record HasStaticBody (P : Plain) (found : Option Body) (sig : Signature) : Type 0 where
   pub body : Body
   pub found_body : found ≡ Some body

@@ -1,4 +1,5 @@
--- Values and what operators make of them (Java Language Specification, chapters 4, 5 and 15, the subset's part).
+-- Believed. Values and what operators make of them (Java Language Specification, chapters 4, 5 and 15, the subset's
+-- part).
 use Rattle.std.specs.Prelude.{ℕ, zero, suc, ◌+◌, ◌/◌, ◌%◌, ◌^◌, ◌==◌, ℤ, pos, negsuc, int_lt, int_le, int_rem, nat_le, Bool, true, false, not, if◌then◌else◌, List, [], ◌∷◌, ◌++◌, length, map, Option, Some, None, slice_get, replicate, codes}
 use Rattle.std.specs.declared.result.Result.{Result}
 use Rattle.std.specs.declared.result.Result.TheVariants.{Ok, Err}
@@ -30,14 +31,20 @@ default_in Str zero = Nothing
 default_in (Class c) zero = Nothing
 default_in b (suc d) = Nothing
 
+-- the default of a type
 abbrev pub default_of : Ty → Value
 default_of t = default_in t.base t.dim
 
 -- what a value is once it flows into something of the type: a char becomes an int in an int (Java Language Specification, 5.1.2)
 abbrev pub widened : TyBase → ℕ → ℕ → Value
 widened Int zero c = Number (pos c)
-widened _ _ c = CodeUnit c
+widened Int (suc d) c = CodeUnit c
+widened Boolean d c = CodeUnit c
+widened Char d c = CodeUnit c
+widened Str d c = CodeUnit c
+widened (Class k) d c = CodeUnit c
 
+-- what a value is once it flows into something of the type; all but a char stay as they are
 abbrev pub convert : Ty → Value → Value
 convert t (CodeUnit c) = widened t.base t.dim c
 convert t (Number n) = Number n
@@ -51,6 +58,7 @@ abbrev pub and_argument : Value → Option (List Value) → Option (List Value)
 and_argument v None = None
 and_argument v (Some vs) = Some (v ∷ vs)
 
+-- the arguments as their parameters hold them, where there are as many of both
 abbrev pub arguments : List Ty → List Value → Option (List Value)
 arguments [] [] = Some []
 arguments (t ∷ ts) (v ∷ vs) = and_argument (convert t v) (arguments ts vs)
@@ -66,6 +74,7 @@ number_of Nothing = None
 number_of (Text a) = None
 number_of (Object a) = None
 
+-- the truth that a boolean is
 abbrev pub truth_of : Value → Option Bool
 truth_of (Truth b) = Some b
 truth_of v = None
@@ -79,6 +88,7 @@ natural_of (negsuc n) = None
 abbrev pub int_of : ℕ → ℤ
 int_of n = cast_signed w32 (n % 2 ^ 32)
 
+-- the text of a boolean
 abbrev pub word_of : Bool → List ℕ
 word_of true = codes "true"
 word_of false = codes "false"
@@ -96,6 +106,7 @@ text_of strings (Object a) = None
 abbrev pub bytes_of : List ℕ → List ℕ
 bytes_of units = encode_utf8_all (map (λ o. unwrap_or o 63) (utf16_chars units))
 
+-- what ends a line where one ends: a line feed
 abbrev pub line_end : Bool → List ℕ
 line_end true = 10 ∷ []
 line_end false = []
@@ -122,12 +133,14 @@ arith op.And a b = Ok (int_bit_and w32 a b)
 arith op.Or a b = Ok (int_bit_or w32 a b)
 arith op.Xor a b = Ok (int_bit_xor w32 a b)
 
+-- what a prefix operator on ints gives: the number, its negation, or its bits flipped; `!` takes no number
 abbrev pub negated : UnOp → ℤ → ℤ
 negated un.Plus a = a
 negated un.Minus a = int_wrapping_neg w32 a
 negated un.Flip a = int_bit_not w32 a
 negated un.Not a = a
 
+-- what a prefix operator gives, where the value is of the kind that it takes
 abbrev pub unary_value : UnOp → Value → Option Value
 unary_value un.Not v = option_map (λ b. Truth (not b)) (truth_of v)
 unary_value un.Plus v = option_map (λ a. Number (negated un.Plus a)) (number_of v)
@@ -137,13 +150,17 @@ unary_value un.Flip v = option_map (λ a. Number (negated un.Flip a)) (number_of
 -- a cast to int or char; `(char)` keeps the low 16 bits
 abbrev pub cast_number : TyBase → ℤ → Value
 cast_number Char a = CodeUnit (cast_unsigned w32 a % 2 ^ 16)
-cast_number _ a = Number a
+cast_number Int a = Number a
+cast_number Boolean a = Number a
+cast_number Str a = Number a
+cast_number (Class k) a = Number a
 
 -- `==`: two numbers, two booleans, or two references
 abbrev pub same_bool : Bool → Bool → Bool
 same_bool true b = b
 same_bool false b = not b
 
+-- whether two references or two booleans are the same; two strings are not compared
 abbrev pub same_reference : Value → Value → Option Bool
 same_reference Nothing Nothing = Some true
 same_reference Nothing (Text b) = Some false
@@ -154,11 +171,13 @@ same_reference (Object a) (Object b) = Some (a == b)
 same_reference (Truth a) (Truth b) = Some (same_bool a b)
 same_reference _ _ = None
 
+-- whether two numbers are the same, where both are numbers; else the other answer
 abbrev pub same_numbers : Option ℤ → Option ℤ → Option Bool → Option Bool
 same_numbers (Some a) (Some b) other = Some (int_eq a b)
 same_numbers (Some a) None other = other
 same_numbers None b other = other
 
+-- what `==` gives, where the two can be compared
 abbrev pub same_value : Value → Value → Option Bool
 same_value v w = same_numbers (number_of v) (number_of w) (same_reference v w)
 

@@ -1,4 +1,4 @@
--- Runs that are watched: over trees with labels, with a watch and a record.
+-- Believed. Runs that are watched: over trees with labels, with a watch and a record.
 use Rattle.std.specs.Prelude.{◌≡◌, ◌⊎◌, ℕ, Bool, List, Option, Some, None}
 use Rattle.std.specs.Option.{option_map, option_and_then}
 use Rattle.java_core.specs.declared.Ty.{Ty}
@@ -16,6 +16,7 @@ use Rattle.java_meaning.specs.Languages.{body_of, language_of}
 abbrev pub SameTarget : Ex → Target → Target → Type 0
 SameTarget e a b = RetaggedTarget a b
 
+-- two lists of statements are the same but for their tags
 abbrev pub RetaggedSts : Sts → Sts → Type 0
 RetaggedSts = PairedSts Retagged SameTarget
 
@@ -52,10 +53,12 @@ pub record Eyes : Type 0 where
   pub note : Spot → Value → List Cell → List Met → List Met
   pub note_all : ℕ → List Value → List Cell → List Met → List Met
 
+-- a body with these statements in place of its own, where there are both
 abbrev pub with_code : Option Sts → Option Body → Option Body
 with_code None b = None
 with_code (Some xs) b = option_map (recoded xs) b
 
+-- the body of a method with the statements that code has for it
 abbrev pub coded_body : Plain → (ℕ → Option Sts) → ℕ → Option Body
 coded_body P code m = with_code (code m) (body_of P m)
 

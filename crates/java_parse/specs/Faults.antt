@@ -1,4 +1,4 @@
--- What each fault of the parser says of the tokens.
+-- Mirror. What each fault of the parser says of the tokens.
 use Rattle.std.specs.Prelude.{◌≡◌, ℕ, ◌≤◌, List, length}
 use Rattle.java_lex.specs.declared.Token.{Token}
 use Rattle.java_tree.specs.Syntax.{DeclTree}

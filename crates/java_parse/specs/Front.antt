@@ -1,4 +1,4 @@
--- What stands at the front of a list of tokens.
+-- Mirror. What stands at the front of a list of tokens.
 use Rattle.std.specs.Prelude.{ℕ, pos, List, [], ◌∷◌, Option, Some, None, Bool, true, false, if◌then◌else◌, nat_le, nat_lt, ◌&&◌}
 use Rattle.kaba_base.specs.declared.Place.{Place}
 use Rattle.kaba_base.specs.declared.words.Keyword.{Keyword}
@@ -26,6 +26,7 @@ abbrev pub after_by : Mark → TokenKind → Place → List Token → Option (Pl
 after_by m (kinds.Mark k) p ts = if sameb mark_type k m then Some (p, ts) else None
 after_by m _ p ts = None
 
+-- the place of this mark and the tokens behind it, where it is next
 abbrev pub after : Mark → List Token → Option (Place × List Token)
 after m [] = None
 after m (t ∷ ts) = after_by m t.kind t.place ts
@@ -35,6 +36,7 @@ abbrev pub after_key_by : Keyword → TokenKind → Place → List Token → Opt
 after_key_by m (kinds.Key k) p ts = if sameb key_type k m then Some (p, ts) else None
 after_key_by m _ p ts = None
 
+-- the place of this keyword and the tokens behind it, where it is next
 abbrev pub after_key : Keyword → List Token → Option (Place × List Token)
 after_key m [] = None
 after_key m (t ∷ ts) = after_key_by m t.kind t.place ts
@@ -44,6 +46,7 @@ abbrev pub word_by : TokenKind → Place → List Token → Option (List ℕ × 
 word_by (kinds.Word n) p ts = Some (n, p, ts)
 word_by _ p ts = None
 
+-- the name that is next, its place and the tokens behind it
 abbrev pub word_next : List Token → Option (List ℕ × Place × List Token)
 word_next [] = None
 word_next (t ∷ ts) = word_by t.kind t.place ts
@@ -53,6 +56,7 @@ abbrev pub operator_by : ℕ → ℕ → TokenKind → Place → List Token → 
 operator_by l c (kinds.Mark m) p ts = if nat_lt 0 (level m) && (nat_le l (level m) && nat_le (level m) c) then Some (m, p, ts) else None
 operator_by l c _ p ts = None
 
+-- the binary operator that is next with a level from l to c, its place and the tokens behind it
 abbrev pub operator : ℕ → ℕ → List Token → Option (Mark × Place × List Token)
 operator l c [] = None
 operator l c (t ∷ ts) = operator_by l c t.kind t.place ts
@@ -61,15 +65,17 @@ operator l c (t ∷ ts) = operator_by l c t.kind t.place ts
 abbrev pub instance_next : ℕ → ℕ → List Token → Option (Place × List Token)
 instance_next l c ts = if nat_le l 7 && nat_le 7 c then after_key keys.InstanceOf ts else None
 
--- `-` before 2147483648
+-- the place of 2147483648 and the tokens behind it, where that is the token
 abbrev pub least_kind : TokenKind → Place → List Token → Option (Place × List Token)
 least_kind kinds.Least p ts = Some (p, ts)
 least_kind _ p ts = None
 
+-- the place p of a minus and the tokens behind 2147483648, where that is next
 abbrev pub least_by : Place → List Token → Option (Place × List Token)
 least_by p [] = None
 least_by p (t ∷ ts) = least_kind t.kind p ts
 
+-- the place of the minus and the tokens behind the number, where `-` and 2147483648 are next
 abbrev pub least_next : List Token → Option (Place × List Token)
 least_next ts = elim (after marks.Minus ts) [ None ↦ None | Some a ↦ least_by a.0 a.1 ]
 
@@ -78,6 +84,7 @@ abbrev pub sign_by : TokenKind → Place → List Token → Option (Mark × Plac
 sign_by (kinds.Mark m) p ts = if is_sign m then Some (m, p, ts) else None
 sign_by _ p ts = None
 
+-- the prefix operator that is next, its place and the tokens behind it
 abbrev pub sign_next : List Token → Option (Mark × Place × List Token)
 sign_next [] = None
 sign_next (t ∷ ts) = sign_by t.kind t.place ts
@@ -90,6 +97,7 @@ base_by (kinds.Key keys.Boolean) p ts = Some (bases.Boolean, p, ts)
 base_by (kinds.Key keys.Char) p ts = Some (bases.Char, p, ts)
 base_by _ p ts = None
 
+-- the type without brackets that is next, its place and the tokens behind it
 abbrev pub base_next : List Token → Option (TypeBase × Place × List Token)
 base_next [] = None
 base_next (t ∷ ts) = base_by t.kind t.place ts
@@ -101,10 +109,12 @@ may_cast bases.Char ts = true
 may_cast bases.Boolean ts = false
 may_cast (bases.Named n) ts = casts ts
 
+-- a cast to a type, once its closing bracket was looked for: the type, the place p of the opening one, the rest
 abbrev pub cast_end : TypeBase → Place → Place → Option (Place × List Token) → Option (TypeName × Place × List Token)
 cast_end b q p None = None
 cast_end b q p (Some c) = if may_cast b c.1 then Some (record { base = b; dim = 0; place = q }, p, c.1) else None
 
+-- a cast behind its opening bracket at p, once a type was looked for there
 abbrev pub cast_by : Place → Option (TypeBase × Place × List Token) → Option (TypeName × Place × List Token)
 cast_by p None = None
 cast_by p (Some b) = cast_end b.0 b.1 p (after marks.CloseRound b.2)
@@ -124,15 +134,17 @@ literal_by (kinds.Key keys.Null) p ts = Some (NullLit p, ts)
 literal_by (kinds.Key keys.This) p ts = Some (ThisRef p, ts)
 literal_by _ p ts = None
 
+-- the literal or `this` that is next, and the tokens behind it
 abbrev pub literal_next : List Token → Option (Expression × List Token)
 literal_next [] = None
 literal_next (t ∷ ts) = literal_by t.kind t.place ts
 
--- an index, which no new array takes
+-- whether what was read ends as a new array, which takes no index
 abbrev pub is_array : End → Bool
 is_array ends.Array = true
 is_array _ = false
 
+-- the place of the `[` that opens an index and the tokens behind it, where one is next and may follow
 abbrev pub index_next : End → List Token → Option (Place × List Token)
 index_next z ts = if is_array z then None else after marks.OpenSquare ts
 
@@ -141,10 +153,12 @@ abbrev pub expr_snoc : Expressions → Expression → Expressions
 expr_snoc no_more e = and_more e no_more
 expr_snoc (and_more x es) e = and_more x (expr_snoc es e)
 
+-- the statements with one more at the end
 abbrev pub stmt_snoc : Statements → Statement → Statements
 stmt_snoc no_statements s = and_then s no_statements
 stmt_snoc (and_then x ss) s = and_then x (stmt_snoc ss s)
 
+-- the arms with one more at the end, by its test and its body
 abbrev pub arm_snoc : Arms → Expression → Statements → Arms
 arm_snoc no_arms e ss = and_arm e ss no_arms
 arm_snoc (and_arm x b a) e ss = and_arm x b (arm_snoc a e ss)
@@ -153,11 +167,12 @@ arm_snoc (and_arm x b a) e ss = and_arm x b (arm_snoc a e ss)
 abbrev pub final_of : List Token → Bool × List Token
 final_of ts = elim (after_key keys.Final ts) [ None ↦ (false, ts) | Some a ↦ (true, a.1) ]
 
--- the operator of a mark that `of` gives one, its place and the rest
+-- the operator that was found for a mark, if any, with its place and the rest
 abbrev pub operator_of : Option Mark → Place → List Token → Option (Mark × Place × List Token)
 operator_of None p ts = None
 operator_of (Some o) p ts = Some (o, p, ts)
 
+-- the operator that a token stands for by f, where it is a mark, its place and the rest
 abbrev pub stands_by : (Mark → Option Mark) → TokenKind → Place → List Token → Option (Mark × Place × List Token)
 stands_by f (kinds.Mark m) p ts = operator_of (f m) p ts
 stands_by f _ p ts = None
@@ -180,11 +195,13 @@ abbrev pub named : End → Expression → Option (List ℕ × Place)
 named ends.Name (NameRef n p) = Some (n, p)
 named _ _ = None
 
+-- whether an expression that ends so may be assigned to
 abbrev pub is_target : End → Bool
 is_target ends.Name = true
 is_target ends.Target = true
 is_target _ = false
 
+-- whether an expression that ends so may be a statement: a call or a new object
 abbrev pub is_call : End → Bool
 is_call ends.Call = true
 is_call ends.New = true
@@ -199,27 +216,32 @@ abbrev pub done_by : Place → Expression → Option (Bool × Option Expression)
 done_by p e None = DoOf e p
 done_by p e (Some x) = PrintOf x.0 x.1 p
 
+-- a call as a statement: what it prints where its tokens say so, or else a `Do`
 abbrev pub done : List Token → Expression → Statement
 done ts e = done_by (first_place ts) e (printed ts e)
 
--- whether a declaration of a local begins here, rather than a statement
+-- whether a token is `]`
 abbrev pub is_close : TokenKind → Bool
 is_close (kinds.Mark marks.CloseSquare) = true
 is_close _ = false
 
+-- whether a `]` is next
 abbrev pub closes : List Token → Bool
 closes [] = false
 closes (t ∷ ts) = is_close t.kind
 
+-- whether this token and those behind it, after a name, make that the type of a local: a name, or `[` and `]`
 abbrev pub behind_word : TokenKind → List Token → Bool
 behind_word (kinds.Word n) ts = true
 behind_word (kinds.Mark marks.OpenSquare) ts = closes ts
 behind_word _ ts = false
 
+-- whether the tokens after a name make it the type of a local
 abbrev pub follows_word : List Token → Bool
 follows_word [] = false
 follows_word (t ∷ ts) = behind_word t.kind ts
 
+-- whether this token and those behind it begin the declaration of a local
 abbrev pub local_by : TokenKind → List Token → Bool
 local_by (kinds.Word n) ts = follows_word ts
 local_by (kinds.Key keys.Final) ts = true
@@ -228,6 +250,7 @@ local_by (kinds.Key keys.Boolean) ts = true
 local_by (kinds.Key keys.Char) ts = true
 local_by _ ts = false
 
+-- whether the declaration of a local begins here: with `final`, a type's keyword, or a name that is a type
 abbrev pub starts_local : List Token → Bool
 starts_local [] = false
 starts_local (t ∷ ts) = local_by t.kind ts
@@ -244,6 +267,7 @@ pub data Start : Type 0 where
   SContinue : Place → List Token → Start
   SOther : Start
 
+-- how a statement begins, by its first token and its place
 abbrev pub start_by : TokenKind → Place → List Token → Start
 start_by (kinds.Mark marks.OpenBrace) p ts = SBlock p ts
 start_by (kinds.Mark marks.Semi) p ts = SEmpty p ts
@@ -255,6 +279,7 @@ start_by (kinds.Key keys.Break) p ts = SBreak p ts
 start_by (kinds.Key keys.Continue) p ts = SContinue p ts
 start_by _ p ts = SOther
 
+-- how the statement begins that is next
 abbrev pub start : List Token → Start
 start [] = SOther
 start (t ∷ ts) = start_by t.kind t.place ts
@@ -264,10 +289,12 @@ abbrev pub modifier_by : TokenKind → Place → List Token → Option (Modifier
 modifier_by (kinds.Key k) p ts = if is_modifier k then Some (record { word = k; place = p }, ts) else None
 modifier_by _ p ts = None
 
+-- the modifier that is next, and the tokens behind it
 abbrev pub modifier_next : List Token → Option (Modifier × List Token)
 modifier_next [] = None
 modifier_next (t ∷ ts) = modifier_by t.kind t.place ts
 
+-- whether no token is left
 abbrev pub at_end : List Token → Bool
 at_end [] = true
 at_end (t ∷ ts) = false

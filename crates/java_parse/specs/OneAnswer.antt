@@ -1,4 +1,4 @@
--- A list of tokens has one answer.
+-- Mirror. A list of tokens has one answer.
 use Rattle.std.specs.Prelude.{◌≡◌, ◌≤◌, List, Result, Ok, Err}
 use Rattle.java_lex.specs.declared.Token.{Token}
 use Rattle.java_tree.specs.Syntax.{DeclTree}

@@ -1,4 +1,4 @@
--- Readings: what a part comes to from a list of tokens.
+-- Mirror. Readings: what a part comes to from a list of tokens.
 use Rattle.std.specs.Prelude.{List, Result, Ok, Err}
 use Rattle.java_lex.specs.declared.Token.{Token}
 use Rattle.java_parse.specs.Want.{Want, NExpr, NMore, NPrefixed, NPost, NAtom, NSuper, NNew, NSized, NDims, NType, NTail, NArgs, NMoreArgs, NInit, NLocal, NValue, NAct, NActRest, NTested, NItem, NItems, NStmt, NForHead, NFirst, NStep, NBranches, NMods, NIds, NParent, NList, NParam, NParams, NMoreParams, NResult, NHead, NBody, NMember, NMethod, NMembers, NHeads, NClass, NInterface, NDecl, NDecls, Val, Step, Give, Fail, Ask}

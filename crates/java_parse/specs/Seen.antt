@@ -1,4 +1,4 @@
--- What the parser's functions give, as plain data.
+-- Mirror. What the parser's functions give, as plain data.
 use Rattle.std.specs.Prelude.{ℕ, List, Option, Some, None, Result, Ok, Err}
 use Rattle.std.specs.Borrow.{Bor}
 use Rattle.std.specs.declared.vec.Vec.{Vec}
@@ -26,6 +26,7 @@ use Rattle.java_lex.specs.declared.Mark.{Mark}
 use Rattle.java_parse.specs.Front.{after, Start, SBlock, SEmpty, SIf, SWhile, SFor, SReturn, SBreak, SContinue, SOther}
 use Rattle.java_parse.specs.Reading.{Fault, Left, NoMemory, Outcome}
 
+-- why reading stopped, as plain data
 abbrev pub fault_of : Stop → Fault
 fault_of stops.Memory = NoMemory
 fault_of (stops.At ts) = Left ts.now
@@ -39,12 +40,15 @@ seen view (Err e) = Err (fault_of e)
 abbrev pub seen_at : Place × Bor (List Token) → Place × List Token
 seen_at (p, ts) = (p, ts.now)
 
+-- what was found at the front, its place and the tokens behind it, without where these lie
 abbrev pub seen_two : {A : Type 0} → A × Place × Bor (List Token) → A × Place × List Token
 seen_two (m, p, ts) = (m, p, ts.now)
 
+-- the name that was found at the front, its place and the tokens behind it, without where they lie
 abbrev pub seen_word : Bor (List ℕ) × Place × Bor (List Token) → List ℕ × Place × List Token
 seen_word (n, p, ts) = (n.now, p, ts.now)
 
+-- what was found at the front and the tokens behind it, without where these lie
 abbrev pub seen_one : {A : Type 0} → A × Bor (List Token) → A × List Token
 seen_one (m, ts) = (m, ts.now)
 
@@ -64,27 +68,35 @@ literal_seen (literals.Bool b) p = BoolLit b p
 literal_seen literals.Null p = NullLit p
 literal_seen literals.This p = ThisRef p
 
+-- a type without brackets that was found, its place and the tokens behind it
 abbrev pub seen_base : Base × Place × Bor (List Token) → TypeBase × Place × List Token
 seen_base (b, p, ts) = (base_seen b, p, ts.now)
 
+-- the type of a cast that was found, the place of its bracket and the tokens behind it
 abbrev pub seen_cast : Base × Place × Place × Bor (List Token) → TypeName × Place × List Token
 seen_cast (b, q, p, ts) = (record { base = base_seen b; dim = 0; place = q }, p, ts.now)
 
+-- a literal or `this` that was found, at its place, and the tokens behind it
 abbrev pub seen_literal : Literal × Place × Bor (List Token) → Expression × List Token
 seen_literal (l, p, ts) = (literal_seen l p, ts.now)
 
+-- a name and its place, without where it lies
 abbrev pub seen_name : Bor (List ℕ) × Place → List ℕ × Place
 seen_name (n, p) = (n.now, p)
 
+-- an expression as plain data, and how it ends
 abbrev pub seen_post : Expr × End → Expression × End
 seen_post (e, z) = (expr_of e, z)
 
+-- the arms of an `if` and its `else`, as plain data
 abbrev pub seen_branches : Vec Arm Global × Option (Vec Stmt Global) → Arms × Else
 seen_branches (a, o) = (arms_seen a.items, else_seen o)
 
+-- what stands in the round brackets of a `for`, as plain data
 abbrev pub seen_steps : ForHead → OptionalStatement × Option Expression × OptionalStatement
 seen_steps h = (step_seen h.first, value_of h.test, step_seen h.step)
 
+-- how a statement begins, as plain data
 abbrev pub start_seen : Begin → Start
 start_seen (begins.Block p ts) = SBlock p ts.now
 start_seen (begins.Empty p ts) = SEmpty p ts.now
@@ -101,5 +113,6 @@ abbrev pub before_by : {A : Type 0} → A → List Token → Option (Place × Li
 before_by v ts (Some end) = Ok (v, end.1)
 before_by v ts None = Err (Left ts)
 
+-- what reading comes to where the tree v has been read and this mark must be next
 abbrev pub before : {A : Type 0} → Mark → A → List Token → Outcome A
 before m v ts = before_by v ts (after m ts)

@@ -1,4 +1,5 @@
--- What the reader reads, and a reading as plain data: it gives a tree and the rest, or fails at a rest, or asks for a
+-- Mirror. What the reader reads, and a reading as plain data: it gives a tree and the rest, or fails at a rest, or asks
+-- for a
 -- part and goes on with it.
 use Rattle.std.specs.Prelude.{ℕ, List, Option}
 use Rattle.kaba_base.specs.declared.Place.{Place}
@@ -106,6 +107,7 @@ Val (NInterface ms) = DeclTree
 Val NDecl = DeclTree
 Val (NDecls ds) = List DeclTree
 
+-- what reading does: it gives a tree and the tokens behind it, fails at these, or asks for a part and goes on with it
 pub data Step (A : Type 0) : Type 0 where
   Give : A → List Token → Step A
   Fail : List Token → Step A

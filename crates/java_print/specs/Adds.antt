@@ -1,4 +1,4 @@
--- What a printer adds to a text.
+-- Mirror. What a printer adds to a text.
 use Rattle.std.specs.Prelude.{◌≡◌, ℕ, List, ◌∷◌, ◌++◌}
 use Rattle.std.specs.Str.{encode_utf8_all}
 use Rattle.kaba_base.specs.declared.Keyword.{Keyword}
@@ -15,15 +15,19 @@ pub record Adds (old new : List ℕ) (before after : List Item) : Type 0 where
 abbrev pub Puts : List ℕ → List ℕ → (List Item → List Item) → Type 0
 Puts old new f = (r : List Item) → Adds old new (f r) r
 
+-- a margin of n spaces before these items
 abbrev pub margin_then : ℕ → List Item → List Item
 margin_then n r = Margin n ∷ r
 
+-- one space before these items
 abbrev pub space_then : List Item → List Item
 space_then r = Space ∷ r
 
+-- the end of a line before these items
 abbrev pub end_then : List Item → List Item
 end_then r = End ∷ r
 
+-- a keyword and a space before these items
 abbrev pub key_space_then : Keyword → List Item → List Item
 key_space_then k r = key_then k (Space ∷ r)
 

@@ -1,4 +1,4 @@
--- What a text is made of: tokens, spaces, ends of lines and margins.
+-- Believed. What a text is made of: tokens, spaces, ends of lines and margins.
 use Rattle.std.specs.Prelude.{ℕ, List, [], ◌∷◌, ◌++◌, replicate, unsigned_abs}
 use Rattle.std.specs.Char.Utf16.{utf16_lossy_chars}
 use Rattle.std.specs.List.{flat_map}
@@ -23,6 +23,7 @@ kind_text (kinds.Char u) = 39 ∷ (units_written (u ∷ []) ++ 39 ∷ [])
 kind_text (kinds.Str us) = 34 ∷ (units_written us ++ 34 ∷ [])
 kind_text (kinds.Mark m) = mark_text m
 
+-- a piece of a text as it is laid out
 pub data Item : Type 0 where
   -- a token
   Lexeme : TokenKind → Item

@@ -25,7 +25,17 @@ fn rank(e: &Expr) -> u32
         Expr::Cast { .. } | Expr::Unary { .. } => 11,
         Expr::InstanceOf { .. } => 7,
         Expr::Binary { mark, .. } => level_of(*mark),
-        _ => 13,
+        Expr::Char { .. }
+        | Expr::Str { .. }
+        | Expr::Bool { .. }
+        | Expr::Null { .. }
+        | Expr::This { .. }
+        | Expr::Name { .. }
+        | Expr::Field { .. }
+        | Expr::Index { .. }
+        | Expr::Call { .. }
+        | Expr::SuperCall { .. }
+        | Expr::New { .. } => 13,
     }
 }
 

@@ -9,13 +9,13 @@ use Rattle.java_core.specs.Programs.{Plain, program_of, class_seen, field_seen, 
 use Rattle.java_core.specs.Formed.{AreCounted, IsFormed}
 use Rattle.name_rules.specs.declared.Refusal.{Refusal}
 use Rattle.name_rules.specs.declared.Refusal.TheVariants as refusals
-use Rattle.name_outcome.specs.Answers.{IsRefused}
-use Rattle.name_outcome.specs.Resolved.{resolved}
+use Rattle.name_laws.specs.Answers.{IsRefused}
+use Rattle.name_laws.specs.Resolved.{resolved}
 use Rattle.name_rules.specs.Resolves.{Resolves}
 use Rattle.name_rules.specs.Conditions.{ConditionAt}
 use Rattle.name_rules.specs.Causes.{IsCause, HasNoCondition}
-use Rattle.name_outcome.proofs.Sees.{Tells}
-use Rattle.name_outcome.proofs.Whole.{ResolvesFormed, resolved-formed}
+use Rattle.name_laws.proofs.Sees.{Tells}
+use Rattle.name_laws.proofs.Whole.{ResolvesFormed, resolved-formed}
 
 told : (tree : List DeclTree) (o : Result Plain Refusal) → IsFormedTree tree → resolved tree ≡ o → Tells (ResolvesFormed tree) (ConditionAt tree) o
 told tree o g e = subst (Tells (ResolvesFormed tree) (ConditionAt tree)) e (resolved-formed tree g)

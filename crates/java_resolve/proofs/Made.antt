@@ -10,7 +10,7 @@ use Rattle.java_core.specs.declared.Method.{Method}
 use Rattle.java_core.specs.declared.Slot.{Slot}
 use Rattle.java_core.specs.declared.Program.{Program}
 use Rattle.java_core.specs.Programs.{Plain, program_of, class_seen, field_seen, method_seen, slot_seen, IsMadeOf}
-use Rattle.name_outcome.specs.Answers.{with}
+use Rattle.name_laws.specs.Answers.{with}
 
 -- what goes on after two steps goes on with what the second gave
 pub with-then : {A B C : Type 0} (x : Result A Refusal) (y : Result B Refusal) (f : B → Result C Refusal) (k : B) → with x (λ _. y) ≡ Ok k

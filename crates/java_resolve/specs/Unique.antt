@@ -1,4 +1,4 @@
--- A tree has one program.
+-- Mirror. A tree has one program.
 use Rattle.std.specs.Prelude.{◌≡◌, List}
 use Rattle.java_tree.specs.Syntax.{DeclTree}
 use Rattle.java_tree.specs.Formed.{IsFormedTree}

@@ -13,20 +13,20 @@ ghost use Rattle.java_core.specs.Programs.{Plain, program_of, class_seen};
 ghost use Rattle.java_core.specs.declared.Program.{Program};
 ghost use Rattle.java_core.specs.Subtypes.{subtype_rows};
 ghost use Rattle.java_core.specs.Nearest.{superclasses};
-ghost use Rattle.name_outcome.specs.Answers.{Gives, with};
-ghost use Rattle.name_outcome.specs.Members.{clashes_of, main_of};
-ghost use Rattle.declared_types.specs.Found.{AreFound, members_seen};
-ghost use Rattle.name_outcome.specs.Resolved.{resolved, with_bodies, parents_of};
+ghost use Rattle.name_laws.specs.Answers.{Gives, with};
+ghost use Rattle.name_laws.specs.Members.{clashes_of, main_of};
+ghost use Rattle.name_types.specs.Found.{AreFound, members_seen};
+ghost use Rattle.name_laws.specs.Resolved.{resolved, with_bodies, parents_of};
 
-use declared_types::{
-    Draft, above_of, clashes_of, classes_of, known_of, loops_of, main_of, members_of,
-};
 use java_core::{Class, FieldTables, Hierarchy, Program};
 use java_tree::{Decl, Tree};
 use kaba_base::{ClassId, MemberId, made};
+use name_bodies::{Tables, blocks_of_names, methods_of};
 pub use name_rules::{Form, Refusal};
 use name_tables::Types;
-use resolved_bodies::{Tables, blocks_of_names, methods_of};
+use name_types::{
+    Draft, above_of, clashes_of, classes_of, known_of, loops_of, main_of, members_of,
+};
 use std::alloc::{AllocError, Global};
 
 /// The superclass of each class.
@@ -144,7 +144,7 @@ fn with_bodies(
 }
 
 /// The program that the rules make of a tree, or the first refusal that they meet.
-#[tactic(auto, unfolding(name_outcome::specs::Resolved::resolved))]
+#[tactic(auto, unfolding(name_laws::specs::Resolved::resolved))]
 fn resolve_tree(alloc: Global, tree: &Tree) -> Result<Program, Refusal>
     ensures program { Gives {A = Program} {B = Plain} program_of result (resolved (tree_of tree.now)) }
 {

@@ -14,14 +14,14 @@ use Rattle.java_meaning.specs.Moment as meaning
 use Rattle.java_meaning.specs.Languages.{body_of, body_with, run}
 use Rattle.java_meaning.proofs.TypedPrograms.{never_wrong}
 use Rattle.java_meaning.proofs.Depth.{going_spent}
-use Rattle.linear_code.specs.Machine.{Entry, Tables, Config, comes, Ends, ends_so, is_wrong, first_config}
-use Rattle.linear_code.specs.Fits.{Fits}
-use Rattle.linear_code.proofs.Runs.{machine_runs}
-use Rattle.linear_state.specs.Words.{units_of}
-use Rattle.linear_state.specs.declared.machine.Machine.{Machine}
-use Rattle.linear_state.specs.declared.machine.Ending.{Ending}
-use Rattle.linear_state.specs.declared.machine.Ending.TheVariants.{Stuck}
-use Rattle.linear_state.specs.Run.{state_of, end_of}
+use Rattle.run_code.specs.Machine.{Entry, Tables, Config, comes, Ends, ends_so, is_wrong, first_config}
+use Rattle.run_code.specs.Fits.{Fits}
+use Rattle.run_code.proofs.Runs.{machine_runs}
+use Rattle.run_state.specs.Words.{units_of}
+use Rattle.run_state.specs.declared.machine.Machine.{Machine}
+use Rattle.run_state.specs.declared.machine.Ending.{Ending}
+use Rattle.run_state.specs.declared.machine.Ending.TheVariants.{Stuck}
+use Rattle.run_state.specs.Run.{state_of, end_of}
 use Rattle.java_run.specs.declared.runs.Outcome as given
 use Rattle.java_run.specs.declared.runs.End.{End}
 use Rattle.java_run.specs.declared.runs.End.TheVariants as ends

@@ -1,9 +1,9 @@
--- The outcome of a run, as the meaning gives it.
+-- Believed. The outcome of a run, as the meaning gives it.
 use Rattle.std.specs.Prelude.{◌≡◌, ℕ, ◌+◌, List, map}
 use Rattle.java_core.specs.Programs.{Plain}
 use Rattle.java_meaning.specs.Moment as meaning
 use Rattle.java_meaning.specs.Languages as languages
-use Rattle.linear_state.specs.Words.{units_of}
+use Rattle.run_state.specs.Words.{units_of}
 use Rattle.java_run.specs.declared.runs.End.{End}
 use Rattle.java_run.specs.declared.runs.End.TheVariants as ends
 use Rattle.java_run.specs.declared.runs.Outcome.{Outcome}

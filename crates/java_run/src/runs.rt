@@ -5,18 +5,18 @@ ghost use Rattle.std.specs.Option.{option_map};
 ghost use Rattle.java_core.specs.Programs.{Plain, program_of};
 ghost use Rattle.java_core.specs.Formed.{IsFormed};
 ghost use Rattle.java_core.specs.Typing.{IsTyped};
-ghost use Rattle.linear_code.specs.Fits.{Fits};
-ghost use Rattle.linear_code.specs.Seen.{entry_of, tables_of};
-ghost use Rattle.linear_state.specs.Run.{end_of};
+ghost use Rattle.run_code.specs.Fits.{Fits};
+ghost use Rattle.run_code.specs.Seen.{entry_of, tables_of};
+ghost use Rattle.run_state.specs.Run.{end_of};
 ghost use Rattle.java_run.specs.Outcomes.{IsOutcomeOf};
 ghost use Rattle.java_run.specs.Outcomes as outcomes;
 
-use class_tables::Classes;
 use java_core::{Checked, Fault, Program};
-use linear_code::{Entry, Image, Tried};
-use linear_compile::compile;
-use linear_machine::go;
-use linear_state::{Ending, start};
+use run_classes::Classes;
+use run_code::{Entry, Image, Tried};
+use run_compile::compile;
+use run_machine::go;
+use run_state::{Ending, start};
 use std::alloc::Global;
 
 /// How a run of a program ends.

@@ -1,4 +1,4 @@
--- The grammar of declarations and programs, one case for each line of it.
+-- Believed. The grammar of declarations and programs, one case for each line of it.
 use Rattle.std.specs.Prelude.{◌≡◌, ℕ, List, [], ◌∷◌, Bool, true, Option, Some, None}
 use Rattle.kaba_base.specs.declared.Place.{Place}
 use Rattle.kaba_base.specs.declared.words.Keyword.{Keyword}
@@ -42,12 +42,13 @@ pub data IsParam : List Token → List Token → Param → Type 0 where
   a_param : {f : Bool} {t : TypeName} {n : List ℕ} {p : Place} {ts us rest : List Token} → IsFinal ts us f → IsType us (word n p ∷ rest) t →
       IsParam ts rest (record { is_final = f; ty = t; name = n; place = p })
 
--- params = [ param { "," param } ], and the bracket that closes them
+-- { "," param }, and the bracket that closes them
 pub data IsMoreParams : List Token → List Token → List Param → Type 0 where
   last_param : {p : Place} {rest : List Token} → IsMoreParams (mark marks.CloseRound p ∷ rest) rest []
   next_param : {q : Param} {qs : List Param} {p : Place} {ts us rest : List Token} → IsParam ts us q → IsMoreParams us rest qs →
       IsMoreParams (mark marks.Comma p ∷ ts) rest (q ∷ qs)
 
+-- params = [ param { "," param } ], and the bracket that closes them: none, or a first one and those behind commas
 pub data IsParams : List Token → List Token → List Param → Type 0 where
   no_params : {p : Place} {rest : List Token} → IsParams (mark marks.CloseRound p ∷ rest) rest []
   some_params : {q : Param} {qs : List Param} {ts us rest : List Token} → IsParam ts us q → IsMoreParams us rest qs → IsParams ts rest (q ∷ qs)
@@ -85,6 +86,7 @@ pub data IsHeads : List Token → List Token → List HeadTree → Type 0 where
   next_head : {h : HeadTree} {hs : List HeadTree} {p : Place} {ts us rest : List Token} → IsHead ts (mark marks.Semi p ∷ us) h → IsHeads us rest hs →
       IsHeads ts rest (h ∷ hs)
 
+-- a class or an interface; the place of its tree is that of its name
 pub data IsDecl : List Token → List Token → DeclTree → Type 0 where
   -- mods "class" ID ["extends" ID] ["implements" ids] "{" {member} "}"
   a_class : {ms : List Modifier} {n : List ℕ} {c : Option Id} {fs : List Id} {bs : List MemberTree} {p q r : Place} {ts us vs ws rest : List Token} →

@@ -1,4 +1,5 @@
--- The grammar of expressions and types, one case for each line of it. `IsX ts rest x` says that the tokens of the
+-- Believed. The grammar of expressions and types, one case for each line of it. `IsX ts rest x` says that the tokens of
+-- the
 -- list `ts` up to its end `rest` are the x.
 use Rattle.std.specs.Prelude.{◌≡◌, ℕ, suc, ◌<◌, ◌≤◌, ℤ, negsuc, List, ◌∷◌, Bool, true, false}
 use Rattle.kaba_base.specs.declared.Place.{Place}
@@ -108,6 +109,7 @@ mutual
     some_args : {e : Expression} {es : Expressions} {ts us rest : List Token} → IsExpr 1 ts us e → IsMoreArgs us rest es →
         IsArgs ts rest (and_more e es)
 
+  -- the arguments behind the first one, each behind a comma, and the bracket that closes them
   pub data IsMoreArgs : List Token → List Token → Expressions → Type 0 where
     last_arg : {p : Place} {rest : List Token} → IsMoreArgs (mark marks.CloseRound p ∷ rest) rest no_more
     next_arg : {e : Expression} {es : Expressions} {p : Place} {ts us rest : List Token} → IsExpr 1 ts us e → IsMoreArgs us rest es →

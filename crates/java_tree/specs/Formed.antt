@@ -1,4 +1,4 @@
--- Trees that the grammar gives: what their parts may be.
+-- Believed. Trees that the grammar gives: what their parts may be.
 use Rattle.std.specs.Prelude.{◌≡◌, ℕ, ◌<◌, ◌≤◌, ℤ, negsuc, Bool, true, false, ◌||◌, List, [], ◌∷◌, Option, Some, None, is_some, Ok}
 use Rattle.java_lex.specs.declared.Token.{Token}
 use Rattle.java_lex.specs.Lexing.{tokens_of}
@@ -29,22 +29,28 @@ pub data IsNumber : ℤ → Type 0 where
   a_small : {z : ℤ} → IsSmall z → IsNumber z
   the_least : IsNumber (negsuc 2147483647)
 
+-- a type without brackets: `int`, `boolean`, `char`, or a name that tokens have
 abbrev pub IsFormedBase : TypeBase → Type 0
 IsFormedBase (bases.Named n) = IsName n
-IsFormedBase _ = Unit {0}
+IsFormedBase bases.Int = Unit {0}
+IsFormedBase bases.Boolean = Unit {0}
+IsFormedBase bases.Char = Unit {0}
 
 -- the type of a cast
 abbrev pub IsCastBase : TypeBase → Type 0
 IsCastBase bases.Boolean = ⊥
 IsCastBase (bases.Named n) = IsName n
-IsCastBase _ = Unit {0}
+IsCastBase bases.Int = Unit {0}
+IsCastBase bases.Char = Unit {0}
 
+-- whether an assignment may change it: a name, a field or an element of an array
 abbrev pub is_target : Expression → Bool
 is_target (NameRef n p) = true
 is_target (FieldOf e n p) = true
 is_target (IndexOf e i p) = true
 is_target _ = false
 
+-- whether it may be a statement: a call or a new object
 abbrev pub is_call : Expression → Bool
 is_call (CallOf n es p) = true
 is_call (CallOn e n es p) = true
@@ -53,6 +59,7 @@ is_call (NewOf c es p) = true
 is_call _ = false
 
 abbrev mutual
+  -- an expression that the grammar gives: its names, literals, types and operators are those of tokens
   pub IsFormed : Expression → Type 0
   IsFormed (IntLit z p) = IsNumber z
   IsFormed (CharLit u p) = IsUnit u
@@ -73,29 +80,35 @@ abbrev mutual
   IsFormed (UnaryOf m e p) = (is_sign m ≡ true) × IsFormed e
   IsFormed (BinaryOf m a b p) = (0 < level m) × IsFormed a × IsFormed b
 
+  -- each expression of a list is one that the grammar gives
   pub AreFormed : Expressions → Type 0
   AreFormed no_more = Unit {0}
   AreFormed (and_more e es) = IsFormed e × AreFormed es
 
+-- no expression, or one that the grammar gives
 abbrev pub IsFormedValue : Option Expression → Type 0
 IsFormedValue None = Unit {0}
 IsFormedValue (Some e) = IsFormed e
 
+-- whether a statement is an assignment, a call or a printing: what may also step a `for`
 abbrev pub is_act : Statement → Bool
 is_act (AssignOf t v p) = true
 is_act (DoOf c p) = true
 is_act (PrintOf l v p) = true
 is_act _ = false
 
+-- whether a statement may begin a `for`: the declaration of a local, or what may also step it
 abbrev pub is_simple : Statement → Bool
 is_simple (LocalOf f t n v p) = true
 is_simple s = is_act s
 
+-- whether there is an arm at all
 abbrev pub has_arm : Arms → Bool
 has_arm no_arms = false
 has_arm (and_arm e ss a) = true
 
 abbrev mutual
+  -- a statement that the grammar gives: targets, calls and the parts of a `for` are of the forms that it asks for
   pub IsFormedStmt : Statement → Type 0
   IsFormedStmt (LocalOf f t n v p) = IsFormedBase t.base × IsName n × IsFormedValue v
   IsFormedStmt (BlockOf ss p) = AreFormedStmts ss
@@ -109,22 +122,27 @@ abbrev mutual
   IsFormedStmt (BreakOf p) = Unit {0}
   IsFormedStmt (ContinueOf p) = Unit {0}
 
+  -- each statement of a list is one that the grammar gives
   pub AreFormedStmts : Statements → Type 0
   AreFormedStmts no_statements = Unit {0}
   AreFormedStmts (and_then s ss) = IsFormedStmt s × AreFormedStmts ss
 
+  -- the test and the body of each arm are such as the grammar gives
   pub AreFormedArms : Arms → Type 0
   AreFormedArms no_arms = Unit {0}
   AreFormedArms (and_arm e ss a) = IsFormed e × AreFormedStmts ss × AreFormedArms a
 
+  -- no `else`, or one whose body the grammar gives
   pub IsFormedElse : Else → Type 0
   IsFormedElse no_else = Unit {0}
   IsFormedElse (otherwise ss) = AreFormedStmts ss
 
+  -- how a `for` begins: with nothing, or a simple statement that the grammar gives
   pub IsFormedFirst : OptionalStatement → Type 0
   IsFormedFirst absent = Unit {0}
   IsFormedFirst (present s) = (is_simple s ≡ true) × IsFormedStmt s
 
+  -- how a `for` steps: with nothing, or an act that the grammar gives
   pub IsFormedStep : OptionalStatement → Type 0
   IsFormedStep absent = Unit {0}
   IsFormedStep (present s) = (is_act s ≡ true) × IsFormedStmt s
@@ -134,34 +152,43 @@ abbrev pub Each : {A : Type 0} → (A → Type 0) → List A → Type 0
 Each P [] = Unit {0}
 Each P (x ∷ xs) = P x × Each P xs
 
+-- a modifier: its keyword is one that the grammar takes as a modifier
 abbrev pub IsFormedMod : Modifier → Type 0
 IsFormedMod m = is_modifier m.word ≡ true
 
+-- a name that refers to a class or an interface is one that tokens have
 abbrev pub IsFormedId : Id → Type 0
 IsFormedId i = IsName i.name
 
+-- a parameter whose type and name the grammar gives
 abbrev pub IsFormedParam : Param → Type 0
 IsFormedParam q = IsFormedBase q.ty.base × IsName q.name
 
+-- what a method gives: nothing, or a type that the grammar gives
 abbrev pub IsFormedResult : Option TypeName → Type 0
 IsFormedResult None = Unit {0}
 IsFormedResult (Some t) = IsFormedBase t.base
 
+-- a method up to its body whose modifiers, result, name and parameters the grammar gives
 abbrev pub IsFormedHead : HeadTree → Type 0
 IsFormedHead h = Each IsFormedMod h.mods × IsFormedResult h.type × IsName h.name × Each IsFormedParam h.params
 
+-- no body, or one whose statements the grammar gives
 abbrev pub IsFormedBody : Option Statements → Type 0
 IsFormedBody None = Unit {0}
 IsFormedBody (Some ss) = AreFormedStmts ss
 
+-- a field or a method whose parts the grammar gives
 abbrev pub IsFormedMember : MemberTree → Type 0
 IsFormedMember (FieldTree ms t n p) = Each IsFormedMod ms × IsFormedBase t.base × IsName n
 IsFormedMember (MethodTree h b p) = IsFormedHead h × IsFormedBody b
 
+-- no class that is extended, or one whose name tokens have
 abbrev pub IsFormedParent : Option Id → Type 0
 IsFormedParent None = Unit {0}
 IsFormedParent (Some i) = IsName i.name
 
+-- a class or an interface whose parts the grammar gives
 abbrev pub IsFormedDecl : DeclTree → Type 0
 IsFormedDecl (ClassTree ms n c fs bs p) = Each IsFormedMod ms × IsName n × IsFormedParent c × Each IsFormedId fs × Each IsFormedMember bs
 IsFormedDecl (InterfaceTree ms n fs hs p) = Each IsFormedMod ms × IsName n × Each IsFormedId fs × Each IsFormedHead hs

@@ -1,4 +1,4 @@
--- The nesting stack over a list of tokens.
+-- Believed. The nesting stack over a list of tokens.
 use Rattle.std.specs.Prelude.{ℕ, zero, suc, ◌<◌, ◌≤◌, List, [], ◌∷◌, length, Bool, true, false, if◌then◌else◌, ◌||◌, nat_lt, max, is_some}
 use Rattle.kaba_base.specs.declared.words.Keyword.{Keyword}
 use Rattle.kaba_base.specs.declared.words.Keyword.TheVariants as keys
@@ -11,6 +11,7 @@ use Rattle.java_tree.specs.declared.Entry.{Entry}
 use Rattle.java_tree.specs.declared.Entry.TheVariants as entries
 use Rattle.java_tree.specs.Tokens.{casts, level, is_sign, compound, stepping}
 
+-- whether an entry is an open bracket: round, square or a brace
 abbrev pub is_bracket : Entry → Bool
 is_bracket entries.Round = true
 is_bracket entries.Square = true
@@ -28,6 +29,7 @@ abbrev pub to_bracket : List Entry → List Entry
 to_bracket [] = []
 to_bracket (e ∷ s) = if is_bracket e then e ∷ s else to_bracket s
 
+-- the stack without its topmost entry
 abbrev pub tail_of : List Entry → List Entry
 tail_of [] = []
 tail_of (e ∷ s) = s
@@ -36,10 +38,12 @@ tail_of (e ∷ s) = s
 abbrev pub closed : List Entry → List Entry
 closed s = tail_of (to_bracket s)
 
+-- whether a token is `else`
 abbrev pub is_else : TokenKind → Bool
 is_else (kinds.Key keys.Else) = true
 is_else _ = false
 
+-- whether a token behind a `]` goes on with the same expression: `[` or `.`
 abbrev pub goes_on : TokenKind → Bool
 goes_on (kinds.Mark marks.OpenSquare) = true
 goes_on (kinds.Mark marks.Dot) = true
@@ -50,6 +54,7 @@ abbrev pub next_is : (TokenKind → Bool) → List Token → Bool
 next_is f [] = false
 next_is f (t ∷ ts) = f t.kind
 
+-- whether a round bracket is on top
 abbrev pub is_round : List Entry → Bool
 is_round [] = false
 is_round (entries.Round ∷ s) = true
@@ -78,6 +83,7 @@ after_mark marks.Semi next s = ended next s
 after_mark marks.Comma next s = no_operators s
 after_mark m next s = if is_operator m then entries.Operator ∷ s else s
 
+-- the stack after a keyword: `if`, `else`, `while` and `for` are put on it as words, `instanceof` as an operator
 abbrev pub after_key : Keyword → List Entry → List Entry
 after_key keys.If s = entries.Word ∷ s
 after_key keys.Else s = entries.Word ∷ s
@@ -103,6 +109,7 @@ abbrev pub nesting_from : List Entry → List Token → ℕ
 nesting_from s [] = length s
 nesting_from s (t ∷ ts) = max (length s) (nesting_from (after_token t.kind ts s) ts)
 
+-- how deep the tokens nest: the greatest size of the stack, which is empty before them
 abbrev pub nesting_of : List Token → ℕ
 nesting_of ts = nesting_from [] ts
 

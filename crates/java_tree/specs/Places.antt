@@ -1,4 +1,4 @@
--- Trees without their places.
+-- Believed. Trees without their places.
 use Rattle.std.specs.Prelude.{ℕ, List, [], ◌∷◌, Option, Some, None}
 use Rattle.kaba_base.specs.declared.Place.{Place}
 use Rattle.java_tree.specs.declared.Id.{Id}
@@ -15,19 +15,24 @@ nowhere = record { at = 0; line = 0 }
 abbrev pub id_nowhere : List ℕ → Id
 id_nowhere n = record { name = n; place = nowhere }
 
+-- a name without its place
 abbrev pub id_unplaced : Id → Id
 id_unplaced i = id_nowhere i.name
 
+-- a modifier without its place
 abbrev pub modifier_unplaced : Modifier → Modifier
 modifier_unplaced m = record { word = m.word; place = nowhere }
 
+-- a type without its place
 abbrev pub type_unplaced : TypeName → TypeName
 type_unplaced t = record { base = t.base; dim = t.dim; place = nowhere }
 
+-- a parameter without its place and its type's
 abbrev pub param_unplaced : Param → Param
 param_unplaced q = record { is_final = q.is_final; ty = type_unplaced q.ty; name = q.name; place = nowhere }
 
 abbrev mutual
+  -- an expression without its place and those of its parts
   pub expr_unplaced : Expression → Expression
   expr_unplaced (IntLit v p) = IntLit v nowhere
   expr_unplaced (CharLit c p) = CharLit c nowhere
@@ -48,15 +53,18 @@ abbrev mutual
   expr_unplaced (UnaryOf m e p) = UnaryOf m (expr_unplaced e) nowhere
   expr_unplaced (BinaryOf m a b p) = BinaryOf m (expr_unplaced a) (expr_unplaced b) nowhere
 
+  -- the expressions of a list without their places
   pub exprs_unplaced : Expressions → Expressions
   exprs_unplaced no_more = no_more
   exprs_unplaced (and_more e es) = and_more (expr_unplaced e) (exprs_unplaced es)
 
+-- an optional expression without its places
 abbrev pub value_unplaced : Option Expression → Option Expression
 value_unplaced None = None
 value_unplaced (Some e) = Some (expr_unplaced e)
 
 abbrev mutual
+  -- a statement without its place and those of its parts
   pub stmt_unplaced : Statement → Statement
   stmt_unplaced (LocalOf f t n v p) = LocalOf f (type_unplaced t) n (value_unplaced v) nowhere
   stmt_unplaced (BlockOf ss p) = BlockOf (stmts_unplaced ss) nowhere
@@ -70,18 +78,22 @@ abbrev mutual
   stmt_unplaced (BreakOf p) = BreakOf nowhere
   stmt_unplaced (ContinueOf p) = ContinueOf nowhere
 
+  -- the statements of a list without their places
   pub stmts_unplaced : Statements → Statements
   stmts_unplaced no_statements = no_statements
   stmts_unplaced (and_then s ss) = and_then (stmt_unplaced s) (stmts_unplaced ss)
 
+  -- the tests and bodies of arms without their places
   pub arms_unplaced : Arms → Arms
   arms_unplaced no_arms = no_arms
   arms_unplaced (and_arm t ss a) = and_arm (expr_unplaced t) (stmts_unplaced ss) (arms_unplaced a)
 
+  -- an optional `else` without the places in its body
   pub else_unplaced : Else → Else
   else_unplaced no_else = no_else
   else_unplaced (otherwise ss) = otherwise (stmts_unplaced ss)
 
+  -- an optional statement without its places
   pub step_unplaced : OptionalStatement → OptionalStatement
   step_unplaced absent = absent
   step_unplaced (present s) = present (stmt_unplaced s)
@@ -91,10 +103,12 @@ abbrev pub all_unplaced : {A : Type 0} → (A → A) → List A → List A
 all_unplaced f [] = []
 all_unplaced f (x ∷ xs) = f x ∷ all_unplaced f xs
 
+-- the item without its place, where there is one
 abbrev pub may_unplaced : {A : Type 0} → (A → A) → Option A → Option A
 may_unplaced f None = None
 may_unplaced f (Some x) = Some (f x)
 
+-- a method up to its body without its place and those of its parts
 abbrev pub head_unplaced : HeadTree → HeadTree
 head_unplaced h = record {
   mods = all_unplaced modifier_unplaced h.mods;
@@ -105,10 +119,12 @@ head_unplaced h = record {
   place = nowhere;
 }
 
+-- a field or a method without its place and those of its parts
 abbrev pub member_unplaced : MemberTree → MemberTree
 member_unplaced (FieldTree m t n p) = FieldTree (all_unplaced modifier_unplaced m) (type_unplaced t) n nowhere
 member_unplaced (MethodTree h b p) = MethodTree (head_unplaced h) (may_unplaced stmts_unplaced b) nowhere
 
+-- a class or an interface without its place and those of its parts
 abbrev pub decl_unplaced : DeclTree → DeclTree
 decl_unplaced (ClassTree m n c f ms p) = ClassTree (all_unplaced modifier_unplaced m) n (may_unplaced id_unplaced c) (all_unplaced id_unplaced f)
     (all_unplaced member_unplaced ms) nowhere

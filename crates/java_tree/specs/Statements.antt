@@ -1,4 +1,4 @@
--- The grammar of statements, one case for each line of it.
+-- Believed. The grammar of statements, one case for each line of it.
 use Rattle.std.specs.Prelude.{◌≡◌, ℕ, pos, List, [], ◌∷◌, Bool, true, false, Option, Some, None, ◌&&◌, codes, if◌then◌else◌}
 use Rattle.std.specs.Str.{bytes_eq, encode_utf8_all}
 use Rattle.kaba_base.specs.declared.Place.{Place}
@@ -18,6 +18,7 @@ abbrev pub as_body : Statement → Statements
 as_body (BlockOf ss p) = ss
 as_body s = and_then s no_statements
 
+-- whether a statement is an `if`
 abbrev pub is_choice : Statement → Bool
 is_choice (IfOf a o p) = true
 is_choice _ = false
@@ -43,10 +44,12 @@ printed_args n (and_more e no_more) = if is_called n (codes "println") then Some
     (false, Some e) else None
 printed_args n (and_more e (and_more f es)) = None
 
+-- what an expression prints where it is a call upon `System.out`: whether a line ends, and the value
 abbrev pub printed_by : Expression → Option (Bool × Option Expression)
 printed_by (CallOn b n es r) = if is_out b then printed_args n es else None
 printed_by _ = None
 
+-- whether a token is a name
 abbrev pub is_word : TokenKind → Bool
 is_word (kinds.Word n) = true
 is_word _ = false

@@ -1,4 +1,4 @@
--- Tokens as the grammar speaks of them.
+-- Believed. Tokens as the grammar speaks of them.
 use Rattle.std.specs.Prelude.{ℕ, List, [], ◌∷◌, Bool, true, false, Option, Some, None}
 use Rattle.kaba_base.specs.declared.Place.{Place}
 use Rattle.kaba_base.specs.declared.words.Keyword.{Keyword}
@@ -11,12 +11,15 @@ use Rattle.java_lex.specs.declared.Mark.TheVariants as marks
 use Rattle.java_lex.specs.Lexing.{token}
 use Rattle.java_tree.specs.Places.{nowhere}
 
+-- the token of a mark at a place
 abbrev pub mark : Mark → Place → Token
 mark m p = token (kinds.Mark m) p
 
+-- the token of a keyword at a place
 abbrev pub key : Keyword → Place → Token
 key k p = token (kinds.Key k) p
 
+-- the token of a name at a place
 abbrev pub word : List ℕ → Place → Token
 word n p = token (kinds.Word n) p
 
@@ -46,7 +49,25 @@ level marks.Minus = 9
 level marks.Star = 10
 level marks.Slash = 10
 level marks.Percent = 10
-level _ = 0
+level marks.OpenRound = 0
+level marks.CloseRound = 0
+level marks.OpenBrace = 0
+level marks.CloseBrace = 0
+level marks.OpenSquare = 0
+level marks.CloseSquare = 0
+level marks.Semi = 0
+level marks.Comma = 0
+level marks.Dot = 0
+level marks.Assign = 0
+level marks.Flip = 0
+level marks.Bang = 0
+level marks.PlusAssign = 0
+level marks.MinusAssign = 0
+level marks.StarAssign = 0
+level marks.SlashAssign = 0
+level marks.PercentAssign = 0
+level marks.PlusPlus = 0
+level marks.MinusMinus = 0
 
 -- the prefix operators
 abbrev pub is_sign : Mark → Bool
@@ -98,6 +119,7 @@ casts_kind (kinds.Key keys.False) = true
 casts_kind (kinds.Key keys.Null) = true
 casts_kind _ = false
 
+-- whether the next token makes a name in round brackets before it a cast
 abbrev pub casts : List Token → Bool
 casts [] = false
 casts (t ∷ ts) = casts_kind t.kind

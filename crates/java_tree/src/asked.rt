@@ -27,7 +27,25 @@ pub fn level_of(mark: Mark) -> u32
         Mark::ShiftLeft | Mark::ShiftRight | Mark::ShiftRightLogical => 8,
         Mark::Plus | Mark::Minus => 9,
         Mark::Star | Mark::Slash | Mark::Percent => 10,
-        _ => 0,
+        Mark::OpenRound
+        | Mark::CloseRound
+        | Mark::OpenBrace
+        | Mark::CloseBrace
+        | Mark::OpenSquare
+        | Mark::CloseSquare
+        | Mark::Semi
+        | Mark::Comma
+        | Mark::Dot
+        | Mark::Assign
+        | Mark::Flip
+        | Mark::Bang
+        | Mark::PlusAssign
+        | Mark::MinusAssign
+        | Mark::StarAssign
+        | Mark::SlashAssign
+        | Mark::PercentAssign
+        | Mark::PlusPlus
+        | Mark::MinusMinus => 0,
     }
 }
 

@@ -14,10 +14,10 @@ use Rattle.flow_rules.specs.declared.items.ColumnItem.TheVariants as columns
 use Rattle.flow_rules.specs.Facts.{IsFactsOf, numbers, row_info, column_info}
 use Rattle.flow_rules.specs.Numbered.{number_among, same_row, same_column, rows_of, columns_of, row_number, column_number}
 use Rattle.rebuild_model.specs.Renaming.{Renaming, renaming_of, column_name}
-use Rattle.written_tree.specs.Names.{by_number}
-use Rattle.written_tree.specs.Written.{written_by, java_tree}
-use Rattle.tree_forms.specs.declared.numbers.Numbering.{Numbering}
-use Rattle.tree_forms.specs.Renamed.{renamed, IsFitting}
+use Rattle.write_model.specs.Names.{by_number}
+use Rattle.write_model.specs.Written.{written_by, java_tree}
+use Rattle.write_forms.specs.declared.numbers.Numbering.{Numbering}
+use Rattle.write_forms.specs.Renamed.{renamed, IsFitting}
 use Rattle.java_write.specs.Numbers.{AreNumbersOf}
 use Rattle.java_write.specs.Written.{tree_of_hierarchy}
 

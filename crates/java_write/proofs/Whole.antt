@@ -14,14 +14,14 @@ use Rattle.name_rules.specs.Causes.{IsCause, HasNoCondition}
 use Rattle.name_rules.specs.Resolves.{Resolves}
 use Rattle.fact_model.specs.declared.facts.Facts.{Facts}
 use Rattle.hier_model.specs.Hierarchies.{Hierarchy}
-use Rattle.rebuild_types.specs.Laws.{IsReady}
-use Rattle.tree_given.specs.Laws.{TreeIsFormed, TreeIsGiven}
-use Rattle.tree_given.proofs.Law.{tree_is_formed, tree_is_given}
-use Rattle.tree_resolves.specs.Laws.{TreeResolves}
-use Rattle.tree_resolves.proofs.Law.{tree_resolves}
-use Rattle.written_runs.specs.Laws.{WrittenRuns}
-use Rattle.written_runs.proofs.Whole.{written_runs}
-use Rattle.program_facts.specs.Known.{AreProgramFacts}
+use Rattle.rebuild_laws.specs.types.Laws.{IsReady}
+use Rattle.write_laws.specs.given.Laws.{TreeIsFormed, TreeIsGiven}
+use Rattle.write_laws.proofs.given.Law.{tree_is_formed, tree_is_given}
+use Rattle.write_laws.specs.names.Laws.{TreeResolves}
+use Rattle.write_laws.proofs.names.Law.{tree_resolves}
+use Rattle.write_laws.specs.runs.Laws.{WrittenRuns}
+use Rattle.write_laws.proofs.runs.Whole.{written_runs}
+use Rattle.flow_program.specs.Known.{AreProgramFacts}
 use Rattle.java_write.specs.Written.{HasText, IsUnbroken, IsWrittenText, Appends, tree_of_hierarchy}
 
 -- want of memory is the one refusal of a tree on which no condition holds

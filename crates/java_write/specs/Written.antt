@@ -1,4 +1,4 @@
--- What the text is that is written of a program and a hierarchy.
+-- Believed. What the text is that is written of a program and a hierarchy.
 use Rattle.std.specs.Prelude.{◌≡◌, ℕ, List, ◌++◌, None}
 use Rattle.std.specs.Str.{encode_utf8_all}
 use Rattle.java_tree.specs.Syntax.{DeclTree}
@@ -16,8 +16,8 @@ use Rattle.fact_model.specs.declared.sets.PointsTo.{PointsTo}
 use Rattle.fact_model.specs.declared.sets.Table.{Table}
 use Rattle.hier_model.specs.Hierarchies.{Hierarchy, IsHierarchyOf}
 use Rattle.hier_rules.specs.First.{first_broken}
-use Rattle.written_tree.specs.Written.{java_tree}
-use Rattle.written_runs.specs.Laws.{Keeps}
+use Rattle.write_model.specs.Written.{java_tree}
+use Rattle.write_laws.specs.runs.Laws.{Keeps}
 
 -- a text's tree resolves to the program
 pub record HasText (program : Program) : Type 0 where

@@ -10,7 +10,7 @@ ghost use Rattle.java_core.specs.Typing.{IsTyped};
 ghost use Rattle.java_tree.specs.Syntax.{tree_of};
 ghost use Rattle.flow_rules.specs.Facts.{IsWithin};
 ghost use Rattle.name_rules.specs.declared.Refusal.TheVariants as Refusal;
-ghost use Rattle.program_facts.specs.Known.{AreProgramFacts};
+ghost use Rattle.flow_program.specs.Known.{AreProgramFacts};
 ghost use Rattle.java_write.specs.Numbers.{AreNumbersOf};
 ghost use Rattle.java_write.specs.Written.{HasText, IsUnbroken, Appends, tree_of_hierarchy};
 
@@ -23,7 +23,7 @@ use java_resolve::{Refusal, resolve};
 use java_tree::Tree;
 use source_gen::generate;
 use std::alloc::{AllocError, Global};
-use tree_forms::Numbering;
+use write_forms::Numbering;
 
 /// The numbers of the rows and columns of a program that has facts.
 fn numbers_of(alloc: Global, program: &Program) -> Result<Numbering, AllocError>
@@ -38,7 +38,6 @@ fn numbers_of(alloc: Global, program: &Program) -> Result<Numbering, AllocError>
         }),
         Err(FactsFault::Memory) => Err(AllocError),
         Err(FactsFault::TooMany(_, _)) => unreachable!(),
-        Err(FactsFault::HasInterface(_)) => unreachable!(),
     }
 }
 

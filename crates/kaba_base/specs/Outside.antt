@@ -1,4 +1,4 @@
--- The files that a shelf tells, the bytes that a sink has taken, and counts of faults.
+-- Believed. The files that a shelf tells, the bytes that a sink has taken, and counts of faults.
 use Rattle.std.specs.Prelude.{◌≡◌, ℕ, ◌+◌, ◌-◌, ◌^◌, ◌≤◌, List, [], ◌∷◌, ◌++◌, length, take, min, Option, Some, None, if◌then◌else◌, string_bytes}
 use Rattle.std.specs.Str.{bytes_eq}
 use Rattle.std.specs.declared.string.String.{String}

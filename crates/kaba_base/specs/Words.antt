@@ -1,4 +1,4 @@
--- Keywords, and which texts are identifiers. All texts are lists of characters.
+-- Believed. Keywords, and which texts are identifiers. All texts are lists of characters.
 use Rattle.std.specs.Prelude.{ℕ, Bool, true, false, ◌||◌, ◌&&◌, ◌==◌, List, [], ◌∷◌, Option, Some, None, codes, if◌then◌else◌}
 use Rattle.std.specs.List.{list_all}
 use Rattle.std.specs.Str.{bytes_eq}
@@ -91,6 +91,7 @@ first_that p (x ∷ xs) = if p x then Some x else first_that p xs
 abbrev pub key_of : List ℕ → Option Keyword
 key_of cs = first_that (λ k. bytes_eq (key_text k) cs) KEYWORDS
 
+-- whether there is no value
 abbrev pub is_none : {X : Type 0} → Option X → Bool
 is_none None = true
 is_none (Some x) = false

@@ -1,4 +1,4 @@
--- Partial orders on numbered nodes, and the least one that holds another and a new pair or union.
+-- Believed. Partial orders on numbered nodes, and the least one that holds another and a new pair or union.
 use Rattle.std.specs.Prelude.{◌≡◌, ◌≢◌, ℕ, ◌≤◌, ◌==◌, Bool, true, false, List, ◌||◌, ◌&&◌, not, length, cond, map}
 use Rattle.std.specs.List.{list_any}
 use Rattle.kaba_base.specs.declared.NodeId.{NodeId}
@@ -18,6 +18,7 @@ pub record AreAsWide (old new : List (List Bool)) : Type 0 where
 abbrev pub is_le : Ordered → ℕ → ℕ → Bool
 is_le o a b = bit (row o.le a) b
 
+-- whether a node is one of the order
 abbrev pub is_live : Ordered → ℕ → Bool
 is_live o a = bit o.live a
 
@@ -31,6 +32,7 @@ pub record IsPartialOrder (o : Ordered) : Type 0 where
   pub antisymmetric : (a b : ℕ) → is_le o a b ≡ true → is_le o b a ≡ true → a ≡ b
   pub transitive : (a b c : ℕ) → is_le o a b ≡ true → is_le o b c ≡ true → is_le o a c ≡ true
 
+-- a is below b, and is not b
 abbrev pub IsStrictlyBelow : Ordered → ℕ → ℕ → Type 0
 IsStrictlyBelow o a b = (is_le o a b ≡ true) × (a ≢ b)
 
@@ -75,6 +77,7 @@ any_has rows set b = list_any (λ s. bit (row rows s.0) b) set
 abbrev pub is_below_some : Ordered → List NodeId → ℕ → Bool
 is_below_some o set a = has_any (row o.le a) set
 
+-- whether a node is at or above some node of the list
 abbrev pub is_above_some : Ordered → List NodeId → ℕ → Bool
 is_above_some o set b = any_has o.le set b
 

@@ -14,11 +14,11 @@ use Rattle.fact_model.specs.declared.sets.Lattice.{Lattice}
 use Rattle.hier_model.specs.Hierarchies.{Hierarchy}
 use Rattle.hier_view.specs.Text.{hierarchy_text}
 use Rattle.edit_script.specs.declared.lines.Line.{Line}
-use Rattle.tree_laws.specs.Kept.{HasNoInterface}
-use Rattle.tree_laws.specs.Reached.{IsReached, begun}
+use Rattle.hier_tree.specs.Kept.{HasNoInterface}
+use Rattle.hier_tree.specs.Reached.{IsReached, begun}
 use Rattle.tree_merge.specs.declared.steps.TreeStep.{TreeStep}
 use Rattle.tree_merge.specs.declared.trees.NoTree.{NoTree}
-use Rattle.tree_view.specs.Lines.{log_text, no_tree_text}
+use Rattle.hier_log.specs.Lines.{log_text, no_tree_text}
 use Rattle.kaba_top.specs.declared.reply.Reply.{Reply}
 use Rattle.kaba_top.specs.declared.script.Proposal.{Proposal}
 use Rattle.kaba_top.specs.Lines.{Says, Gives, line}

@@ -6,7 +6,7 @@ use Rattle.java_tree.specs.Syntax.{DeclTree}
 use Rattle.java_tree.specs.Declarations.{IsPlaced}
 use Rattle.java_tree.specs.Formed.{IsFormedTree}
 use Rattle.java_tree.proofs.Gives.{given_formed}
-use Rattle.tree_given.proofs.Unplaced.{places_aside}
+use Rattle.write_laws.proofs.given.Unplaced.{places_aside}
 
 -- the tree of a text has the parts that the grammar gives
 pub read_formed : (bytes : List ℕ) (tokens : List Token) (tree : List DeclTree) → tokens_of bytes ≡ Ok tokens → IsPlaced tokens tree → IsFormedTree tree

@@ -12,8 +12,8 @@ use Rattle.hier_model.specs.declared.edits.Edit.TheVariants.{Merge, Under, Move,
 use Rattle.hier_script.specs.Scripts.{after_edits}
 use Rattle.edit_script.specs.declared.lines.Line.{Line}
 use Rattle.edit_script.specs.Script.{words_of, IsNone, AreEditsOf, IsFirstBadLine, HasTooManyEdits}
-use Rattle.tree_laws.specs.Kept.{HasNoInterface}
-use Rattle.tree_laws.specs.Reached.{IsReached, begun}
+use Rattle.hier_tree.specs.Kept.{HasNoInterface}
+use Rattle.hier_tree.specs.Reached.{IsReached, begun}
 use Rattle.tree_merge.specs.declared.steps.TreeStep.{TreeStep}
 use Rattle.tree_merge.specs.declared.trees.NoTree.{NoTree}
 use Rattle.kaba_words.specs.Commands.{make, Fits, most_samples, usual_concepts}

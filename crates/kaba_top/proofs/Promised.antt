@@ -23,9 +23,9 @@ use Rattle.edit_script.specs.Script.{AreEditsOf}
 use Rattle.java_write.specs.Written.{IsWrittenText, tree_of_hierarchy}
 use Rattle.kaba_words.specs.Commands.{Cmd, run, table, lattice, edit, regen, make, help, version}
 use Rattle.java_meaning.proofs.UntaggedRuns.{same_aside}
-use Rattle.written_tree.proofs.Nowhere.{without_places}
-use Rattle.places_aside.specs.Laws.{HasNoPlaces}
-use Rattle.places_aside.proofs.Whole.{has_no_places}
+use Rattle.write_model.proofs.Nowhere.{without_places}
+use Rattle.name_place_laws.specs.Laws.{HasNoPlaces}
+use Rattle.name_place_laws.proofs.Whole.{has_no_places}
 use Rattle.kaba_top.proofs.ReadsOne.{reads_one}
 use Rattle.kaba_top.specs.Reading.{IsRefusedText, IsTypedText, TextAnswers}
 use Rattle.kaba_top.specs.FactsAnswers.{HasFacts, AnalysisAnswers, LatticeOf}

@@ -17,9 +17,9 @@ use Rattle.hier_edit.specs.declared.ApplyFault.{ApplyFault}
 use Rattle.hier_edit.specs.Applied.{applied}
 use Rattle.edit_script.specs.declared.lines.Line.{Line}
 use Rattle.hier_script.specs.Scripts.{kept, after_edit, after_edits}
-use Rattle.tree_laws.specs.Kept.{HasNoInterface}
-use Rattle.tree_laws.specs.Reached.{IsReached, begun, dropped, type_named, member_named}
-use Rattle.program_facts.specs.Known.{AreProgramFacts}
+use Rattle.hier_tree.specs.Kept.{HasNoInterface}
+use Rattle.hier_tree.specs.Reached.{IsReached, begun, dropped, type_named, member_named}
+use Rattle.flow_program.specs.Known.{AreProgramFacts}
 use Rattle.kaba_top.specs.Fresh.{IsDropOrFresh, AreDropsAndFreshNames}
 
 module _ (F : Facts) (pt : PointsTo) (t : Table) (l : Lattice) where

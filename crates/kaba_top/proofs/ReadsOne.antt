@@ -6,8 +6,8 @@ use Rattle.java_core.specs.declared.Program.{Program}
 use Rattle.java_core.specs.Programs.{program_of}
 use Rattle.java_core.specs.Untagged.{untagged}
 use Rattle.name_rules.specs.Resolves.{Resolves}
-use Rattle.places_aside.specs.Laws.{HasOneProgram}
-use Rattle.places_aside.proofs.Whole.{has_one_program}
+use Rattle.name_place_laws.specs.Laws.{HasOneProgram}
+use Rattle.name_place_laws.proofs.Whole.{has_one_program}
 use Rattle.kaba_top.specs.Reading.{IsTypedText}
 
 -- the program that is read of a text is the one to which any tree that the text derives resolves, places aside

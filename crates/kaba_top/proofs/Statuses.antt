@@ -14,7 +14,7 @@ use Rattle.kaba_top.specs.RunAnswers.{EndGives, RunAnswers}
 use Rattle.kaba_top.specs.FactsAnswers.{AnalysisAnswers, TableOf, LatticeOf}
 use Rattle.hier_view.specs.Text.{hierarchy_text}
 use Rattle.edit_script.specs.declared.lines.Line.{Line}
-use Rattle.tree_view.specs.Lines.{log_text}
+use Rattle.hier_log.specs.Lines.{log_text}
 use Rattle.kaba_top.specs.ScriptAnswers.{HasLattice, ScriptAnswers, edited, refusals}
 use Rattle.kaba_top.specs.EditAnswers.{EditOf, ShowsHierarchy}
 use Rattle.kaba_top.specs.RegenAnswers.{IsRegeneration, IsWithoutTree, RegenOf}

@@ -5,9 +5,9 @@ use Rattle.fact_model.specs.declared.sets.PointsTo.{PointsTo}
 use Rattle.fact_model.specs.declared.sets.Table.{Table}
 use Rattle.fact_model.specs.declared.sets.Lattice.{Lattice}
 use Rattle.hier_model.specs.Hierarchies.{Hierarchy}
-use Rattle.hier_begin.specs.Laws.{AreAnalysed}
-use Rattle.tree_laws.specs.Kept.{HasNoInterface}
-use Rattle.tree_laws.specs.Reached.{IsReached}
+use Rattle.hier_laws.specs.Laws.{AreAnalysed}
+use Rattle.hier_tree.specs.Kept.{HasNoInterface}
+use Rattle.hier_tree.specs.Reached.{IsReached}
 use Rattle.tree_merge.specs.declared.trees.NoTree.{NoTree}
 use Rattle.tree_merge.specs.declared.trees.TreeFault.{TreeFault}
 use Rattle.tree_merge.specs.declared.trees.TreeFault.TheVariants as fault

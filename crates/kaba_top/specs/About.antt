@@ -1,4 +1,4 @@
--- What the program says of itself.
+-- Believed. What the program says of itself.
 use Rattle.std.specs.Prelude.{ℕ, List, ◌++◌, codes}
 
 -- what `--help` prints: each command, the statuses, and where the documents are

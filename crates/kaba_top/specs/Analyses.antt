@@ -1,4 +1,4 @@
--- What is known once a program was analysed.
+-- Mirror. What is known once a program was analysed.
 use Rattle.java_core.specs.declared.Program.{Program}
 use Rattle.kaba_top.specs.declared.analysis.Analysed.{Analysed}
 use Rattle.kaba_top.specs.declared.analysis.Analysed.TheVariants as analysed

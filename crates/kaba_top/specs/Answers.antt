@@ -1,4 +1,4 @@
--- The answers of the program, for the words and the files.
+-- Believed. The answers of the program, for the words and the files.
 use Rattle.std.specs.Prelude.{◌≡◌, ◌⊎◌, ℕ, ◌<◌, ◌≤◌, List, [], length, Option, Some, None}
 use Rattle.std.specs.Option.{IsSome}
 use Rattle.kaba_base.specs.Outside.{Files, Rose, taken_more, HoldsPrefix}

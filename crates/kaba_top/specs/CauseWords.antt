@@ -1,4 +1,5 @@
--- The words of causes: what the program prints of a form that the language leaves out, of a rule of types, of what there is too much of, with its limit,
+-- Believed. The words of causes: what the program prints of a form that the language leaves out, of a rule of types, of
+-- what there is too much of, with its limit,
 -- and of what went wrong in a run.
 use Rattle.std.specs.Prelude.{ℕ, List, codes}
 use Rattle.java_core.specs.declared.Fault.TheVariants as faults
@@ -8,6 +9,7 @@ use Rattle.flow_rules.specs.declared.faults.Counted.TheVariants as counted
 use Rattle.kaba_top.specs.declared.cause_words.Cause.{Cause}
 use Rattle.kaba_top.specs.declared.cause_words.Cause.TheVariants.{Form, Rule, Limit, Fault}
 
+-- what is printed of a cause: its word, and of a limit its number too
 abbrev pub cause_text : Cause → List ℕ
 cause_text (Form forms.Modifier) = codes "Modifier"
 cause_text (Form forms.Body) = codes "Body"

@@ -1,4 +1,4 @@
--- The answers of `edit`, for the program of its file and the bytes of its script.
+-- Believed. The answers of `edit`, for the program of its file and the bytes of its script.
 use Rattle.std.specs.Prelude.{ℕ, ◌==◌, List, length, if◌then◌else◌}
 use Rattle.fact_model.specs.declared.facts.Facts.{Facts}
 use Rattle.hier_view.specs.Text.{hierarchy_text}
@@ -15,5 +15,6 @@ abbrev pub ShowsHierarchy : (bound : ℕ) (facts : Facts) → HasLattice bound f
 ShowsHierarchy bound facts has edits = Gives (edit_status (refusals bound facts has edits)) (hierarchy_text facts (edited bound facts has edits))
     (refusals bound facts has edits)
 
+-- the answers of `edit` for the facts of a program and the bytes of a script
 abbrev pub EditOf : ℕ → List ℕ → Facts → ℕ → List ℕ → List ℕ → Type 0
 EditOf bound script facts = ScriptAnswers bound script facts (ShowsHierarchy bound facts)

@@ -1,4 +1,4 @@
--- The answers of `table` and `lattice`, for the program of their file.
+-- Believed. The answers of `table` and `lattice`, for the program of their file.
 use Rattle.std.specs.Prelude.{◌≡◌, ◌⊎◌, ℕ, ◌≤◌, Bool, List, [], ◌++◌, length, codes, Some, None, if◌then◌else◌}
 use Rattle.std.specs.Fmt.{decimal}
 use Rattle.std.specs.Str.{encode_utf8_all}
@@ -11,7 +11,7 @@ use Rattle.fact_model.specs.Entries.{IsTable}
 use Rattle.fact_model.specs.Concepts.{AreMoreThan, IsLatticeOf}
 use Rattle.flow_rules.specs.declared.faults.Counted.{Counted}
 use Rattle.flow_rules.specs.Facts.{first_interface, too_many}
-use Rattle.program_facts.specs.Known.{AreProgramFacts}
+use Rattle.flow_program.specs.Known.{AreProgramFacts}
 use Rattle.lattice_view.specs.Table.{table_text}
 use Rattle.lattice_view.specs.Text.{lattice_text}
 use Rattle.lattice_view.specs.Json.{lattice_json}
@@ -62,6 +62,7 @@ pub record TableOf (facts : Facts) (status : ℕ) (out err : List ℕ) : Type 0 
 abbrev pub shown : Bool → Facts → Lattice → List ℕ
 shown json facts lattice = if json then lattice_json facts lattice else lattice_text lattice
 
+-- the text that says that there are more concepts than are allowed
 abbrev pub too_many_concepts : ℕ → List ℕ
 too_many_concepts bound = codes "too many concepts: more than " ++ decimal bound
 
@@ -77,6 +78,7 @@ pub record IsShown (json : Bool) (bound : ℕ) (facts : Facts) (table : Table) (
   pub within : length lattice.concepts.items ≤ bound
   pub gives : Gives 0 (shown json facts lattice) [] status out err
 
+-- the answers of `lattice` for facts: the text or the JSON of the lattice, or that it has too many concepts
 pub record LatticeOf (json : Bool) (bound : ℕ) (facts : Facts) (status : ℕ) (out err : List ℕ) : Type 0 where
   pub table : Table
   pub is : IsTable facts table

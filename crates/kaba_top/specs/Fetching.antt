@@ -1,4 +1,4 @@
--- What is known once a file was asked for.
+-- Mirror. What is known once a file was asked for.
 use Rattle.std.specs.Prelude.{◌≡◌, ◌⊎◌, ℕ, ◌≤◌, List, length, Option, Some}
 use Rattle.kaba_base.specs.Outside.{Files}
 use Rattle.kaba_top.specs.declared.answer.Fetched.{Fetched}
@@ -19,6 +19,7 @@ pub record IsRefused (told : Option Files) (name : List ℕ) (status : ℕ) (out
   pub agrees : Agrees told files
   pub refused : IsMissing files name status out err ⊎ IsTooLarge files name status out err
 
+-- the bytes of the file were fetched, or the reply says that it is missing or too large, or that there was a fault
 abbrev pub IsFetched : Option Files → ℕ → ℕ → List ℕ → Fetched → Type 0
 IsFetched told before now name (Bytes bytes) = IsThere told name bytes.items
 IsFetched told before now name (Refused reply) = IsRefused told name reply.status reply.out.items reply.err.items

@@ -1,4 +1,4 @@
--- Scripts that only drop nodes and give fresh names.
+-- Believed. Scripts that only drop nodes and give fresh names.
 use Rattle.std.specs.Prelude.{List, [], ◌∷◌}
 use Rattle.fact_model.specs.declared.facts.Facts.{Facts}
 use Rattle.fact_model.specs.declared.sets.PointsTo.{PointsTo}
@@ -7,7 +7,7 @@ use Rattle.hier_model.specs.declared.edits.Edit.{Edit}
 use Rattle.hier_model.specs.declared.edits.Edit.TheVariants.{Merge, Under, Move, TypeName, MemberName, Drop}
 use Rattle.edit_script.specs.declared.lines.Line.{Line}
 use Rattle.hier_script.specs.Scripts.{after_edit}
-use Rattle.tree_laws.specs.Reached.{IsFresh}
+use Rattle.hier_tree.specs.Reached.{IsFresh}
 
 -- an edit drops a node, or gives a name that no type, no class with static members, and no field or method then bears
 abbrev pub IsDropOrFresh : Facts → Hierarchy → Edit → Type 0

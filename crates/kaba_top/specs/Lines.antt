@@ -1,4 +1,4 @@
--- What an answer looks like: the status, the bytes for out and the bytes for err.
+-- Believed. What an answer looks like: the status, the bytes for out and the bytes for err.
 use Rattle.std.specs.Prelude.{◌≡◌, ℕ, List, [], ◌∷◌, ◌++◌, codes}
 
 -- a line for err
@@ -17,9 +17,11 @@ pub record Gives (wanted : ℕ) (bytes lines : List ℕ) (status : ℕ) (out err
   pub out_is : out ≡ bytes
   pub err_is : err ≡ lines
 
+-- the text for a command that is none
 abbrev pub usage : List ℕ
 usage = codes "usage"
 
+-- the text for a file that cannot be read
 abbrev pub cannot_read : List ℕ → List ℕ
 cannot_read file = codes "cannot read " ++ file
 
@@ -27,5 +29,6 @@ cannot_read file = codes "cannot read " ++ file
 abbrev pub most_bytes : ℕ
 most_bytes = 1048576
 
+-- the text for a file of more bytes than it may have
 abbrev pub file_too_large : List ℕ
 file_too_large = codes "too large: file 1048576"

@@ -1,4 +1,4 @@
--- The answers of `make`, for its number.
+-- Believed. The answers of `make`, for its number.
 use Rattle.std.specs.Prelude.{◌⊎◌, ℕ, ◌-◌, ◌<◌, ◌≤◌, Bool, true, false, List, [], ◌++◌, length, codes}
 use Rattle.std.specs.Fmt.{decimal}
 use Rattle.std.specs.Str.{encode_utf8_all}
@@ -75,6 +75,7 @@ abbrev pub RunGives : Counts → meaning.End → ℕ → List ℕ → ℕ → Li
 RunGives counts meaning.Ended steps bytes = Gives 0 (summary counts steps (length bytes)) []
 RunGives counts end steps bytes = EndGives end bytes
 
+-- what the outcome of the written program's run gives, with the counts of its analysis
 abbrev pub OutcomeGives : Counts → meaning.Outcome → ℕ → List ℕ → List ℕ → Type 0
 OutcomeGives counts outcome = RunGives counts outcome.end (made_steps - outcome.left) outcome.out
 
@@ -92,6 +93,7 @@ pub record IsMade (program : Program) (facts : Facts) (status : ℕ) (out err : 
   pub written : IsWrittenText program facts tree text
   pub answers : MadeTextAnswers (WrittenGives (counts_of facts has.lattice tree log)) text status out err
 
+-- the answers of `make` for the program of a sample and its facts
 abbrev pub MadeOf : Program → Facts → ℕ → List ℕ → List ℕ → Type 0
 MadeOf program facts status out err = IsOverBound usual_concepts facts status out err ⊎ IsMade program facts status out err
 

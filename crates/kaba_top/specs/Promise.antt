@@ -1,4 +1,5 @@
--- What Kaba promises of its analysis and of the programs that it writes, said once more without the answers around it.
+-- Believed. What Kaba promises of its analysis and of the programs that it writes, said once more without the answers
+-- around it.
 use Rattle.std.specs.Prelude.{◌≡◌, ◌⊎◌, ℕ, ◌≤◌, Bool, List, [], ◌∷◌, ◌++◌, length, Option, Some, None, Ok, Err}
 use Rattle.kaba_base.specs.Outside.{Files, taken_more}
 use Rattle.java_tree.specs.Syntax.{DeclTree}
@@ -27,12 +28,12 @@ use Rattle.hier_script.specs.Refusals.{refusal_line}
 use Rattle.hier_tree.specs.Trees.{Tree, Grows}
 use Rattle.tree_merge.specs.declared.steps.TreeStep.{TreeStep}
 use Rattle.tree_merge.specs.Logs.{steps_of}
-use Rattle.tree_view.specs.Lines.{log_text}
+use Rattle.hier_log.specs.Lines.{log_text}
 use Rattle.edit_script.specs.declared.lines.Line.{Line}
 use Rattle.edit_script.specs.Script.{AreEditsOf}
 use Rattle.rebuild_model.specs.Rebuilds.{Rebuilds}
-use Rattle.rebuild_types.specs.Rows.{OffersRows}
-use Rattle.same_run.specs.Same.{HasSameRun}
+use Rattle.rebuild_laws.specs.types.Rows.{OffersRows}
+use Rattle.rebuild_laws.specs.runs.Same.{HasSameRun}
 use Rattle.kaba_words.specs.Commands.{Cmd, run, table, lattice, edit, regen, make, help, version, Fits}
 use Rattle.kaba_top.specs.Reading.{IsTypedText}
 use Rattle.kaba_top.specs.FactsAnswers.{HasFacts, shown}

@@ -1,4 +1,4 @@
--- What is known once a script was run on the hierarchy of a program, and once a tree of classes was looked for.
+-- Mirror. What is known once a script was run on the hierarchy of a program, and once a tree of classes was looked for.
 use Rattle.std.specs.Prelude.{◌≡◌, ℕ, ◌≤◌, List, length}
 use Rattle.java_core.specs.declared.Program.{Program}
 use Rattle.fact_model.specs.declared.facts.Facts.{Facts}
@@ -10,9 +10,9 @@ use Rattle.fact_model.specs.Concepts.{IsLatticeOf}
 use Rattle.fact_model.specs.Flowing.{AreSets}
 use Rattle.hier_model.specs.Hierarchies.{Hierarchy}
 use Rattle.hier_model.specs.Start.{start_from}
-use Rattle.hier_begin.specs.Laws.{AreAnalysed}
-use Rattle.tree_laws.specs.Kept.{HasNoInterface}
-use Rattle.tree_laws.specs.Reached.{IsReached}
+use Rattle.hier_laws.specs.Laws.{AreAnalysed}
+use Rattle.hier_tree.specs.Kept.{HasNoInterface}
+use Rattle.hier_tree.specs.Reached.{IsReached}
 use Rattle.tree_merge.specs.declared.steps.TreeStep.{TreeStep}
 use Rattle.tree_merge.specs.declared.trees.NoTree.{NoTree}
 use Rattle.edit_script.specs.declared.lines.Line.{Line}
@@ -38,6 +38,7 @@ pub record IsProposal (bound : ℕ) (script : List ℕ) (facts : Facts) (p : Pro
   pub few : length edits ≤ most_edits
   pub is : IsEdited facts p.sets (start_from facts p.table p.lattice) edits p.edited
 
+-- the script was not run, as the reply says, or its edits led to this proposal
 abbrev pub IsProposed : ℕ → List ℕ → Facts → Proposed → Type 0
 IsProposed bound script facts (proposed.Refused reply) = IsNotRun bound script facts reply.status reply.out.items reply.err.items
 IsProposed bound script facts (proposed.Edited p) = IsProposal bound script facts p
@@ -53,6 +54,7 @@ pub record IsWritten (program : Program) (facts : Facts) (sets : PointsTo) (from
   pub is : IsTreeOf facts sets from log tree
   pub written : IsWrittenText program facts tree text
 
+-- the program of a tree of classes was written, or the steps end at a conflict
 abbrev pub IsWrittenOver : Program → Facts → PointsTo → Hierarchy → Regenerated → Type 0
 IsWrittenOver program facts sets from (regenerated.Written tree log text) = IsWritten program facts sets from tree log.items text.items
 IsWrittenOver program facts sets from (regenerated.Stuck fault) = IsStuck facts sets from fault

@@ -1,4 +1,4 @@
--- What is answered where the bytes of a file are no typed program, and what follows where they are one.
+-- Believed. What is answered where the bytes of a file are no typed program, and what follows where they are one.
 use Rattle.std.specs.Prelude.{◌≡◌, ◌⊎◌, ℕ, ◌+◌, ◌-◌, ◌≤◌, ◌==◌, List, [], ◌++◌, length, take, count_by, Ok, Err, codes, Option, Some, None, slice_get}
 use Rattle.std.specs.Fmt.{decimal}
 use Rattle.std.specs.Str.{encode_utf8_all}
@@ -45,6 +45,7 @@ on_name kind name p = kind ++ (codes " " ++ (encode_utf8_all name ++ (codes " li
 abbrev pub on_what : List ℕ → List ℕ → Place → List ℕ
 on_what kind what p = kind ++ (codes " " ++ (what ++ (codes " line " ++ decimal p.line)))
 
+-- the text of why a file has no tokens: the kind of the fault and its place; empty for want of memory
 abbrev pub lex_text : LexFault → List ℕ
 lex_text (lexing.BadByte p) = at_byte (codes "BadByte") p
 lex_text (lexing.OpenComment p) = at_byte (codes "OpenComment") p
@@ -56,6 +57,7 @@ lex_text lexing.Memory = []
 abbrev pub last_line : List ℕ → ℕ
 last_line bytes = 1 + count_by (λ b. b == 10) (take (length bytes - 1) bytes)
 
+-- the line of the token that was found, or of the text's last byte where there is none
 abbrev pub line_at : List ℕ → Option Token → ℕ
 line_at bytes (Some t) = t.place.line
 line_at bytes None = last_line bytes
@@ -69,10 +71,12 @@ abbrev pub IsOfText : LexFault → Type 0
 IsOfText lexing.Memory = ⊥
 IsOfText f = Unit {0}
 
+-- the refusal of a tree's names is not want of memory
 abbrev pub IsOfTree : Refusal → Type 0
 IsOfTree naming.Memory = ⊥
 IsOfTree r = Unit {0}
 
+-- the text of why a tree's names are refused; empty for want of memory
 abbrev pub naming_text : Refusal → List ℕ
 naming_text (naming.Unknown name p) = on_name (codes "Unknown") name p
 naming_text (naming.Twice name p) = on_name (codes "Twice") name p
@@ -84,6 +88,7 @@ naming_text naming.NoMain = codes "NoMain"
 naming_text (naming.NotInProfile form p) = on_what (codes "NotInProfile") (cause_text (cause.Form form)) p
 naming_text naming.Memory = []
 
+-- the text of the rule of types that a program breaks, and its line
 abbrev pub typing_text : Kind → Place → List ℕ
 typing_text kind p = on_what (codes "IllTyped") (cause_text (cause.Rule kind)) p
 

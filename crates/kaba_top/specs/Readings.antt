@@ -1,4 +1,4 @@
--- What is known once a text was read.
+-- Mirror. What is known once a text was read.
 use Rattle.std.specs.Prelude.{◌≡◌, ◌⊎◌, ℕ, ◌≤◌, List, length}
 use Rattle.kaba_base.specs.declared.Place.{Place}
 use Rattle.java_tree.specs.Syntax.{DeclTree}
@@ -53,11 +53,13 @@ pub record IsUnresolvedTree (tree : List DeclTree) (status : ℕ) (out err : Lis
   pub condition : ConditionAt tree why
   pub says : Says 65 (refused (naming_text why)) status out err
 
+-- a tree is resolved to a program that is not typed
 pub record IsUntypedTree (tree : List DeclTree) (status : ℕ) (out err : List ℕ) : Type 0 where
   pub program : Program
   pub resolved : IsResolved tree program
   pub ill : IsIllTyped program status out err
 
+-- a tree is that of this typed program, or a reply refuses it
 abbrev pub IsReadingOfTree : List DeclTree → Reading → Type 0
 IsReadingOfTree tree (readings.Typed program) = IsTypedTree tree program
 IsReadingOfTree tree (readings.Refused reply) = IsUnresolvedTree tree reply.status reply.out.items reply.err.items

@@ -1,4 +1,4 @@
--- The answers of `regen`, for the program of its file and the bytes of its script.
+-- Believed. The answers of `regen`, for the program of its file and the bytes of its script.
 use Rattle.std.specs.Prelude.{◌≡◌, ◌⊎◌, ℕ, List, [], ◌++◌, None}
 use Rattle.java_core.specs.declared.Program.{Program}
 use Rattle.fact_model.specs.declared.facts.Facts.{Facts}
@@ -10,7 +10,7 @@ use Rattle.edit_script.specs.declared.lines.Line.{Line}
 use Rattle.tree_merge.specs.declared.steps.TreeStep.{TreeStep}
 use Rattle.tree_merge.specs.declared.trees.NoTree.{NoTree}
 use Rattle.tree_merge.specs.Logs.{steps_of, AreEdits}
-use Rattle.tree_view.specs.Lines.{log_text, no_tree_text}
+use Rattle.hier_log.specs.Lines.{log_text, no_tree_text}
 use Rattle.java_write.specs.Written.{IsWrittenText}
 use Rattle.kaba_top.specs.Lines.{Gives, line}
 use Rattle.kaba_top.specs.ScriptAnswers.{HasLattice, ScriptAnswers, start_of, edited, refusals}
@@ -46,8 +46,10 @@ module _ (program : Program) (bound : ℕ) (facts : Facts) (has : HasLattice bou
     pub more : AreDropsAndFreshNames facts has.sets (start_of bound facts has) edits → ⊥
     pub gives : Gives 5 [] (refusals bound facts has edits ++ (log_text fault.log.items ++ line (no_tree_text fault))) status out err
 
+  -- the program of a tree of classes is written, or it is told that there is no tree
   abbrev pub IsRegeneration : Type 0
   IsRegeneration = IsRegenerated ⊎ IsWithoutTree
 
+-- the answers of `regen` for a program, its facts and the bytes of a script
 abbrev pub RegenOf : ℕ → List ℕ → Program → Facts → ℕ → List ℕ → List ℕ → Type 0
 RegenOf bound script program facts = ScriptAnswers bound script facts (IsRegeneration program bound facts)

@@ -1,4 +1,4 @@
--- The answers of `run`, for the program of its file.
+-- Believed. The answers of `run`, for the program of its file.
 use Rattle.std.specs.Prelude.{ℕ, List, [], ◌++◌, codes}
 use Rattle.java_core.specs.declared.Program.{Program}
 use Rattle.java_core.specs.Programs.{program_of}

@@ -1,4 +1,4 @@
--- What a script comes to on the hierarchy at which a program starts.
+-- Believed. What a script comes to on the hierarchy at which a program starts.
 use Rattle.std.specs.Prelude.{◌⊎◌, ℕ, ◌≤◌, List, ◌++◌, length, codes}
 use Rattle.std.specs.Fmt.{decimal}
 use Rattle.fact_model.specs.declared.facts.Facts.{Facts}
@@ -16,9 +16,11 @@ use Rattle.hier_script.specs.Scripts.{after_edits, refusals_of}
 use Rattle.kaba_top.specs.Lines.{Says}
 use Rattle.kaba_top.specs.FactsAnswers.{IsTooMany}
 
+-- the text for a script of which this line is no edit
 abbrev pub bad_script : ℕ → List ℕ
 bad_script n = codes "bad script: line " ++ decimal n
 
+-- the text for a script of more edits than it may have
 abbrev pub too_many_edits : List ℕ
 too_many_edits = codes "too large: edits 4096"
 
@@ -54,6 +56,7 @@ pub record IsScriptFault (bound : ℕ) (script : List ℕ) (facts : Facts) (stat
   pub has : HasLattice bound facts
   pub fault : IsBadScript script status out err ⊎ IsLongScript script status out err
 
+-- the script is not run: there are too many concepts, or the script is at fault
 abbrev pub IsNotRun : ℕ → List ℕ → Facts → ℕ → List ℕ → List ℕ → Type 0
 IsNotRun bound script facts status out err = IsOverBound bound facts status out err ⊎ IsScriptFault bound script facts status out err
 
@@ -66,6 +69,7 @@ module _ (bound : ℕ) (facts : Facts) (has : HasLattice bound facts) where
   abbrev pub edited : List Line → Hierarchy
   edited edits = after_edits facts has.sets start_of edits
 
+  -- the lines of the edits that were refused
   abbrev pub refusals : List Line → List ℕ
   refusals edits = refusals_of facts has.sets start_of edits
 
@@ -78,5 +82,6 @@ module _ (bound : ℕ) (script : List ℕ) (facts : Facts) (A : HasLattice bound
     pub few : length edits ≤ most_edits
     pub answers : A has edits status out err
 
+  -- the answers for a script: it is not run, or it is run and A are the answers then
   abbrev pub ScriptAnswers : ℕ → List ℕ → List ℕ → Type 0
   ScriptAnswers status out err = IsNotRun bound script facts status out err ⊎ IsRun status out err

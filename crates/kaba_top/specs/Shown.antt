@@ -1,4 +1,4 @@
--- The two commands with a script, by what they show.
+-- Mirror. The two commands with a script, by what they show.
 use Rattle.std.specs.Prelude.{ℕ, List}
 use Rattle.kaba_words.specs.Commands.{Cmd, edit, regen}
 use Rattle.kaba_top.specs.declared.answer.Shows.{Shows}

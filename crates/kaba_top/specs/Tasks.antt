@@ -1,4 +1,4 @@
--- What is asked for of a program.
+-- Mirror. What is asked for of a program.
 use Rattle.std.specs.Prelude.{◌≤◌, length}
 use Rattle.kaba_words.specs.Commands.{most_concepts}
 use Rattle.kaba_top.specs.Lines.{most_bytes}

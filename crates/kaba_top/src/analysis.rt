@@ -12,10 +12,10 @@ use crate::reading::{Reading, read_program};
 use crate::reply::Reply;
 use concept_build::{LatticeFault, concepts};
 use fact_model::{Facts, Lattice, Table};
+use flow_program::{FactsFault, facts};
 use java_core::Checked;
 use lattice_view::{show_json, show_table, show_text};
 use points_to::solve;
-use program_facts::{FactsFault, facts};
 use std::alloc::{AllocError, Global};
 use table_rules::{close, raw};
 

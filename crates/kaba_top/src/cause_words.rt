@@ -4,10 +4,10 @@
 ghost use Rattle.std.specs.Prelude.{◌≡◌};
 ghost use Rattle.kaba_top.specs.CauseWords.{cause_text};
 
+use flow_program::Counted;
 use java_check::Kind;
 use java_core::Fault;
 use java_resolve::Form;
-use program_facts::Counted;
 
 /// What the line of an answer names.
 #[derive(Clone, Copy)]

@@ -13,12 +13,12 @@ use crate::reading::{Reading, read_program};
 use crate::reply::Reply;
 use crate::script::{Proposed, Task, edit_status, propose};
 use fact_model::{Facts, PointsTo};
+use hier_log::{log_text, no_tree_text};
 use hier_model::Hier;
 use java_core::Checked;
 use java_write::write_java;
 use std::alloc::{AllocError, Global};
 use tree_merge::{NoTree, TreeFault, TreeStep, make_tree};
-use tree_view::{log_text, no_tree_text};
 
 /// What a hierarchy comes to.
 #[derive(Drop)]

@@ -1,4 +1,4 @@
--- The words of the command line, and the commands that they say.
+-- Believed. The words of the command line, and the commands that they say.
 use Rattle.std.specs.Prelude.{◌≡◌, ℕ, ◌<◌, ◌≤◌, Bool, true, false, List, [], ◌∷◌, length, map, codes, string_bytes}
 use Rattle.std.specs.List.{All}
 use Rattle.std.specs.Fmt.{decimal}
@@ -18,9 +18,11 @@ pub data Cmd : Type 0 where
   help : Cmd
   version : Cmd
 
+-- the bytes of each of these strings
 abbrev pub texts : List (String Global) → List (List ℕ)
 texts words = map string_bytes words
 
+-- the command that a parsed command line is, its strings as bytes
 abbrev pub command_of : Command → Cmd
 command_of (commands.Run file steps words) = run (string_bytes file) steps (texts words.items)
 command_of (commands.Table file) = table (string_bytes file)
@@ -36,6 +38,7 @@ pub record IsNumber (word : List ℕ) (limit n : ℕ) : Type 0 where
   pub digits : word ≡ decimal n
   pub small : n ≤ limit
 
+-- how many steps a run may be given at most
 abbrev pub most_steps : ℕ
 most_steps = 1000000000
 
@@ -60,6 +63,7 @@ TakesFlag flag words false rest = (words ≡ rest) × ((more : List (List ℕ)) 
 abbrev pub most_concepts : ℕ
 most_concepts = 16384
 
+-- how many concepts a lattice may have where the command line does not say
 abbrev pub usual_concepts : ℕ
 usual_concepts = 4096
 

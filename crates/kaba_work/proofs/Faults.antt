@@ -10,7 +10,7 @@ use Rattle.name_rules.specs.Outline.{MethodAt, outline}
 use Rattle.name_rules.specs.Meanings.{bound_names}
 use Rattle.name_rules.specs.Resolves.{StsResolve, params_from, here_of, BodyResolves, r_no_body, r_body}
 use Rattle.name_rules.specs.Conditions.{AreOneSlot, StsFault}
-use Rattle.name_outcome.proofs.Excludes.{one-met, sts-holds}
+use Rattle.name_laws.proofs.Excludes.{one-met, sts-holds}
 use Rattle.kaba_work.specs.Sample.{sample_tree}
 use Rattle.kaba_work.specs.Program.{method_made, main_made}
 use Rattle.kaba_work.proofs.Places.{StandsAt, is_row, is_last}

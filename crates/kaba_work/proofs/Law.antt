@@ -2,7 +2,7 @@
 use Rattle.std.proofs.Common.{subst}
 use Rattle.java_core.specs.Programs.{program_of}
 use Rattle.java_core.specs.Typing.{IsTyped}
-use Rattle.name_outcome.proofs.OnlyWhole.{only}
+use Rattle.name_laws.proofs.OnlyWhole.{only}
 use Rattle.kaba_work.specs.Sample.{sample_tree}
 use Rattle.kaba_work.specs.Program.{sample_program}
 use Rattle.kaba_work.specs.Laws.{SampleResolves, SampleHasProgram, SampleIsTyped}

@@ -1,4 +1,4 @@
--- A sample is a typed program.
+-- Mirror. A sample is a typed program.
 use Rattle.std.specs.Prelude.{ℕ, ◌≤◌}
 use Rattle.java_core.specs.declared.Program.{Program}
 use Rattle.java_core.specs.Programs.{program_of}

@@ -1,4 +1,4 @@
--- The program that a sample is: its classes, fields, methods and bodies by number.
+-- Mirror. The program that a sample is: its classes, fields, methods and bodies by number.
 use Rattle.std.specs.Prelude.{ℕ, zero, suc, ◌+◌, pos, false, true, List, [], ◌∷◌, ◌++◌, map, Some, None, codes}
 use Rattle.std.specs.List.{range_with_len, flat_map}
 use Rattle.java_core.specs.declared.Ty.{Ty}

@@ -1,4 +1,5 @@
--- The sample programs: a chain of classes, each with a field that its method adds to and one that is set from outside; main makes an object of each.
+-- Believed. The sample programs: a chain of classes, each with a field that its method adds to and one that is set from
+-- outside; main makes an object of each.
 use Rattle.std.specs.Prelude.{ℕ, zero, suc, ◌+◌, pos, false, true, List, [], ◌∷◌, ◌++◌, map, Option, Some, None, codes}
 use Rattle.std.specs.List.{range_with_len, flat_map}
 use Rattle.std.specs.Fmt.{decimal}

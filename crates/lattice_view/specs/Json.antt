@@ -1,4 +1,4 @@
--- The lattice as JSON, in one line. The keys of an object are in the order of their bytes.
+-- Believed. The lattice as JSON, in one line. The keys of an object are in the order of their bytes.
 use Rattle.std.specs.Prelude.{ℕ, List, ◌++◌, map, codes}
 use Rattle.std.specs.Str.{encode_utf8_all}
 use Rattle.serde_json.specs.Data.{Data, number, unsigned, string, array, object, member, no_members}

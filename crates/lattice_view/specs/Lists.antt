@@ -1,4 +1,4 @@
--- Lists of numbers in a line.
+-- Believed. Lists of numbers in a line.
 use Rattle.std.specs.Prelude.{ℕ, List, [], ◌∷◌, ◌++◌, codes}
 use Rattle.std.specs.List.{flat_map}
 use Rattle.std.specs.Fmt.{decimal}

@@ -1,4 +1,4 @@
--- The text of a table.
+-- Believed. The text of a table.
 use Rattle.std.specs.Prelude.{ℕ, ◌+◌, Bool, List, [], ◌∷◌, ◌++◌, length, codes}
 use Rattle.std.specs.List.{flat_map}
 use Rattle.std.specs.Fmt.{decimal}
@@ -26,6 +26,7 @@ rows_text k (r ∷ rs) sets = row_text k r (row sets k) ++ rows_text (k + 1) rs 
 abbrev pub column_text : ℕ → ColumnInfo → List ℕ
 column_text k c = codes "c" ++ (decimal k ++ (codes " " ++ (encode_utf8_all c.label ++ codes "\n")))
 
+-- the lines of columns, the first having the number k
 abbrev pub columns_text : ℕ → List ColumnInfo → List ℕ
 columns_text k [] = []
 columns_text k (c ∷ cs) = column_text k c ++ columns_text (k + 1) cs

@@ -1,4 +1,4 @@
--- The text of a lattice.
+-- Believed. The text of a lattice.
 use Rattle.std.specs.Prelude.{ℕ, ◌+◌, List, [], ◌∷◌, ◌++◌, length, map, codes}
 use Rattle.std.specs.Fmt.{decimal}
 use Rattle.kaba_bits.specs.Sets.{size}

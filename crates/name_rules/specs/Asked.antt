@@ -1,4 +1,4 @@
--- Where the declarations of a tree ask for a type by its name.
+-- Believed. Where the declarations of a tree ask for a type by its name.
 use Rattle.std.specs.Prelude.{◌≡◌, ℕ, false, List, Contains, Some}
 use Rattle.kaba_base.specs.declared.Place.{Place}
 use Rattle.java_tree.specs.declared.Id.{Id}

@@ -1,4 +1,4 @@
--- What each answer of `resolve` that is no program comes from.
+-- Believed. What each answer of `resolve` that is no program comes from.
 use Rattle.std.specs.Prelude.{List}
 use Rattle.java_tree.specs.Syntax.{DeclTree}
 use Rattle.name_rules.specs.declared.Refusal.{Refusal}

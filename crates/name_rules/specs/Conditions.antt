@@ -1,4 +1,5 @@
--- The conditions that refuse a tree's names, each with the place at which it holds (Java Language Specification, 6.3 to 6.5, 8.1, 8.3, 8.4, 9.1, 14.15, 15.12).
+-- Believed. The conditions that refuse a tree's names, each with the place at which it holds (Java Language
+-- Specification, 6.3 to 6.5, 8.1, 8.3, 8.4, 9.1, 14.15, 15.12).
 use Rattle.std.specs.Prelude.{◌≡◌, ◌≢◌, ◌⊎◌, ℕ, suc, ◌<◌, ◌||◌, Bool, true, false, List, [], ◌∷◌, ◌++◌, map, Contains, Option, Some, None, slice_get, codes}
 use Rattle.std.specs.Option.{is_some}
 use Rattle.kaba_base.specs.declared.Place.{Place}
@@ -22,7 +23,7 @@ use Rattle.name_rules.specs.declared.parts.Here.{Here}
 use Rattle.name_rules.specs.declared.parts.Kind.{Kind}
 use Rattle.name_rules.specs.declared.parts.Kind.TheVariants as kinds
 use Rattle.name_rules.specs.Outline.{FieldAt, MethodAt, is_private, has_word, is_public_word, is_protected_word, is_private_word, is_abstract_word, is_static_word, is_final_word, outline, fields_in, methods_in, types_in, is_text_type, is_type_name, is_known, name_of, place_of, mods_of, parent_named, faces_named}
-use Rattle.name_rules.specs.Meanings.{type_names, class_named, is_bound, is_class_name, IsStaticFieldOf, IsStaticMethodOf, IsNearestField, IsMet}
+use Rattle.name_rules.specs.Meanings.{type_names, class_named, is_bound, is_class_name, IsStaticFieldOf, IsStaticMethodOf, IsNearestField, IsMet, IsFirstMethod}
 use Rattle.name_rules.specs.Asked.{Asks}
 use Rattle.name_rules.specs.Resolves.{here_of}
 
@@ -37,6 +38,7 @@ pub data IsUnknownCast (O : Plain) (u : TypeName) : Refusal → Type 0 where
 -- a condition in an expression of a body: the outline of the program, where the body stands, and the names of the parameters and locals in scope
 module _ (O : Plain) (here : Here) (scope : List (List ℕ)) where
   mutual
+    -- a condition holds somewhere in an expression, and this is its refusal
     pub data FaultIn : Expression → Refusal → Type 0 where
       -- `this` in a static method
       this_in_static : {p : Place} → here.is_static ≡ true → FaultIn (ThisRef p) (NotInProfile forms.ThisInStatic p)
@@ -56,12 +58,13 @@ module _ (O : Plain) (here : Here) (scope : List (List ℕ)) where
       in_base : {e : Expression} {n : List ℕ} {p : Place} {r : Refusal} → is_class_name O here.owner scope e ≡ false → FaultIn e r → FaultIn (FieldOf e n p) r
       in_array : {e i : Expression} {p : Place} {r : Refusal} → FaultIn e r → FaultIn (IndexOf e i p) r
       in_index : {e i : Expression} {p : Place} {r : Refusal} → FaultIn i r → FaultIn (IndexOf e i p) r
-      -- a call by a simple name that no method has, that of a static method of an ancestor, and that of an instance method in a static one
+      -- a call by a simple name that no method has, one that first finds a static method of an ancestor, and one that first finds an instance method, in a
+      -- static method
       no_method : {n : List ℕ} {es : Expressions} {p : Place} → ((m : ℕ) (k : PlainMethod) → IsMet O here.owner n m k → ⊥)
           → FaultIn (CallOf n es p) (Unknown n p)
-      static_method_above : {n : List ℕ} {es : Expressions} {p : Place} {m : ℕ} {k : PlainMethod} → IsMet O here.owner n m k → k.is_static ≡ true
+      static_method_above : {n : List ℕ} {es : Expressions} {p : Place} {m : ℕ} {k : PlainMethod} → IsFirstMethod O here.owner n m k → k.is_static ≡ true
           → k.owner ≢ here.owner → FaultIn (CallOf n es p) (Unknown n p)
-      call_in_static : {n : List ℕ} {es : Expressions} {p : Place} {m : ℕ} {k : PlainMethod} → IsMet O here.owner n m k → k.is_static ≡ false
+      call_in_static : {n : List ℕ} {es : Expressions} {p : Place} {m : ℕ} {k : PlainMethod} → IsFirstMethod O here.owner n m k → k.is_static ≡ false
           → here.is_static ≡ true
           → FaultIn (CallOf n es p) (NotInProfile forms.ThisInStatic p)
       in_arguments : {n : List ℕ} {es : Expressions} {p : Place} {r : Refusal} → FaultInOne es r → FaultIn (CallOf n es p) r
@@ -88,10 +91,12 @@ module _ (O : Plain) (here : Here) (scope : List (List ℕ)) where
       in_left : {m : Mark} {e d : Expression} {p : Place} {r : Refusal} → FaultIn e r → FaultIn (BinaryOf m e d p) r
       in_right : {m : Mark} {e d : Expression} {p : Place} {r : Refusal} → FaultIn d r → FaultIn (BinaryOf m e d p) r
 
+    -- a condition holds in one of a list of expressions
     pub data FaultInOne : Expressions → Refusal → Type 0 where
       in_first : {e : Expression} {es : Expressions} {r : Refusal} → FaultIn e r → FaultInOne (and_more e es) r
       in_later : {e : Expression} {es : Expressions} {r : Refusal} → FaultInOne es r → FaultInOne (and_more e es) r
 
+  -- a condition holds in an expression that is there
   pub data FaultInValue : Option Expression → Refusal → Type 0 where
     in_value : {e : Expression} {r : Refusal} → FaultIn e r → FaultInValue (Some e) r
 
@@ -100,6 +105,7 @@ abbrev pub names_after : List (List ℕ) → Statement → List (List ℕ)
 names_after scope (LocalOf final u n v p) = scope ++ n ∷ []
 names_after scope _ = scope
 
+-- the names in scope after the first or last part of a `for`, which may be absent
 abbrev pub names_after_part : List (List ℕ) → OptionalStatement → List (List ℕ)
 names_after_part scope absent = scope
 names_after_part scope (present s) = names_after scope s
@@ -107,6 +113,7 @@ names_after_part scope (present s) = names_after scope s
 -- a condition in a statement: whether a loop is around it, and the names of the parameters and locals in scope
 module _ (O : Plain) (here : Here) where
   mutual
+    -- a condition holds somewhere in a statement, and this is its refusal
     pub data StFault : Bool → List (List ℕ) → Statement → Refusal → Type 0 where
       no_type_of_local : {in_loop final : Bool} {scope : List (List ℕ)} {u : TypeName} {n : List ℕ} {v : Option Expression} {p : Place} {r : Refusal}
           → IsUnknownType O u r → StFault in_loop scope (LocalOf final u n v p) r
@@ -154,12 +161,14 @@ module _ (O : Plain) (here : Here) where
       break_outside : {scope : List (List ℕ)} {p : Place} → StFault false scope (BreakOf p) (NotInProfile forms.BreakOutside p)
       continue_outside : {scope : List (List ℕ)} {p : Place} → StFault false scope (ContinueOf p) (NotInProfile forms.BreakOutside p)
 
+    -- a condition holds in one of a list of statements, in the scope that those before it leave
     pub data StsFault : Bool → List (List ℕ) → Statements → Refusal → Type 0 where
       in_statement : {in_loop : Bool} {scope : List (List ℕ)} {s : Statement} {ss : Statements} {r : Refusal} → StFault in_loop scope s r
           → StsFault in_loop scope (and_then s ss) r
       in_rest : {in_loop : Bool} {scope : List (List ℕ)} {s : Statement} {ss : Statements} {r : Refusal} → StsFault in_loop (names_after scope s) ss r
           → StsFault in_loop scope (and_then s ss) r
 
+    -- a condition holds in the arms of an `if`: in a test, in the body of an arm or in the `else`
     pub data ArmsFault : Bool → List (List ℕ) → tree.Arms → Refusal → Type 0 where
       in_test : {in_loop : Bool} {scope : List (List ℕ)} {e : Expression} {ss : Statements} {a : tree.Arms} {r : Refusal} → FaultIn O here scope e r
           → ArmsFault in_loop scope (tree.and_arm e ss a) r
@@ -168,6 +177,7 @@ module _ (O : Plain) (here : Here) where
       in_more_arms : {in_loop : Bool} {scope : List (List ℕ)} {e : Expression} {ss : Statements} {a : tree.Arms} {r : Refusal}
           → ArmsFault in_loop scope a r → ArmsFault in_loop scope (tree.and_arm e ss a) r
 
+    -- a condition holds in the first or last part of a `for` that is there
     pub data PartFault : Bool → List (List ℕ) → OptionalStatement → Refusal → Type 0 where
       in_part : {in_loop : Bool} {scope : List (List ℕ)} {s : Statement} {r : Refusal} → StFault in_loop scope s r → PartFault in_loop scope (present s) r
 
@@ -196,6 +206,7 @@ abbrev pub kind_of : DeclTree → Kind
 kind_of (tree.ClassTree mods n parent faces ms p) = kinds.Class
 kind_of (tree.InterfaceTree mods n parents hs p) = kinds.Interface
 
+-- these modifiers stand in the declarations before something of this kind
 pub data HasModifiers (declarations : List DeclTree) : Kind → List Modifier → Type 0 where
   of_type : {d : DeclTree} → Contains declarations d → HasModifiers declarations (kind_of d) (mods_of d)
   of_field : {f : FieldAt} → Contains (fields_in declarations) f → HasModifiers declarations kinds.Field f.mods

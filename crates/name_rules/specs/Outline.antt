@@ -1,4 +1,5 @@
--- What the declarations of a tree say: the types by number, who names whom as a supertype, and the fields and methods in the order of the text with
+-- Believed. What the declarations of a tree say: the types by number, who names whom as a supertype, and the fields and
+-- methods in the order of the text with
 -- their owners.
 use Rattle.std.specs.Prelude.{ℕ, suc, ◌||◌, Bool, true, false, List, [], ◌∷◌, ◌++◌, map, Option, Some, None, codes, if◌then◌else◌, position}
 use Rattle.std.specs.Option.{option_map, is_some}
@@ -26,18 +27,22 @@ use Rattle.name_rules.specs.declared.parts.Kind.TheVariants as kinds
 
 -- ---- the parts of declarations
 
+-- the name of a class or interface
 abbrev pub name_of : DeclTree → List ℕ
 name_of (ClassTree mods n parent faces ms p) = n
 name_of (InterfaceTree mods n parents hs p) = n
 
+-- the place at which a class or interface is declared
 abbrev pub place_of : DeclTree → Place
 place_of (ClassTree mods n parent faces ms p) = p
 place_of (InterfaceTree mods n parents hs p) = p
 
+-- the modifiers before a class or interface
 abbrev pub mods_of : DeclTree → List Modifier
 mods_of (ClassTree mods n parent faces ms p) = mods
 mods_of (InterfaceTree mods n parents hs p) = mods
 
+-- whether a declaration is that of an interface
 abbrev pub is_interface_of : DeclTree → Bool
 is_interface_of (ClassTree mods n parent faces ms p) = false
 is_interface_of (InterfaceTree mods n parents hs p) = true
@@ -54,26 +59,32 @@ faces_named (InterfaceTree mods n parents hs p) = parents
 
 -- ---- modifiers
 
+-- whether a keyword is `public`
 abbrev pub is_public_word : Keyword → Bool
 is_public_word keys.Public = true
 is_public_word _ = false
 
+-- whether a keyword is `protected`
 abbrev pub is_protected_word : Keyword → Bool
 is_protected_word keys.Protected = true
 is_protected_word _ = false
 
+-- whether a keyword is `private`
 abbrev pub is_private_word : Keyword → Bool
 is_private_word keys.Private = true
 is_private_word _ = false
 
+-- whether a keyword is `abstract`
 abbrev pub is_abstract_word : Keyword → Bool
 is_abstract_word keys.Abstract = true
 is_abstract_word _ = false
 
+-- whether a keyword is `static`
 abbrev pub is_static_word : Keyword → Bool
 is_static_word keys.Static = true
 is_static_word _ = false
 
+-- whether a keyword is `final`
 abbrev pub is_final_word : Keyword → Bool
 is_final_word keys.Final = true
 is_final_word _ = false
@@ -92,6 +103,7 @@ types_in tree = codes "Object" ∷ map name_of tree
 abbrev pub type_named : List (List ℕ) → List ℕ → Option ℕ
 type_named types n = position (λ m. bytes_eq m n) types
 
+-- whether a name is `String`
 abbrev pub is_text_type : List ℕ → Bool
 is_text_type n = bytes_eq (codes "String") n
 
@@ -108,6 +120,7 @@ abbrev pub class_at : Option ℕ → ClassId
 class_at None = class_id 0
 class_at (Some k) = class_id k
 
+-- the base that the name of a type means: a type of the language, else the class of the name
 abbrev pub base_meant : List (List ℕ) → TypeBase → TyBase
 base_meant types bases.Int = ty.Int
 base_meant types bases.Boolean = ty.Boolean
@@ -118,6 +131,7 @@ base_meant types (bases.Named n) = if is_text_type n then ty.Str else ty.Class (
 abbrev pub type_meant : List (List ℕ) → TypeName → Ty
 type_meant types u = record { base = base_meant types u.base; dim = u.dim }
 
+-- the class that a name means
 abbrev pub id_meant : List (List ℕ) → Id → ClassId
 id_meant types i = class_at (type_named types i.name)
 
@@ -139,29 +153,36 @@ pub record MethodAt : Type 0 where
   pub head : HeadTree
   pub body : Option Statements
 
+-- the field that a member of the class c is, in a list; none where it is a method
 abbrev pub field_member : ℕ → MemberTree → List FieldAt
 field_member c (FieldTree mods u n p) = record { owner = c; mods = mods; type = u; name = n; place = p } ∷ []
 field_member c (MethodTree h body p) = []
 
+-- the method that a member of the class c is, in a list; none where it is a field
 abbrev pub method_member : ℕ → Bool → MemberTree → List MethodAt
 method_member c abstract (FieldTree mods u n p) = []
 method_member c abstract (MethodTree h body p) = record { owner = c; kind = kinds.Method; in_abstract = abstract; head = h; body = body } ∷ []
 
+-- the fields among the members of the class c, in the order of the text
 abbrev pub fields_of : ℕ → List MemberTree → List FieldAt
 fields_of c [] = []
 fields_of c (m ∷ ms) = field_member c m ++ fields_of c ms
 
+-- the methods among the members of the class c, in the order of the text
 abbrev pub methods_of : ℕ → Bool → List MemberTree → List MethodAt
 methods_of c abstract [] = []
 methods_of c abstract (m ∷ ms) = method_member c abstract m ++ methods_of c abstract ms
 
+-- the methods of the interface c, which have no body
 abbrev pub heads_of : ℕ → List HeadTree → List MethodAt
 heads_of c hs = map (λ h. record { owner = c; kind = kinds.Head; in_abstract = true; head = h; body = None }) hs
 
+-- the fields that a declaration of the number c declares; an interface declares none
 abbrev pub fields_declared : ℕ → DeclTree → List FieldAt
 fields_declared c (ClassTree mods n parent faces ms p) = fields_of c ms
 fields_declared c (InterfaceTree mods n parents hs p) = []
 
+-- the methods that a declaration of the number c declares
 abbrev pub methods_declared : ℕ → DeclTree → List MethodAt
 methods_declared c (ClassTree mods n parent faces ms p) = methods_of c (has_word is_abstract_word mods) ms
 methods_declared c (InterfaceTree mods n parents hs p) = heads_of c hs
@@ -171,19 +192,24 @@ abbrev pub fields_from : ℕ → List DeclTree → List FieldAt
 fields_from c [] = []
 fields_from c (d ∷ ds) = fields_declared c d ++ fields_from (suc c) ds
 
+-- the methods of declarations of which the first has the number c
 abbrev pub methods_from : ℕ → List DeclTree → List MethodAt
 methods_from c [] = []
 methods_from c (d ∷ ds) = methods_declared c d ++ methods_from (suc c) ds
 
+-- the fields of all declarations; the first declaration has the number 1, behind Object
 abbrev pub fields_in : List DeclTree → List FieldAt
 fields_in tree = fields_from 1 tree
 
+-- the methods of all declarations; the first declaration has the number 1, behind Object
 abbrev pub methods_in : List DeclTree → List MethodAt
 methods_in tree = methods_from 1 tree
 
+-- whether a method is declared `static`
 abbrev pub is_static : MethodAt → Bool
 is_static m = has_word is_static_word m.head.mods
 
+-- whether a method is declared `private`
 abbrev pub is_private : MethodAt → Bool
 is_private m = has_word is_private_word m.head.mods
 
@@ -198,6 +224,7 @@ abbrev pub parent_meant : List (List ℕ) → Option Id → ClassId
 parent_meant types None = class_id 0
 parent_meant types (Some i) = id_meant types i
 
+-- the class or interface of the program that a declaration is
 abbrev pub class_outline : List (List ℕ) → DeclTree → PlainClass
 class_outline types d =
     record {
@@ -209,6 +236,7 @@ class_outline types d =
       tag = at_place (place_of d);
     }
 
+-- the field of the program that a declared field is
 abbrev pub field_outline : List (List ℕ) → FieldAt → PlainField
 field_outline types f = record {
   owner = f.owner;
@@ -219,6 +247,7 @@ field_outline types f = record {
       at_place f.place;
 }
 
+-- the parameter of the program that a declared parameter is
 abbrev pub param_outline : List (List ℕ) → Param → PlainLocal
 param_outline types q = record { name = q.name; ty = type_meant types q.ty; tag = at_place q.place }
 

@@ -1,4 +1,5 @@
--- Which program a tree is once its names are resolved: the meaning of each name as a relation, one constructor a meaning.
+-- Believed. Which program a tree is once its names are resolved: the meaning of each name as a relation, one
+-- constructor a meaning.
 use Rattle.std.specs.Prelude.{◌≡◌, ℕ, ℤ, suc, ◌<◌, ◌≤◌, Bool, true, false, List, [], ◌∷◌, ◌++◌, length, map, Option, Some, None, slice_get}
 use Rattle.std.specs.Option.{is_some}
 use Rattle.kaba_base.specs.declared.Place.{Place}
@@ -21,7 +22,7 @@ use Rattle.java_core.specs.Formed.{variables_of, numbers_methods, IsMain}
 use Rattle.name_rules.specs.declared.parts.Bound.{Bound}
 use Rattle.name_rules.specs.declared.parts.Here.{Here}
 use Rattle.name_rules.specs.Outline.{MethodAt, is_static, outline, methods_in, is_type_name}
-use Rattle.name_rules.specs.Meanings.{type_names, class_named, Means, MeansCast, in_scope, is_bound, bound_names, is_class_name, IsStaticFieldOf, IsStaticMethodOf, IsNearestField, IsMet}
+use Rattle.name_rules.specs.Meanings.{type_names, class_named, Means, MeansCast, in_scope, is_bound, bound_names, is_class_name, IsStaticFieldOf, IsStaticMethodOf, IsNearestField, IsFirstMethod}
 use Rattle.name_rules.specs.Asked.{Asks}
 
 -- the operator of a mark; a mark that is none does not come from a text
@@ -29,8 +30,44 @@ abbrev pub un_op : Mark → UnOp
 un_op marks.Plus = un.Plus
 un_op marks.Minus = un.Minus
 un_op marks.Flip = un.Flip
-un_op _ = un.Not
+un_op marks.Bang = un.Not
+-- marks that are no such operator: they never come from a text
+un_op marks.OpenRound = un.Not
+un_op marks.CloseRound = un.Not
+un_op marks.OpenBrace = un.Not
+un_op marks.CloseBrace = un.Not
+un_op marks.OpenSquare = un.Not
+un_op marks.CloseSquare = un.Not
+un_op marks.Semi = un.Not
+un_op marks.Comma = un.Not
+un_op marks.Dot = un.Not
+un_op marks.Assign = un.Not
+un_op marks.Star = un.Not
+un_op marks.Slash = un.Not
+un_op marks.Percent = un.Not
+un_op marks.ShiftLeft = un.Not
+un_op marks.ShiftRight = un.Not
+un_op marks.ShiftRightLogical = un.Not
+un_op marks.And = un.Not
+un_op marks.Or = un.Not
+un_op marks.Xor = un.Not
+un_op marks.Both = un.Not
+un_op marks.Either = un.Not
+un_op marks.Equal = un.Not
+un_op marks.NotEqual = un.Not
+un_op marks.Less = un.Not
+un_op marks.Greater = un.Not
+un_op marks.AtMost = un.Not
+un_op marks.AtLeast = un.Not
+un_op marks.PlusAssign = un.Not
+un_op marks.MinusAssign = un.Not
+un_op marks.StarAssign = un.Not
+un_op marks.SlashAssign = un.Not
+un_op marks.PercentAssign = un.Not
+un_op marks.PlusPlus = un.Not
+un_op marks.MinusMinus = un.Not
 
+-- the binary operator of a mark; a mark that is none does not come from a text
 abbrev pub bin_op : Mark → BinOp
 bin_op marks.Plus = bin.Int op.Plus
 bin_op marks.Minus = bin.Int op.Minus
@@ -50,7 +87,27 @@ bin_op marks.Greater = bin.Greater
 bin_op marks.AtMost = bin.AtMost
 bin_op marks.AtLeast = bin.AtLeast
 bin_op marks.Both = bin.Both
-bin_op _ = bin.Either
+bin_op marks.Either = bin.Either
+-- marks that are no such operator: they never come from a text
+bin_op marks.OpenRound = bin.Either
+bin_op marks.CloseRound = bin.Either
+bin_op marks.OpenBrace = bin.Either
+bin_op marks.CloseBrace = bin.Either
+bin_op marks.OpenSquare = bin.Either
+bin_op marks.CloseSquare = bin.Either
+bin_op marks.Semi = bin.Either
+bin_op marks.Comma = bin.Either
+bin_op marks.Dot = bin.Either
+bin_op marks.Assign = bin.Either
+bin_op marks.Flip = bin.Either
+bin_op marks.Bang = bin.Either
+bin_op marks.PlusAssign = bin.Either
+bin_op marks.MinusAssign = bin.Either
+bin_op marks.StarAssign = bin.Either
+bin_op marks.SlashAssign = bin.Either
+bin_op marks.PercentAssign = bin.Either
+bin_op marks.PlusPlus = bin.Either
+bin_op marks.MinusMinus = bin.Either
 
 -- what an assignment to an expression changes
 abbrev pub target : Ex → Target
@@ -61,6 +118,7 @@ target (field t e n) = to_field t e n
 target (index t e i) = to_element t e i
 target _ = no_target
 
+-- the scope with one more local, of this name and number
 abbrev pub bound : List Bound → List ℕ → ℕ → List Bound
 bound scope n k = scope ++ record { name = n; number = k } ∷ []
 
@@ -72,6 +130,7 @@ pub data Counts : ℕ → List ℕ → ℕ → Type 0 where
 -- an expression in a body of the outline O: the class and kind of the method, and the parameters and locals in scope (Java Language Specification, 6.5)
 module _ (O : Plain) (here : Here) (scope : List Bound) where
   mutual
+    -- what an expression is once its names are resolved
     pub data ResolvesTo : Expression → Ex → Type 0 where
       r_number : {v : ℤ} {p : Place} → ResolvesTo (IntLit v p) (number (at_place p) v)
       r_character : {c : ℕ} {p : Place} → ResolvesTo (CharLit c p) (character (at_place p) c)
@@ -94,11 +153,11 @@ module _ (O : Plain) (here : Here) (scope : List Bound) where
           → ResolvesTo (FieldOf (NameRef c q) n p) (static_field (at_place p) f)
       r_field : {e : Expression} {x : Ex} {n : List ℕ} {p : Place} → ResolvesTo e x → ResolvesTo (FieldOf e n p) (field (at_place p) x n)
       r_index : {e i : Expression} {x y : Ex} {p : Place} → ResolvesTo e x → ResolvesTo i y → ResolvesTo (IndexOf e i p) (index (at_place p) x y)
-      -- a call by a simple name: a static method of the class itself, or an instance method of it or an ancestor on `this`
-      r_own_static_call : {n : List ℕ} {es : Expressions} {xs : Exs} {p : Place} {m : ℕ} {k : PlainMethod} → IsMet O here.owner n m k
+      -- a call by a simple name, of the method that is found first: a static method of the class itself, or an instance method, on `this`
+      r_own_static_call : {n : List ℕ} {es : Expressions} {xs : Exs} {p : Place} {m : ℕ} {k : PlainMethod} → IsFirstMethod O here.owner n m k
           → k.is_static ≡ true → k.owner ≡ here.owner → AllResolve es xs
           → ResolvesTo (CallOf n es p) (static_call (at_place p) m xs)
-      r_own_call : {n : List ℕ} {es : Expressions} {xs : Exs} {p : Place} {m : ℕ} {k : PlainMethod} → IsMet O here.owner n m k → k.is_static ≡ false
+      r_own_call : {n : List ℕ} {es : Expressions} {xs : Exs} {p : Place} {m : ℕ} {k : PlainMethod} → IsFirstMethod O here.owner n m k → k.is_static ≡ false
           → here.is_static ≡ false → AllResolve es xs
           → ResolvesTo (CallOf n es p) (call (at_place p) (this (at_place p)) n xs)
       r_static_call : {c n : List ℕ} {es : Expressions} {xs : Exs} {p q : Place} {k m : ℕ} → is_class_name O here.owner (bound_names scope)
@@ -121,10 +180,12 @@ module _ (O : Plain) (here : Here) (scope : List Bound) where
       r_binary : {m : Mark} {e d : Expression} {x y : Ex} {p : Place} → ResolvesTo e x → ResolvesTo d y
           → ResolvesTo (BinaryOf m e d p) (binary (at_place p) (bin_op m) x y)
 
+    -- what a list of expressions is once its names are resolved, each by itself
     pub data AllResolve : Expressions → Exs → Type 0 where
       r_no_more : AllResolve no_more no_ex
       r_and_more : {e : Expression} {x : Ex} {es : Expressions} {xs : Exs} → ResolvesTo e x → AllResolve es xs → AllResolve (and_more e es) (ex_then x xs)
 
+  -- what an expression that may be absent is once its names are resolved
   pub data ResolvesIf : Option Expression → Option Ex → Type 0 where
     r_none : ResolvesIf None None
     r_some : {e : Expression} {x : Ex} → ResolvesTo e x → ResolvesIf (Some e) (Some x)
@@ -150,6 +211,7 @@ pub record IsLocal (O : Plain) (k : PlainMethod) (scope : List Bound) (u : TypeN
 -- a statement of the method k; whether a loop is around it, and the parameters and locals in scope (Java Language Specification, 6.3)
 module _ (O : Plain) (here : Here) (k : PlainMethod) where
   mutual
+    -- what a statement is once its names are resolved
     pub data StResolves : Bool → List Bound → Statement → St → Type 0 where
       -- the scope of a local begins with its own first value
       r_declare : {in_loop final : Bool} {scope : List Bound} {u : TypeName} {n : List ℕ} {v : Option Expression} {x : Option Ex} {p : Place} {i : ℕ}
@@ -202,6 +264,7 @@ module _ (O : Plain) (here : Here) (k : PlainMethod) where
 
 -- the locals that a body declares, by number, in the order of the text
 abbrev mutual
+  -- the locals that a statement declares, in the order of the text
   pub declares : St → List ℕ
   declares (declare t i e) = i ∷ []
   declares (block t xs) = declares_all xs
@@ -214,10 +277,12 @@ abbrev mutual
   declares (break t) = []
   declares (continue t) = []
 
+  -- the locals that a list of statements declares, in the order of the text
   pub declares_all : Sts → List ℕ
   declares_all no_st = []
   declares_all (st_then x xs) = declares x ++ declares_all xs
 
+  -- the locals that the arms of an `if` declare, in the order of the text
   pub declares_arms : Arms → List ℕ
   declares_arms no_other = []
   declares_arms (otherwise xs) = declares_all xs

@@ -5,8 +5,8 @@ use Rattle.std.specs.Str.{bytes_eq}
 use Rattle.java_core.specs.declared.Local.{Local}
 use Rattle.name_rules.specs.Meanings.{local_of}
 use Rattle.name_rules.specs.Resolves.{bound}
-use Rattle.name_outcome.specs.Members.{has_local}
-use Rattle.name_outcome.specs.Resolved.{bounds_from}
+use Rattle.name_laws.specs.Members.{has_local}
+use Rattle.name_laws.specs.Resolved.{bounds_from}
 
 -- a parameter's name is in scope exactly where a parameter has it
 pub has_bound : (k : ℕ) (n : List ℕ) (ls : List Local) → is_some (local_of n (bounds_from k ls)) ≡ has_local n ls

@@ -15,9 +15,9 @@ use Rattle.indexmap.specs.IndexMap.{insert_entry}
 use Rattle.kaba_base.specs.declared.Place.{Place}
 use Rattle.name_rules.specs.declared.Refusal.TheVariants.{Twice}
 use Rattle.name_tables.specs.Known.{known_seen}
-use Rattle.name_outcome.specs.Names.{is_apart, number_of}
-use Rattle.name_outcome.specs.Classes.{know_named}
-use Rattle.name_outcome.proofs.Runs.{position-from}
+use Rattle.name_laws.specs.Names.{is_apart, number_of}
+use Rattle.name_laws.specs.Classes.{know_named}
+use Rattle.name_laws.proofs.Runs.{position-from}
 
 -- a text is a name's exactly where it has the name's characters
 pub same-text : (n : List ℕ) (s : String Global) → bytes_eq (encode_utf8_all n) (string_bytes s) ≡ bytes_eq (chars (string_bytes s)) n

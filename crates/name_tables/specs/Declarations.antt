@@ -1,6 +1,6 @@
--- When what is declared is found by its tables.
+-- Mirror. When what is declared is found by its tables.
 use Rattle.std.specs.Prelude.{map}
-use Rattle.name_outcome.specs.Tables.{field_in, method_in}
+use Rattle.name_laws.specs.Tables.{field_in, method_in}
 use Rattle.name_tables.specs.declared.declarations.Declared.{Declared}
 use Rattle.name_tables.specs.Owned.{AreOwned}
 use Rattle.name_tables.specs.Spots.{AreSpots}

@@ -1,9 +1,9 @@
--- What an entry of the table of types says.
+-- Mirror. What an entry of the table of types says.
 use Rattle.std.specs.Prelude.{Bool, string_bytes}
 use Rattle.std.specs.Str.{chars}
 use Rattle.std.specs.declared.alloc.Global.{Global}
 use Rattle.std.specs.declared.string.String.{String}
-use Rattle.name_outcome.specs.Known.{Known}
+use Rattle.name_laws.specs.Known.{Known}
 
 -- an entry of the table of types
 abbrev pub known_seen : String Global × Bool → Known

@@ -1,4 +1,4 @@
--- Where a class's own member of a name stands.
+-- Mirror. Where a class's own member of a name stands.
 use Rattle.std.specs.Prelude.{◌≡◌, ℕ, List, Option, None, nat_eq}
 use Rattle.std.specs.Option.{option_map_or}
 use Rattle.std.specs.Str.{encode_utf8_all}

@@ -1,4 +1,4 @@
--- What is in scope, by the tables of the blocks around.
+-- Mirror. What is in scope, by the tables of the blocks around.
 use Rattle.std.specs.Prelude.{ℕ, List, [], ◌++◌, map, string_bytes}
 use Rattle.std.specs.Str.{chars}
 use Rattle.std.specs.declared.alloc.Global.{Global}
@@ -19,6 +19,7 @@ abbrev mutual
   pub bounds_in : Block → List Bound
   bounds_in (Block' own outer) = bounds_around outer ++ map bound_seen own.entries
 
+  -- what is in scope around a block; nothing where no block is around it
   pub bounds_around : Held-Block-outer → List Bound
   bounds_around None' = []
   bounds_around (Some' p block) = bounds_in block

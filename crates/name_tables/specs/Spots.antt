@@ -1,4 +1,4 @@
--- Where each name stands in a list of names.
+-- Mirror. Where each name stands in a list of names.
 use Rattle.std.specs.Prelude.{◌≡◌, ℕ, ◌+◌, cond, List, [], ◌∷◌}
 use Rattle.std.specs.Option.{option_map_or}
 use Rattle.std.specs.Str.{bytes_eq, encode_utf8_all}

@@ -4,7 +4,7 @@
 use crate::owned::Owned;
 use crate::spots::Spots;
 use java_core::Field;
-use name_outcome::Heading;
+use name_laws::Heading;
 
 /// Fields and methods without their bodies, in the order of the text, and tables by which they are found.
 #[derive(Drop)]

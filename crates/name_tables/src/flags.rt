@@ -2,13 +2,13 @@
 #![tactic(auto)]
 
 ghost use Rattle.std.specs.Prelude.{◌≡◌};
-ghost use Rattle.name_outcome.specs.Answers.{Gives};
-ghost use Rattle.name_outcome.specs.Classes.{is_taken, noted, flag, flags_of};
+ghost use Rattle.name_laws.specs.Answers.{Gives};
+ghost use Rattle.name_laws.specs.Classes.{is_taken, noted, flag, flags_of};
 ghost use Rattle.name_rules.specs.Conditions.{is_unfit};
 
 use java_tree::Modifier;
 use kaba_base::Keyword;
-use name_outcome::Flags;
+use name_laws::Flags;
 use name_rules::{Form, Kind, Refusal};
 
 /// Whether the modifier cannot stand there.

@@ -3,10 +3,10 @@
 
 ghost use Rattle.std.specs.Prelude.{◌≡◌, ◌||◌, ◌∷◌, [], IfOk, Ok};
 ghost use Rattle.std.specs.Str.{bytes_eq, chars};
-ghost use Rattle.name_outcome.specs.Answers.{Gives};
-ghost use Rattle.name_outcome.specs.Names.{is_apart, number_of, names_type, asked, type_of};
-ghost use Rattle.name_outcome.specs.Names as spec;
-ghost use Rattle.name_outcome.specs.Classes.{object_known, know_named, is_face};
+ghost use Rattle.name_laws.specs.Answers.{Gives};
+ghost use Rattle.name_laws.specs.Names.{is_apart, number_of, names_type, asked, type_of};
+ghost use Rattle.name_laws.specs.Names as spec;
+ghost use Rattle.name_laws.specs.Classes.{object_known, know_named, is_face};
 
 use indexmap::IndexMap;
 use java_core::{Ty, TyBase};
@@ -25,7 +25,7 @@ pub struct Types {
 
 impl Model for Types {
     ghost use Rattle.std.specs.Prelude.{List, map};
-    ghost use Rattle.name_outcome.specs.Known.{Known};
+    ghost use Rattle.name_laws.specs.Known.{Known};
     ghost use Rattle.name_tables.specs.Known.{known_seen};
 
     ghost Value = { List Known };

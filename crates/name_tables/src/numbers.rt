@@ -2,7 +2,7 @@
 #![tactic(auto)]
 
 ghost use Rattle.std.specs.Prelude.{◌+◌, Ok};
-ghost use Rattle.name_outcome.specs.Answers.{Gives};
+ghost use Rattle.name_laws.specs.Answers.{Gives};
 
 use name_rules::Refusal;
 

@@ -5,9 +5,9 @@ ghost use Rattle.std.specs.Prelude.{◌≡◌, List, [], IfOk, OnOk};
 ghost use Rattle.std.specs.declared.vec.Vec.{Vec};
 ghost use Rattle.std.specs.declared.alloc.Global.{Global};
 ghost use Rattle.java_core.specs.declared.Local.{Local};
-ghost use Rattle.name_outcome.specs.Answers.{Gives};
-ghost use Rattle.name_outcome.specs.Members.{param, params_of, result_of};
-ghost use Rattle.name_outcome.specs.Resolved.{bounds_from};
+ghost use Rattle.name_laws.specs.Answers.{Gives};
+ghost use Rattle.name_laws.specs.Members.{param, params_of, result_of};
+ghost use Rattle.name_laws.specs.Resolved.{bounds_from};
 
 use crate::names::{Types, names_type, type_of};
 use crate::numbers::number_at;

@@ -4,7 +4,7 @@ use Rattle.std.specs.List.{All}
 use Rattle.std.specs.Option.{IfSome}
 use Rattle.std.proofs.lemmas.Bool.{cases_lt}
 use Rattle.std.proofs.lemmas.List.{get_or_past}
-use Rattle.derivations.proofs.Derivations.{derivable_by}
+use Rattle.kaba_derivations.proofs.Derivations.{derivable_by}
 use Rattle.fact_model.specs.Items.{site_class}
 use Rattle.fact_model.specs.Classes.{IsBelow}
 use Rattle.fact_model.specs.InRange.{IsPoint}

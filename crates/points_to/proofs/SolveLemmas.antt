@@ -3,7 +3,7 @@ use Rattle.std.proofs.Common.{◌≡◌, ℕ, ◌+◌, ◌<◌, ◌↔◌, Bool,
 use Rattle.std.specs.List.{AllByRecursion, All}
 use Rattle.std.specs.Option.{IfSome, option_map}
 use Rattle.std.proofs.lemmas.List.Elements.{All-contains}
-use Rattle.derivations.proofs.Derivations.{derivable_least}
+use Rattle.kaba_derivations.proofs.Derivations.{derivable_least}
 use Rattle.kaba_bits.specs.Sets.{bit, row}
 use Rattle.kaba_bits.proofs.RowLemmas.{bit-row-below}
 use Rattle.fact_model.specs.InRange.{InRange, IsPoint, IsSite, IsClass, IsCol}

@@ -1,4 +1,4 @@
--- The classes at or above a class, found by a walk upwards.
+-- Mirror. The classes at or above a class, found by a walk upwards.
 use Rattle.std.specs.Prelude.{◌≡◌, ℕ, ◌+◌, ◌<◌, ◌≤◌, ◌⊎◌, Bool, true, List, length, Contains}
 use Rattle.kaba_base.specs.declared.ClassId.{ClassId}
 use Rattle.kaba_bits.specs.Sets.{bit, row, size, HasWidth}
@@ -7,6 +7,7 @@ use Rattle.fact_model.specs.Classes.{supers_of, IsBelow}
 use Rattle.fact_model.specs.InRange.{IsClass}
 use Rattle.fact_model.specs.Items.{site_class}
 
+-- the id of a class by its number
 abbrev pub class_id : ℕ → ClassId
 class_id k = record { 0 = k }
 

@@ -1,4 +1,4 @@
--- The body that is looked for, of which a member is one of the sets of a site.
+-- Mirror. The body that is looked for, of which a member is one of the sets of a site.
 use Rattle.std.specs.Prelude.{◌≡◌, ℕ, Some}
 use Rattle.fact_model.specs.Items.{site_class}
 use Rattle.fact_model.specs.Classes.{finds}

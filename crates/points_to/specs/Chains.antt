@@ -1,4 +1,4 @@
--- Chains of bodies, by a number for their class and slot.
+-- Mirror. Chains of bodies, by a number for their class and slot.
 use Rattle.std.specs.Prelude.{◌≡◌, ℕ, ◌+◌, ◌*◌, ◌%◌, ◌<◌, ◌≤◌, false, List, length, Option, Some, None, slice_index_or}
 use Rattle.std.specs.Option.{unwrap_or}
 use Rattle.fact_model.specs.Items.{column_at, column_class, column_kind, column_slot}
@@ -15,6 +15,7 @@ bucket n a x = (a * 31 + x) % (n + 1)
 abbrev pub column_bucket : Facts → ℕ → ℕ
 column_bucket F c = bucket (length F.columns.items) (column_class F c) (unwrap_or (column_slot F c) 0)
 
+-- the number of the chain for a class and a slot, of as many as there are columns and one more
 abbrev pub bucket_in : Facts → ℕ → ℕ → ℕ
 bucket_in F a x = bucket (length F.columns.items) a x
 
@@ -42,6 +43,7 @@ pub record AreChained (F : Facts) (first next : List (Option ℕ)) (from : ℕ) 
   pub firsts : (a : ℕ) → a < length F.columns.items + 1 → IsFirst F a from (slice_index_or first a None)
   pub nexts : (c : ℕ) → from ≤ c → c < length F.columns.items → IsFirst F (column_bucket F c) (c + 1) (slice_index_or next c None)
 
+-- the two lists hold a chain of body columns for each number
 abbrev pub AreBodies : Facts → Bodies → Type 0
 AreBodies F b = AreChained F b.first.items b.next.items 0
 

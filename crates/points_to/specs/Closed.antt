@@ -1,4 +1,4 @@
--- What the facts ask for, and sets that have it.
+-- Mirror. What the facts ask for, and sets that have it.
 use Rattle.std.specs.Prelude.{◌≡◌, ℕ, ◌+◌, ◌<◌, ◌++◌, Bool, true, List, length, map, All, Contains, Option, Some}
 use Rattle.std.specs.List.{filter_map, flat_map, range_with_len}
 use Rattle.std.specs.Option.{option_map}
@@ -26,18 +26,23 @@ use Rattle.points_to.specs.declared.found.Found.{Found}
 abbrev pub told_of_new : NewInfo → Told
 told_of_new x = record { node = x.point; site = x.site.0 }
 
+-- a flow asks that all that is in one point is in another
 abbrev pub edge_of_flow : FlowInfo → Edge
 edge_of_flow x = between x.from x.to
 
+-- a cast asks for the sites of its operand whose class is at or below the tested one
 abbrev pub edge_of_cast : CastInfo → Edge
 edge_of_cast x = record { from = x.from; to = x.into; class = Some x.class }
 
+-- a load asks for what stands in the field, or the elements, of each site of its base
 abbrev pub read_of_load : LoadInfo → Read
 read_of_load x = record { base = x.base; member = Field x.column; into = x.into }
 
+-- a store puts its value in the field, or the elements, of each site of its base
 abbrev pub write_of_store : StoreInfo → Write
 write_of_store x = record { base = x.base; member = Field x.column; value = x.value }
 
+-- a call hands each site of its receiver to the `this` of the body that it runs
 abbrev pub run_of_call : CallInfo → Run
 run_of_call x = record { base = x.receiver; slot = x.slot }
 
@@ -45,6 +50,7 @@ run_of_call x = record { base = x.receiver; slot = x.slot }
 abbrev pub write_of_argument : CallInfo → ℕ → Option Write
 write_of_argument x k = option_map (λ p. record { base = x.receiver; member = Parameter x.slot k; value = p }) (point_at x.args.items k)
 
+-- the read of a call's result from the bodies that it may run, where the result is a point
 abbrev pub read_of_result : CallInfo → Option Read
 read_of_result x = option_map (λ p. record { base = x.receiver; member = Returned x.slot; into = p }) x.result
 
@@ -56,15 +62,19 @@ writes_of_call x = filter_map (write_of_argument x) (range_with_len 0 (length x.
 abbrev pub asked_told : Facts → List Told
 asked_told F = map told_of_new F.news.items
 
+-- the edges that flows and casts ask for
 abbrev pub asked_edges : Facts → List Edge
 asked_edges F = map edge_of_flow F.flows.items ++ map edge_of_cast F.casts.items
 
+-- the reads that loads and the results of calls ask for
 abbrev pub asked_reads : Facts → List Read
 asked_reads F = map read_of_load F.loads.items ++ filter_map read_of_result F.calls.items
 
+-- the writes that stores and the arguments of calls ask for
 abbrev pub asked_writes : Facts → List Write
 asked_writes F = map write_of_store F.stores.items ++ flat_map writes_of_call F.calls.items
 
+-- the runs of bodies that calls ask for
 abbrev pub asked_runs : Facts → List Run
 asked_runs F = map run_of_call F.calls.items
 
@@ -99,5 +109,6 @@ Grow old new = (r : ℕ) → IsSubset (row old r) (row new r)
 abbrev pub PointsJoined : Facts → List (List Bool) → List (List Bool) → ℕ → Type 0
 PointsJoined F points rows n = (p : ℕ) → p < n → IsSubset (row points p) (row rows (point_row F p))
 
+-- the set of each of the first n cells is in that of its row
 abbrev pub CellsJoined : Facts → List (List Bool) → List (List Bool) → ℕ → Type 0
 CellsJoined F cells rows n = (c : ℕ) → c < n → IsSubset (row cells c) (row rows (cell_at F c).row.0)

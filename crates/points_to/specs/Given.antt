@@ -1,4 +1,4 @@
--- What the sets are found by.
+-- Mirror. What the sets are found by.
 use Rattle.fact_model.specs.InRange.{InRange}
 use Rattle.points_to.specs.Listed.{IsIndex}
 use Rattle.points_to.specs.Work.{AreFound}

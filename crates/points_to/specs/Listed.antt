@@ -1,4 +1,4 @@
--- What is looked up of the facts again and again.
+-- Mirror. What is looked up of the facts again and again.
 use Rattle.std.specs.Prelude.{◌≡◌, ℕ, ◌<◌, List, [], length, Contains, Some, slice_get, slice_index_or}
 use Rattle.std.specs.Option.{option_map_or}
 use Rattle.std.specs.declared.vec.Vec.{Vec}
@@ -29,12 +29,15 @@ pub record KeepNumbers (old new : List (Vec ℕ Global)) : Type 0 where
 abbrev pub HaveItems : {X : Type 0} → (X → ℕ) → List X → List (Vec ℕ Global) → ℕ → Type 0
 HaveItems {X} to xs lists n = (k : ℕ) → k < n → (x : X) → IsAt xs k x → Contains (numbers_at lists (to x)) k
 
+-- each of the first n cells is listed under its site
 abbrev pub HaveCells : Facts → List (Vec ℕ Global) → ℕ → Type 0
 HaveCells F lists n = (c : ℕ) → c < n → Contains (numbers_at lists (cell_at F c).site.0) c
 
+-- each of the first n bodies is listed under its column
 abbrev pub HaveBodies : Facts → List (Vec ℕ Global) → ℕ → Type 0
 HaveBodies F = HaveItems (λ x. x.column.0) F.bodies.items
 
+-- cells by site, bodies by column, chains of body columns, and the sites at or below each class
 pub record IsIndex (F : Facts) (index : Index) : Type 0 where
   pub cells : HaveCells F index.cells.items (length F.cells.items)
   pub bodies : HaveBodies F index.bodies.items (length F.bodies.items)

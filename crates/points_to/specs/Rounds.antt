@@ -1,4 +1,4 @@
--- How far a turn over reads, writes and runs has come.
+-- Mirror. How far a turn over reads, writes and runs has come.
 use Rattle.std.specs.Prelude.{◌≡◌, ℕ, ◌<◌, ◌≤◌, ◌⊎◌, Bool, true, List, length, Contains, Option, Some, None}
 use Rattle.kaba_bits.specs.Sets.{bit, row, IsSubset}
 use Rattle.fact_model.specs.declared.facts.Facts.{Facts}
@@ -49,6 +49,7 @@ pub record IsPending (F : Facts) (p : Pending) : Type 0 where
 abbrev pub IsFlushedAt : Facts → List (List Bool) → Pending → ℕ → Type 0
 IsFlushedAt F sets p o = (n s : ℕ) → IsTarget F p.member o n → Passes F (wanted F p.member o) s → bit p.values s ≡ true → bit (row sets n) s ≡ true
 
+-- the pending values were written for each of the pending sites
 abbrev pub IsFlushed : Facts → List (List Bool) → Pending → Type 0
 IsFlushed F sets p = (o : ℕ) → bit p.sites o ≡ true → IsFlushedAt F sets p o
 
@@ -66,6 +67,7 @@ IsDone F bases sets p x = IsWriteClosed F bases sets x ⊎ IsPended bases sets p
 abbrev pub HasRow : List Bool → List (List Bool) → ℕ → Type 0
 HasRow extra sets n = IsSubset extra (row sets n)
 
+-- the set of a number has the site o
 abbrev pub HasSite : ℕ → List (List Bool) → ℕ → Type 0
 HasSite o sets n = bit (row sets n) o ≡ true
 

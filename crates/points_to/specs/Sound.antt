@@ -1,4 +1,4 @@
--- Sets so far: they show only what holds.
+-- Mirror. Sets so far: they show only what holds.
 use Rattle.std.specs.Prelude.{◌≡◌, ℕ, ◌+◌, ◌-◌, Bool, true, cond, nat_lt, List, length}
 use Rattle.kaba_bits.specs.Sets.{bit, row, HasWidth}
 use Rattle.fact_model.specs.Flowing.{Fact, in_point, in_cell, Holds, IsInRow}
@@ -24,9 +24,11 @@ pub record AreSetsOf (F : Facts) (of : ℕ → ℕ → Fact) (n : ℕ) (rows : L
   pub widths : HasWidth (length F.sites.items) rows
   pub sound : (k s : ℕ) → bit (row rows k) s ≡ true → Holds F (of k s)
 
+-- one set for each point, with only sites that the inclusions give to it
 abbrev pub ArePoints : Facts → List (List Bool) → Type 0
 ArePoints F points = AreSetsOf F in_point (length F.points.items) points
 
+-- one set for each cell, with only sites that the inclusions give to it
 abbrev pub AreCells : Facts → List (List Bool) → Type 0
 AreCells F cells = AreSetsOf F in_cell (length F.cells.items) cells
 

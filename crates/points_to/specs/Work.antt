@@ -1,4 +1,4 @@
--- What the rules ask for, and sets that have it.
+-- Mirror. What the rules ask for, and sets that have it.
 use Rattle.std.specs.Prelude.{◌≡◌, ℕ, ◌+◌, ◌<◌, Bool, true, List, length, All, Contains, Option, Some, None, IfSome}
 use Rattle.kaba_bits.specs.Sets.{bit, row, IsSubset}
 use Rattle.kaba_base.specs.declared.ClassId.{ClassId}
@@ -105,6 +105,7 @@ pub record IsRun (F : Facts) (x : Run) : Type 0 where
 abbrev pub IsEdgeClosed : Facts → List (List Bool) → Edge → Type 0
 IsEdgeClosed F sets x = (s : ℕ) → Passes F x.class s → bit (row sets x.from) s ≡ true → bit (row sets x.to) s ≡ true
 
+-- the site that is asked for in a set is there
 abbrev pub IsShown : List (List Bool) → Told → Type 0
 IsShown sets x = bit (row sets x.node) x.site ≡ true
 
@@ -112,10 +113,12 @@ IsShown sets x = bit (row sets x.node) x.site ≡ true
 abbrev pub IsReadClosed : Facts → List (List Bool) → List (List Bool) → Read → Type 0
 IsReadClosed F bases sets x = (o n : ℕ) → bit (row bases x.base) o ≡ true → IsTarget F x.member o n → IsSubset (row sets n) (row sets x.into)
 
+-- what passes of the value's set is in the member of each site that the base has
 abbrev pub IsWriteClosed : Facts → List (List Bool) → List (List Bool) → Write → Type 0
 IsWriteClosed F bases sets x = (o n s : ℕ) → bit (row bases x.base) o ≡ true → IsTarget F x.member o n → Passes F (wanted F x.member o) s
     → bit (row sets x.value) s ≡ true → bit (row sets n) s ≡ true
 
+-- each site that the base has is in the `this` of the body that it runs for the slot
 abbrev pub IsRunClosed : Facts → List (List Bool) → List (List Bool) → Run → Type 0
 IsRunClosed F bases sets x = (o n : ℕ) → bit (row bases x.base) o ≡ true → IsTarget F (This x.slot) o n → bit (row sets n) o ≡ true
 

@@ -1,4 +1,5 @@
--- When a body is another with new names and types: in the same form, statement by statement and expression by expression. Labels, places and the
+-- Believed. When a body is another with new names and types: in the same form, statement by statement and expression by
+-- expression. Labels, places and the
 -- numbers of creations are free.
 use Rattle.std.specs.Prelude.{◌≡◌, ℕ, ℤ, Bool, true, List, Option, Some, slice_get}
 use Rattle.std.specs.Option.{is_some}
@@ -37,6 +38,7 @@ module _ (P W : Plain) (R : Renaming) where
   -- in a body of the old program
   module _ (g : Env) where
     mutual
+      -- an expression is another with the new names and types
       pub data Matches : Ex → Ex → Type 0 where
         m_number : {t u : Tag} {n : ℤ} → Matches (number t n) (number u n)
         m_character : {t u : Tag} {c : ℕ} → Matches (character t c) (character u c)
@@ -70,10 +72,12 @@ module _ (P W : Plain) (R : Renaming) where
         m_unary : {t u : Tag} {o : UnOp} {e d : Ex} → Matches e d → Matches (unary t o e) (unary u o d)
         m_binary : {t u : Tag} {o : BinOp} {a b c d : Ex} → Matches a c → Matches b d → Matches (binary t o a b) (binary u o c d)
 
+      -- the arguments of a call are as many, and each matches its partner
       pub data MatchesAll : Exs → Exs → Type 0 where
         m_no_ex : MatchesAll no_ex no_ex
         m_ex_then : {e d : Ex} {es ds : Exs} → Matches e d → MatchesAll es ds → MatchesAll (ex_then e es) (ex_then d ds)
 
+    -- what is assigned to is the same variable, element, or field under its new name
     pub data MatchesTarget : Target → Target → Type 0 where
       m_to_local : {t u : Tag} {i : ℕ} → MatchesTarget (to_local t i) (to_local u i)
       m_to_static : {t u : Tag} {f h : ℕ} → IsStaticField f h → MatchesTarget (to_static t f) (to_static u h)
@@ -82,14 +86,18 @@ module _ (P W : Plain) (R : Renaming) where
           → MatchesTarget (to_field t e x) (to_field u d (R.field_name f))
       m_to_element : {t u : Tag} {e d i j : Ex} → Matches e d → Matches i j → MatchesTarget (to_element t e i) (to_element u d j)
 
+    -- both expressions are left out, or both are there and match
     abbrev pub MatchesIf : Option Ex → Option Ex → Type 0
     MatchesIf = PairedIf Matches (λ a b c. MatchesTarget b c)
 
+    -- two statements of one form whose parts match
     abbrev pub MatchesSt : St → St → Type 0
     MatchesSt = PairedSt Matches (λ a b c. MatchesTarget b c)
 
+    -- two lists of statements that match one by one
     abbrev pub MatchesSts : Sts → Sts → Type 0
     MatchesSts = PairedSts Matches (λ a b c. MatchesTarget b c)
 
+    -- the arms of two `if`s, and their `else`, match one by one
     abbrev pub MatchesArms : Arms → Arms → Type 0
     MatchesArms = PairedArms Matches (λ a b c. MatchesTarget b c)

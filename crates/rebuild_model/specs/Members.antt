@@ -1,4 +1,5 @@
--- What the members of the new program are: the fields, bodies, heads and fillers of its nodes' types, and the static members of its holders.
+-- Believed. What the members of the new program are: the fields, bodies, heads and fillers of its nodes' types, and the
+-- static members of its holders.
 use Rattle.std.specs.Prelude.{◌≡◌, ℕ, ◌&&◌, ◌||◌, ◌==◌, Bool, true, false, not, List, [], ◌∷◌, length, Some, None, slice_get}
 use Rattle.std.specs.Option.{is_some}
 use Rattle.kaba_base.specs.declared.NodeId.{NodeId}
@@ -132,6 +133,7 @@ module _ (P : Plain) (F : Facts) (H : Hierarchy) (W : Plain) (T : Places) where
     pub same : IsStaticField P W (renaming_of P H T) f g
     pub type : same.new.ty ≡ retyped ((renaming_of P H T).row_type (row.Field f)) same.old.ty
 
+  -- g is the static method m in the holder of its class, with new types and matching code
   pub record IsStaticMethodOf (m g : ℕ) : Type 0 where
     pub same : IsStaticMethod P W (renaming_of P H T) m g
     pub types : HasTypes (renaming_of P H T) m same.old same.new

@@ -1,4 +1,5 @@
--- When a program is another one over a new class hierarchy (after Streckenbach and Snelting, 2004, who write the program of a hierarchy).
+-- Believed. When a program is another one over a new class hierarchy (after Streckenbach and Snelting, 2004, who write
+-- the program of a hierarchy).
 use Rattle.std.specs.Prelude.{◌≡◌, ◌≢◌, ◌↔◌, ◌⊎◌, ℕ, true, false, not, [], Some, None, slice_get}
 use Rattle.java_core.specs.Programs.{Plain, PlainClass, PlainField, PlainMethod}
 use Rattle.java_core.specs.Classes.{IsSubclass}
@@ -66,6 +67,7 @@ module _ (P : Plain) (F : Facts) (H : Hierarchy) (W : Plain) where
     pub methods : (g : ℕ) (new : PlainMethod) → slice_get W.methods g ≡ Some new → new.is_static ≡ true → (m : ℕ) × IsStaticMethodOf P F H W T m g
     pub each_method : (m : ℕ) (old : PlainMethod) → slice_get P.methods m ≡ Some old → old.is_static ≡ true → (g : ℕ) × IsStaticMethodOf P F H W T m g
 
+  -- the program W is P over the hierarchy H: its types, their order, its members and where it begins
   pub record Rebuilds : Type 0 where
     pub places : Places
     pub types : AreTypes places

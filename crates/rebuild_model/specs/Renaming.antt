@@ -1,4 +1,5 @@
--- What types, fields and methods are called in the new program: by the rows, columns and slots of the old one.
+-- Believed. What types, fields and methods are called in the new program: by the rows, columns and slots of the old
+-- one.
 use Rattle.std.specs.Prelude.{ℕ, List, [], Option, Some, None}
 use Rattle.std.specs.Option.{option_map, option_map_or}
 use Rattle.java_core.specs.declared.Ty.{Ty}
@@ -48,5 +49,6 @@ reclassed None b = b
 abbrev pub retyped : Option ℕ → Ty → Ty
 retyped k t = record { base = reclassed k t.base; dim = t.dim }
 
+-- the new type of a result, where a method has one
 abbrev pub retyped_if : Option ℕ → Option Ty → Option Ty
 retyped_if k t = option_map (retyped k) t

@@ -1,4 +1,5 @@
--- What a written program has beyond the rebuild relation: public instance methods in its classes, and default results of what fills in for a body.
+-- Believed. What a written program has beyond the rebuild relation: public instance methods in its classes, and default
+-- results of what fills in for a body.
 use Rattle.std.specs.Prelude.{◌≡◌, ℕ, pos, true, false, Option, Some, None, slice_get}
 use Rattle.java_core.specs.declared.Ty.{Ty}
 use Rattle.java_core.specs.declared.TyBase.TheVariants.{Int, Boolean, Char}
@@ -24,11 +25,13 @@ pub data IsFilling : Option Ty → Sts → Type 0 where
   fills : {t : Tag} {u : Ty} {e : Ex} → IsDefault u e → IsFilling (Some u) (st_then (return t (Some e)) no_st)
 
 module _ (P : Plain) (F : Facts) (H : Hierarchy) (W : Plain) (T : Places) where
+  -- a method has a body, and that gives back the default of its result
   pub record HasFilling (new : PlainMethod) : Type 0 where
     pub code : Sts
     pub is : new.body ≡ Some code
     pub fills : IsFilling new.result code
 
+  -- the instance methods of classes are public, and each filler gives back a default
   pub record IsWritten : Type 0 where
     pub public : (g : ℕ) (new : PlainMethod) → slice_get W.methods g ≡ Some new → new.is_static ≡ false → is_interface W new.owner ≡ false
         → new.is_public ≡ true

@@ -8,8 +8,8 @@ use Rattle.flow_rules.specs.declared.items.RowItem.{RowItem}
 use Rattle.flow_rules.specs.Operands.{variable_row}
 use Rattle.hier_model.specs.Hierarchies.{Hierarchy}
 use Rattle.rebuild_model.specs.Renaming.{Renaming}
-use Rattle.written_tree.specs.Names.{written_type, nowhere}
-use Rattle.written_tree.specs.Members.{param}
+use Rattle.write_model.specs.Names.{written_type, nowhere}
+use Rattle.write_model.specs.Members.{param}
 
 abbrev of_parts : TypeName → List ℕ → Place → Param
 of_parts ty name place = record { is_final = false; ty = ty; name = name; place = place }

@@ -1,4 +1,4 @@
--- What the parts of the generator give.
+-- Mirror. What the parts of the generator give.
 use Rattle.std.specs.Prelude.{ℕ, ◌&&◌, ◌||◌, not, Bool, List, [], ◌∷◌, map, length, Option, Some, None}
 use Rattle.std.specs.List.{range_with_len}
 use Rattle.java_tree.specs.declared.Head.{Head}

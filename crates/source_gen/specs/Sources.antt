@@ -1,8 +1,8 @@
--- What the types of the nodes are written of.
+-- Mirror. What the types of the nodes are written of.
 use Rattle.std.specs.Prelude.{◌≡◌}
 use Rattle.fact_model.specs.InRange.{InRange}
 use Rattle.hier_model.specs.Hierarchies.{Hierarchy, IsHierarchyOf}
-use Rattle.tree_forms.specs.Sources.{IsSource}
+use Rattle.write_forms.specs.Sources.{IsSource}
 use Rattle.source_gen.specs.Seen.{class_tests}
 use Rattle.source_gen.specs.declared.parts.Nodes.{Nodes}
 

@@ -6,6 +6,6 @@ pub use Rattle.java_core.specs.Formed.{IsFormed}
 pub use Rattle.fact_model.specs.InRange.{InRange}
 pub use Rattle.hier_model.specs.Hierarchies.{IsHierarchyOf}
 pub use Rattle.flow_rules.specs.Ordered.{each, when}
-pub use Rattle.tree_forms.specs.Sources.{IsSource, old_program, renaming}
+pub use Rattle.write_forms.specs.Sources.{IsSource, old_program, renaming}
 pub use Rattle.source_gen.specs.Seen.{head_if}
 pub use Rattle.source_gen.specs.Sources.{AreNodes, hierarchy_of}

@@ -6,7 +6,7 @@ ghost use Rattle.java_tree.specs.Syntax as tree;
 ghost use Rattle.fact_model.specs.Items.{column_at};
 ghost use Rattle.hier_model.specs.Hierarchies.{stands_at};
 ghost use Rattle.rebuild_model.specs.Members.{is_headed, is_filled, is_made_at};
-ghost use Rattle.written_tree.specs.Members as written;
+ghost use Rattle.write_model.specs.Members as written;
 
 use crate::heads::{first_head, one_modifier, public_and, slot_head};
 use crate::members::{push_bodyless, push_head, push_member};

@@ -5,8 +5,8 @@ ghost use Rattle.source_gen.specs.Words.{option_map, method_seen, local_seen, sl
 ghost use Rattle.kaba_base.specs.declared.words.Keyword.TheVariants as keyword;
 ghost use Rattle.java_tree.specs.Syntax.{head_of};
 ghost use Rattle.flow_rules.specs.Operands.{result_in};
-ghost use Rattle.written_tree.specs.Names as names;
-ghost use Rattle.written_tree.specs.Members as members;
+ghost use Rattle.write_model.specs.Names as names;
+ghost use Rattle.write_model.specs.Members as members;
 
 use crate::parts::method_at;
 use java_core::{Local, Method, Slot};
@@ -14,7 +14,7 @@ use java_tree::unplaced::nowhere;
 use java_tree::{Head, Modifier, Param, TypeName};
 use kaba_base::{Keyword, Name};
 use std::alloc::{AllocError, Global};
-use tree_forms::{Source, method_name, modifier, result_row, row_type, variable_row};
+use write_forms::{Source, method_name, modifier, result_row, row_type, variable_row};
 
 /// A list of one modifier.
 pub fn one_modifier(alloc: Global, word: Keyword) -> Result<Vec<Modifier>, AllocError>

@@ -5,8 +5,8 @@ ghost use Rattle.source_gen.specs.Words.{program_of, class_seen, method_seen, fi
 ghost use Rattle.std.specs.List.{list_any};
 ghost use Rattle.java_tree.specs.Syntax as tree;
 ghost use Rattle.flow_rules.specs.Facts.{is_holder};
-ghost use Rattle.written_tree.specs.Members as written;
-ghost use Rattle.written_tree.specs.Written as types;
+ghost use Rattle.write_model.specs.Members as written;
+ghost use Rattle.write_model.specs.Written as types;
 
 use crate::members::{push_decl, push_member, static_field, static_method};
 use java_core::{Class, Field, Method, Program};
@@ -14,7 +14,7 @@ use java_tree::unplaced::nowhere;
 use java_tree::{Decl, Member};
 use kaba_base::ClassId;
 use std::alloc::AllocError;
-use tree_forms::Source;
+use write_forms::Source;
 
 /// Whether one of these members is static and of the class with this number.
 macro_rules! any_static {

@@ -5,8 +5,8 @@
 ghost use Rattle.std.specs.Prelude.{◌≡◌, IfOk};
 ghost use Rattle.source_gen.specs.Words.{program_of, IsFormed, InRange, IsHierarchyOf};
 ghost use Rattle.java_tree.specs.Syntax.{tree_of};
-ghost use Rattle.written_tree.specs.Written.{written_by};
-ghost use Rattle.tree_forms.specs.Renamed.{renamed, IsFitting};
+ghost use Rattle.write_model.specs.Written.{written_by};
+ghost use Rattle.write_forms.specs.Renamed.{renamed, IsFitting};
 
 mod columns;
 mod heads;
@@ -26,8 +26,8 @@ use java_tree::Tree;
 use parts::Nodes;
 use std::alloc::{AllocError, Global};
 use supers::class_nodes;
-use tree_forms::{Numbering, Source};
 use types::add_types;
+use write_forms::{Numbering, Source};
 
 /// The tree of the program that is written of a hierarchy over the rows and columns of a program's
 /// facts: the types of the live nodes by their numbers, then the holders in the order of the program

@@ -5,8 +5,8 @@ ghost use Rattle.source_gen.specs.Words.{method_seen, field_seen, head_if, IsSou
 ghost use Rattle.kaba_base.specs.declared.words.Keyword.TheVariants as keyword;
 ghost use Rattle.java_tree.specs.Syntax as tree;
 ghost use Rattle.flow_rules.specs.declared.items.RowItem.TheVariants as row;
-ghost use Rattle.written_tree.specs.Names as names;
-ghost use Rattle.written_tree.specs.Members as written;
+ghost use Rattle.write_model.specs.Names as names;
+ghost use Rattle.write_model.specs.Members as written;
 
 use crate::heads::{head, one_modifier, public_and};
 use flow_rules::RowItem;
@@ -15,8 +15,8 @@ use java_tree::unplaced::nowhere;
 use java_tree::{Decl, Head, Member, Modifier, Stmt};
 use kaba_base::{Keyword, Name};
 use std::alloc::{AllocError, Global};
-use tree_forms::{Source, field_name, method_name, row_type};
-use tree_parts::{Within, body};
+use write_bodies::{Within, body};
+use write_forms::{Source, field_name, method_name, row_type};
 
 /// Adds a head.
 #[tactic(auto, using(crate::proofs::Pushed::heads_push))]

@@ -3,7 +3,7 @@
 ghost use Rattle.std.specs.Prelude.{◌≡◌, ◌++◌, OnOk};
 ghost use Rattle.source_gen.specs.Words.{old_program, renaming, AreNodes, hierarchy_of};
 ghost use Rattle.java_tree.specs.Syntax as tree;
-ghost use Rattle.written_tree.specs.Members as written;
+ghost use Rattle.write_model.specs.Members as written;
 
 use crate::members::{body_member, field_member, push_member};
 use crate::parts::{Nodes, field_at, method_at};

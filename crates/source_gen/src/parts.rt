@@ -5,7 +5,7 @@ ghost use Rattle.source_gen.specs.Words.{option_map, program_of, field_seen, met
 
 use fact_model::Facts;
 use java_core::{Field, Method, Program};
-use tree_forms::Source;
+use write_forms::Source;
 
 /// What the types of the nodes are written of: the facts of the hierarchy besides, and which nodes of that are classes.
 #[derive(Clone, Copy)]

@@ -6,7 +6,7 @@ ghost use Rattle.fact_model.specs.Items.{site_at, site_row, column_kind, column_
 ghost use Rattle.fact_model.specs.Classes.{is_def, is_slot};
 ghost use Rattle.hier_model.specs.Hierarchies.{place_of_row, stands_at, offers_slot};
 ghost use Rattle.rebuild_model.specs.Members.{is_made_at, offers_body};
-ghost use Rattle.written_tree.specs.Members.{is_declaration, is_first_there};
+ghost use Rattle.write_model.specs.Members.{is_declaration, is_first_there};
 ghost use Rattle.source_gen.specs.Seen.{is_offered_as};
 
 use crate::parts::Nodes;

@@ -3,8 +3,8 @@
 ghost use Rattle.std.specs.Prelude.{◌≡◌, ◌&&◌, not, ◌++◌, ◌∷◌, [], ◌<◌, true, cond, length, IfOk, IfSome, OnOk};
 ghost use Rattle.source_gen.specs.Words.{option_map, is_le, is_live, InRange, AreNodes, hierarchy_of};
 ghost use Rattle.hier_model.specs.Hierarchies.{IsHierarchyOf, is_class_node, any_below, type_name};
-ghost use Rattle.written_tree.specs.Names as names;
-ghost use Rattle.written_tree.specs.Supers as supers;
+ghost use Rattle.write_model.specs.Names as names;
+ghost use Rattle.write_model.specs.Supers as supers;
 ghost use Rattle.source_gen.specs.Seen.{class_tests};
 
 use crate::parts::Nodes;

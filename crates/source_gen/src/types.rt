@@ -4,7 +4,7 @@ ghost use Rattle.std.specs.Prelude.{◌≡◌, ◌++◌, ◌∷◌, [], ◌<◌,
 ghost use Rattle.source_gen.specs.Words.{is_live, when, old_program, renaming, AreNodes, hierarchy_of};
 ghost use Rattle.java_tree.specs.Syntax as tree;
 ghost use Rattle.hier_model.specs.Hierarchies.{is_class_node};
-ghost use Rattle.written_tree.specs.Written as written;
+ghost use Rattle.write_model.specs.Written as written;
 
 use crate::columns::{class_members, interface_heads};
 use crate::heads::one_modifier;

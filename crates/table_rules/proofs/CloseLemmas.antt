@@ -5,7 +5,7 @@ use Rattle.std.specs.List.{All, AllByRecursion}
 use Rattle.std.proofs.lemmas.Bool.{cases_lt, false≢true}
 use Rattle.std.proofs.lemmas.List.{get_or_past}
 use Rattle.std.proofs.lemmas.List.Elements.{All-contains}
-use Rattle.derivations.proofs.Derivations.{derivable_by, derivable_least}
+use Rattle.kaba_derivations.proofs.Derivations.{derivable_by, derivable_least}
 use Rattle.kaba_bits.specs.Sets.{bit, row, HasWidth, IsStep, IsNoneFrom}
 use Rattle.kaba_bits.proofs.SetLemmas.{bit-below}
 use Rattle.kaba_base.specs.declared.ColId.{ColId}

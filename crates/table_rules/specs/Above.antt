@@ -1,4 +1,4 @@
--- The classes at or above the class of each column.
+-- Mirror. The classes at or above the class of each column.
 use Rattle.std.specs.Prelude.{◌≡◌, ℕ, ◌<◌, Bool, List, length}
 use Rattle.kaba_bits.specs.Sets.{row}
 use Rattle.fact_model.specs.declared.facts.Facts.{Facts}

@@ -1,4 +1,4 @@
--- What a column asks of the rows that have it: further columns, those of a `this` among them.
+-- Mirror. What a column asks of the rows that have it: further columns, those of a `this` among them.
 use Rattle.std.specs.Prelude.{◌≡◌, ℕ, ◌%◌, ◌<◌, ◌⊎◌, ◌&&◌, not, Bool, true, List, length, Contains, Option, Some, None}
 use Rattle.std.specs.declared.vec.Vec.{Vec}
 use Rattle.std.specs.declared.alloc.Global.{Global}
@@ -77,6 +77,7 @@ pub record IsPlain (F : Facts) (plain : List Bool) : Type 0 where
   pub width : length plain ≡ length F.columns.items
   pub none : (d c : ℕ) → bit plain d ≡ true → c < length F.columns.items → Hides F d c → ⊥
 
+-- for each column those that it hides, and a set of columns that hide none
 pub record IsIndex (F : Facts) (index : Index) : Type 0 where
   pub hidden : AreHidden F index.hidden.items
   pub plain : IsPlain F index.plain
@@ -85,6 +86,7 @@ pub record IsIndex (F : Facts) (index : Index) : Type 0 where
 abbrev pub IsMetAt : Facts → List (List Bool) → List (List Bool) → ℕ → ℕ → Type 0
 IsMetAt F rows asked q d = Marked rows q d → (c : ℕ) → Hides F d c → Marked rows q c → Marked asked d c
 
+-- what the row q has, and one of its columns hides, is asked for by that column
 abbrev pub IsMet : Facts → List (List Bool) → List (List Bool) → ℕ → Type 0
 IsMet F rows asked q = (d : ℕ) → IsMetAt F rows asked q d
 

@@ -1,4 +1,4 @@
--- Tables that are closed under one rule, or under all.
+-- Mirror. Tables that are closed under one rule, or under all.
 use Rattle.std.specs.Prelude.{◌≡◌, ℕ, ◌<◌, Bool, true, List, length, All, Some}
 use Rattle.std.specs.Bool.{OnFalse}
 use Rattle.kaba_bits.specs.Sets.{bit, row, IsSubset, IsStep}
@@ -17,9 +17,11 @@ RowFlows F v r = (c : ℕ) → IsEntry F v c → IsEntry F r c
 abbrev pub ColumnFlows : Facts → ℕ → ℕ → Type 0
 ColumnFlows F d c = (r : ℕ) → IsEntry F r d → IsEntry F r c
 
+-- the lower row of a tie has all columns of the upper
 abbrev pub IsTieClosed : List (List Bool) → TieInfo → Type 0
 IsTieClosed rows x = IsSubset (row rows x.upper.0) (row rows x.lower.0)
 
+-- the row of the site o, where the set of the row v has it, has all columns of v
 abbrev pub IsSiteClosedAt : Facts → List (List Bool) → ℕ → List (List Bool) → ℕ → Type 0
 IsSiteClosedAt F sets v rows o = bit (row sets v) o ≡ true → IsSubset (row rows v) (row rows (site_row F o))
 

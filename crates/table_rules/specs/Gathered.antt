@@ -1,4 +1,4 @@
--- What rows with one set of sites have together.
+-- Mirror. What rows with one set of sites have together.
 use Rattle.std.specs.Prelude.{◌≡◌, ℕ, Bool, true, List, length}
 use Rattle.kaba_bits.specs.Sets.{bit}
 use Rattle.fact_model.specs.Items.{site_row}

@@ -1,4 +1,4 @@
--- Tables so far: they have only entries that hold, and what was marked stays.
+-- Mirror. Tables so far: they have only entries that hold, and what was marked stays.
 use Rattle.std.specs.Prelude.{◌≡◌, ℕ, ◌<◌, Bool, true, List, length, All, Some}
 use Rattle.kaba_bits.specs.Sets.{bit, row, IsSubset, HasWidth}
 use Rattle.kaba_base.specs.declared.ColId.{ColId}
@@ -23,6 +23,7 @@ pub record AreMarks (F : Facts) (P : ℕ → ℕ → Type 0) (rows : List (List 
   pub widths : HasWidth (length F.columns.items) rows
   pub sound : (r c : ℕ) → Marked rows r c → P r c
 
+-- rows whose entries all come from rules without premises
 abbrev pub AreRaw : Facts → List (List Bool) → Type 0
 AreRaw F rows = AreMarks F (IsRawEntry F) rows
 
@@ -51,9 +52,11 @@ pub record IsMarking (F : Facts) (old new : List (List Bool)) : Type 0 where
 abbrev pub IsRawPair : Facts → ℕ → ℕ → Type 0
 IsRawPair F r c = (r < length F.rows.items) × (c < length F.columns.items) × IsRawEntry F r c
 
+-- the row of an access has the column of the member that is accessed
 abbrev pub IsAccessMarked : List (List Bool) → AccessInfo → Type 0
 IsAccessMarked rows x = Marked rows x.row.0 x.column.0
 
+-- the row of a super call's `this` has the column of the body that the call runs
 abbrev pub IsSuperMarked : List (List Bool) → SuperInfo → Type 0
 IsSuperMarked rows x = Marked rows x.row.0 x.column.0
 
@@ -66,6 +69,7 @@ abbrev pub IsNeedMarked : Facts → List (List Bool) → CallInfo → List (List
 IsNeedMarked F points call rows o = bit (row points call.receiver) o ≡ true → (d : ℕ) → finds F (site_class F o) call.slot ≡ Some d
     → Marked rows (site_row F o) d
 
+-- each site of a call's receiver has the body that the call runs on it
 abbrev pub IsCallMarked : Facts → List (List Bool) → List (List Bool) → CallInfo → Type 0
 IsCallMarked F points rows call = (o : ℕ) → o < length F.sites.items → IsNeedMarked F points call rows o
 
@@ -77,6 +81,7 @@ IsMarkMarkedAt F r class rows c = IsColumn F Is class c → Marked rows r c
 abbrev pub IsMarkMarked : Facts → List (List Bool) → ℕ → ℕ → Type 0
 IsMarkMarked F rows r class = (c : ℕ) → c < length F.columns.items → IsMarkMarkedAt F r class rows c
 
+-- the row of a cast or `instanceof` has the mark of the tested class
 abbrev pub IsTestMarked : Facts → List (List Bool) → TestInfo → Type 0
 IsTestMarked F rows x = IsMarkMarked F rows x.target.0 x.class.0
 

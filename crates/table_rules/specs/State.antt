@@ -1,4 +1,4 @@
--- What the table is closed by, and what the worklist works on.
+-- Mirror. What the table is closed by, and what the worklist works on.
 use Rattle.fact_model.specs.InRange.{InRange}
 use Rattle.fact_model.specs.Flowing.{AreSets}
 use Rattle.table_rules.specs.Asked.{AreOpen, IsIndex}

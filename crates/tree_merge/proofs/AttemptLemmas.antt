@@ -22,7 +22,7 @@ use Rattle.hier_edit.specs.declared.ApplyFault.TheVariants as fault
 use Rattle.hier_edit.specs.Applied.{outcome, unless_broken, applied}
 use Rattle.hier_tree.specs.Trees.{Try, conflict_of, MakeOne, PutUnder, changed_by, accepted_or, tried, first_accepted, last_try, IsEditOf, try_of}
 use Rattle.hier_tree.proofs.ConflictLemmas.{conflict_says, none_unknown, some_among}
-use Rattle.tree_laws.proofs.ReachedLemmas.{accepted, unless_ok, if_ok, is_ok}
+use Rattle.hier_tree.proofs.ReachedLemmas.{accepted, unless_ok, if_ok, is_ok}
 use Rattle.tree_merge.specs.Attempts.{unordered, nodes_of, Joins, AreApart, IsTryOf, IsOfTry, IsAccepted}
 use Rattle.tree_merge.proofs.CountLemmas.{under_fewer, merged_fewer}
 

@@ -1,4 +1,4 @@
--- What tries are made for, and what is known of each try of a conflict, of each attempt and of each step.
+-- Mirror. What tries are made for, and what is known of each try of a conflict, of each attempt and of each step.
 use Rattle.std.specs.Prelude.{◌≡◌, ℕ, zero, suc, ◌+◌, ◌<◌, ◌&&◌, not, Bool, true, false, List, [], ◌∷◌, length, map, slice_index_or, All, Option, Some, None, Ok, Err}
 use Rattle.kaba_base.specs.declared.NodeId.{NodeId}
 use Rattle.kaba_order.specs.Orders.{Ordered, is_le, is_live, is_among}
@@ -33,6 +33,7 @@ abbrev pub sum_below : ℕ → (ℕ → ℕ) → ℕ
 sum_below zero f = 0
 sum_below (suc n) f = sum_below n f + f n
 
+-- 1 where a test holds, and 0 elsewhere
 abbrev pub one_if : Bool → ℕ
 one_if true = 1
 one_if false = 0
@@ -104,6 +105,7 @@ module _ (F : Facts) (pt : PointsTo) (Old New : Hierarchy) where
     pub is_last : last_try (map try_of tries) ≡ Some last
     pub breaks : tried F pt Old last ≡ Err (Breaks b)
 
+  -- what the tries of a conflict come to: the first that is accepted, or what the last breaks
   abbrev pub IsTried : List Edit → Attempt → Type 0
   IsTried tries (attempt.Accepted k) = IsFirst tries k
   IsTried tries (attempt.Refused b) = AreRefused tries b

@@ -1,4 +1,4 @@
--- The log of the steps towards a tree, and where there is none.
+-- Believed. The log of the steps towards a tree, and where there is none.
 use Rattle.std.specs.Prelude.{List, map, All}
 use Rattle.fact_model.specs.declared.facts.Facts.{Facts}
 use Rattle.fact_model.specs.declared.sets.PointsTo.{PointsTo}
@@ -12,6 +12,7 @@ use Rattle.tree_merge.specs.declared.trees.TreeFault.TheVariants as fault
 abbrev pub step_of : TreeStep → Step
 step_of s = record { conflict = s.conflict; try = try_of s.edit }
 
+-- the steps that a log tells, in their order
 abbrev pub steps_of : List TreeStep → List Step
 steps_of log = map step_of log
 

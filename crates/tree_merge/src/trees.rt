@@ -4,10 +4,10 @@ ghost use Rattle.std.specs.Prelude.{◌≡◌, None, IfErr, IfOk, OnOk};
 ghost use Rattle.hier_rules.specs.Words.{InRange, AreSets, IsHierarchyOf, MeetsEdit, first_broken};
 ghost use Rattle.fact_model.specs.declared.sets.Table.{Table};
 ghost use Rattle.fact_model.specs.declared.sets.Lattice.{Lattice};
-ghost use Rattle.hier_begin.specs.Laws.{AreAnalysed};
+ghost use Rattle.hier_laws.specs.Laws.{AreAnalysed};
 ghost use Rattle.hier_tree.specs.Trees.{Grows, Tree};
-ghost use Rattle.tree_laws.specs.Kept.{HasNoInterface};
-ghost use Rattle.tree_laws.specs.Reached.{IsReached};
+ghost use Rattle.hier_tree.specs.Kept.{HasNoInterface};
+ghost use Rattle.hier_tree.specs.Reached.{IsReached};
 ghost use Rattle.tree_merge.specs.declared.trees.TreeFault.TheVariants as TreeFault;
 ghost use Rattle.tree_merge.specs.Logs.{steps_of, AreEdits, IsFault};
 

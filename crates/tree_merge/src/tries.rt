@@ -4,7 +4,7 @@ ghost use Rattle.std.specs.Prelude.{◌≡◌, ◌<◌, ◌&&◌, ◌∷◌, ◌
 ghost use Rattle.hier_rules.specs.Words.{is_live};
 ghost use Rattle.fact_model.specs.InRange.{IsClass};
 ghost use Rattle.hier_model.specs.Hierarchies.{Hierarchy, IsHierarchyOf, node, origin_of};
-ghost use Rattle.hier_tree.specs.Trees.{is_from, nodes_from, tries_of_one, tries_of_lower, tries_of_others, tries_by, tries_of, try_of};
+ghost use Rattle.hier_tree.specs.Trees.{is_from, nodes_from, tries_of_one, tries_of_lower, tries_of_higher, tries_of_others, tries_by, tries_of, try_of};
 ghost use Rattle.tree_merge.specs.Attempts.{AreApart, IsGiven, IsTryOf};
 
 use crate::given::Given;
@@ -75,7 +75,7 @@ fn tries_of_one(
     Ok(tries)
 }
 
-/// The tries of two nodes where the origin of the first is below that of the second.
+/// The tries of two nodes where the origin of the first is strictly below that of the second.
 fn tries_of_lower(alloc: Global, x: NodeId, y: NodeId) -> Result<Vec<Edit>, AllocError>
     ensures tries { IfOk result (λ v. map try_of v.items ≡ tries_of_lower x y) }
     ensures some { IfOk result (λ v. 0 < length v.items) }
@@ -83,6 +83,16 @@ fn tries_of_lower(alloc: Global, x: NodeId, y: NodeId) -> Result<Vec<Edit>, Allo
 {
     let pair = vec![in alloc; x, y]?;
     Ok(vec![in alloc; Edit::Under(x, y), Edit::Merge(pair), Edit::Under(y, x)]?)
+}
+
+/// The tries of two nodes where the origin of the first is strictly above that of the second.
+fn tries_of_higher(alloc: Global, x: NodeId, y: NodeId) -> Result<Vec<Edit>, AllocError>
+    ensures tries { IfOk result (λ v. map try_of v.items ≡ tries_of_higher x y) }
+    ensures some { IfOk result (λ v. 0 < length v.items) }
+    ensures edits { IfOk result (λ v. (H : Hierarchy) → AreApart H.order x y → All (IsTryOf H) v.items) }
+{
+    let pair = vec![in alloc; x, y]?;
+    Ok(vec![in alloc; Edit::Under(y, x), Edit::Merge(pair), Edit::Under(x, y)]?)
 }
 
 /// The tries of two nodes of which one comes from no class, or whose origins are not comparable.
@@ -124,7 +134,7 @@ fn tries_by(
         return tries_of_lower(alloc, x, y);
     }
     if below(facts, second, first) {
-        return tries_of_lower(alloc, y, x);
+        return tries_of_higher(alloc, x, y);
     }
     tries_of_others(alloc, x, y)
 }

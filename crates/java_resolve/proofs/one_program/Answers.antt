@@ -1,4 +1,4 @@
-use Rattle.name_outcome.proofs.OnlyWhole.{only}
+use Rattle.name_laws.proofs.OnlyWhole.{only}
 use Rattle.java_resolve.proofs.one_program.Goals as goal
 
 pub returns : goal.returns

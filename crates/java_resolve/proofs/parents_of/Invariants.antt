@@ -2,7 +2,7 @@ use Rattle.std.proofs.Common.{◌≡◌, take}
 use Rattle.std.specs.Prelude.{map}
 use Rattle.java_core.specs.Programs.{class_seen}
 use Rattle.java_core.specs.Nearest.{superclasses}
-use Rattle.name_outcome.specs.Resolved.{parents_of}
+use Rattle.name_laws.specs.Resolved.{parents_of}
 use Rattle.java_resolve.proofs.parents_of.Given as goal
 
 -- the superclasses of the first classes

@@ -1,10 +1,10 @@
 use Rattle.std.proofs.Common.{map, Ok, sym, ap, ◌∙◌}
 use Rattle.java_tree.specs.Syntax.{decls}
 use Rattle.java_core.specs.Programs.{class_seen}
-use Rattle.name_outcome.specs.Answers.{with}
-use Rattle.name_outcome.specs.Members.{clashes_of, main_of}
-use Rattle.name_outcome.specs.Resolved.{methods_of, table, program}
-use Rattle.declared_types.specs.Found.{members_seen}
+use Rattle.name_laws.specs.Answers.{with}
+use Rattle.name_laws.specs.Members.{clashes_of, main_of}
+use Rattle.name_laws.specs.Resolved.{methods_of, table, program}
+use Rattle.name_types.specs.Found.{members_seen}
 use Rattle.java_resolve.proofs.Made.{with-then, made-seen}
 use Rattle.java_resolve.proofs.with_bodies.Goals as goal
 

@@ -1,8 +1,8 @@
 use Rattle.std.proofs.Common.{◌≡◌, IfOk, subst}
 use Rattle.java_tree.specs.Syntax.{tree_of}
 use Rattle.java_core.specs.Programs.{program_of}
-use Rattle.written_tree.specs.Written.{written_by}
-use Rattle.tree_forms.specs.Renamed.{renamed}
+use Rattle.write_model.specs.Written.{written_by}
+use Rattle.write_forms.specs.Renamed.{renamed}
 use Rattle.java_write.specs.Numbers.{AreNumbersOf}
 use Rattle.java_write.proofs.Fitting.{fitting, same_tree}
 use Rattle.java_write.proofs.tree_of_hierarchy.Goals as goal

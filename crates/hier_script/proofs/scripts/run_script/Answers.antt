@@ -1,7 +1,7 @@
 use Rattle.std.proofs.Common.{subst, sym}
 use Rattle.std.specs.List.{All}
 use Rattle.hier_model.specs.Edits.{NamesSome}
-use Rattle.hier_begin.proofs.StartMeets.{start_meets}
+use Rattle.hier_laws.proofs.StartMeets.{start_meets}
 use Rattle.hier_rules.specs.First.{MeetsEdit}
 use Rattle.edit_script.specs.Script.{lines_of}
 use Rattle.hier_script.proofs.Sound.{all_named}

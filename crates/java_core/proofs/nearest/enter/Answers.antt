@@ -1,6 +1,6 @@
 use Rattle.std.proofs.Common.{ap, ◌∙◌, sym, subst}
 use Rattle.std.specs.Option.{IfSome}
-use Rattle.version_map.specs.Held.{holds}
+use Rattle.kaba_versions.specs.Held.{holds}
 use Rattle.java_core.specs.Classes.{first_or}
 use Rattle.java_core.specs.Nearest.{numbered_among, AreVersions, IsVersionAbove}
 use Rattle.java_core.proofs.NearestLemmas.{versions-entered}

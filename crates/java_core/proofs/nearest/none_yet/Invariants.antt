@@ -1,6 +1,6 @@
 use Rattle.std.proofs.Common.{◌≡◌, ℕ, Some}
 use Rattle.std.specs.List.{slice_get}
-use Rattle.version_map.specs.declared.VersionMap.{VersionMap}
+use Rattle.kaba_versions.specs.declared.VersionMap.{VersionMap}
 use Rattle.java_core.proofs.nearest.none_yet.Given as goal
 
 abbrev pub invariant-loop-k : goal.invariant-loop-k

@@ -1,5 +1,5 @@
 use Rattle.std.proofs.Common.{◌≡◌, ℕ, ◌≤◌, length, drop}
-use Rattle.version_map.specs.Held.{holds}
+use Rattle.kaba_versions.specs.Held.{holds}
 use Rattle.java_core.specs.Classes.{first_or}
 use Rattle.java_core.specs.Nearest.{numbered_among}
 use Rattle.java_core.proofs.nearest.with_members.Given as goal

@@ -2,7 +2,7 @@ use Rattle.std.proofs.Common.{ap, sym, ◌∙◌}
 use Rattle.std.specs.Option.{option_map}
 use Rattle.kaba_base.proofs.TestLemmas.{none_or_some}
 use Rattle.java_core.specs.Programs.{program_of}
-use Rattle.linear_code.specs.Seen.{entry_of, tables_of}
+use Rattle.run_code.specs.Seen.{entry_of, tables_of}
 use Rattle.java_run.proofs.Starts.{main_begins}
 use Rattle.java_run.proofs.runs.main_entry.Goals as goal
 

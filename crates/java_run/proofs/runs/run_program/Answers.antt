@@ -1,7 +1,7 @@
 use Rattle.std.proofs.Common.{◌≤◌, ap, ◌∙◌, refl, arith, string_bytes, map}
 use Rattle.java_core.specs.Programs.{program_of}
-use Rattle.linear_code.specs.Seen.{entry_of, tables_of}
-use Rattle.linear_state.specs.Run.{config_of}
+use Rattle.run_code.specs.Seen.{entry_of, tables_of}
+use Rattle.run_state.specs.Run.{config_of}
 use Rattle.java_run.proofs.Starts.{meant_so, never_stuck, outcome_so, going_used}
 use Rattle.java_run.proofs.runs.run_program.Goals as goal
 

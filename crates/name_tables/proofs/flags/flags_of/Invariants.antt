@@ -1,6 +1,6 @@
 use Rattle.std.proofs.Common.{◌≡◌, drop}
-use Rattle.name_outcome.specs.Answers.{run}
-use Rattle.name_outcome.specs.Classes.{flag, flags_of}
+use Rattle.name_laws.specs.Answers.{run}
+use Rattle.name_laws.specs.Classes.{flag, flags_of}
 use Rattle.name_tables.proofs.flags.flags_of.Given as goal
 
 -- the modifiers so far, and then the rest

@@ -1,7 +1,7 @@
 use Rattle.std.proofs.Common.{◌≡◌, drop}
-use Rattle.name_outcome.specs.Answers.{run}
-use Rattle.name_outcome.specs.Members.{param, params_of}
-use Rattle.name_outcome.specs.Resolved.{bounds_from}
+use Rattle.name_laws.specs.Answers.{run}
+use Rattle.name_laws.specs.Members.{param, params_of}
+use Rattle.name_laws.specs.Resolved.{bounds_from}
 use Rattle.name_tables.proofs.parameters.params_in.Given as goal
 
 -- the parameters so far, which are in scope, and then the rest

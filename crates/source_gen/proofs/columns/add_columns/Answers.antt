@@ -2,8 +2,8 @@ use Rattle.std.proofs.Common.{ℕ, arith}
 use Rattle.fact_model.specs.declared.facts.ColumnInfo.{ColumnInfo}
 use Rattle.flow_rules.specs.Ordered.{when}
 use Rattle.hier_model.specs.Hierarchies.{stands_at}
-use Rattle.written_tree.specs.Members.{column_members}
-use Rattle.tree_forms.specs.Sources.{old_program, renaming}
+use Rattle.write_model.specs.Members.{column_members}
+use Rattle.write_forms.specs.Sources.{old_program, renaming}
 use Rattle.source_gen.proofs.Loops.{each_column_more}
 use Rattle.source_gen.proofs.columns.add_columns.Goals as goal
 

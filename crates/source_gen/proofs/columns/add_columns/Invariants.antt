@@ -4,8 +4,8 @@ use Rattle.std.proofs.Common.{◌≡◌, ◌++◌, drop}
 use Rattle.java_tree.specs.Syntax.{members}
 use Rattle.flow_rules.specs.Ordered.{each, when}
 use Rattle.hier_model.specs.Hierarchies.{stands_at}
-use Rattle.written_tree.specs.Members.{column_members}
-use Rattle.tree_forms.specs.Sources.{old_program, renaming}
+use Rattle.write_model.specs.Members.{column_members}
+use Rattle.write_forms.specs.Sources.{old_program, renaming}
 use Rattle.source_gen.proofs.columns.add_columns.Given as goal
 
 abbrev pub invariant-loop-c : goal.invariant-loop-c

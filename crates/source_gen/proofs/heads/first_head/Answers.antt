@@ -2,8 +2,8 @@ use Rattle.std.proofs.Common.{List, ℕ, [], ◌∷◌, Option, ap, ◌∙◌}
 use Rattle.std.specs.Option.{option_map_or}
 use Rattle.java_tree.specs.Syntax.{HeadTree}
 use Rattle.java_core.specs.Programs.{method_seen, PlainMethod}
-use Rattle.written_tree.specs.Members.{head}
-use Rattle.tree_forms.specs.Sources.{old_program, renaming}
+use Rattle.write_model.specs.Members.{head}
+use Rattle.write_forms.specs.Sources.{old_program, renaming}
 use Rattle.source_gen.proofs.heads.first_head.Goals as goal
 
 pub returns : goal.returns

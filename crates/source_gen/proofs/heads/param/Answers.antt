@@ -1,5 +1,5 @@
 use Rattle.java_core.specs.Programs.{method_seen, local_seen}
-use Rattle.tree_forms.specs.Sources.{old_program, renaming}
+use Rattle.write_forms.specs.Sources.{old_program, renaming}
 use Rattle.source_gen.proofs.Params.{param_is}
 use Rattle.source_gen.proofs.heads.param.Goals as goal
 

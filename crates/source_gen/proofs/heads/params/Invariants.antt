@@ -3,8 +3,8 @@ use Rattle.std.proofs.Common.{ℕ}
 use Rattle.std.proofs.Common.{◌≡◌, ◌∷◌, [], ◌++◌, drop, map}
 use Rattle.java_core.specs.Programs.{method_seen, local_seen}
 use Rattle.flow_rules.specs.Ordered.{each}
-use Rattle.written_tree.specs.Members.{param}
-use Rattle.tree_forms.specs.Sources.{old_program, renaming}
+use Rattle.write_model.specs.Members.{param}
+use Rattle.write_forms.specs.Sources.{old_program, renaming}
 use Rattle.source_gen.proofs.heads.params.Given as goal
 
 abbrev pub invariant-loop-i : goal.invariant-loop-i

@@ -2,8 +2,8 @@ use Rattle.std.proofs.Common.{◌≡◌, ◌++◌, drop, map}
 use Rattle.java_tree.specs.Syntax.{members}
 use Rattle.java_core.specs.Programs.{field_seen}
 use Rattle.flow_rules.specs.Ordered.{each}
-use Rattle.written_tree.specs.Members.{static_field_member}
-use Rattle.tree_forms.specs.Sources.{old_program, renaming}
+use Rattle.write_model.specs.Members.{static_field_member}
+use Rattle.write_forms.specs.Sources.{old_program, renaming}
 use Rattle.source_gen.proofs.holders.add_fields.Given as goal
 
 abbrev pub invariant-loop-f : goal.invariant-loop-f

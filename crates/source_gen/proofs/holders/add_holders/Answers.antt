@@ -2,8 +2,8 @@ use Rattle.std.proofs.Common.{ℕ, ◌∷◌, []}
 use Rattle.java_core.specs.Programs.{PlainClass, class_seen}
 use Rattle.flow_rules.specs.Ordered.{when}
 use Rattle.flow_rules.specs.Facts.{is_holder}
-use Rattle.written_tree.specs.Written.{holder_tree}
-use Rattle.tree_forms.specs.Sources.{old_program, renaming}
+use Rattle.write_model.specs.Written.{holder_tree}
+use Rattle.write_forms.specs.Sources.{old_program, renaming}
 use Rattle.source_gen.proofs.Loops.{each_seen_more}
 use Rattle.source_gen.proofs.holders.add_holders.Goals as goal
 

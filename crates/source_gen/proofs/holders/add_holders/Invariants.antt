@@ -5,8 +5,8 @@ use Rattle.java_tree.specs.Syntax.{decls}
 use Rattle.java_core.specs.Programs.{class_seen}
 use Rattle.flow_rules.specs.Ordered.{each, when}
 use Rattle.flow_rules.specs.Facts.{is_holder}
-use Rattle.written_tree.specs.Written.{holder_tree}
-use Rattle.tree_forms.specs.Sources.{old_program, renaming}
+use Rattle.write_model.specs.Written.{holder_tree}
+use Rattle.write_forms.specs.Sources.{old_program, renaming}
 use Rattle.source_gen.proofs.holders.add_holders.Given as goal
 
 abbrev pub invariant-loop-c : goal.invariant-loop-c

@@ -1,6 +1,6 @@
 use Rattle.java_core.specs.Programs.{method_seen}
-use Rattle.written_tree.specs.Members.{static_method_member}
-use Rattle.tree_forms.specs.Sources.{old_program, renaming}
+use Rattle.write_model.specs.Members.{static_method_member}
+use Rattle.write_forms.specs.Sources.{old_program, renaming}
 use Rattle.source_gen.proofs.Loops.{each_seen_more}
 use Rattle.source_gen.proofs.holders.add_methods.Goals as goal
 

@@ -1,6 +1,6 @@
 use Rattle.std.proofs.Common.{◌≡◌, ◌++◌, drop, map}
 use Rattle.java_core.specs.Programs.{local_seen}
-use Rattle.written_tree.specs.Members.{parameters}
+use Rattle.write_model.specs.Members.{parameters}
 use Rattle.source_gen.proofs.members.parameters.Given as goal
 
 abbrev pub invariant-loop-i : goal.invariant-loop-i

@@ -3,7 +3,7 @@ use Rattle.fact_model.specs.Items.{column_kind, column_slot}
 use Rattle.fact_model.specs.Classes.{is_slot}
 use Rattle.hier_model.specs.Hierarchies.{stands_at}
 use Rattle.hier_model.proofs.AnyLemmas.{any_below_found}
-use Rattle.written_tree.specs.Members.{is_declaration}
+use Rattle.write_model.specs.Members.{is_declaration}
 use Rattle.source_gen.proofs.places.is_first_there.Goals as goal
 
 pub returns-then-is_declared_at : goal.returns-then-is_declared_at

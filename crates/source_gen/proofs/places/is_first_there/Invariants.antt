@@ -2,7 +2,7 @@ use Rattle.std.proofs.Common.{◌≡◌, ◌&&◌, false}
 use Rattle.hier_model.specs.Hierarchies.{any_below, stands_at}
 use Rattle.fact_model.specs.Items.{column_kind, column_slot}
 use Rattle.fact_model.specs.Classes.{is_slot}
-use Rattle.written_tree.specs.Members.{is_declaration}
+use Rattle.write_model.specs.Members.{is_declaration}
 use Rattle.source_gen.proofs.places.is_first_there.Given as goal
 
 abbrev pub invariant-loop-d : goal.invariant-loop-d

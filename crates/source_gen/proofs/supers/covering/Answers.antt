@@ -1,4 +1,4 @@
-use Rattle.written_tree.specs.Supers.{is_cover, type_id}
+use Rattle.write_model.specs.Supers.{is_cover, type_id}
 use Rattle.source_gen.proofs.Nodes.{filtered_more}
 use Rattle.source_gen.proofs.supers.covering.Goals as goal
 

@@ -1,6 +1,6 @@
 use Rattle.std.proofs.Common.{◌≡◌, map}
 use Rattle.std.specs.List.{filter, range_with_len}
-use Rattle.written_tree.specs.Supers.{is_cover, type_id}
+use Rattle.write_model.specs.Supers.{is_cover, type_id}
 use Rattle.source_gen.proofs.supers.covering.Given as goal
 
 abbrev pub invariant-loop-a : goal.invariant-loop-a

@@ -1,7 +1,7 @@
 use Rattle.std.proofs.Common.{◌<◌, ◌&&◌, length, sym, ap, ◌∙◌, arith}
 use Rattle.kaba_order.specs.Orders.{Ordered}
 use Rattle.hier_model.proofs.AnyLemmas.{any_below_found}
-use Rattle.written_tree.specs.Supers.{is_above}
+use Rattle.write_model.specs.Supers.{is_above}
 use Rattle.source_gen.proofs.supers.has_between.Goals as goal
 
 pub returns-then-is_between : goal.returns-then-is_between

@@ -1,6 +1,6 @@
 use Rattle.std.proofs.Common.{◌≡◌, ◌&&◌, false}
 use Rattle.hier_model.specs.Hierarchies.{any_below}
-use Rattle.written_tree.specs.Supers.{is_above}
+use Rattle.write_model.specs.Supers.{is_above}
 use Rattle.source_gen.proofs.supers.has_between.Given as goal
 
 abbrev pub invariant-loop-k : goal.invariant-loop-k

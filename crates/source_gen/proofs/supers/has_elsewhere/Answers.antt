@@ -1,7 +1,7 @@
 use Rattle.std.proofs.Common.{◌<◌, ◌&&◌, not, length, sym, ap, ◌∙◌, arith}
 use Rattle.kaba_order.specs.Orders.{Ordered, is_le}
 use Rattle.hier_model.proofs.AnyLemmas.{any_below_found}
-use Rattle.written_tree.specs.Supers.{is_class_above}
+use Rattle.write_model.specs.Supers.{is_class_above}
 use Rattle.source_gen.proofs.supers.has_elsewhere.Goals as goal
 
 pub returns-then-is_elsewhere : goal.returns-then-is_elsewhere

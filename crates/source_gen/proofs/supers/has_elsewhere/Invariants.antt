@@ -1,7 +1,7 @@
 use Rattle.std.proofs.Common.{◌≡◌, ◌&&◌, not, false}
 use Rattle.hier_model.specs.Hierarchies.{any_below}
 use Rattle.kaba_order.specs.Orders.{is_le}
-use Rattle.written_tree.specs.Supers.{is_class_above}
+use Rattle.write_model.specs.Supers.{is_class_above}
 use Rattle.source_gen.proofs.supers.has_elsewhere.Given as goal
 
 abbrev pub invariant-loop-b : goal.invariant-loop-b

@@ -1,6 +1,6 @@
 use Rattle.std.proofs.Common.{ℕ, ◌&&◌, not}
 use Rattle.hier_model.specs.Hierarchies.{is_class_node}
-use Rattle.written_tree.specs.Supers.{is_cover, type_id}
+use Rattle.write_model.specs.Supers.{is_cover, type_id}
 use Rattle.source_gen.proofs.Nodes.{filtered_more}
 use Rattle.source_gen.proofs.supers.implemented.Goals as goal
 

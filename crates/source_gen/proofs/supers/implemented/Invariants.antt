@@ -1,7 +1,7 @@
 use Rattle.std.proofs.Common.{◌≡◌, ◌&&◌, not, map}
 use Rattle.std.specs.List.{filter, range_with_len}
 use Rattle.hier_model.specs.Hierarchies.{is_class_node}
-use Rattle.written_tree.specs.Supers.{is_cover, type_id}
+use Rattle.write_model.specs.Supers.{is_cover, type_id}
 use Rattle.source_gen.proofs.supers.implemented.Given as goal
 
 abbrev pub invariant-loop-a : goal.invariant-loop-a

@@ -2,7 +2,7 @@ use Rattle.std.proofs.Common.{◌<◌, length, sym, ap, ◌∙◌, arith}
 use Rattle.kaba_bits.specs.Sets.{when}
 use Rattle.kaba_bits.proofs.FirstLemmas.{first_below_found}
 use Rattle.kaba_order.specs.Orders.{Ordered}
-use Rattle.written_tree.specs.Supers.{is_superclass}
+use Rattle.write_model.specs.Supers.{is_superclass}
 use Rattle.source_gen.proofs.supers.superclass.Goals as goal
 
 pub returns-then-is_superclass-clause-value : goal.returns-then-is_superclass-clause-value

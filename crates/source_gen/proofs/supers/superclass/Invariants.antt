@@ -1,6 +1,6 @@
 use Rattle.std.proofs.Common.{◌≡◌, None}
 use Rattle.kaba_bits.specs.Sets.{first_below, when}
-use Rattle.written_tree.specs.Supers.{is_superclass}
+use Rattle.write_model.specs.Supers.{is_superclass}
 use Rattle.source_gen.proofs.supers.superclass.Given as goal
 
 abbrev pub invariant-loop-a : goal.invariant-loop-a

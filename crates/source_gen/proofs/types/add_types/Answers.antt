@@ -2,8 +2,8 @@ use Rattle.std.proofs.Common.{ℕ, Bool, false, ◌<◌, [], ◌∷◌, length, 
 use Rattle.kaba_order.specs.Orders.{Ordered}
 use Rattle.flow_rules.specs.Ordered.{when}
 use Rattle.hier_model.specs.Hierarchies.{is_class_node}
-use Rattle.written_tree.specs.Written.{type_tree}
-use Rattle.tree_forms.specs.Sources.{old_program, renaming}
+use Rattle.write_model.specs.Written.{type_tree}
+use Rattle.write_forms.specs.Sources.{old_program, renaming}
 use Rattle.source_gen.proofs.Loops.{each_more}
 use Rattle.source_gen.proofs.types.add_types.Goals as goal
 

@@ -3,8 +3,8 @@ use Rattle.std.proofs.Common.{◌≡◌, ◌∷◌, [], ◌++◌, drop}
 use Rattle.java_tree.specs.Syntax.{decls}
 use Rattle.flow_rules.specs.Ordered.{each, when}
 use Rattle.hier_model.specs.Hierarchies.{is_class_node}
-use Rattle.written_tree.specs.Written.{type_tree}
-use Rattle.tree_forms.specs.Sources.{old_program, renaming}
+use Rattle.write_model.specs.Written.{type_tree}
+use Rattle.write_forms.specs.Sources.{old_program, renaming}
 use Rattle.source_gen.proofs.types.add_types.Given as goal
 
 abbrev pub invariant-loop-n : goal.invariant-loop-n

@@ -1,6 +1,6 @@
 use Rattle.std.proofs.Common.{subst, sym, [], ◌∷◌, ◌++◌}
 use Rattle.hier_tree.specs.Trees.{Leads, Stuck, begun}
-use Rattle.tree_laws.proofs.TreeIsFound.{tree_is_found}
+use Rattle.hier_tree.proofs.TreeIsFound.{tree_is_found}
 use Rattle.tree_merge.specs.Attempts.{IsTurn}
 use Rattle.tree_merge.specs.Logs.{step_of, steps_of}
 use Rattle.tree_merge.proofs.StepLemmas.{one_more, more_steps, ends, ends_stuck, none_yet, more_edits}

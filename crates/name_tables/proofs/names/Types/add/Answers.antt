@@ -1,8 +1,8 @@
 use Rattle.std.proofs.Common.{◌||◌, map, Ok, sym, ap, ◌∙◌}
 use Rattle.std.specs.Option.{is_some}
 use Rattle.name_tables.specs.Known.{known_seen}
-use Rattle.name_outcome.specs.Names.{is_apart, number_of}
-use Rattle.name_outcome.specs.Classes.{know_named}
+use Rattle.name_laws.specs.Names.{is_apart, number_of}
+use Rattle.name_laws.specs.Classes.{know_named}
 use Rattle.name_tables.proofs.TypeTable.{known-added}
 use Rattle.name_tables.proofs.names.Types.add.Goals as goal
 

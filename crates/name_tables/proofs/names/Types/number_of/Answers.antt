@@ -2,7 +2,7 @@ use Rattle.std.proofs.Common.{ap, ◌∙◌}
 use Rattle.std.specs.Prelude.{position, string_bytes}
 use Rattle.std.specs.Str.{bytes_eq}
 use Rattle.std.specs.Map.{keys_of}
-use Rattle.name_outcome.specs.Names.{number_of}
+use Rattle.name_laws.specs.Names.{number_of}
 use Rattle.name_tables.proofs.TypeTable.{found}
 use Rattle.name_tables.proofs.names.Types.number_of.Goals as goal
 

@@ -1,7 +1,0 @@
-use Rattle.std.proofs.Common.{◌≡◌, drop}
-use Rattle.java_core.specs.Programs.{program_of}
-use Rattle.class_tables.specs.Lines.{fields_down}
-use Rattle.class_tables.proofs.objects.layout.Given as goal
-
-abbrev pub invariant-loop-i : goal.invariant-loop-i
-invariant-loop-i l = l.fields.items ≡ fields_down (program_of l.p) (drop l.i l.line.items)

@@ -1,9 +1,0 @@
-use Rattle.std.proofs.Common.{◌≡◌, ◌-◌, ◌++◌, length}
-use Rattle.java_core.specs.Programs.{program_of}
-use Rattle.class_tables.specs.Lines.{line_in}
-use Rattle.class_tables.proofs.objects.line.Given as goal
-
-abbrev pub invariant-loop-step : goal.invariant-loop-step
-invariant-loop-step l =
-    let P = program_of l.p in
-    l.line.items ++ line_in P (length P.classes - l._step) l.at ≡ line_in P (length P.classes) l.fn.class

@@ -1,5 +1,0 @@
-use Rattle.class_tables.specs.Known.{IsEmpty}
-use Rattle.class_tables.proofs.rows.empty_entries.Given as goal
-
-abbrev pub invariant-loop-at : goal.invariant-loop-at
-invariant-loop-at g l = IsEmpty l.entries.items

@@ -1,5 +1,0 @@
-use Rattle.declared_types.specs.Marks.{Testing}
-use Rattle.declared_types.proofs.marks.test_all.Given as goal
-
-abbrev pub invariant-loop-place : goal.invariant-loop-place
-invariant-loop-place l = Testing l.rows l.all.items l.list l.marks l.initial.suspects l.suspects l.place

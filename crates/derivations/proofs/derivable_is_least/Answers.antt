@@ -1,7 +1,0 @@
-use Rattle.std.proofs.Common.{◌≡◌, true}
-use Rattle.derivations.specs.Laws.{accepted}
-use Rattle.derivations.proofs.Derivations.{derivable_least}
-use Rattle.derivations.proofs.derivable_is_least.Goals as goal
-
-pub returns : goal.returns
-returns t c = λ test set. derivable_least (accepted test) (λ a. set a ≡ true)

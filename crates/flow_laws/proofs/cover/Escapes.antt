@@ -1,0 +1,114 @@
+-- No run of a program under the watch of closed sets escapes.
+use Rattle.std.proofs.Common.{◌≡◌, ℕ, suc, ◌+◌, List, [], ◌∷◌, Option, Some, None, refl, sym, ◌∙◌, subst, arith}
+use Rattle.std.specs.Prelude.{◌≢◌, true, false, slice_get, map}
+use Rattle.std.specs.Option.{option_map_or, option_and_then}
+use Rattle.std.specs.List.{AllByRecursion}
+use Rattle.std.proofs.lemmas.Bool.{and_from}
+use Rattle.java_core.specs.declared.Ty.{Ty}
+use Rattle.java_core.specs.Programs.{Plain}
+use Rattle.java_core.specs.Classes.{lookup, super_method}
+use Rattle.java_core.specs.Types.{field_type, types_of}
+use Rattle.java_meaning.specs.Moment.{Value, Nothing, Object, Cell, Spot, held, bound, result_of, set_static, kept, End, Escaped, Body}
+use Rattle.java_meaning.specs.Values.{default_of}
+use Rattle.java_meaning.specs.Languages.{layout, default_at, body_with}
+use Rattle.java_meaning.proofs.Moves.{then_some}
+use Rattle.java_meaning.proofs.Calls.{mapped_some}
+use Rattle.fact_model.specs.Flowing.{Fact, Inclusion}
+use Rattle.fact_model.specs.declared.facts.Facts.{Facts}
+use Rattle.flow_rules.specs.declared.items.Operand.{Operand}
+use Rattle.flow_rules.specs.declared.items.PointItem.TheVariants as point
+use Rattle.flow_rules.specs.Types.{field_object}
+use Rattle.flow_rules.specs.Labels.{label_sts}
+use Rattle.flow_rules.specs.Lists.{point_at, site_in}
+use Rattle.flow_rules.specs.Facts.{numbers, IsFactsOf}
+use Rattle.flow_laws.specs.cover.Families.{ArePlain, IsIncluded, AreIncluded, Begins}
+use Rattle.flow_laws.specs.cover.Watched.{Of, IsWatched}
+use Rattle.flow_laws.specs.cover.Covers.{Sets, has, IsClosed, operand_at, at_point, at_cell, field_cell, held_in, sites_at, spot_set, is_seen, are_seen, labelled_with, labelled_body, watched, CoversEachRun}
+use Rattle.flow_laws.proofs.cover.Held.{default_plain, Stays}
+use Rattle.flow_laws.proofs.cover.Cover.{run_stays}
+use Rattle.flow_laws.proofs.cover.Kinded.{IsKinded}
+use Rattle.flow_laws.proofs.cover.Flows.{when_some, looks_in}
+use Rattle.flow_laws.proofs.cover.Calls.{local_object, result_object}
+use Rattle.flow_laws.proofs.cover.Included.{passes_map, MadeAs, typed_sites, family, ClosedBody}
+use Rattle.std.proofs.lemmas.Option.{slice_get-map}
+use Rattle.flow_laws.proofs.cover.IncludedBodies.{included_code}
+use Rattle.java_meaning.proofs.Layouts.{places as same_place}
+
+default_no_object : (t : Ty) (a : ℕ) → default_of t ≡ Object a → ⊥
+default_no_object t a e = default_plain t.base t.dim a e
+
+map_plain : {A : Type 0} (f : A → Value) (xs : List A) → ((x : A) (a : ℕ) → f x ≡ Object a → ⊥) → ArePlain (map f xs)
+map_plain f xs p i a e = let z = mapped_some f (slice_get xs i) (Object a) (sym (slice_get-map f xs i) ∙ e) in p z.0 a z.2
+
+optional_default : (t : Option Ty) (a : ℕ) → option_map_or default_of t Nothing ≡ Object a → ⊥
+optional_default None a e = cc
+optional_default (Some t) a e = default_no_object t a e
+
+module _ (P : Plain) (F : Facts) (S : Sets) where
+  looks_held : (c : Option ℕ) (o : Operand) (s : ℕ) → looks_in P F S c o s ≡ true → held_in P F S c o s ≡ true
+  looks_held None o s h = (when_some o.ty (at_point P F S (point_at (numbers P) o)) s h).1
+  looks_held (Some n) o s h = h
+
+  -- the typed sets are in the sets of the watch
+  typed_sub : (p : Spot) (s : ℕ) → typed_sites P F S p s ≡ true → sites_at P F S p s ≡ true
+  typed_sub (held m e) s h = looks_held (operand_at P m e).created (operand_at P m e) s h
+  typed_sub (bound m i) s h = (when_some (local_object P F S m i) (at_point P F S ((numbers P).point (point.Local m i))) s h).1
+  typed_sub (result_of m) s h = (when_some (result_object P F S m) (at_point P F S ((numbers P).point (point.Result m))) s h).1
+  typed_sub (set_static f) s h = (when_some (field_object P f) (at_point P F S ((numbers P).point (point.Static f))) s h).1
+  typed_sub (kept o f) s h = (when_some (field_object P f) (at_cell P F S (option_and_then (field_cell P F f) (site_in (numbers P) o))) s h).1
+  typed_sub p s h = h
+
+  value_seen : (p : Spot) (v : Value) (h : List Cell) → Of h v ((family P F S).spot p) → is_seen P F S (spot_set P F S p) v h ≡ true
+  value_seen p (Object a) h o = subst (λ z. option_map_or (λ c. spot_set P F S p c.site) z false ≡ true) (sym o.there)
+      (passes_map (typed_sites P F S p) (sites_at P F S p) (site_in (numbers P) o.cell.site) (typed_sub p) o.member)
+  value_seen p v h o = refl
+
+  all_seen : (b i : ℕ) (vs : List Value) (h : List Cell) → ((x y : ℕ) (v : Value) → y ≡ i + x → slice_get vs x ≡ Some v
+      → Of h v ((family P F S).spot (bound b y))) → are_seen P F S b i vs h ≡ true
+  all_seen b i [] h p = refl
+  all_seen b i (v ∷ vs) h p = and_from (is_seen P F S (spot_set P F S (bound b i)) v h) (are_seen P F S b (suc i) vs h)
+      (value_seen (bound b i) v h (p 0 i v (omega arith) refl)) (all_seen b (suc i) vs h (λ x y w e d. p (suc x) y w (omega (arith, e)) d))
+
+  watches : IsWatched (watched P F S) (family P F S)
+  watches = record {
+    sees = value_seen;
+    sees_all = λ b vs h p. all_seen b 0 vs h (λ x y v e d. subst (λ z. Of h v ((family P F S).spot (bound b z)))
+        (let z : x ≡ y = omega (arith, e) in z) (p x v d));
+  }
+
+  module _ (closed : (ps : List Fact) (f : Fact) → Inclusion F ps f → AllByRecursion (λ p. has S p ≡ true) ps → has S f ≡ true)
+      (facts : IsFactsOf P F) (kinded : IsKinded P F) where
+    body_included : (c : ℕ) (b : Body) → labelled_body P F S c ≡ Some b → IsIncluded (watched P F S) (MadeAs P F S) (family P F S) b
+    unfolding labelled_body
+    body_included c b e =
+        let h = then_some (labelled_with P F S c) (slice_get P.methods c) b e in
+        let y = mapped_some (λ xs. body_with c h.0 (label_sts 0 xs)) h.0.body b h.2 in
+        let B : ClosedBody =
+        record { program = P; facts = F; sets = S; closed = closed; are_facts = facts; kinded = kinded; number = c; method = h.0; stands = h.1 } in
+        subst (λ z. IsIncluded (watched P F S) (MadeAs P F S) (family P F S) z) y.2 (record {
+          code = included_code B y.0 y.1;
+          rest = map_plain default_of (types_of h.0.locals) default_no_object;
+          ends = optional_default h.0.result;
+        })
+
+    all_included : AreIncluded (watched P F S) (MadeAs P F S) (family P F S)
+    all_included = record {
+      places = same_place P;
+      fresh = λ c. map_plain (λ f. default_at P f) (layout P c) (λ f a e. optional_default (field_type P f) a e);
+      statics = map_plain (λ f. default_of f.ty) P.fields (λ f a e. default_no_object f.ty a e);
+      bodies = λ c j b e. let z = then_some (labelled_body P F S) (lookup P c j) b e in body_included z.0 b z.2;
+      static_bodies = body_included;
+      super_bodies = λ c x b e. let z = then_some (labelled_body P F S) (super_method P c x) b e in body_included z.0 b z.2;
+    }
+
+begins : (P : Plain) (F : Facts) (S : Sets) (m : ℕ) → Begins (watched P F S) (MadeAs P F S) (family P F S) m
+begins P F S m = record { made = record { sited = λ t e. absurd (cc); typed = λ s e. absurd (cc) }; words = λ b e. refl }
+
+stays_not : (e : End) → Stays e → e ≢ Escaped
+stays_not e s d = subst (λ z. Stays z) d s
+
+pub kinded_covers : (P : Plain) (F : Facts) → IsFactsOf P F → IsKinded P F → CoversEachRun P F
+unfolding CoversEachRun IsClosed
+kinded_covers P F facts kinded =
+    λ S closed words n. stays_not _ (run_stays (watched P F S) (MadeAs P F S) (family P F S) (all_included P F S closed facts kinded)
+    (watches P F S) P.main (begins P F S P.main) words n)

@@ -1,5 +1,0 @@
-use Rattle.linear_code.proofs.Runs.{machine_runs}
-use Rattle.linear_code.proofs.machine_runs.Goals as goal
-
-pub returns : goal.returns
-returns c = record { runs = λ P formed T fits words n b e hb he. machine_runs P formed T fits words n b e hb he }

@@ -1,9 +1,0 @@
-use Rattle.std.proofs.Common.{◌≡◌, ◌++◌, length, map}
-use Rattle.linear_code.specs.Seen.{op_of}
-use Rattle.linear_compile.proofs.bodies.append.Given as goal
-
-abbrev pub invariant-loop-instr : goal.invariant-loop-instr
-invariant-loop-instr l = map op_of l.code.items ++ l.part ≡ map op_of l.fn.code.items ++ l.fn.part
-
-abbrev pub decreases-loop-instr : goal.decreases-loop-instr
-decreases-loop-instr l = length l.part

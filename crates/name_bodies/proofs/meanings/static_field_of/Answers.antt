@@ -1,0 +1,11 @@
+use Rattle.name_laws.specs.Tables.{own_field}
+use Rattle.name_laws.specs.Expressions.{is_static_field}
+use Rattle.name_bodies.specs.Views.{table_at}
+use Rattle.name_bodies.proofs.MemberLemmas.{static_given}
+use Rattle.name_bodies.proofs.meanings.static_field_of.Goals as goal
+
+pub returns : goal.returns
+returns c =
+    let t = table_at c.args.within.now in
+    static_given t c.args.class.now c.args.name.now c.args.place (λ k. own_field t k c.args.name.now) (is_static_field t) c.static_member.result
+    c.in_ok-owner.ensures c.own_field-found.ensures c.static_field.ensures c.static_member.ensures

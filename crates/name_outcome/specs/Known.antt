@@ -1,6 +1,0 @@
--- A class or an interface as the other declarations know it.
-use Rattle.std.specs.Prelude.{ℕ, Bool, List}
-
-pub record Known : Type 0 where
-  pub name : List ℕ
-  pub is_interface : Bool

@@ -1,0 +1,9 @@
+pub mod Bodies
+pub mod Conditions
+pub mod Faults
+pub mod FirstMethods
+pub mod Meanings
+pub mod Outlines
+pub mod Resolved
+pub mod Untagged
+pub mod Whole

@@ -1,5 +1,0 @@
-use Rattle.program_facts.proofs.OneAnswer.{same_facts, same_faults, not_refused}
-use Rattle.program_facts.proofs.one_answer.Goals as goal
-
-pub returns : goal.returns
-returns c = record { facts = same_facts; faults = same_faults; apart = not_refused }

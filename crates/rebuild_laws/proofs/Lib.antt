@@ -1,0 +1,5 @@
+pub mod looks
+pub mod given
+pub mod types
+pub mod twins
+pub mod runs

@@ -1,0 +1,4 @@
+pub mod looks
+pub mod types
+pub mod twins
+pub mod runs

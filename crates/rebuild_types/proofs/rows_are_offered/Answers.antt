@@ -1,5 +1,0 @@
-use Rattle.rebuild_types.proofs.Whole.{rows_are_offered}
-use Rattle.rebuild_types.proofs.rows_are_offered.Goals as goal
-
-pub returns : goal.returns
-returns c = rows_are_offered

@@ -1,5 +1,0 @@
-use Rattle.tree_given.proofs.Law.{tree_is_formed, tree_is_given}
-use Rattle.tree_given.proofs.written_tree_is_given.Goals as goal
-
-pub returns : goal.returns
-returns c = record { formed = tree_is_formed; given = tree_is_given }

@@ -1,4 +1,0 @@
-pub mod Origins
-pub mod Kept
-pub mod Reached
-pub mod Laws

@@ -1,0 +1,5 @@
+pub mod bodies
+pub mod rebuilds
+pub mod names
+pub mod given
+pub mod runs
