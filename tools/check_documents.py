@@ -46,7 +46,10 @@ def printed(commands):
     with tempfile.TemporaryDirectory() as folder:
         for name in ("docs", "examples", "tools"):
             os.symlink(HERE / name, Path(folder, name))
-        os.symlink(PROGRAM, Path(folder, "kaba"))
+        # The command `./kaba` that the documents show, with the program that is tested.
+        shutil.copy(HERE / "kaba", Path(folder, "kaba"))
+        Path(folder, "out").mkdir()
+        os.symlink(PROGRAM, Path(folder, "out", "kaba"))
         lines = ["exec 2>&1"]
         for k, command in enumerate(commands):
             lines += [command, f"status=$?; printf '\\n@@@ {k}\\n'; (exit $status)"]
