@@ -47,7 +47,7 @@ class Faults:
                 return
             fault = fault_of(Source(self.text.data), why, refusal_of)
             self.note(fault)
-            if fault.at is None or not self.take_out(fault) or len(self.text.data) > FILE_LIMIT:
+            if fault.at is None or not self.is_taken_out(fault) or len(self.text.data) > FILE_LIMIT:
                 self.is_whole = fault.at is None
                 return
 
@@ -64,9 +64,19 @@ class Faults:
         if found not in self.found:
             self.found.append(found)
 
+    def is_taken_out(self, fault):
+        """Takes the fault out; a text that is too broken to find one's way in it is left as it is."""
+        try:
+            return self.take_out(fault)
+        except (IndexError, UnicodeError):
+            return False
+
     def take_out(self, fault):
         """Takes the fault out of the text, by a rule for its form, or with larger and larger parts of the text."""
         mender, before = self.mender, self.text.data
+        if fault.kind == "OpenComment":
+            self.text.change((fault.at, len(before), ""))
+            return True
         by_form = fault.kind.split(" ")[0] not in (*BY_NAME, "IllTyped", "NotInProfile")
         if by_form and mender.mend(fault.at) and self.text.data != before:
             return True
@@ -84,10 +94,11 @@ class Faults:
 
 
 def grouped(found):
-    """The faults of one kind and sentence together, in the order of their first places."""
+    """The faults of one kind and sentence together: the program's own first one, and then in the order of their places."""
     groups = {}
     for fault in found:
         groups.setdefault((fault.kind, fault.sentence), []).append(fault)
     for faults in groups.values():
         faults.sort(key=lambda fault: -1 if fault.at is None else fault.at)
-    return sorted(groups.values(), key=lambda faults: -1 if faults[0].at is None else faults[0].at)
+    rest = sorted(groups.values(), key=lambda faults: -1 if faults[0].at is None else faults[0].at)
+    return sorted(rest, key=lambda faults: found[0] not in faults)

@@ -58,13 +58,14 @@ def is_between(after, n, first, second):
 
 
 def of_offers(case, after, _):
-    """The member at a node above all rows that need it."""
+    """The member at a node above all rows that need it: in place of the edit, or before it where it moves another."""
     c = case.refusal["column"]
-    rows = [row for row in after.before["rows"] if c in row["columns"] and row["node"] is not None]
-    ups = [after.up(row["node"]) for row in rows]
+    ups = [after.up(after.rows[row["number"]]) for row in after.before["rows"] if c in row["columns"]]
     common = set.intersection(*ups) if ups else set()
+    is_own = f"c{c}" in columns_of(case.edit)
     for n in sorted(common, key=lambda n: -len(after.up(n))):
-        yield [text("move", f"c{c}", f"n{n}")]
+        if n != after.before["columns"][c]["node"]:
+            yield [text("move", f"c{c}", f"n{n}")] + ([] if is_own else [case.edit.text])
 
 
 def of_flows(case, after, _):

@@ -110,7 +110,9 @@ class Mended(Pieces):
         return self.origins[min(at, len(self.origins) - 1)]
 
     def replace(self, first, last, text=""):
-        """A change of the pieces from one to another, both with it."""
+        """A change of the pieces from one to another, both with it; none where there are no such pieces."""
+        if not 0 <= first <= last < len(self.pieces):
+            return (0, 0, "")
         return (self.pieces[first].start, self.pieces[last].end, text)
 
     def change(self, *changes):

@@ -14,10 +14,12 @@ import sys
 from collections import namedtuple
 from pathlib import Path
 
+from kaba_usage import what_is_wrong
+
 HERE = Path(__file__).resolve().parent.parent
 # Where `rt ci` and tools/build make the program, and where `./kaba` keeps a copy of it.
 BUILT, KEPT = HERE / "crates" / "kaba" / "out" / "kaba", HERE / "out" / "kaba"
-FILE_LIMIT = 1048576
+FILE_LIMIT, USAGE = 1048576, 64
 
 Token = namedtuple("Token", "kind text at")  # kind: word, number, char, string or mark; at: the place of its first byte
 Declared = namedtuple("Declared", "label type line")  # a variable: the label of its row, the text of its type, and its line
@@ -103,7 +105,10 @@ def kaba(*words):
         done = subprocess.run([PROGRAM, *words], stdin=subprocess.DEVNULL, capture_output=True)
     except OSError as error:
         no_program(error)
-    return done.returncode, done.stdout, done.stderr.decode(errors="replace").strip()
+    said = done.stderr.decode(errors="replace").strip()
+    if done.returncode == USAGE:
+        said = f"{said}: {what_is_wrong(list(map(str, words)))}"
+    return done.returncode, done.stdout, said
 
 
 def bytes_of(file):
