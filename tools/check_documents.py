@@ -14,12 +14,14 @@ ANY_LINES = ".."
 
 
 def shown(text):
-    """Each command of a document, and the lines that stand below it as what it prints."""
+    """Each command of a document, with its lines that begin with `> `, and the lines below it as what it prints."""
     found = []
     for line in text.splitlines():
         if line.startswith("    $ "):
             found.append((line[6:], []))
             inside = True
+        elif found and inside and line.startswith("    > ") and not found[-1][1]:
+            found[-1] = (f"{found[-1][0]}\n{line[6:]}", [])
         elif found and inside and (line.startswith("    ") or not line.strip()):
             found[-1][1].append(line[4:].rstrip())
         else:
