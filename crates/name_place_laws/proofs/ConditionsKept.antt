@@ -1,5 +1,5 @@
 -- No condition that refuses names holds of a tree where none holds of it without its places.
-use Rattle.std.proofs.Common.{◌≡◌, ◌⊎◌, inl, inr, ⊎_elim, ℕ, ◌||◌, true, false, List, map, Option, Some, None, Contains, is_some, refl, sym, ap, ◌∙◌, subst, ap₂}
+use Rattle.std.proofs.Common.{◌≡◌, ◌⊎◌, inl, inr, ⊎_elim, ℕ, ◌||◌, true, false, List, map, Some, Contains, sym, ap, ◌∙◌, subst, ap₂}
 use Rattle.std.specs.Prelude.{slice_get, codes}
 use Rattle.kaba_base.specs.declared.Place.{Place}
 use Rattle.kaba_base.proofs.ListLemmas.{at_map, map_has}
@@ -13,7 +13,7 @@ use Rattle.java_core.specs.Classes.{IsSubclass, IsProperSubclass}
 use Rattle.java_core.specs.Formed.{IsMain}
 use Rattle.name_rules.specs.declared.Refusal.{Refusal}
 use Rattle.name_rules.specs.declared.parts.Kind.{Kind}
-use Rattle.name_rules.specs.Outline.{FieldAt, MethodAt, is_private_word, is_abstract_word, outline, fields_in, methods_in, is_type_name, is_known, name_of, mods_of, parent_named, faces_named}
+use Rattle.name_rules.specs.Outline.{FieldAt, MethodAt, is_private_word, is_abstract_word, outline, fields_in, methods_in, is_type_name, is_known, mods_of, parent_named, faces_named}
 use Rattle.name_rules.specs.Meanings.{class_named}
 use Rattle.name_rules.specs.Asked.{IsSuper, a_parent, a_face, IsDeclared, of_field, of_param, of_result, Asks, by_super, by_type}
 use Rattle.name_rules.specs.Resolves.{here_of}

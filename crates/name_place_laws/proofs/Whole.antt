@@ -1,5 +1,5 @@
 -- The laws: programs of one tree are one, places aside.
-use Rattle.std.proofs.Common.{◌≡◌, ℕ, ◌<◌, List, length, Result, Ok, Err, sym, ap, ◌∙◌, subst}
+use Rattle.std.proofs.Common.{◌≡◌, ◌<◌, List, length, Result, Ok, Err, sym, ap, ◌∙◌, subst}
 use Rattle.std.proofs.lemmas.List.{length-map}
 use Rattle.java_tree.specs.Syntax.{DeclTree}
 use Rattle.java_tree.specs.Places.{unplaced}
