@@ -11,7 +11,8 @@ use Rattle.name_rules.specs.Outline.{is_type_name}
 use Rattle.name_rules.specs.Meanings.{is_class_name}
 use Rattle.name_rules.specs.Conditions.{IsUnknownType, no_such_type, IsUnknownCast, no_such_cast, FaultIn, this_in_static, no_variable, static_above, own_in_static, no_class_of_field, no_static_field, in_base, in_array, in_index, no_method, static_method_above, call_in_static, in_arguments, no_class_of_call, no_static_method, in_receiver, in_call_arguments, super_in_static, in_super_arguments, no_class_of_new, in_new_arguments, no_type_of_array, in_size, no_type_of_cast, in_cast, no_class_of_test, in_tested, in_operand, in_left, in_right, FaultInOne, in_first, in_later, FaultInValue, in_value, names_after_part, StFault, no_type_of_local, type_as_local, local_twice, in_first_value, in_block, in_target, in_assigned, in_call, in_printed, in_choice, in_else, in_while_test, in_while, in_first_part, in_for_test, in_last_part, in_for, in_returned, break_outside, continue_outside, StsFault, in_statement, in_rest, ArmsFault, in_test, in_arm, in_more_arms, PartFault, in_part}
 use Rattle.java_core.specs.Untagged.{untagged}
-use Rattle.name_place_laws.proofs.Meanings.{names-same, named-same, class-name-same, static-field-back, static-method-back, nearest-field, met, met-back}
+use Rattle.name_place_laws.proofs.Meanings.{names-same, named-same, class-name-same, static-field-back, static-method-back, nearest-field, met-back}
+use Rattle.name_place_laws.proofs.FirstMethods.{first-method}
 use Rattle.name_place_laws.proofs.Faults.{None-of, after, after-part}
 
 module _ (O : Plain) where
@@ -47,8 +48,8 @@ module _ (O : Plain) (here : Here) where
       fault free (in_array h) = fault (λ r g. free r (in_array g)) h
       fault free (in_index h) = fault (λ r g. free r (in_index g)) h
       fault free (no_method f) = free _ (no_method (λ m k h. let a = met-back O h in f m a.0 a.1))
-      fault free (static_method_above m s o) = free _ (static_method_above (met O m) s o)
-      fault free (call_in_static m s t) = free _ (call_in_static (met O m) s t)
+      fault free (static_method_above m s o) = free _ (static_method_above (first-method O m) s o)
+      fault free (call_in_static m s t) = free _ (call_in_static (first-method O m) s t)
       fault free (in_arguments h) = faults (λ r g. free r (in_arguments g)) h
       fault free (no_class_of_call {c = c} {q = q} a f) =
           free _ (no_class_of_call (class-same O here.owner scope (NameRef c q) ∙ a) (named-same O c ∙ f))
