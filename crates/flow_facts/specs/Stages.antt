@@ -20,7 +20,6 @@ pub record IsListed {T K : Type 0} (key : T → K) (limit : ℕ) (wanted list : 
 
 -- what a fault says of a count and its limit
 abbrev pub IsAbove : ℕ → ℕ → Counted → FactsFault → Type 0
-IsAbove n limit what (fault.HasInterface x) = ⊥
 IsAbove n limit what (fault.TooMany kind k) = (limit < n) × (kind ≡ what) × (k ≡ limit + 1)
 IsAbove n limit what fault.Memory = Unit {0}
 

@@ -1,9 +1,8 @@
 //! The facts of a program.
 
 ghost use Rattle.std.specs.Prelude.{◌≡◌, ◌+◌, ◌++◌, ◌<◌, ◌≤◌, None, IfOk, IfErr, OnOk, length, map};
-ghost use Rattle.std.specs.Option.{option_map};
 ghost use Rattle.flow_rules.specs.Numbered.{rows_of, columns_of, sites_of, points_of, bodies_of, field_rows, method_rows, field_columns, method_columns, static_points, outline_if};
-ghost use Rattle.flow_rules.specs.Facts.{AreNamesOf, IsFactsOf, IsRefused, IsWithin, first_interface, numbers, cells_of, too_many, IsOver};
+ghost use Rattle.flow_rules.specs.Facts.{AreNamesOf, IsFactsOf, IsRefused, IsWithin, numbers, cells_of, too_many};
 ghost use Rattle.flow_rules.specs.Ordered.{by_place, once};
 ghost use Rattle.flow_facts.specs.Stages.{IsAbove, IsListed, IsTable, IsFlow, IsNumbered};
 ghost use Rattle.flow_facts.specs.Words.{program_of, IsFormed, each, body_seen, outline_seen, numbers_seen};
@@ -20,22 +19,9 @@ use flow_rules::{
     Body, Column, Counted, FactsFault, Outline, Point, PointAt, PointItem, Row, Site,
 };
 use java_core::Program;
-use kaba_base::Name;
 use std::alloc::Global;
 use std::hash::Hash;
 use std::mem::drop;
-
-/// The first interface that is declared.
-fn first_interface(program: &Program) -> Option<&Name>
-    ensures value { option_map (λ x. x.now) result ≡ first_interface (program_of program.now).classes }
-{
-    for class in &program.classes {
-        if class.is_interface {
-            return Some(&class.name);
-        }
-    }
-    None
-}
 
 /// Refuses a count that is over its limit.
 fn within(count: usize, limit: u32, what: Counted) -> Result<(), FactsFault>
@@ -81,7 +67,7 @@ fn number_points(
     requires sites { length (sites_of (program_of program.now)) ≤ 8192 }
     ensures ok { IfOk result (λ l. IsListed (λ p. p.item) 65536
         (points_of (program_of program.now)) l.items.items l.keys.keys) }
-    ensures refused { IfErr result (λ e. IsOver (program_of program.now) e) }
+    ensures refused { IfErr result (λ e. IsRefused (program_of program.now) e) }
 {
     let rows = &table.rows.keys;
     let statics = made!(by_place(statics) => FactsFault; outlines);
@@ -116,7 +102,7 @@ fn number_cells(
     requires points { length (points_of (program_of program.now)) + most ≡ 65536 }
     ensures items { IfOk result (λ v. v.items ≡ cells_of (program_of program.now)) }
     ensures counts { IfOk result (λ v. too_many (program_of program.now) ≡ None) }
-    ensures refused { IfErr result (λ e. IsOver (program_of program.now) e) }
+    ensures refused { IfErr result (λ e. IsRefused (program_of program.now) e) }
 {
     let given = Given {
         alloc,
@@ -144,7 +130,7 @@ fn number_table(
         ++ each (method_columns (program_of program.now)) 0
         (program_of program.now).methods }
     ensures ok { IfOk result (λ t. IsTable (program_of program.now) t) }
-    ensures refused { IfErr result (λ e. IsOver (program_of program.now) e) }
+    ensures refused { IfErr result (λ e. IsRefused (program_of program.now) e) }
 {
     let rows = made!(number_by_place(alloc, rows, 16384, Counted::Rows); columns);
     let columns = made!(number_by_place(alloc, columns, 8192, Counted::Columns); rows);
@@ -167,7 +153,7 @@ fn number_flow(
         ≡ each (outline_if (program_of program.now)) 0
         (program_of program.now).methods }
     ensures ok { IfOk result (λ f. IsFlow (program_of program.now) f) }
-    ensures refused { IfErr result (λ e. IsOver (program_of program.now) e) }
+    ensures refused { IfErr result (λ e. IsRefused (program_of program.now) e) }
 {
     let sites = made!(
         all_sites(alloc, &table.rows.keys, bodies) => FactsFault;
@@ -194,7 +180,7 @@ fn number_whole(
     requires flow { IsFlow (program_of program.now) flow }
     requires bodies { map body_seen bodies.items ≡ bodies_of (program_of program.now) }
     ensures ok { IfOk result (λ d. IsNumbered (program_of program.now) d) }
-    ensures refused { IfErr result (λ e. IsOver (program_of program.now) e) }
+    ensures refused { IfErr result (λ e. IsRefused (program_of program.now) e) }
 {
     let (rows, columns) = (table.rows, table.columns);
     let (sites, points) = (flow.sites, flow.points);
@@ -233,7 +219,7 @@ fn number_whole(
 fn number_all(alloc: Global, program: &Program) -> Result<Numbered, FactsFault>
     requires { IsFormed (program_of program.now) }
     ensures ok { IfOk result (λ d. IsNumbered (program_of program.now) d) }
-    ensures refused { IfErr result (λ e. IsOver (program_of program.now) e) }
+    ensures refused { IfErr result (λ e. IsRefused (program_of program.now) e) }
 {
     let surveyed = made!(survey(alloc, program) => FactsFault;);
     let (statics, outlines) = (surveyed.statics, surveyed.outlines);
@@ -260,14 +246,9 @@ pub fn facts(alloc: Global, program: &Program) -> Result<Facts, FactsFault>
     ensures within { IfOk result (λ f. IsWithin (program_of program.now)) }
     ensures refused { IfErr result (λ e. IsRefused (program_of program.now) e) }
 {
-    match first_interface(program) {
-        Some(name) => Err(FactsFault::HasInterface(name.copy(alloc)?)),
-        None => {
-            let numbered = made!(number_all(alloc, program));
-            let facts = made!(facts_over(alloc, program, numbered) => FactsFault;);
-            Ok(facts)
-        }
-    }
+    let numbered = made!(number_all(alloc, program));
+    let facts = made!(facts_over(alloc, program, numbered) => FactsFault;);
+    Ok(facts)
 }
 
 /// The numbers of the rows, columns, sites and flow points of a program, by their items.
@@ -280,7 +261,7 @@ pub fn numbering_of(alloc: Global, program: &Program) -> Result<Numbering, Facts
     requires { IsFormed (program_of program.now) }
     ensures ok { IfOk result (λ n. numbers_seen n ≡ numbers (program_of program.now)) }
     ensures columns { IfOk result (λ n. n.columns.keys ≡ map (λ c. c.item) (columns_of (program_of program.now))) }
-    ensures refused { IfErr result (λ e. IsOver (program_of program.now) e) }
+    ensures refused { IfErr result (λ e. IsRefused (program_of program.now) e) }
 {
     let numbered = made!(number_all(alloc, program));
     Ok(numbered.numbering)

@@ -23,17 +23,12 @@ same_facts P F G f g =
     search (rules, both)
 
 pub same_faults : (P : Plain) (e f : FactsFault) → IsRefused P e → IsRefused P f → e ≢ fault.Memory → f ≢ fault.Memory → e ≡ f
-same_faults P (fault.HasInterface x) (fault.HasInterface y) a b m n = cc
-same_faults P (fault.HasInterface x) (fault.TooMany k i) a b m n = absurd (let e = sym a ∙ b.0 in cc)
-same_faults P (fault.TooMany k i) (fault.HasInterface y) a b m n = absurd (let e = sym b ∙ a.0 in cc)
 same_faults P (fault.TooMany k i) (fault.TooMany l j) a b m n =
-    ap (λ t. fault.TooMany t.what t.number) (same_Some (record { what = k; number = i }) (record { what = l; number = j }) (sym a.1 ∙ b.1))
+    ap (λ t. fault.TooMany t.what t.number) (same_Some (record { what = k; number = i }) (record { what = l; number = j }) (sym a ∙ b))
 same_faults P fault.Memory f a b m n = absurd (m refl)
-same_faults P (fault.HasInterface x) fault.Memory a b m n = absurd (n refl)
 same_faults P (fault.TooMany k i) fault.Memory a b m n = absurd (n refl)
 
 -- a program that has facts is refused for want of memory alone
 pub not_refused : (P : Plain) (e : FactsFault) → IsWithin P → IsRefused P e → e ≡ fault.Memory
-not_refused P (fault.HasInterface x) w r = absurd (let e = sym r ∙ w.interfaces in cc)
-not_refused P (fault.TooMany k i) w r = absurd (let e = sym r.1 ∙ w.counts in cc)
+not_refused P (fault.TooMany k i) w r = absurd (let e = sym r ∙ w.counts in cc)
 not_refused P fault.Memory w r = refl

@@ -9,7 +9,7 @@ use Rattle.flow_program.specs.Solved.{HasCoveringSets}
 
 -- the facts are those of the program, in range and in order, and their points-to sets cover each run
 pub record AreProgramFacts (P : Plain) (F : Facts) : Type 0 where
-  -- the program has no interface, and not too much of anything
+  -- there is not too much of anything in the program
   pub within : IsWithin P
   -- each list has what the text gives, in its order or as a set; there are no makers and no spots
   pub is : IsFactsOf P F

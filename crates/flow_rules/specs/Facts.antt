@@ -309,24 +309,11 @@ too_many P =
     (over 8192 (length (columns_of P)) counted.Columns
     (over 8192 (length (sites_of P)) counted.Sites (over 65536 (length (points_of P) + length (cells_of P)) counted.Points None)))
 
--- the name of the first interface
-abbrev pub first_interface : List PlainClass → Option (List ℕ)
-first_interface [] = None
-first_interface (k ∷ ks) = if k.is_interface then Some k.name else first_interface ks
-
--- what a fault says of what there is too much of
-abbrev pub IsOver : Plain → FactsFault → Type 0
-IsOver P (fault.HasInterface x) = ⊥
-IsOver P (fault.TooMany what n) = too_many P ≡ Some (record { what = what; number = n })
-IsOver P fault.Memory = Unit {0}
-
 -- what a fault says of the program
 abbrev pub IsRefused : Plain → FactsFault → Type 0
-IsRefused P (fault.HasInterface x) = first_interface P.classes ≡ Some x
-IsRefused P (fault.TooMany what n) = (first_interface P.classes ≡ None) × (too_many P ≡ Some (record { what = what; number = n }))
+IsRefused P (fault.TooMany what n) = too_many P ≡ Some (record { what = what; number = n })
 IsRefused P fault.Memory = Unit {0}
 
--- a program of which the facts can be given
+-- a program of which the facts can be given: there is not too much of anything
 pub record IsWithin (P : Plain) : Type 0 where
-  pub interfaces : first_interface P.classes ≡ None
   pub counts : too_many P ≡ None

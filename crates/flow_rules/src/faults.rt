@@ -1,6 +1,5 @@
 //! Why the facts of a program are not given.
 
-use kaba_base::Name;
 use std::alloc::AllocError;
 
 /// What is counted against a limit.
@@ -21,8 +20,6 @@ pub enum Counted {
 pub enum FactsFault {
     /// There is too much of something; the number is one past its limit.
     TooMany(Counted, u32),
-    /// An interface is declared, the first of this name.
-    HasInterface(Name),
     /// Memory is short.
     Memory,
 }

@@ -38,7 +38,6 @@ fn numbers_of(alloc: Global, program: &Program) -> Result<Numbering, AllocError>
         }),
         Err(FactsFault::Memory) => Err(AllocError),
         Err(FactsFault::TooMany(_, _)) => unreachable!(),
-        Err(FactsFault::HasInterface(_)) => unreachable!(),
     }
 }
 
