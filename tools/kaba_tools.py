@@ -215,6 +215,7 @@ class Declarations:
         self.source = source
         self.classes = {}  # name: line, in the order of the text
         self.parents = {}  # name: the class that it extends
+        self.supertypes = {}  # name: all classes and interfaces that its head names
         self.members = {}  # C.f or C.m(): line
         self.variables = []  # Declared, in the order of the text
         self.bodies = []  # Body, in the order of the text
@@ -242,7 +243,10 @@ class Declarations:
         self.at += 1
         name = self.text()
         self.classes[name] = self.line()
+        self.supertypes[name] = []
         while self.text() not in ("{", ""):
+            if self.text() in ("extends", "implements", ","):
+                self.supertypes[name].append(self.text(1))
             if self.text() == "extends":
                 self.parents.setdefault(name, self.text(1))
             self.at += 1

@@ -1,13 +1,15 @@
 """What the analysis joins: methods of one slot in unrelated classes, and containers that several uses share."""
 
 
-def root_of(declared, name):
-    """The highest class that a class extends."""
-    seen = set()
-    while name in declared.parents and name not in seen:
-        seen.add(name)
-        name = declared.parents[name]
-    return name
+def families(declared):
+    """For each class and interface the set of those with which it is joined by its supertypes, Object aside."""
+    family = {name: {name} for name in declared.classes}
+    for name, above in declared.supertypes.items():
+        for other in above:
+            if other in family and family[other] is not family[name]:
+                joined = family[other] | family[name]
+                family.update(dict.fromkeys(joined, joined))
+    return family
 
 
 def shared_slots(declared):
@@ -15,12 +17,13 @@ def shared_slots(declared):
 
     A slot has one row for each parameter and one for its result: so what one class's method is given counts for all.
     """
-    slots = {}
+    slots, family = {}, families(declared)
     for head in declared.heads:
         if "static" not in head.modifiers:
             key = (head.label.split(".")[1], tuple(head.parameters), head.result)
             slots.setdefault(key, []).append(head)
-    return [heads for heads in slots.values() if len({root_of(declared, head.label.split(".")[0]) for head in heads}) > 1]
+    of_class = [(heads, [family[head.label.split(".")[0]] for head in heads]) for heads in slots.values()]
+    return [heads for heads, found in of_class if any(it is not found[0] for it in found)]
 
 
 def lower_classes(declared, name):

@@ -7,14 +7,14 @@ use Rattle.std.proofs.lemmas.List.{length-map}
 use Rattle.kaba_base.proofs.ListLemmas.{map_at, at_map}
 use Rattle.java_core.specs.Programs.{Plain, PlainMethod}
 use Rattle.java_core.specs.Classes.{faces_above, chain, search_order, first_found}
-use Rattle.java_core.specs.Untagged.{untag_class, untag_method}
+use Rattle.java_core.specs.Untagged.{untag_class, untag_method, untagged}
 use Rattle.java_core.proofs.Positions.{position-map}
 use Rattle.name_rules.specs.Meanings.{is_named_in, named_method, first_method, IsFirstMethod}
-use Rattle.name_place_laws.proofs.Meanings.{bare-outline, parent-same, faces-same}
+use Rattle.name_place_laws.proofs.Meanings.{parent-same, faces-same}
 
 module _ (O : Plain) where
   abbrev B : Plain
-  B = bare-outline O
+  B = untagged O
 
   chain-same : (n c : ℕ) → chain B n c ≡ chain O n c
   chain-same zero c = refl
