@@ -7,13 +7,13 @@ import sys
 import tempfile
 from pathlib import Path
 
-from kaba_tools import HERE, kaba
+from kaba_tools import HERE, Source, kaba
 
 WORDS = [[], ["one", "two"], ["", "x", "gr\u00f6\u00dfe", "4", "5"]]
 STEPS = "20000"
 SCRIPTS = 2  # random scripts for each program, beside the empty one
 UNBOUNDED = {"StackOverflowError", "OutOfMemoryError", "going"}
-NO_TREE, HAS_INTERFACE = 5, 75
+NO_TREE = 5
 
 HARNESS = """import java.io.*;
 import java.lang.reflect.*;
@@ -145,12 +145,16 @@ def accepted(file, script, lines):
     return [line for k, line in enumerate(lines, 1) if k not in refused]
 
 
+def declares_interface(file):
+    return any(token.text == "interface" for token in Source(file.read_bytes()).tokens)
+
+
 class Judged:
     """A program, the texts that are written of it, and what differs."""
 
     def __init__(self, name, text, main, folder, seed):
         self.name, self.main, self.folder, self.left_out = name, main, folder / name, ""
-        self.texts, self.no_tree, self.wrong = [], 0, []
+        self.parts, self.edits, self.again, self.no_tree, self.wrong = [], 0, 0, 0, []
         (self.folder / "old").mkdir(parents=True)
         self.file = self.folder / "old" / f"{main}.java"
         self.file.write_text(text)
@@ -161,12 +165,9 @@ class Judged:
             self.write_texts(random.Random(seed))
 
     def write_texts(self, chance):
-        script = self.folder / "0.edits"
-        script.write_text("")
-        status, out, err = kaba("edit", str(self.file), str(script))
-        if status == HAS_INTERFACE:
-            self.left_out = "interface"
-            return
+        empty = self.folder / "0.edits"
+        empty.write_text("")
+        status, out, err = kaba("edit", str(self.file), str(empty))
         if status != 0:
             self.wrong.append(f"edit of the empty script: {status} {err[:200]}")
             return
@@ -175,26 +176,31 @@ class Judged:
             script = self.folder / f"{k}.edits"
             lines = accepted(self.file, script, candidates(nodes, chance, chance.randint(3, 14))) if k else []
             script.write_text("\n".join(lines))
-            self.write_text(k, script, lines)
+            text = self.write_text(str(k), self.file, script, lines)
+            if text:
+                self.edits += len(lines)
+                self.again += bool(self.write_text(f"{k}-again", text, empty, []))
 
-    def write_text(self, k, script, lines):
-        status, out, err = kaba("regen", str(self.file), str(script))
-        if status == NO_TREE and k:
+    def write_text(self, part, file, script, lines):
+        """The file of the text that is written after these edits, kept as a part; nothing where there is no tree."""
+        status, out, err = kaba("regen", str(file), str(script))
+        if status == NO_TREE and (lines or declares_interface(file)):
             self.no_tree += 1
-            return
+            return None
         if status != 0:
-            self.wrong.append(f"regen {k}: {status} {err[-200:]}")
-            return
-        (self.folder / str(k)).mkdir()
-        file = self.folder / str(k) / f"{self.main}.java"
-        file.write_bytes(out)
-        self.texts.append((k, len(lines)))
+            self.wrong.append(f"regen {part}: {status} {err[-200:]}")
+            return None
+        (self.folder / part).mkdir()
+        text = self.folder / part / f"{self.main}.java"
+        text.write_bytes(out)
+        self.parts.append(part)
         for words, was in zip(WORDS, self.was):
-            if kaba("run", str(file), STEPS, *words) != was:
-                self.wrong.append(f"text {k}: kaba run differs on {words}")
+            if kaba("run", str(text), STEPS, *words) != was:
+                self.wrong.append(f"text {part}: kaba run differs on {words}")
+        return text
 
     def jobs(self):
-        return [] if self.left_out else [f"{self.folder / part} {self.main}" for part in ("old", *(str(k) for k, _ in self.texts))]
+        return [] if self.left_out else [f"{self.folder / part} {self.main}" for part in ("old", *self.parts)]
 
     def compare(self):
         """What the JDK said and did, set beside what it did with the program that was given."""
@@ -203,13 +209,13 @@ class Judged:
         if self.said("old"):
             self.left_out = "javac"
             return
-        for k, _ in self.texts:
-            if self.said(str(k)):
-                self.wrong.append(f"text {k}: javac: {self.said(str(k))[:200]}")
+        for part in self.parts:
+            if self.said(part):
+                self.wrong.append(f"text {part}: javac: {self.said(part)[:200]}")
                 continue
             for n, words in enumerate(WORDS):
-                if not self.same(f"old/{n}", f"{k}/{n}"):
-                    self.wrong.append(f"text {k}: java differs on {words}")
+                if not self.same(f"old/{n}", f"{part}/{n}"):
+                    self.wrong.append(f"text {part}: java differs on {words}")
 
     def said(self, part):
         return (self.folder / part / "javac").read_text()
@@ -263,10 +269,11 @@ def compare_regen(program, count, seed, run):
     different = [program for program in taken if program.wrong]
     for program in different:
         print(f"{program.folder}: {'; '.join(program.wrong)}")
-    texts = sum(len(program.texts) for program in taken)
-    edits = sum(lines for program in taken for _, lines in program.texts)
+    again = sum(program.again for program in taken)
+    texts = sum(len(program.parts) for program in taken) - again
+    edits = sum(program.edits for program in taken)
     no_tree = sum(program.no_tree for program in taken)
     why = ", ".join(f"{n} {reason}" for reason, n in left.most_common()) or "none"
-    print(f"{len(taken)} programs, {texts} texts after {edits} edits, {no_tree} scripts without a tree, ", end="")
-    print(f"{len(different)} programs different; left out: {why}")
+    print(f"{len(taken)} programs, {texts} texts after {edits} edits, {again} written again, ", end="")
+    print(f"{no_tree} without a tree, {len(different)} programs different; left out: {why}")
     return 1 if different else 0

@@ -2,8 +2,6 @@
 use Rattle.std.proofs.Common.{◌≡◌, ◌∙◌, inl, inr, ℕ, ◌≤◌, Bool, List, [], ◌++◌, length, Result, Ok, Err, IfOk, ap, subst, sym, append_assoc}
 use Rattle.std.specs.declared.alloc.AllocError.{AllocError}
 use Rattle.java_core.specs.declared.Program.{Program}
-use Rattle.fact_model.specs.InRange.{InRange}
-use Rattle.fact_model.specs.InOrder.{InOrder}
 use Rattle.fact_model.specs.declared.facts.Facts.{Facts}
 use Rattle.fact_model.specs.declared.sets.Table.{Table}
 use Rattle.fact_model.specs.Entries.{IsTable}
@@ -14,7 +12,6 @@ use Rattle.fact_model.specs.declared.sets.Lattice.{Lattice}
 use Rattle.hier_model.specs.Hierarchies.{Hierarchy}
 use Rattle.hier_view.specs.Text.{hierarchy_text}
 use Rattle.edit_script.specs.declared.lines.Line.{Line}
-use Rattle.hier_tree.specs.Kept.{HasNoInterface}
 use Rattle.hier_tree.specs.Reached.{IsReached, begun}
 use Rattle.tree_merge.specs.declared.steps.TreeStep.{TreeStep}
 use Rattle.tree_merge.specs.declared.trees.NoTree.{NoTree}
@@ -27,7 +24,7 @@ use Rattle.kaba_top.specs.ScriptAnswers.{HasLattice, ScriptAnswers, start_of, ed
 use Rattle.kaba_top.specs.EditAnswers.{EditOf, ShowsHierarchy, edit_status}
 use Rattle.kaba_top.specs.RegenAnswers.{IsTreeOf, EndsAtConflict, IsWithoutTree, RegenOf}
 use Rattle.kaba_top.specs.Proposals.{IsProposal, IsStuck, IsWritten}
-use Rattle.kaba_top.proofs.Reaching.{reached}
+use Rattle.kaba_top.proofs.Reaching.{reached, no_interface}
 
 -- what an analysis has come to before its script is run
 abbrev pub lattice_by : {bound : ℕ} {facts : Facts} (sets : PointsTo) (table : Table) (lattice : Lattice) → AreSets facts sets → IsTable facts table
@@ -106,35 +103,33 @@ regenerated bound script program facts p tree log text (Ok reply) is written h =
 
 -- there is no tree, and drops and fresh names alone do not lead there
 pub without_tree : (bound : ℕ) (script : List ℕ) (program : Program) (facts : Facts) (p : Proposal) (fault : NoTree) (status : ℕ) (out err : List ℕ)
-    → (is : IsProposal bound script facts p)
-    → InRange facts → InOrder facts → HasNoInterface facts → IsStuck facts p.sets p.edited.hier fault
+    → (is : IsProposal bound script facts p) → HasFacts program facts → IsStuck facts p.sets p.edited.hier fault
     → Gives 5 [] (p.edited.refusals.items ++ (log_text fault.log.items ++ line (no_tree_text fault))) status out err
     → IsWithoutTree program bound facts (has_lattice bound script facts p is) is.edits status out err
-without_tree bound script program facts p fault status out err is range order none stuck h =
+without_tree bound script program facts p fault status out err is known stuck h =
     let has = has_lattice bound script facts p is in
     record {
       fault = fault;
       ends = subst (λ H. EndsAtConflict facts p.sets H fault) is.is.hierarchy stuck.ends;
-      more = λ modest. stuck.unreached p.table p.lattice
-          (record { range = range; order = order; sets = is.are_sets; table = is.is_table; lattice = is.is_lattice }) none
+      more = λ none modest. stuck.unreached p.table p.lattice
+          (record { range = known.in_range; order = known.in_order; sets = is.are_sets; table = is.is_table; lattice = is.is_lattice }) (no_interface program facts known none)
           (subst (IsReached facts p.sets p.table p.lattice) (sym is.is.hierarchy) (reached facts p.sets p.table p.lattice (start_of bound facts has)
           is.edits modest begun));
       gives = subst (λ lines. Gives 5 [] (lines ++ (log_text fault.log.items ++ line (no_tree_text fault))) status out err) is.is.refusals h;
     }
 
 pub stuck_answers : (bound : ℕ) (script : List ℕ) (program : Program) (facts : Facts) (p : Proposal) (fault : NoTree) (r : Result Reply AllocError)
-    → IsProposal bound script facts p
-    → InRange facts → InOrder facts → HasNoInterface facts → IsStuck facts p.sets p.edited.hier fault
+    → IsProposal bound script facts p → HasFacts program facts → IsStuck facts p.sets p.edited.hier fault
     → IfOk r (λ reply. Gives 5 [] (p.edited.refusals.items ++ (log_text fault.log.items ++ line (no_tree_text fault))) reply.status reply.out.items
     reply.err.items)
     → IfOk r (λ reply. RegenOf bound script program facts reply.status reply.out.items reply.err.items)
-stuck_answers bound script program facts p fault (Err e) is range order none stuck h = tt
-stuck_answers bound script program facts p fault (Ok reply) is range order none stuck h = inr (record {
+stuck_answers bound script program facts p fault (Err e) is known stuck h = tt
+stuck_answers bound script program facts p fault (Ok reply) is known stuck h = inr (record {
   has = has_lattice bound script facts p is;
   edits = is.edits;
   are = is.are;
   few = is.few;
-  answers = inr (without_tree bound script program facts p fault reply.status reply.out.items reply.err.items is range order none stuck h);
+  answers = inr (without_tree bound script program facts p fault reply.status reply.out.items reply.err.items is known stuck h);
 })
 
 -- and lines after those of a log

@@ -9,3 +9,4 @@ pub mod ReadsOne
 pub mod Promised
 pub mod Making
 pub mod Stuck
+pub mod Samples

@@ -63,8 +63,7 @@ module _ (status : ℕ) (out err : List ℕ) (j : IsJudging status) where
 
   in_facts : (J : Facts → ℕ → List ℕ → List ℕ → Type 0) (R : Type 0) (p : Program) → ((F : Facts) → HasFacts p F → J F status out err → R)
       → AnalysisAnswers J p status out err → R
-  in_facts J R p f (inl (inl a)) = absurd (other 75 status (omega arith) (omega arith) a.says.status_is j)
-  in_facts J R p f (inl (inr a)) = absurd (other 67 status (omega arith) (omega arith) a.says.status_is j)
+  in_facts J R p f (inl a) = absurd (other 67 status (omega arith) (omega arith) a.says.status_is j)
   in_facts J R p f (inr a) = f a.facts a.has a.answers
 
   in_run : (bound : ℕ) (script : List ℕ) (F : Facts) (A : HasLattice bound F → List Line → ℕ → List ℕ → List ℕ → Type 0) (R : Type 0)

@@ -1,7 +1,10 @@
 -- What drops and fresh names make of a start, and that facts without an interface have none.
-use Rattle.std.proofs.Common.{◌≡◌, ℕ, zero, suc, ◌+◌, Bool, true, false, List, [], ◌∷◌, Option, Some, None, Result, Ok, Err, map, refl, sym, ◌∙◌, ap, slice_get, if◌then◌else◌}
+use Rattle.std.proofs.Common.{◌≡◌, ℕ, zero, suc, ◌+◌, Bool, true, false, List, [], ◌∷◌, Result, Ok, Err, map, refl, ◌∙◌, ap, slice_get}
+use Rattle.std.specs.List.{list_any}
+use Rattle.std.proofs.lemmas.Bool.{or_parts}
 use Rattle.std.specs.Option.{option_map_or}
-use Rattle.java_core.specs.Programs.{Plain, PlainClass}
+use Rattle.java_core.specs.declared.Program.{Program}
+use Rattle.java_core.specs.Programs.{Plain, PlainClass, program_of}
 use Rattle.fact_model.specs.Classes.{is_interface}
 use Rattle.fact_model.specs.declared.facts.Facts.{Facts}
 use Rattle.fact_model.specs.declared.facts.ClassInfo.{ClassInfo}
@@ -9,7 +12,7 @@ use Rattle.fact_model.specs.declared.sets.PointsTo.{PointsTo}
 use Rattle.fact_model.specs.declared.sets.Table.{Table}
 use Rattle.fact_model.specs.declared.sets.Lattice.{Lattice}
 use Rattle.flow_rules.specs.Ordered.{each}
-use Rattle.flow_rules.specs.Facts.{ClassFacts, class_seen, class_facts, first_interface}
+use Rattle.flow_rules.specs.Facts.{ClassFacts, class_seen, class_facts}
 use Rattle.hier_model.specs.Hierarchies.{Hierarchy}
 use Rattle.hier_model.specs.declared.edits.Edit.{Edit}
 use Rattle.hier_model.specs.declared.edits.Edit.TheVariants.{Merge, Under, Move, TypeName, MemberName, Drop}
@@ -19,8 +22,9 @@ use Rattle.edit_script.specs.declared.lines.Line.{Line}
 use Rattle.hier_script.specs.Scripts.{kept, after_edit, after_edits}
 use Rattle.hier_tree.specs.Kept.{HasNoInterface}
 use Rattle.hier_tree.specs.Reached.{IsReached, begun, dropped, type_named, member_named}
-use Rattle.flow_program.specs.Known.{AreProgramFacts}
 use Rattle.kaba_top.specs.Fresh.{IsDropOrFresh, AreDropsAndFreshNames}
+use Rattle.kaba_top.specs.FactsAnswers.{HasFacts}
+use Rattle.kaba_top.specs.RegenAnswers.{DeclaresNoInterface}
 
 module _ (F : Facts) (pt : PointsTo) (t : Table) (l : Lattice) where
   -- an edit that was accepted or refused
@@ -39,13 +43,6 @@ module _ (F : Facts) (pt : PointsTo) (t : Table) (l : Lattice) where
   reached H [] d h = h
   reached H (line ∷ lines) d h = reached (after_edit F pt H line) lines d.1 (by_result H line.edit (applied F pt H line.edit) d.0 h refl)
 
-Some≢None : {A : Type 0} (x : A) → Some x ≡ None → ⊥
-Some≢None x e = let u = e in cc
-
-none_first : (b : Bool) (x : List ℕ) (rest : Option (List ℕ)) → (if b then Some x else rest) ≡ None → (b ≡ false) × (rest ≡ None)
-none_first true x rest e = absurd (Some≢None x e)
-none_first false x rest e = (refl, e)
-
 abbrev interface_of : List ClassFacts → Bool
 interface_of [] = false
 interface_of (k ∷ ks) = k.is_interface
@@ -54,15 +51,19 @@ abbrev rest_of : List ClassFacts → List ClassFacts
 rest_of [] = []
 rest_of (k ∷ ks) = ks
 
-none_listed : (P : Plain) (n : ℕ) (cs : List ClassInfo) (ks : List PlainClass) → map class_seen cs ≡ each (class_facts P) n ks → first_interface ks ≡ None
+none_listed : (P : Plain) (n : ℕ) (cs : List ClassInfo) (ks : List PlainClass) → map class_seen cs ≡ each (class_facts P) n ks
+    → list_any (λ k. k.is_interface) ks ≡ false
     → (a : ℕ) → option_map_or (λ k. k.is_interface) (slice_get cs a) false ≡ false
 none_listed P n [] ks e none a = refl
 none_listed P n (c ∷ cs) [] e none a = let u = e in cc
 none_listed P n (c ∷ cs) (k ∷ ks) e none zero =
     let same : c.is_interface ≡ k.is_interface = ap interface_of e in
-    same ∙ (none_first k.is_interface k.name (first_interface ks) none).0
-none_listed P n (c ∷ cs) (k ∷ ks) e none (suc a) = none_listed P (n + 1) cs ks (ap rest_of e) (none_first k.is_interface k.name (first_interface ks) none).1 a
+    same ∙ (or_parts k.is_interface (list_any (λ k. k.is_interface) ks) none).0
+none_listed P n (c ∷ cs) (k ∷ ks) e none (suc a) =
+    none_listed P (n + 1) cs ks (ap rest_of e) (or_parts k.is_interface (list_any (λ k. k.is_interface) ks) none).1 a
 
--- the facts of a program are those of one without interfaces
-pub no_interface : (P : Plain) (F : Facts) → AreProgramFacts P F → HasNoInterface F
-no_interface P F facts = record { classes = λ a. none_listed P 0 F.classes.items P.classes facts.is.classes facts.within.interfaces a }
+-- the facts of a program without interfaces have none
+pub no_interface : (program : Program) (F : Facts) → HasFacts program F → DeclaresNoInterface program → HasNoInterface F
+no_interface program F facts none =
+    let P = program_of program in
+    record { classes = none_listed P 0 F.classes.items P.classes facts.is.classes none }

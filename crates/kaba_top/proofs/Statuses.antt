@@ -58,8 +58,7 @@ run_other : (steps : ℕ) (words : List (List ℕ)) (p : Program) → AreOther (
 run_other steps words p = end_other (meant (program_of p) words steps).end (meant (program_of p) words steps).out
 
 analysis_other : (J : Facts → ℕ → List ℕ → List ℕ → Type 0) → ((f : Facts) → AreOther (J f)) → (p : Program) → AreOther (AnalysisAnswers J p)
-analysis_other J o p status out err (inl (inl a)) = said 75 (omega arith, omega arith) _ status out err a.says
-analysis_other J o p status out err (inl (inr a)) = said 67 (omega arith, omega arith) _ status out err a.says
+analysis_other J o p status out err (inl a) = said 67 (omega arith, omega arith) _ status out err a.says
 analysis_other J o p status out err (inr a) = o a.facts status out err a.answers
 
 table_other : (f : Facts) → AreOther (TableOf f)

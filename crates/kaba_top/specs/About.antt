@@ -17,7 +17,7 @@ help_text =
     ++ (codes "\n"
     ++ (codes "status: 0 done, 4 edits refused, 5 no tree, 10 fault of the run, 11 run not at its end, 64 usage, 65 text refused,\n"
     ++ (codes "  66 cannot read, 67 too large, 68 too many concepts, 69 bad script, 70 no memory, 72 no words,\n"
-    ++ (codes "  74 cannot write, 75 has interface\n"
+    ++ (codes "  74 cannot write\n"
     ++ codes "documents: README.md and docs/ of the repository; docs/COMMANDS.md says each word, line and status\n")))))))))))))
 
 -- what `--version` prints

@@ -1,7 +1,6 @@
 -- Believed. The answers of `table` and `lattice`, for the program of their file.
-use Rattle.std.specs.Prelude.{◌≡◌, ◌⊎◌, ℕ, ◌≤◌, Bool, List, [], ◌++◌, length, codes, Some, None, if◌then◌else◌}
+use Rattle.std.specs.Prelude.{◌≡◌, ◌⊎◌, ℕ, ◌≤◌, Bool, List, [], ◌++◌, length, codes, Some, if◌then◌else◌}
 use Rattle.std.specs.Fmt.{decimal}
-use Rattle.std.specs.Str.{encode_utf8_all}
 use Rattle.java_core.specs.declared.Program.{Program}
 use Rattle.java_core.specs.Programs.{program_of}
 use Rattle.fact_model.specs.declared.facts.Facts.{Facts}
@@ -10,7 +9,7 @@ use Rattle.fact_model.specs.declared.sets.Lattice.{Lattice}
 use Rattle.fact_model.specs.Entries.{IsTable}
 use Rattle.fact_model.specs.Concepts.{AreMoreThan, IsLatticeOf}
 use Rattle.flow_rules.specs.declared.faults.Counted.{Counted}
-use Rattle.flow_rules.specs.Facts.{first_interface, too_many}
+use Rattle.flow_rules.specs.Facts.{too_many}
 use Rattle.flow_program.specs.Known.{AreProgramFacts}
 use Rattle.lattice_view.specs.Table.{table_text}
 use Rattle.lattice_view.specs.Text.{lattice_text}
@@ -19,23 +18,12 @@ use Rattle.kaba_top.specs.declared.cause_words.Cause.TheVariants as cause
 use Rattle.kaba_top.specs.CauseWords.{cause_text}
 use Rattle.kaba_top.specs.Lines.{Says, Gives}
 
--- the program declares an interface, the first of which is named
-pub record IsWithInterface (program : Program) (status : ℕ) (out err : List ℕ) : Type 0 where
-  pub name : List ℕ
-  pub first : first_interface (program_of program).classes ≡ Some name
-  pub says : Says 75 (codes "has interface " ++ encode_utf8_all name) status out err
-
--- the program declares none, and there is too much of it
+-- the program has no facts, since there is too much of something
 pub record IsOverLimit (program : Program) (status : ℕ) (out err : List ℕ) : Type 0 where
-  pub none : first_interface (program_of program).classes ≡ None
   pub what : Counted
   pub number : ℕ
   pub over : too_many (program_of program) ≡ Some (record { what = what; number = number })
   pub says : Says 67 (codes "too large: " ++ cause_text (cause.Limit what)) status out err
-
--- no facts, and why
-abbrev pub IsNotAnalysed : Program → ℕ → List ℕ → List ℕ → Type 0
-IsNotAnalysed program status out err = IsWithInterface program status out err ⊎ IsOverLimit program status out err
 
 -- the program is within the limits and has these facts: each list is that of its text, they are in range and in order, and their
 -- points-to sets cover each run
@@ -50,7 +38,7 @@ pub record IsAnalysed (J : Facts → ℕ → List ℕ → List ℕ → Type 0) (
 
 -- the answers for a program, where J are those for its facts
 abbrev pub AnalysisAnswers : (Facts → ℕ → List ℕ → List ℕ → Type 0) → Program → ℕ → List ℕ → List ℕ → Type 0
-AnalysisAnswers J program status out err = IsNotAnalysed program status out err ⊎ IsAnalysed J program status out err
+AnalysisAnswers J program status out err = IsOverLimit program status out err ⊎ IsAnalysed J program status out err
 
 -- the text of the table
 pub record TableOf (facts : Facts) (status : ℕ) (out err : List ℕ) : Type 0 where

@@ -43,7 +43,7 @@ abbrev pub IsProposed : ℕ → List ℕ → Facts → Proposed → Type 0
 IsProposed bound script facts (proposed.Refused reply) = IsNotRun bound script facts reply.status reply.out.items reply.err.items
 IsProposed bound script facts (proposed.Edited p) = IsProposal bound script facts p
 
--- the steps end at a conflict, which those from a start that drops and fresh names changed never do
+-- the steps end at a conflict; where all types are classes, those from a start that drops and fresh names changed never do
 pub record IsStuck (facts : Facts) (sets : PointsTo) (from : Hierarchy) (fault : NoTree) : Type 0 where
   pub ends : EndsAtConflict facts sets from fault
   pub unreached : (table : Table) (lattice : Lattice) → AreAnalysed facts sets table lattice → HasNoInterface facts

@@ -1,6 +1,8 @@
 -- Believed. The answers of `regen`, for the program of its file and the bytes of its script.
-use Rattle.std.specs.Prelude.{◌≡◌, ◌⊎◌, ℕ, List, [], ◌++◌, None}
+use Rattle.std.specs.Prelude.{◌≡◌, ◌⊎◌, ℕ, List, [], ◌++◌, false, None}
+use Rattle.std.specs.List.{list_any}
 use Rattle.java_core.specs.declared.Program.{Program}
+use Rattle.java_core.specs.Programs.{program_of}
 use Rattle.fact_model.specs.declared.facts.Facts.{Facts}
 use Rattle.fact_model.specs.declared.sets.PointsTo.{PointsTo}
 use Rattle.hier_model.specs.Hierarchies.{Hierarchy}
@@ -29,6 +31,10 @@ pub record EndsAtConflict (facts : Facts) (sets : PointsTo) (from : Hierarchy) (
   pub grows : Grows facts sets from (steps_of fault.log.items) (Stuck last fault.conflict fault.broken)
   pub edits : AreEdits fault.log.items
 
+-- the program declares no interface
+abbrev pub DeclaresNoInterface : Program → Type 0
+DeclaresNoInterface program = list_any (λ k. k.is_interface) (program_of program).classes ≡ false
+
 module _ (program : Program) (bound : ℕ) (facts : Facts) (has : HasLattice bound facts) (edits : List Line) (status : ℕ) (out err : List ℕ) where
   -- a tree was found: what is written is the program of its hierarchy, and the log is told after the refused edits
   pub record IsRegenerated : Type 0 where
@@ -39,11 +45,12 @@ module _ (program : Program) (bound : ℕ) (facts : Facts) (has : HasLattice bou
     pub written : IsWrittenText program facts tree text
     pub gives : Gives (edit_status (refusals bound facts has edits)) text (refusals bound facts has edits ++ log_text log) status out err
 
-  -- there is no tree, and the edits do more than drop nodes and give fresh names: the log is told, and the conflict
+  -- there is no tree: the log is told, and the conflict; this comes only where the program declares an interface, or the edits do more than
+  -- drop nodes and give fresh names
   pub record IsWithoutTree : Type 0 where
     pub fault : NoTree
     pub ends : EndsAtConflict facts has.sets (edited bound facts has edits) fault
-    pub more : AreDropsAndFreshNames facts has.sets (start_of bound facts has) edits → ⊥
+    pub more : DeclaresNoInterface program → AreDropsAndFreshNames facts has.sets (start_of bound facts has) edits → ⊥
     pub gives : Gives 5 [] (refusals bound facts has edits ++ (log_text fault.log.items ++ line (no_tree_text fault))) status out err
 
   -- the program of a tree of classes is written, or it is told that there is no tree

@@ -28,7 +28,7 @@ pub fn help_reply(alloc: Global) -> Tried<Reply>
         \n\
         status: 0 done, 4 edits refused, 5 no tree, 10 fault of the run, 11 run not at its end, 64 usage, 65 text refused,\n\
         \x20 66 cannot read, 67 too large, 68 too many concepts, 69 bad script, 70 no memory, 72 no words,\n\
-        \x20 74 cannot write, 75 has interface\n\
+        \x20 74 cannot write\n\
         documents: README.md and docs/ of the repository; docs/COMMANDS.md says each word, line and status\n",
     )?;
     Ok(Reply {

@@ -32,11 +32,6 @@ pub fn analyse(alloc: Global, program: &Checked) -> Tried<Analysed>
 {
     match facts(alloc, program) {
         Ok(facts) => Ok(Analysed::Found(facts)),
-        Err(FactsFault::HasInterface(name)) => {
-            let name = name.as_str();
-            let text = format!(in alloc; "has interface {name}")?;
-            Ok(Analysed::Refused(Reply::line(alloc, 75, text.as_bytes())?))
-        }
         Err(FactsFault::TooMany(what, _)) => {
             let limit = cause_text(Cause::Limit(what));
             let text = format!(in alloc; "too large: {limit}")?;

@@ -2,8 +2,11 @@
 #![tactic(auto)]
 
 ghost use Rattle.std.specs.Prelude.{◌≡◌, ◌++◌, ℕ, ◌<◌, ◌≤◌, IfOk, OnOk, string_bytes};
+ghost use Rattle.java_core.specs.declared.Program.{Program};
 ghost use Rattle.kaba_top.specs.Words.{program_of, end_of, HasText, AreProgramFacts, AnalysisAnswers};
 ghost use Rattle.kaba_words.specs.Commands.{most_samples};
+ghost use Rattle.kaba_top.specs.Reading.{IsTypedText};
+ghost use Rattle.kaba_top.specs.RegenAnswers.{DeclaresNoInterface};
 ghost use Rattle.kaba_top.specs.MakeAnswers.{MakeAnswers, MadeOf, MadeTextAnswers, RunGives, SampleAnswers, WrittenGives, count_line, counts_of, sample_text, summary};
 ghost use Rattle.kaba_top.specs.Readings.{IsMadeReading};
 
@@ -146,6 +149,7 @@ fn made_text(alloc: Global, counts: &Counts, text: &Vec<u8>) -> Tried<Reply>
 fn made_facts(alloc: Global, program: &Checked, facts: &Facts) -> Tried<Reply>
     requires text { HasText program.now }
     requires facts { AreProgramFacts (program_of program.now) facts.now }
+    requires classes { DeclaresNoInterface program.now }
     ensures { IfOk result (λ reply. MadeOf program.now facts.now reply.status reply.out.items reply.err.items) }
 {
     let script = Vec::new(alloc);
@@ -170,6 +174,7 @@ fn made_facts(alloc: Global, program: &Checked, facts: &Facts) -> Tried<Reply>
 /// The reply of `make` for the program of its sample.
 fn made_program(alloc: Global, program: &Checked) -> Tried<Reply>
     requires text { HasText program.now }
+    requires classes { DeclaresNoInterface program.now }
     ensures { IfOk result (λ reply. AnalysisAnswers (MadeOf program.now) program.now reply.status reply.out.items reply.err.items) }
 {
     match analyse(alloc, program)? {
@@ -180,6 +185,7 @@ fn made_program(alloc: Global, program: &Checked) -> Tried<Reply>
 
 /// The reply of `make` for the text of its sample.
 fn made_sample(alloc: Global, text: &Vec<u8>) -> Tried<Reply>
+    requires classes { (program : Program) → IsTypedText text.now.items program → DeclaresNoInterface program }
     ensures { IfOk result (λ reply. SampleAnswers text.now.items reply.status reply.out.items reply.err.items) }
 {
     match read_made(alloc, text)? {

@@ -1,5 +1,4 @@
 use Rattle.std.proofs.Common.{inl, subst}
-use Rattle.java_core.specs.Programs.{program_of}
 use Rattle.kaba_words.specs.Commands.{usual_concepts}
 use Rattle.kaba_top.specs.Proposals.{IsProposed, IsWrittenOver}
 use Rattle.kaba_top.proofs.Making.{not_run, never_stuck, made}
@@ -37,5 +36,5 @@ unreachable-requires c =
     never_stuck F script p c.in-Stuck.field-0 c.new-script.ensures.items
     (subst (IsProposed usual_concepts script F) c.in-Edited.is c.in_ok-proposal.ensures.proposed)
     c.requires.facts.in_range c.requires.facts.in_order
-    (no_interface (program_of c.args.program.now) F c.requires.facts)
+    (no_interface c.args.program.now F c.requires.facts c.requires.classes)
     (subst (IsWrittenOver c.args.program.now F p.sets p.edited.hier) c.in-Stuck.is c.in_ok-hier.ensures.regenerated)

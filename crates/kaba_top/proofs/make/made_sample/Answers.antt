@@ -9,3 +9,8 @@ pub returns-in-Typed : goal.returns-in-Typed
 returns-in-Typed c =
     made_answers (λ program. AnalysisAnswers (MadeOf program) program) c.args.text.now.items c.in-Typed.program c.made_program.result
     (subst (IsMadeReading c.args.text.now.items) c.in-Typed.is c.in_ok-program.ensures.reading) c.made_program.ensures
+
+pub made_program-requires-clause-classes : goal.made_program-requires-clause-classes
+made_program-requires-clause-classes c =
+    c.requires.classes c.in-Typed.program
+    (subst (IsMadeReading c.args.text.now.items) c.in-Typed.is c.in_ok-program.ensures.reading).1

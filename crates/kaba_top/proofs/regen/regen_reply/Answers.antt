@@ -1,8 +1,6 @@
 use Rattle.std.proofs.Common.{subst}
-use Rattle.java_core.specs.Programs.{program_of}
 use Rattle.kaba_top.specs.Proposals.{IsProposed, IsWrittenOver}
 use Rattle.kaba_top.proofs.Analysing.{regenerated, stuck_answers}
-use Rattle.kaba_top.proofs.Reaching.{no_interface}
 use Rattle.kaba_top.proofs.regen.regen_reply.Goals as goal
 
 pub regenerate-requires-clause-table : goal.regenerate-requires-clause-table
@@ -26,7 +24,6 @@ returns c =
     let p = c.in-Edited.proposal in
     stuck_answers c.args.task.now.bound c.args.task.now.script.now.items c.args.program.now F p c.in-Stuck.fault c.stuck.result
     (subst (IsProposed c.args.task.now.bound c.args.task.now.script.now.items F) c.in-Edited.is c.in_ok-proposal.ensures.proposed)
-    c.requires.facts.in_range c.requires.facts.in_order
-    (no_interface (program_of c.args.program.now) F c.requires.facts)
+    c.requires.facts
     (subst (IsWrittenOver c.args.program.now F p.sets p.edited.hier) c.in-Stuck.is c.in_ok-log.ensures.regenerated)
     c.stuck.ensures
