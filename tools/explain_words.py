@@ -1,6 +1,8 @@
 """The sentences of tools/explain: what stands at the place of a refusal, and what to write instead."""
 import re
 
+from explain_tokens import Pieces
+
 KEYWORDS = {
     "package": "a program is one file without a package: leave the line out",
     "import": "a program is one file, and the Java library is not there: leave the line out",
@@ -27,9 +29,17 @@ KEYWORDS = {
     "assert": "there is no assert: write an if",
 }
 
+LEXICAL = {
+    "OpenString": "the string is not closed on its line",
+    "OpenComment": "the comment is never closed",
+    "BigLiteral": "the greatest number is 2147483647, and the one number type is int",
+}
+TOO_DEEP = "brackets, operators, ifs and loops are nested more than 128 deep: put the inner part into a method"
 ESCAPE = r"""the escapes are \b \t \n \f \r \" \' \\; write (char) N for the character of number N"""
 STEP = "`++` and `--` stand only before or behind a simple variable, as a statement or as a for's third part: write a line of its own, such as i = i + 1;"
 COMPOUND = "a compound assignment takes a simple variable: write it out, such as x.f = x.f + 1;"
+LAMBDA = "there are no lambdas: write a class with a method, and give it an object of that class"
+FRACTION = "there are no fractional numbers: count in int, such as cents"
 GENERIC = "there are no generics: write a class for the one type, or take Object and cast"
 FOREACH = "`:` after the head of a for: for-each is not in the language; write an index, such as for (int i = 0; i < a.length; i++)"
 CHOICE = "`? :` is not in the language: write if (..) {..} else {..}"
@@ -40,6 +50,8 @@ ARRAY = "there are no array initialisers: write new T[N] and store each element 
 
 def at_byte(source, at):
     """The sentence for a byte that begins no token."""
+    if is_fraction(Pieces(source.data), at):
+        return FRACTION
     line, column = source.place(at)
     text, here = source.line(line), column - 1
     if source.data[at : at + 1].isascii() is False and "\ufffd" in text[here : here + 1]:
@@ -88,7 +100,7 @@ def behind_number(text, here):
     for base, form in ((16, r"0[xX][0-9a-fA-F]+$"), (2, r"0[bB][01]+$"), (8, r"0[0-7]+$"), (10, r"[1-9][0-9]*$|0$")):
         if re.match(form, plain):
             return f"numbers are decimal, without a leading zero or _: write {int(plain, base)}"
-    return "there are no fractional numbers: count in int, such as cents" if plain[-1] in "fFdD" else "a letter or digit stands directly behind a number"
+    return FRACTION if plain[-1] in "fFdD" else "a letter or digit stands directly behind a number"
 
 
 class Spot:
@@ -126,11 +138,49 @@ class Spot:
         return [token.text for token in self.tokens[first : self.k]]
 
 
+def is_fraction(pieces, at):
+    """Whether a number with a fraction or an exponent stands at a place or right before it."""
+    k = pieces.at(at)
+    numbers = [pieces.text(j) for j in (k, k - 1) if pieces.kind(j) == "number"]
+    return any(re.fullmatch(r"(?!0[xX]).*(?:\.|[0-9][eE][-+0-9]).*", number) for number in numbers)
+
+
+def is_lambda(pieces, at):
+    """Whether a lambda begins at a place, or the place stands in its parameters."""
+    k = pieces.at(at)
+    ends = [pieces.closing(j) for j in pieces.around(k)[-1:] if pieces.text(j) == "("]
+    return any(pieces.text(j + 1) == "->" for j in (k, k - 1, *ends)) or "->" in (pieces.text(k), pieces.text(k - 1))
+
+
+def is_generic(pieces, at):
+    """Whether types in angle brackets stand at a place."""
+    k = pieces.at(at)
+    for j in (k, k - 1):
+        before = pieces.kind(j - 1) == "word" or pieces.text(j - 1) in (".", "::", "{", ";", "}")
+        if pieces.text(j) == "<" and before and pieces.angles(j) is not None:
+            behind = pieces.angles(j) + 1
+            return pieces.kind(behind) == "word" or pieces.text(behind) in ("(", "[", ">", ",", "{", "::", ".", ")", "&")
+    return False
+
+
+def at_form(source, at):
+    """The sentence for a form of Java that is known by what stands round a place, or nothing."""
+    pieces = Pieces(source.data)
+    if is_fraction(pieces, at):
+        return FRACTION
+    if is_lambda(pieces, at):
+        return LAMBDA
+    return GENERIC if is_generic(pieces, at) else None
+
+
 def at_token(source, k):
     """The token to show, and the sentence."""
     spot = Spot(source, k)
     if k >= len(source.tokens):
         return at_end(spot)
+    form = at_form(source, source.tokens[k].at)
+    if form:
+        return k, form
     for ahead in (0, -1):
         if spot.text(ahead) in KEYWORDS and source.tokens[k + ahead].kind == "word":
             return k + ahead, f"`{spot.text(ahead)}`: {KEYWORDS[spot.text(ahead)]}"
@@ -182,6 +232,17 @@ def in_class(spot):
     return None
 
 
+def second_assignment(said):
+    """The sentence for a `=` behind these texts of its statement."""
+    sentence = "an assignment is a statement of its own, with a variable, a field or an element on its left"
+    if said.count("=") == 1:
+        first, second = "".join(said[: said.index("=")]), "".join(said[said.index("=") + 1 :])
+        if re.fullmatch(r"[\w$.\[\]]+", second) and not second[0].isdigit():
+            name = " ".join(said[: said.index("=")]) if re.fullmatch(r"\w+", said[0] + first) else first
+            return f"{sentence}: write {second} = ..; {name} = {second};"
+    return sentence
+
+
 def in_body(spot):
     text, before, after = spot.text(), spot.text(-1), spot.text(1)
     said = spot.statement()
@@ -197,13 +258,11 @@ def in_body(spot):
         if mark in ("&", "|", "^", "<<", ">>", ">>>") and equals == "=":
             return f"`{mark}=` is not in the language: write x = x {mark} ..;, and for booleans && and ||"
     if text == "=":
-        return "an assignment is a statement of its own, with a variable, a field or an element on its left"
+        return second_assignment(said)
     if text == "{" or before == "{" and "=" in said:
         return ARRAY if before in ("=", "]") else "no block stands here: there are no classes within expressions, and no array initialisers"
     if text == "," and spot.tokens[spot.open[-1]].text == "{" or text == "," and spot.in_round("for"):
         return "one variable a declaration, and one part between the `;` of a for: write a line for each"
-    if text == ">" and before == "-":
-        return "there are no lambdas: write a class with a method"
     if "new" in said and (text == "[" or before == "[" and spot.text(-2) == "]"):
         return "a new array has one size: write new T[N][] and create each part; to index a new array put it in round brackets"
     if text == "[":
@@ -212,14 +271,10 @@ def in_body(spot):
         return ARRAY if "new" in said else None
     if text in ("super", "this") or before in ("super", "this") and text == "(":
         return "there are no constructors to call: write a method such as init, and call it by its name"
-    if text == "." and spot.tokens[spot.k - 1].kind == "number" or spot.tokens[spot.k].kind == "number" and before == ".":
-        return "there are no fractional numbers: count in int, such as cents"
     if text == "." and (before == "." or after == "."):
         return "there are no variable numbers of arguments: take an array"
     if spot.is_name() and spot.is_name(-1) and "instanceof" in said:
         return "an instanceof gives no variable: write a cast in the next line"
-    if "<" in said and len(said) < 8 or before in (">", ">>"):
-        return GENERIC
     if text == "class":
         return "there are no classes within methods: declare it beside the others"
     behind_literal = spot.tokens[spot.k].kind == "mark" and spot.tokens[spot.k - 1].kind in ("number", "string", "char")
@@ -248,8 +303,23 @@ FORMS = {
 }
 
 
-def of_name(kind, name):
-    """The sentence for a condition on names."""
+def class_at(source, at):
+    """The name of the class in which a place is, or nothing."""
+    found, depth = None, 0
+    for k, token in enumerate(source.tokens):
+        if token.at >= at:
+            break
+        depth += (token.text == "{") - (token.text == "}")
+        if depth == 0 and token.text in ("class", "interface") and k + 1 < len(source.tokens):
+            found = source.tokens[k + 1].text
+    return found
+
+
+def of_name(source, kind, name, at):
+    """The sentence for a condition on names that holds at a place."""
+    holder = class_at(source, at)
+    if kind == "Overload" and re.fullmatch("init[A-Z]*", name) and holder:
+        return f"`{name}` has other parameters in a class above or below: call it {name}{holder} here, with its class"
     if kind == "Unknown" and name == "System":
         return "System stands only in System.out.println(..) and System.out.print(..), with at most one value"
     if kind == "Unknown" and name == "String":
@@ -261,6 +331,11 @@ def of_name(kind, name):
     if kind == "Unknown":
         return NAMES[kind].format(name=name) + "; a static member of an ancestor is written with its class before it"
     return NAMES[kind].format(name=name)
+
+
+def of_rule(source, rule, at):
+    """The sentence for a rule of types, or a form, that fails at a place."""
+    return FORMS[rule] if rule in FORMS else RULES[rule]
 
 
 RULES = {

@@ -1,24 +1,29 @@
 """What the tools share: the program, the tokens of a text with their places, and what the text declares.
 
-The environment variable KABA names another program than the one that `./kaba` builds.
+The environment variable KABA names another program than the one that is proved and built here: a path, or a command's
+name that is looked up on the PATH.
 """
 import argparse
 import bisect
 import json
 import os
 import re
+import shutil
 import subprocess
 import sys
 from collections import namedtuple
 from pathlib import Path
 
 HERE = Path(__file__).resolve().parent.parent
-PROGRAM = os.path.abspath(os.environ.get("KABA", HERE / "crates" / "kaba" / "out" / "kaba"))
+# Where `rt ci` and tools/build make the program, and where `./kaba` keeps a copy of it.
+BUILT, KEPT = HERE / "crates" / "kaba" / "out" / "kaba", HERE / "out" / "kaba"
 FILE_LIMIT = 1048576
 
 Token = namedtuple("Token", "kind text at")  # kind: word, number, char, string or mark; at: the place of its first byte
 Declared = namedtuple("Declared", "label type line")  # a variable: the label of its row, the text of its type, and its line
 Body = namedtuple("Body", "label result opens closes")  # a method's body: the text of its result's type, and the tokens of its braces
+# A method's head: C.m, the texts of the types of its parameters and of its result, its line, and its modifiers.
+Head = namedtuple("Head", "label parameters result line modifiers")
 
 MARKS = ["(", ")", "{", "}", "[", "]", ";", ",", ".", "+=", "-=", "*=", "/=", "%=", "++", "--", "==", "!=", "<=", ">=", ">>>", "<<", ">>", "&&", "||"]
 MARKS = sorted(MARKS + list("=+-*/%&|^~!<>"), key=len, reverse=True)
@@ -29,6 +34,43 @@ def fail(message, status=1):
     """Ends the tool with one line and a status."""
     print(f"{Path(sys.argv[0]).name}: {message}", file=sys.stderr)
     sys.exit(status)
+
+
+def program():
+    """The path of the program."""
+    named = os.environ.get("KABA")
+    if named:
+        return os.path.abspath(named) if "/" in named else shutil.which(named) or named
+    return str(KEPT if KEPT.is_file() and not BUILT.is_file() else BUILT)
+
+
+PROGRAM = program()
+
+
+def no_program(error):
+    """Ends the tool where the program cannot be run."""
+    if "KABA" in os.environ:
+        fail(f"cannot run {PROGRAM}, which the variable KABA names: {error.strerror}", 127)
+    if isinstance(error, FileNotFoundError):
+        fail("the program is not proved and built on this machine: rt ci does it, or tools/build for it alone", 127)
+    fail(f"cannot run {PROGRAM}: {error.strerror}", 127)
+
+
+def must_have_program():
+    """Ends the tool where there is no program to run."""
+    if not os.path.isfile(PROGRAM):
+        no_program(FileNotFoundError(2, os.strerror(2)))
+
+
+# What a tool may need beside Python, with Debian's package of it.
+PACKAGES = {"java": "openjdk-17-jre-headless", "javac": "openjdk-17-jdk-headless", "dot": "graphviz", "jq": "jq"}
+
+
+def must_have(command):
+    """Ends the tool where a command that it needs is not on the PATH."""
+    if not shutil.which(command):
+        package = f" (Debian's package {PACKAGES[command]} has it)" if command in PACKAGES else ""
+        fail(f"this needs {command}, which is not on the PATH{package}", 127)
 
 
 def run_tool(main):
@@ -60,7 +102,7 @@ def kaba(*words):
     try:
         done = subprocess.run([PROGRAM, *words], stdin=subprocess.DEVNULL, capture_output=True)
     except OSError as error:
-        fail(f"cannot run {PROGRAM}: {error.strerror}; ./kaba builds the program at its first use", 127)
+        no_program(error)
     return done.returncode, done.stdout, done.stderr.decode(errors="replace").strip()
 
 
@@ -171,6 +213,7 @@ class Declarations:
         self.members = {}  # C.f or C.m(): line
         self.variables = []  # Declared, in the order of the text
         self.bodies = []  # Body, in the order of the text
+        self.heads = []  # Head, in the order of the text
         self.at = 0
         while self.at < len(source.tokens):
             self.declaration()
@@ -183,9 +226,11 @@ class Declarations:
         return self.source.line_of(self.source.tokens[min(self.at + ahead, len(self.source.tokens) - 1)])
 
     def skip_modifiers(self):
-        """Goes past modifiers."""
+        """Goes past modifiers, and gives them."""
+        first = self.at
         while self.text() in MODIFIERS:
             self.at += 1
+        return {token.text for token in self.source.tokens[first : self.at]}
 
     def declaration(self):
         self.skip_modifiers()
@@ -210,7 +255,7 @@ class Declarations:
         return "".join(token.text for token in self.source.tokens[first : self.at])
 
     def member(self, holder):
-        self.skip_modifiers()
+        modifiers = self.skip_modifiers()
         result = "void" if self.text(1) == "(" else self.skip_type()
         name = f"{holder}.{self.text()}"
         self.members.setdefault(name if self.text(1) != "(" else f"{name}()", self.line())
@@ -219,10 +264,13 @@ class Declarations:
             self.at += 2
             return
         self.variables += [Declared(f"{name}.this", holder, self.line()), Declared(f"{name}.return", result, self.line())]
+        parameters = []
+        self.heads.append(Head(name, parameters, result, self.line(), modifiers))
         self.at += 2
         while self.text() not in (")", ""):
             self.skip_modifiers()
             kind = self.skip_type()
+            parameters.append(kind)
             self.variables.append(Declared(f"{name}.{self.text()}", kind, self.line()))
             self.at += 2 if self.text(1) == "," else 1
         self.at += 1

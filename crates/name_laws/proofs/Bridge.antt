@@ -31,7 +31,7 @@ use Rattle.name_laws.proofs.KnownClasses.{HasSupers}
 use Rattle.name_laws.proofs.Reached.{AreAbove, NoLoops}
 use Rattle.name_laws.proofs.SlotsOf.{SlotOf, none_of, one_of}
 use Rattle.name_laws.proofs.KnownMembers.{AreMembers}
-use Rattle.name_laws.proofs.MethodClashes.{NoClash, IsFirstMain}
+use Rattle.name_laws.proofs.MethodClashes.{NoClash, IsFirstMain, outline-met}
 use Rattle.name_laws.proofs.SeesOutline.{sees-outline}
 use Rattle.name_laws.proofs.MethodBodies.{BodiesAre}
 
@@ -75,7 +75,8 @@ pub record Steps (tree : List DeclTree) : Type 0 where
   pub methods : List PlainMethod
   pub last : ℕ
   pub written : BodiesAre tree known are (resolved_by.table known (outline tree).classes rows draft) refl
-      (sees-outline tree known are rows above draft members) (methods_in tree) (methods, last)
+      (sees-outline tree known are rows above draft members supers loops (outline-met tree known are rows above (fields_in tree) draft members clash))
+      (methods_in tree) (methods, last)
 
 module _ (tree : List DeclTree) (s : Steps tree) where
   -- the program that they give

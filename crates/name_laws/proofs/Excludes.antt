@@ -1,8 +1,8 @@
 -- An expression or a statement that resolves holds no condition.
-use Rattle.std.proofs.Common.{◌≡◌, ℕ, ◌<◌, Bool, true, false, not, ◌&&◌, List, Option, Some, None, ◌⊎◌, inl, inr, ⊎_elim, refl, sym, ap, ◌∙◌, subst, arith, [], ◌∷◌, ◌++◌}
+use Rattle.std.proofs.Common.{◌≡◌, ℕ, Bool, true, false, not, ◌&&◌, List, Option, Some, None, refl, sym, ap, ◌∙◌, subst, [], ◌∷◌, ◌++◌}
 use Rattle.std.specs.Prelude.{slice_get}
 use Rattle.std.specs.Option.{is_none}
-use Rattle.std.proofs.lemmas.Bool.{false≢true, cases_lt}
+use Rattle.std.proofs.lemmas.Bool.{false≢true}
 use Rattle.kaba_base.specs.declared.Place.{Place}
 use Rattle.java_tree.specs.declared.TypeName.{TypeName}
 use Rattle.java_tree.specs.declared.TypeBase.{TypeBase}
@@ -11,38 +11,18 @@ use Rattle.java_core.specs.declared.TyBase.{TyBase}
 use Rattle.java_tree.specs.Syntax.{Expression, NameRef, Expressions, Statement, Statements, OptionalStatement}
 use Rattle.java_core.specs.Trees.{Ex, Exs, St, Sts, Arms}
 use Rattle.java_core.specs.Programs.{Plain, PlainField, PlainMethod}
-use Rattle.java_core.specs.Classes.{IsSubclass, field_of}
+use Rattle.java_core.specs.Classes.{field_of}
 use Rattle.name_rules.specs.declared.Refusal.{Refusal}
 use Rattle.name_rules.specs.declared.parts.Bound.{Bound}
 use Rattle.name_rules.specs.declared.parts.Here.{Here}
-use Rattle.name_rules.specs.Meanings.{local_of, class_named, MeansBase, an_int, a_boolean, a_char, a_text, a_class, MeansCastBase, to_int, to_boolean, to_char, to_class, is_bound, bound_names, is_class_name, IsStaticFieldOf, IsStaticMethodOf, IsNearestField, IsMet}
+use Rattle.name_rules.specs.Meanings.{local_of, class_named, MeansBase, an_int, a_boolean, a_char, a_text, a_class, MeansCastBase, to_int, to_boolean, to_char, to_class, is_bound, bound_names, is_class_name, IsStaticFieldOf, IsStaticMethodOf, IsNearestField, IsFirstMethod}
 use Rattle.name_rules.specs.Outline.{is_text_type}
 use Rattle.name_rules.specs.Resolves.{ResolvesTo, r_this, r_local, r_static_field, r_own_field, r_class_field, r_field, r_index, r_own_static_call, r_own_call, r_static_call, r_call, r_super_call, r_create, r_create_array, r_cast, r_instance_of, r_unary, r_binary, AllResolve, r_and_more, ResolvesIf, r_some, scope_after, scope_after_part, StResolves, r_declare, r_block, r_assign, r_act, r_print, r_choose, r_while, r_for, r_return, StsResolve, r_and_then, ArmsResolve, r_else, r_arm, PartResolves, r_absent, r_present}
-use Rattle.name_rules.specs.Conditions.{AreOneSlot, IsUnknownType, no_such_type, IsUnknownCast, no_such_cast, FaultIn, this_in_static, no_variable, static_above, own_in_static, no_class_of_field, no_static_field, in_base, in_array, in_index, no_method, static_method_above, call_in_static, in_arguments, no_class_of_call, no_static_method, in_receiver, in_call_arguments, super_in_static, in_super_arguments, no_class_of_new, in_new_arguments, no_type_of_array, in_size, no_type_of_cast, in_cast, no_class_of_test, in_tested, in_operand, in_left, in_right, FaultInOne, in_first, in_later, FaultInValue, in_value, names_after, names_after_part, StFault, no_type_of_local, type_as_local, local_twice, in_first_value, in_block, in_target, in_assigned, in_call, in_printed, in_choice, in_else, in_while_test, in_while, in_first_part, in_for_test, in_last_part, in_for, in_returned, break_outside, continue_outside, StsFault, in_statement, in_rest, ArmsFault, in_test, in_arm, in_more_arms, PartFault, in_part}
+use Rattle.name_rules.specs.Conditions.{IsUnknownType, no_such_type, IsUnknownCast, no_such_cast, FaultIn, this_in_static, no_variable, static_above, own_in_static, no_class_of_field, no_static_field, in_base, in_array, in_index, no_method, static_method_above, call_in_static, in_arguments, no_class_of_call, no_static_method, in_receiver, in_call_arguments, super_in_static, in_super_arguments, no_class_of_new, in_new_arguments, no_type_of_array, in_size, no_type_of_cast, in_cast, no_class_of_test, in_tested, in_operand, in_left, in_right, FaultInOne, in_first, in_later, FaultInValue, in_value, names_after, names_after_part, StFault, no_type_of_local, type_as_local, local_twice, in_first_value, in_block, in_target, in_assigned, in_call, in_printed, in_choice, in_else, in_while_test, in_while, in_first_part, in_for_test, in_last_part, in_for, in_returned, break_outside, continue_outside, StsFault, in_statement, in_rest, ArmsFault, in_test, in_arm, in_more_arms, PartFault, in_part}
+use Rattle.name_rules.proofs.FirstMethods.{first-met, one-first}
 use Rattle.name_laws.proofs.Sees.{bound-local, same_some}
 use Rattle.std.proofs.lemmas.List.{map-append}
 use Rattle.java_tree.specs.Syntax as tree
-
--- of two methods of a name in a class and its ancestors none is static
-abbrev pub OneMet : Plain → Type 0
-OneMet O = (c : ℕ) (n : List ℕ) (l m : ℕ) (h k : PlainMethod) → IsMet O c n l h → IsMet O c n m k → (l ≡ m) ⊎ ((h.is_static ≡ false) × (k.is_static ≡ false))
-
-pub one-met : (O : Plain) → ((c i j : ℕ) (h k : PlainMethod) → slice_get O.methods i ≡ Some h → slice_get O.methods j ≡ Some k → i < j
-    → h.name ≡ k.name → IsSubclass O c h.owner → IsSubclass O c k.owner → (AreOneSlot h k → ⊥) → ⊥) → OneMet O
-one-met O none c x i j h k a b =
-    ⊎_elim (λ lt. two i j h k a b lt) (λ le. ⊎_elim (λ lt. ⊎_elim (λ e. inl (sym e)) (λ e. inr (e.1, e.0)) (two j i k h b a lt))
-    (λ ge. inl (omega (arith, le, ge))) (cases_lt j i)) (cases_lt i j)
-  where
-    two : (i j : ℕ) (h k : PlainMethod) → IsMet O c x i h → IsMet O c x j k → i < j → (i ≡ j) ⊎ ((h.is_static ≡ false) × (k.is_static ≡ false))
-    two i j h k a b lt = go h.is_static refl k.is_static refl
-      where
-        clash : (AreOneSlot h k → ⊥) → ⊥
-        clash other = none c i j h k a.stands b.stands lt (a.name ∙ sym b.name) a.above b.above other
-
-        go : (s : Bool) → h.is_static ≡ s → (t : Bool) → k.is_static ≡ t → (i ≡ j) ⊎ ((h.is_static ≡ false) × (k.is_static ≡ false))
-        go false e false f = inr (e, f)
-        go true e t f = absurd (clash (λ o. false≢true (sym o.first ∙ e)))
-        go false e true f = absurd (clash (λ o. false≢true (sym o.second ∙ f)))
 
 module _ (O : Plain) (here : Here) (scope : List Bound) where
   -- two nearest fields of a name are one
@@ -93,65 +73,63 @@ module _ (O : Plain) (here : Here) (scope : List Bound) where
   cast-holds u bases.Char x r e to_char (no_such_cast f h) = cc (sym e ∙ f)
   cast-holds u (bases.Named k) x r e (to_class c) (no_such_cast {n = n} f h) = let s : k ≡ n = cc in no-some c (ap (class_named O) s ∙ h)
 
-  module _ (one : OneMet O) where
-    same-static : {n : List ℕ} {l m : ℕ} {h k : PlainMethod} → IsMet O here.owner n l h → IsMet O here.owner n m k → h.is_static ≡ true → h ≡ k
-    same-static {n} {l} {m} {h} {k} a b s = ⊎_elim (λ e. same_some (sym a.stands ∙ ap (slice_get O.methods) e ∙ b.stands))
-        (λ e. absurd (false≢true (sym e.0 ∙ s))) (one here.owner n l m h k a b)
+  same-first : {n : List ℕ} {l m : ℕ} {h k : PlainMethod} → IsFirstMethod O here.owner n l h → IsFirstMethod O here.owner n m k → h ≡ k
+  same-first a b = (one-first O a b).1
 
-    mutual
-      pub holds : {e : Expression} {x : Ex} {r : Refusal} → FaultIn O here (bound_names scope) e r → ResolvesTo O here scope e x → ⊥
-      holds (this_in_static s) (r_this h) = false≢true (sym h ∙ s)
-      holds (no_variable c) h = name-holds h (no_variable c)
-      holds (static_above b near s o) h = name-holds h (static_above b near s o)
-      holds (own_in_static b near s o) h = name-holds h (own_in_static b near s o)
-      holds (no_class_of_field c g) (r_class_field d k s) = no-some k g
-      holds (no_class_of_field c g) (r_field h) = name-class h c
-      holds (no_static_field {n = n} c k none) (r_class_field {f = f} d l s) = none f (subst (λ z. IsStaticFieldOf O z n f) (same_some (sym l ∙ k)) s)
-      holds (no_static_field c k none) (r_field h) = name-class h c
-      holds (in_base b f) (r_class_field d k s) = false≢true (sym b ∙ d)
-      holds (in_base b f) (r_field h) = holds f h
-      holds (in_array f) (r_index h i) = holds f h
-      holds (in_index f) (r_index h i) = holds f i
-      holds (no_method none) (r_own_static_call {m = m} {k = k} met s o es) = none m k met
-      holds (no_method none) (r_own_call {m = m} {k = k} met s o es) = none m k met
-      holds (static_method_above met s o) (r_own_static_call other t own es) = o (ap (λ z. z.owner) (same-static met other s) ∙ own)
-      holds (static_method_above met s o) (r_own_call other t own es) = false≢true (sym t ∙ sym (ap (λ z. z.is_static) (same-static met other s)) ∙ s)
-      holds (call_in_static met s o) (r_own_static_call other t own es) = false≢true (sym s ∙ sym (ap (λ z. z.is_static) (same-static other met t)) ∙ t)
-      holds (call_in_static met s o) (r_own_call other t own es) = false≢true (sym own ∙ o)
-      holds (in_arguments f) (r_own_static_call met s o es) = none-holds f es
-      holds (in_arguments f) (r_own_call met s o es) = none-holds f es
-      holds (no_class_of_call c g) (r_static_call d k s es) = no-some k g
-      holds (no_class_of_call c g) (r_call h es) = name-class h c
-      holds (no_static_method {n = n} c k none) (r_static_call {m = m} d l s es) = none m (subst (λ z. IsStaticMethodOf O z n m) (same_some (sym l ∙ k)) s)
-      holds (no_static_method c k none) (r_call h es) = name-class h c
-      holds (in_receiver b f) (r_static_call d k s es) = false≢true (sym b ∙ d)
-      holds (in_receiver b f) (r_call h es) = holds f h
-      holds (in_call_arguments f) (r_static_call d k s es) = none-holds f es
-      holds (in_call_arguments f) (r_call h es) = none-holds f es
-      holds (super_in_static s) (r_super_call h es) = false≢true (sym h ∙ s)
-      holds (in_super_arguments f) (r_super_call h es) = none-holds f es
-      holds (no_class_of_new g) (r_create h es) = no-some h g
-      holds (in_new_arguments f) (r_create h es) = none-holds f es
-      holds (no_type_of_array {u = u} {r = r} f) (r_create_array {t = t} m h) = type-holds u u.base t.base r refl m.base f
-      holds (in_size f) (r_create_array m h) = holds f h
-      holds (no_type_of_cast {u = u} {r = r} f) (r_cast {t = t} m h) = cast-holds u u.base t.base r refl m.base f
-      holds (in_cast f) (r_cast m h) = holds f h
-      holds (no_class_of_test g) (r_instance_of h c) = no-some c g
-      holds (in_tested f) (r_instance_of h c) = holds f h
-      holds (in_operand f) (r_unary h) = holds f h
-      holds (in_left f) (r_binary h i) = holds f h
-      holds (in_right f) (r_binary h i) = holds f i
+  mutual
+    pub holds : {e : Expression} {x : Ex} {r : Refusal} → FaultIn O here (bound_names scope) e r → ResolvesTo O here scope e x → ⊥
+    holds (this_in_static s) (r_this h) = false≢true (sym h ∙ s)
+    holds (no_variable c) h = name-holds h (no_variable c)
+    holds (static_above b near s o) h = name-holds h (static_above b near s o)
+    holds (own_in_static b near s o) h = name-holds h (own_in_static b near s o)
+    holds (no_class_of_field c g) (r_class_field d k s) = no-some k g
+    holds (no_class_of_field c g) (r_field h) = name-class h c
+    holds (no_static_field {n = n} c k none) (r_class_field {f = f} d l s) = none f (subst (λ z. IsStaticFieldOf O z n f) (same_some (sym l ∙ k)) s)
+    holds (no_static_field c k none) (r_field h) = name-class h c
+    holds (in_base b f) (r_class_field d k s) = false≢true (sym b ∙ d)
+    holds (in_base b f) (r_field h) = holds f h
+    holds (in_array f) (r_index h i) = holds f h
+    holds (in_index f) (r_index h i) = holds f i
+    holds (no_method none) (r_own_static_call {m = m} {k = k} met s o es) = none m k (first-met O met)
+    holds (no_method none) (r_own_call {m = m} {k = k} met s o es) = none m k (first-met O met)
+    holds (static_method_above met s o) (r_own_static_call other t own es) = o (ap (λ z. z.owner) (same-first met other) ∙ own)
+    holds (static_method_above met s o) (r_own_call other t own es) = false≢true (sym t ∙ sym (ap (λ z. z.is_static) (same-first met other)) ∙ s)
+    holds (call_in_static met s o) (r_own_static_call other t own es) = false≢true (sym s ∙ sym (ap (λ z. z.is_static) (same-first other met)) ∙ t)
+    holds (call_in_static met s o) (r_own_call other t own es) = false≢true (sym own ∙ o)
+    holds (in_arguments f) (r_own_static_call met s o es) = none-holds f es
+    holds (in_arguments f) (r_own_call met s o es) = none-holds f es
+    holds (no_class_of_call c g) (r_static_call d k s es) = no-some k g
+    holds (no_class_of_call c g) (r_call h es) = name-class h c
+    holds (no_static_method {n = n} c k none) (r_static_call {m = m} d l s es) = none m (subst (λ z. IsStaticMethodOf O z n m) (same_some (sym l ∙ k)) s)
+    holds (no_static_method c k none) (r_call h es) = name-class h c
+    holds (in_receiver b f) (r_static_call d k s es) = false≢true (sym b ∙ d)
+    holds (in_receiver b f) (r_call h es) = holds f h
+    holds (in_call_arguments f) (r_static_call d k s es) = none-holds f es
+    holds (in_call_arguments f) (r_call h es) = none-holds f es
+    holds (super_in_static s) (r_super_call h es) = false≢true (sym h ∙ s)
+    holds (in_super_arguments f) (r_super_call h es) = none-holds f es
+    holds (no_class_of_new g) (r_create h es) = no-some h g
+    holds (in_new_arguments f) (r_create h es) = none-holds f es
+    holds (no_type_of_array {u = u} {r = r} f) (r_create_array {t = t} m h) = type-holds u u.base t.base r refl m.base f
+    holds (in_size f) (r_create_array m h) = holds f h
+    holds (no_type_of_cast {u = u} {r = r} f) (r_cast {t = t} m h) = cast-holds u u.base t.base r refl m.base f
+    holds (in_cast f) (r_cast m h) = holds f h
+    holds (no_class_of_test g) (r_instance_of h c) = no-some c g
+    holds (in_tested f) (r_instance_of h c) = holds f h
+    holds (in_operand f) (r_unary h) = holds f h
+    holds (in_left f) (r_binary h i) = holds f h
+    holds (in_right f) (r_binary h i) = holds f i
 
-      pub none-holds : {es : Expressions} {xs : Exs} {r : Refusal} → FaultInOne O here (bound_names scope) es r → AllResolve O here scope es xs → ⊥
-      none-holds (in_first f) (r_and_more h hs) = holds f h
-      none-holds (in_later f) (r_and_more h hs) = none-holds f hs
+    pub none-holds : {es : Expressions} {xs : Exs} {r : Refusal} → FaultInOne O here (bound_names scope) es r → AllResolve O here scope es xs → ⊥
+    none-holds (in_first f) (r_and_more h hs) = holds f h
+    none-holds (in_later f) (r_and_more h hs) = none-holds f hs
 
-module _ (O : Plain) (here : Here) (k : PlainMethod) (one : OneMet O) where
+module _ (O : Plain) (here : Here) (k : PlainMethod) where
   -- ---- expressions
 
   expr-holds : {scope : List Bound} {names : List (List ℕ)} {e : Expression} {x : Ex} {r : Refusal} → names ≡ bound_names scope
       → FaultIn O here names e r → ResolvesTo O here scope e x → ⊥
-  expr-holds {scope} {names} {e} {x} {r} q f h = holds O here scope one (subst (λ z. FaultIn O here z e r) q f) h
+  expr-holds {scope} {names} {e} {x} {r} q f h = holds O here scope (subst (λ z. FaultIn O here z e r) q f) h
 
   value-holds : {scope : List Bound} {names : List (List ℕ)} {v : Option Expression} {x : Option Ex} {r : Refusal} → names ≡ bound_names scope
       → FaultInValue O here names v r → ResolvesIf O here scope v x → ⊥

@@ -32,7 +32,7 @@ use Rattle.name_laws.proofs.MethodClashes.{classes-count, owner-within, method_a
 use Rattle.name_laws.proofs.Bridge.{Steps, P, program-resolves, of-main}
 use Rattle.name_laws.proofs.FormedMembers.{body-at}
 use Rattle.name_laws.proofs.FormedWhole.{one-slot}
-use Rattle.name_laws.proofs.Excludes.{one-met, sts-holds}
+use Rattle.name_laws.proofs.Excludes.{sts-holds}
 
 params-names : (c : ℕ) (types : List (List ℕ)) (qs : List Param) → bound_names (params_from c (map (param_outline types) qs)) ≡ map (λ q. q.name) qs
 params-names c types [] = refl
@@ -141,8 +141,7 @@ module _ (tree : List DeclTree) (s : Steps tree) where
       go : BodyResolves (outline tree) x k.0 → ⊥
       go (r_no_body none b l) = cc (sym none ∙ e)
       go (r_body {xs = xs} some b h c) =
-          sts-holds (outline tree) (here_of x) k.0
-          (one-met (outline tree) (λ c i j h k p q lt same u v other. other (are-one c i j h k p q lt same u v))) names f
+          sts-holds (outline tree) (here_of x) k.0 names f
           (subst (λ z. StsResolve (outline tree) (here_of x) k.0 false (params_from 0 k.0.params) z xs) (same_some (sym some ∙ e)) h)
 
   pub none-holds : (r : Refusal) → ConditionAt tree r → ⊥

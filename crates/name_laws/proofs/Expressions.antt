@@ -26,7 +26,7 @@ use Rattle.name_laws.specs.Tables.{Table, nearest_field, own_method, method_met}
 use Rattle.name_rules.specs.Meanings.{local_of}
 use Rattle.name_laws.specs.Tables as table
 use Rattle.name_laws.specs.Expressions.{cast_base, cast_type, in_own, in_instance, field_use, field_at, field_named, local_named, name_meaning, is_variable, class_unless, class_before, static_at, static_member, is_static_field, is_static_method, static_field_of, static_method_of, called_instance, method_use, method_at, method_named, call_meaning, in_body, ex_last, field_walk, Receiver, receiver, called_on, walk, walk_all}
-use Rattle.name_rules.specs.Meanings.{class_named, MeansCast, MeansCastBase, to_int, to_boolean, to_char, to_class, bound_names, is_class_name, IsStaticFieldOf, IsStaticMethodOf, IsNearestField, IsMet}
+use Rattle.name_rules.specs.Meanings.{class_named, MeansCast, MeansCastBase, to_int, to_boolean, to_char, to_class, bound_names, is_class_name, IsStaticFieldOf, IsStaticMethodOf, IsNearestField}
 use Rattle.name_rules.specs.Resolves.{Counts, no_number, next_number, ResolvesTo, r_number, r_character, r_text, r_truth, r_null, r_this, r_local, r_static_field, r_own_field, r_class_field, r_field, r_index, r_own_static_call, r_own_call, r_static_call, r_call, r_super_call, r_create, r_create_array, r_cast, r_instance_of, r_unary, r_binary, AllResolve, r_no_more, r_and_more}
 use Rattle.name_rules.specs.Conditions.{IsUnknownCast, no_such_cast, FaultIn, this_in_static, no_variable, static_above, own_in_static, no_class_of_field, no_static_field, in_base, in_array, in_index, no_method, static_method_above, call_in_static, in_arguments, no_class_of_call, no_static_method, in_receiver, in_call_arguments, super_in_static, in_super_arguments, no_class_of_new, in_new_arguments, no_type_of_array, in_size, no_type_of_cast, in_cast, no_class_of_test, in_tested, in_operand, in_left, in_right, FaultInOne, in_first, in_later}
 use Rattle.name_laws.proofs.TypeNames.{asked-tells, type-tells}
@@ -205,22 +205,23 @@ module _ (t : Table) (O : Plain) (sees : Sees t O) where
     unfolding call_meaning
     call-tells n p es = by_met (method_met t here.owner n) refl
       where
-        by_use : (m : ℕ) (k : PlainMethod) → IsMet O here.owner n m k → (static own : Bool) → k.is_static ≡ static → (k.owner == here.owner) ≡ own
+        by_use : (m : ℕ) (k : MetMethod t O here.owner n m) → (static own : Bool) → k.at.member.is_static ≡ static
+            → (k.at.member.owner == here.owner) ≡ own
             → Tells (Calls n p es) (FaultIn O here (bound_names scope) (CallOf n es p)) (method_use here n p m static own)
-        by_use m k met true true s o = λ xs h. (r_own_static_call met s (eqb-true k.owner here.owner o) h, refl)
-        by_use m k met true false s o = static_method_above met s (eqb-false k.owner here.owner o)
-        by_use m k met false own s o = go here.is_static refl
+        by_use m k true true s o = λ xs h. (r_own_static_call (k.static s) s (eqb-true k.at.member.owner here.owner o) h, refl)
+        by_use m k true false s o = static_method_above (k.static s) s (eqb-false k.at.member.owner here.owner o)
+        by_use m k false own s o = go here.is_static refl
           where
             go : (b : Bool) → here.is_static ≡ b → Tells (Calls n p es) (FaultIn O here (bound_names scope) (CallOf n es p)) (called_instance b p)
-            go true h = call_in_static met s h
-            go false h = λ xs all. (r_own_call met s h all, refl)
+            go true h = let f = k.instance s in call_in_static f.2 f.3 h
+            go false h = λ xs all. let f = k.instance s in (r_own_call f.2 f.3 h all, refl)
 
         by_at : (m : ℕ) (k : MetMethod t O here.owner n m) → (o : Option Heading) → slice_get t.headings m ≡ o
             → Tells (Calls n p es) (FaultIn O here (bound_names scope) (CallOf n es p)) (method_at here n p m o)
         by_at m k None g = absurd (cc (sym g ∙ k.at.seen_stands))
         by_at m k (Some x) g =
             let same = same_some (sym k.at.seen_stands ∙ g) in
-            by_use m k.at.member (record { stands = k.at.stands; name = k.name; above = k.above }) x.is_static (x.owner == here.owner)
+            by_use m k x.is_static (x.owner == here.owner)
             (k.at.same.static ∙ ap (λ y. y.is_static) same) (ap (λ y. y == here.owner) (k.at.same.owner ∙ ap (λ y. y.owner) same))
 
         by_met : (o : Option ℕ) → method_met t here.owner n ≡ o → Tells (Calls n p es) (FaultIn O here (bound_names scope) (CallOf n es p))

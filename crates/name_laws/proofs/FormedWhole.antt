@@ -1,42 +1,20 @@
 -- The program that a tree resolves to is formed, whole.
 use Rattle.std.proofs.Common.{◌≡◌, ℕ, zero, suc, ◌+◌, ◌<◌, ◌≤◌, ◌⊎◌, inl, inr, ⊎_elim, Bool, true, false, not, ◌&&◌, List, Option, Some, None, refl, sym, ap, ◌∙◌, subst, arith}
-use Rattle.std.specs.Prelude.{slice_get, if◌then◌else◌}
-use Rattle.std.specs.Str.{bytes_eq}
+use Rattle.std.specs.Prelude.{slice_get}
 use Rattle.std.proofs.lemmas.Bool.{false≢true, eqb-true, cases_lt}
-use Rattle.std.proofs.lemmas.Slice.Eq.{bytes_eq-Decides}
 use Rattle.java_tree.specs.Syntax.{DeclTree}
 use Rattle.java_core.specs.Programs.{PlainMethod, PlainSlot}
 use Rattle.java_core.specs.Classes.{IsSubclass}
 use Rattle.java_core.specs.Formed.{HasNoTwice, IsFormedSlot, IsMain, AreCounted, IsFormed}
-use Rattle.name_rules.specs.declared.Refusal.{Refusal}
-use Rattle.name_rules.specs.declared.Refusal.TheVariants.{Overload, PrivateReused}
 use Rattle.name_laws.specs.declared.parts.Heading.{Heading}
-use Rattle.name_laws.specs.Tables.{is_above}
-use Rattle.name_laws.specs.Members.{meet, same_slot}
-use Rattle.name_rules.specs.Outline.{MethodAt, methods_in, types_in, method_outline, outline}
+use Rattle.name_rules.specs.Outline.{MethodAt, fields_in, methods_in, types_in, method_outline, outline}
 use Rattle.name_rules.specs.Resolves.{heading_of, Counts, no_number, next_number, Resolves}
-use Rattle.java_core.proofs.Meets.{meets}
-use Rattle.name_laws.proofs.SlotsOf.{SlotOf, none_of, one_of}
-use Rattle.name_laws.proofs.MethodClashes.{owner-within}
+use Rattle.name_laws.proofs.MethodClashes.{meeting}
 use Rattle.name_laws.proofs.Bridge.{Steps, P, whole, program-resolves}
 use Rattle.name_laws.proofs.Sees.{same_some}
 use Rattle.name_laws.proofs.FormedProgram.{classes-subclass, formed-object, formed-class, formed-names, formed-acyclic}
 use Rattle.name_laws.proofs.FormedMembers.{formed-field, formed-field_names, method-seen, formed-method}
 use Rattle.name_laws.proofs.MembersOf.{owners-rise}
-
-same-slots : (a b : Option ℕ) → same_slot a b ≡ true → (s : ℕ) × (a ≡ Some s) × (b ≡ Some s)
-same-slots (Some s) (Some t) e = (s, refl, ap Some (sym (eqb-true s t e)))
-same-slots None t e = absurd (false≢true e)
-same-slots (Some s) None e = absurd (false≢true e)
-
--- what the test of two methods of one name that some type has tells where it finds no clash
-one-test : (name private same meeting : Bool) (r q : Refusal) → name ≡ true → meeting ≡ true
-    → (if name then (if private then Some r else if not same && meeting then Some q else None) else None) ≡ None → same ≡ true
-one-test true false true true r q a b e = refl
-one-test true true same true r q a b e = absurd (cc e)
-one-test true false false true r q a b e = absurd (cc e)
-one-test true private same false r q a b e = absurd (false≢true b)
-one-test false private same meeting r q a b e = absurd (false≢true a)
 
 counts-at : {a b : ℕ} {ns : List ℕ} → Counts a ns b → (i x : ℕ) → slice_get ns i ≡ Some x → x ≡ a + i
 counts-at no_number i x e = absurd (cc e)
@@ -59,11 +37,10 @@ module _ (tree : List DeclTree) (s : Steps tree) where
   pub one-slot : (c i j : ℕ) (H K : PlainMethod) → slice_get s.methods i ≡ Some H → slice_get s.methods j ≡ Some K → i < j → IsSubclass (outline tree) c H.owner
       → IsSubclass (outline tree) c K.owner → H.name ≡ K.name → (H.is_static ≡ false) × (H.slot ≡ K.slot) × (K.is_static ≡ false)
   one-slot c i j H K p q lt u v same =
-      let n = same-slots a.slot b.slot one in (
-        static-of a wh.1 H n.0 wh.4 (s.members.slots.each i a wh.1 wh.2 wh.3) n.1,
-        wh.5 ∙ n.1 ∙ sym n.2 ∙ sym wk.5,
-        static-of b wk.1 K n.0 wk.4 (s.members.slots.each j b wk.1 wk.2 wk.3) n.2,
-      )
+      let n = meeting tree s.known s.are s.rows s.above (fields_in tree) s.draft s.members s.clash c i j wh.0 wk.0 wh.1 wk.1 wh.2 wk.2 wh.3 wk.3 lt
+      (subst (λ z. IsSubclass (outline tree) c z) (ap (λ z. z.owner) wh.4) u) (subst (λ z. IsSubclass (outline tree) c z) (ap (λ z. z.owner) wk.4) v)
+      (ap (λ z. z.name) (sym wh.4) ∙ same ∙ ap (λ z. z.name) wk.4) in
+      (ap (λ z. z.is_static) wh.4 ∙ n.first, wh.5 ∙ n.slots ∙ sym wk.5, ap (λ z. z.is_static) wk.4 ∙ n.second)
     where
       wh : (h : Heading) × (x : MethodAt) × (slice_get s.draft.headings i ≡ Some h) × (slice_get (methods_in tree) i ≡ Some x)
           × (heading_of H ≡ method_outline (types_in tree) x) × (H.slot ≡ h.slot)
@@ -72,40 +49,6 @@ module _ (tree : List DeclTree) (s : Steps tree) where
       wk : (h : Heading) × (x : MethodAt) × (slice_get s.draft.headings j ≡ Some h) × (slice_get (methods_in tree) j ≡ Some x)
           × (heading_of K ≡ method_outline (types_in tree) x) × (K.slot ≡ h.slot)
       wk = whole tree s j K q
-
-      a : Heading
-      a = wh.0
-
-      b : Heading
-      b = wk.0
-
-      own-a : a.owner ≡ H.owner
-      own-a = (s.members.heads i a wh.1 wh.2 wh.3).owner ∙ ap (λ z. z.owner) (sym wh.4)
-
-      own-b : b.owner ≡ K.owner
-      own-b = (s.members.heads j b wk.1 wk.2 wk.3).owner ∙ ap (λ z. z.owner) (sym wk.4)
-
-      names : a.name ≡ b.name
-      names = (s.members.heads i a wh.1 wh.2 wh.3).name ∙ ap (λ z. z.name) (sym wh.4) ∙ same ∙ sym ((s.members.heads j b wk.1 wk.2 wk.3).name
-          ∙ ap (λ z. z.name) (sym wk.4))
-
-      above-a : is_above s.rows c a.owner ≡ true
-      above-a = s.above.whole c a.owner (let w = owner-within tree i wh.1 wh.3 in let o = (s.members.heads i a wh.1 wh.2 wh.3).owner in omega
-          (arith, w, o)) (subst (λ z. IsSubclass (outline tree) c z) (sym own-a) u)
-
-      above-b : is_above s.rows c b.owner ≡ true
-      above-b = s.above.whole c b.owner (let w = owner-within tree j wk.1 wk.3 in let o = (s.members.heads j b wk.1 wk.2 wk.3).owner in omega
-          (arith, w, o)) (subst (λ z. IsSubclass (outline tree) c z) (sym own-b) v)
-
-      one : same_slot a.slot b.slot ≡ true
-      one = one-test (bytes_eq a.name b.name) _ (same_slot a.slot b.slot) (meet s.rows a.owner b.owner) (PrivateReused b.name b.place)
-          (Overload b.name b.place) ((bytes_eq-Decides a.name b.name).1 names) (meets s.rows c a.owner b.owner above-a above-b)
-          (s.clash.none i j a b wh.2 wk.2 lt)
-
-      static-of : (h : Heading) (x : MethodAt) (k : PlainMethod) (n : ℕ) → heading_of k ≡ method_outline (types_in tree) x
-          → SlotOf (types_in tree) s.draft.slots h x → h.slot ≡ Some n → k.is_static ≡ false
-      static-of h x k n e (none_of f g) t = absurd (cc (sym g ∙ t))
-      static-of h x k n e (one_of f g d o) t = ap (λ z. z.is_static) e ∙ f
 
   all-one-slot : (c i j : ℕ) (h k : PlainMethod) → slice_get (P tree s).methods i ≡ Some h → slice_get (P tree s).methods j ≡ Some k
       → IsSubclass (P tree s) c h.owner

@@ -15,6 +15,8 @@ pub mod SlotsOf
 pub mod KnownMembers
 pub mod AllMembers
 pub mod MethodClashes
+pub mod FoundFirst
+pub mod Ladder
 pub mod SeesOutline
 pub mod MethodBodies
 pub mod Bridge

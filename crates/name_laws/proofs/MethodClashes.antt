@@ -1,5 +1,5 @@
 -- Methods of one name that meet in a type: of one slot, or a condition holds. And the main method.
-use Rattle.std.proofs.Common.{◌≡◌, ℕ, zero, suc, ◌+◌, ◌<◌, ◌≤◌, ◌⊎◌, inl, inr, ⊎_elim, Bool, true, false, not, ◌||◌, ◌&&◌, List, [], ◌∷◌, ◌++◌, length, Option, Some, None, Ok, refl, sym, ap, ◌∙◌, subst, arith}
+use Rattle.std.proofs.Common.{◌≡◌, ◌≢◌, ℕ, zero, suc, ◌+◌, ◌<◌, ◌≤◌, ◌⊎◌, inl, inr, ⊎_elim, Bool, true, false, not, ◌||◌, ◌&&◌, List, [], ◌∷◌, ◌++◌, length, Option, Some, None, Ok, refl, sym, ap, ◌∙◌, subst, arith}
 use Rattle.std.specs.Prelude.{slice_get, if◌then◌else◌, ◌==◌, position}
 use Rattle.std.specs.Str.{bytes_eq}
 use Rattle.std.proofs.lemmas.Bool.{false≢true, and_parts, not-true, eqb-true, eq-eqb, eqb-false, or_cases}
@@ -18,15 +18,16 @@ use Rattle.name_laws.specs.declared.parts.Heading.{Heading}
 use Rattle.name_laws.specs.Answers.{unless, run}
 use Rattle.name_laws.specs.Tables.{is_above}
 use Rattle.name_laws.specs.Members.{Members, meet, same_slot, clash_of, clash_with, earlier_step, clash_step, clashes_of, or_no_main, main_of}
-use Rattle.name_rules.specs.Outline.{MethodAt, is_private, methods_of, heads_of, methods_declared, methods_from, methods_in, types_in, method_outline, outline}
+use Rattle.name_rules.specs.Outline.{MethodAt, is_static, is_private, methods_of, heads_of, methods_declared, methods_from, methods_in, types_in, method_outline, outline}
 use Rattle.name_rules.specs.Conditions.{ConditionAt, overload, private_reused, no_main, AreOneSlot}
 use Rattle.name_laws.proofs.Sees.{Tells, tell, same_some}
 use Rattle.name_laws.proofs.Runs.{run-tells, stands-at, push-cases, none-passes, stands-beside}
 use Rattle.name_laws.proofs.KnownTypes.{AreKnown}
 use Rattle.name_laws.proofs.Reached.{AreAbove}
-use Rattle.java_core.proofs.Meets.{meet-stands}
+use Rattle.java_core.proofs.Meets.{meet-stands, meets}
 use Rattle.name_laws.proofs.SlotsOf.{SlotOf, none_of, one_of}
 use Rattle.name_laws.proofs.KnownMembers.{AreMembers, HeadIs}
+use Rattle.name_laws.proofs.FoundFirst.{OneMet, MeetAsInstances, one-met-of}
 
 -- ---- owners are types of the tree
 
@@ -51,12 +52,22 @@ owner-from c (d ∷ ds) i m e =
     ⊎_elim (λ h. let a = owner-declared c d i m h in omega (arith, a)) (λ h. let a = owner-from (suc c) ds h.0 m h.2 in omega (arith, a))
     (append_cases (methods_declared c d) (methods_from (suc c) ds) i m e)
 
+owner-least : (c : ℕ) (ds : List DeclTree) (i : ℕ) (m : MethodAt) → slice_get (methods_from c ds) i ≡ Some m → c ≤ m.owner
+owner-least c [] i m e = absurd (cc e)
+owner-least c (d ∷ ds) i m e =
+    ⊎_elim (λ h. let a = owner-declared c d i m h in omega (arith, a)) (λ h. let a = owner-least (suc c) ds h.0 m h.2 in omega (arith, a))
+    (append_cases (methods_declared c d) (methods_from (suc c) ds) i m e)
+
 pub classes-count : (tree : List DeclTree) → length (outline tree).classes ≡ suc (length tree)
 unfolding outline
 classes-count tree = ap suc (length-map tree _)
 
 pub owner-within : (tree : List DeclTree) (i : ℕ) (m : MethodAt) → slice_get (methods_in tree) i ≡ Some m → m.owner < length (outline tree).classes
 owner-within tree i m e = let a = owner-from 1 tree i m e in let b = classes-count tree in omega (arith, a, b)
+
+-- Object declares none
+pub not-object : (tree : List DeclTree) (i : ℕ) (m : MethodAt) → slice_get (methods_in tree) i ≡ Some m → m.owner ≢ 0
+not-object tree i m e z = let a = owner-least 1 tree i m e in omega (arith, a, z)
 
 pub method_at-outline : (tree : List DeclTree) (i : ℕ) (m : MethodAt) → slice_get (methods_in tree) i ≡ Some m → slice_get (outline tree).methods i
     ≡ Some (method_outline (types_in tree) m)
@@ -69,6 +80,20 @@ unfolding outline
 outline-method tree i k e = map_at (method_outline (types_in tree)) (methods_in tree) i k e
 
 -- ---- clashes
+
+same-slots : (a b : Option ℕ) → same_slot a b ≡ true → (s : ℕ) × (a ≡ Some s) × (b ≡ Some s)
+same-slots (Some s) (Some t) e = (s, refl, ap Some (sym (eqb-true s t e)))
+same-slots None t e = absurd (false≢true e)
+same-slots (Some s) None e = absurd (false≢true e)
+
+-- what the test of two methods of one name that some type has tells where it finds no clash
+one-test : (name private same meeting : Bool) (r q : Refusal) → name ≡ true → meeting ≡ true
+    → (if name then (if private then Some r else if not same && meeting then Some q else None) else None) ≡ None → same ≡ true
+one-test true false true true r q a b e = refl
+one-test true true same true r q a b e = absurd (cc e)
+one-test true false false true r q a b e = absurd (cc e)
+one-test true private same false r q a b e = absurd (false≢true b)
+one-test false private same meeting r q a b e = absurd (false≢true a)
 
 module _ (tree : List DeclTree) (known : List Known) (are : AreKnown tree known) (rows : List (List Bool)) (above : AreAbove (outline tree) rows)
     (fs : List _) (m : Members) (members : AreMembers tree known are fs (methods_in tree) m) where
@@ -215,6 +240,53 @@ module _ (tree : List DeclTree) (known : List Known) (are : AreKnown tree known)
                 (push-cases done b l c v);
           })
           (λ r q. q)
+
+  -- two methods that meet in a type have one slot, and are instance methods
+  pub record AreMeeting (a b : Heading) (x y : MethodAt) : Type 0 where
+    pub slots : a.slot ≡ b.slot
+    pub first : is_static x ≡ false
+    pub second : is_static y ≡ false
+
+  pub meeting : {n : ℕ} → NoClash m.headings n → (c i j : ℕ) (a b : Heading) (x y : MethodAt) → slice_get m.headings i ≡ Some a
+      → slice_get m.headings j ≡ Some b → slice_get (methods_in tree) i ≡ Some x → slice_get (methods_in tree) j ≡ Some y → i < j
+      → IsSubclass (outline tree) c x.owner → IsSubclass (outline tree) c y.owner → x.head.name ≡ y.head.name → AreMeeting a b x y
+  meeting clash c i j a b x y p q u v lt up down same =
+      let n = same-slots a.slot b.slot one in
+      record {
+        slots = n.1 ∙ sym n.2;
+        first = static-of a x n.0 (members.slots.each i a x p u) n.1;
+        second = static-of b y n.0 (members.slots.each j b y q v) n.2;
+      }
+    where
+      is-above : (k : ℕ) (h : Heading) (z : MethodAt) → slice_get m.headings k ≡ Some h → slice_get (methods_in tree) k ≡ Some z
+          → IsSubclass (outline tree) c z.owner → is_above rows c h.owner ≡ true
+      is-above k h z e f sub =
+          let own = (members.heads k h z e f).owner in
+          above.whole c h.owner (let w = owner-within tree k z f in omega (arith, w, own)) (subst (λ o. IsSubclass (outline tree) c o) (sym own) sub)
+
+      one : same_slot a.slot b.slot ≡ true
+      one = one-test (bytes_eq a.name b.name) _ (same_slot a.slot b.slot) (meet rows a.owner b.owner) (PrivateReused b.name b.place)
+          (Overload b.name b.place) ((bytes_eq-Decides a.name b.name).1 ((members.heads i a x p u).name ∙ same ∙ sym (members.heads j b y q v).name))
+          (meets rows c a.owner b.owner (is-above i a x p u up) (is-above j b y q v down)) (clash.none i j a b p q lt)
+
+      static-of : (h : Heading) (z : MethodAt) (n : ℕ) → SlotOf (types_in tree) m.slots h z → h.slot ≡ Some n → is_static z ≡ false
+      static-of h z n (none_of f g) t = absurd (cc (sym g ∙ t))
+      static-of h z n (one_of f g d o) t = f
+
+  -- of two methods of a name in a type and its ancestors none is static
+  pub outline-met : {n : ℕ} → NoClash m.headings n → OneMet (outline tree)
+  outline-met clash = one-met-of (outline tree) meet-as
+    where
+      meet-as : MeetAsInstances (outline tree)
+      meet-as c i j h k p q lt same u v =
+          let x = outline-method tree i h p in
+          let y = outline-method tree j k q in
+          let a = stands-beside (methods_in tree) m.headings (sym members.count) i x.0 x.1 in
+          let b = stands-beside (methods_in tree) m.headings (sym members.count) j y.0 y.1 in
+          let n = meeting clash c i j a.0 b.0 x.0 y.0 a.1 b.1 x.1 y.1 lt
+          (subst (λ z. IsSubclass (outline tree) c z) (ap (λ z. z.owner) (sym x.2)) u)
+          (subst (λ z. IsSubclass (outline tree) c z) (ap (λ z. z.owner) (sym y.2)) v) (ap (λ z. z.name) x.2 ∙ same ∙ ap (λ z. z.name) (sym y.2)) in
+          (ap (λ z. z.is_static) (sym x.2) ∙ n.first, ap (λ z. z.is_static) (sym y.2) ∙ n.second)
 
   -- ---- the main method
 

@@ -19,7 +19,9 @@ use Rattle.name_rules.specs.Meanings.{MeansCastBase, to_int, to_boolean, to_char
 use Rattle.name_rules.specs.Resolves.{Counts, no_number, next_number, ResolvesTo, r_number, r_character, r_text, r_truth, r_null, r_this, r_local, r_static_field, r_own_field, r_class_field, r_field, r_index, r_own_static_call, r_own_call, r_static_call, r_call, r_super_call, r_create, r_create_array, r_cast, r_instance_of, r_unary, r_binary, AllResolve, r_no_more, r_and_more, ResolvesIf, r_none, r_some, target, bound, scope_after, scope_after_part, StResolves, r_declare, r_block, r_assign, r_act, r_print, r_choose, r_while, r_for, r_return, r_break, r_continue, StsResolve, r_no_statements, r_and_then, ArmsResolve, r_no_else, r_else, r_arm, PartResolves, r_absent, r_present, declares, declares_all, declares_arms}
 use Rattle.name_laws.proofs.Sees.{same_some}
 use Rattle.name_laws.proofs.TypeNames.{type-meant}
-use Rattle.name_laws.proofs.Excludes.{OneMet, name-class, one-nearest}
+use Rattle.name_rules.proofs.FirstMethods.{one-first}
+use Rattle.name_laws.proofs.FoundFirst.{OneMet}
+use Rattle.name_laws.proofs.Excludes.{name-class, one-nearest}
 use Rattle.java_tree.specs.Syntax as tree
 use Rattle.java_tree.specs.Formed.{IsFormedStmt, AreFormedStmts, AreFormedArms, IsFormedElse}
 use Rattle.name_laws.proofs.Statements.{numbers-target, IsFormedPart, of-first, of-step}
@@ -56,9 +58,6 @@ module _ (O : Plain) (one : OneMet O) where
   -- a static method that is met is the only one
   met-static : {c : ℕ} {n : List ℕ} {l m : ℕ} {h k : PlainMethod} → IsMet O c n l h → IsMet O c n m k → h.is_static ≡ true → l ≡ m
   met-static {c} {n} {l} {m} {h} {k} a b s = ⊎_elim (λ e. e) (λ e. absurd (false≢true (sym e.0 ∙ s))) (one c n l m h k a b)
-
-  met-other : {c : ℕ} {n : List ℕ} {l m : ℕ} {h k : PlainMethod} → IsMet O c n l h → IsMet O c n m k → h.is_static ≡ true → k.is_static ≡ false → ⊥
-  met-other a b s t = false≢true (sym t ∙ ap (λ z. z.is_static) (same_some (sym b.stands ∙ ap (slice_get O.methods) (sym (met-static a b s)) ∙ a.stands)) ∙ s)
 
   static-method : {c : ℕ} {n : List ℕ} {l m : ℕ} → IsStaticMethodOf O c n l → IsStaticMethodOf O c n m → l ≡ m
   static-method {c} {n} {l} {m} a b =
@@ -113,10 +112,10 @@ module _ (O : Plain) (one : OneMet O) where
       ex-only (r_index {x = x} {y = y} h g) (r_index {x = u} {y = v} q r) c d =
           let s = counts-split (numbers x) (numbers y) c in let t = counts-split (numbers u) (numbers v) d in
           let a = ex-only h q s.1 t.1 in let b = ex-only g r s.2 (from a.1 t.2) in (rw (a.0, b.0) refl, b.1)
-      ex-only (r_own_static_call met s o es) (r_own_static_call other t q us) c d = let a = exs-only es us c d in (rw (met-static met other s, a.0) refl, a.1)
-      ex-only (r_own_static_call met s o es) (r_own_call other t q us) c d = absurd (met-other met other s t)
-      ex-only (r_own_call met s o es) (r_own_static_call other t q us) c d = absurd (met-other other met t s)
-      ex-only (r_own_call met s o es) (r_own_call other t q us) c d = let a = exs-only es us c d in (rw a.0 refl, a.1)
+      ex-only (r_own_static_call f s o es) (r_own_static_call g t q us) c d = let a = exs-only es us c d in (rw ((one-first O f g).0, a.0) refl, a.1)
+      ex-only (r_own_static_call f s o es) (r_own_call g t q us) c d = absurd (false≢true (sym t ∙ ap (λ z. z.is_static) (sym (one-first O f g).1) ∙ s))
+      ex-only (r_own_call f s o es) (r_own_static_call g t q us) c d = absurd (false≢true (sym s ∙ ap (λ z. z.is_static) (one-first O f g).1 ∙ t))
+      ex-only (r_own_call f s o es) (r_own_call g t q us) c d = let a = exs-only es us c d in (rw a.0 refl, a.1)
       ex-only (r_static_call {n = n} b e s es) (r_static_call {m = m} q f t us) c d =
           let a = exs-only es us c d in let u = subst (λ z. IsStaticMethodOf O z n m) (same_some (sym f ∙ e)) t in (rw (static-method s u, a.0) refl, a.1)
       ex-only (r_static_call b e s es) (r_call h us) c d = absurd (name-class O here scope h b)

@@ -18,7 +18,7 @@ use Rattle.name_rules.specs.Causes.{HasNoCondition}
 use Rattle.name_laws.proofs.Sees.{same_some}
 use Rattle.name_laws.proofs.Bridge.{main-of, of-main}
 use Rattle.name_laws.proofs.MembersOf.{method-in}
-use Rattle.name_laws.proofs.Excludes.{OneMet, one-met}
+use Rattle.name_laws.proofs.FoundFirst.{OneMet, one-met}
 use Rattle.name_laws.proofs.Only.{none-only, counts-split, from, Agree, agree-at, sts-only}
 
 -- ---- lists

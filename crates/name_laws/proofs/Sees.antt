@@ -4,7 +4,7 @@ use Rattle.std.specs.Prelude.{slice_get}
 use Rattle.std.specs.Str.{bytes_eq}
 use Rattle.java_core.specs.declared.Field.{Field}
 use Rattle.java_core.specs.Programs.{Plain, PlainField, PlainMethod}
-use Rattle.java_core.specs.Classes.{IsSubclass, own_field_of, field_of}
+use Rattle.java_core.specs.Classes.{own_field_of, field_of}
 use Rattle.name_rules.specs.declared.Refusal.{Refusal}
 use Rattle.name_laws.specs.declared.parts.Heading.{Heading}
 use Rattle.name_rules.specs.declared.parts.Bound.{Bound}
@@ -12,7 +12,7 @@ use Rattle.name_laws.specs.Answers.{with}
 use Rattle.name_laws.specs.Names.{number_of}
 use Rattle.name_laws.specs.Tables.{Table, nearest_field, own_field, own_method, method_met}
 use Rattle.name_rules.specs.Meanings.{local_of}
-use Rattle.name_rules.specs.Meanings.{class_named, is_bound, bound_names, IsStaticMethodOf, IsMet}
+use Rattle.name_rules.specs.Meanings.{class_named, is_bound, bound_names, IsStaticMethodOf, IsMet, IsFirstMethod}
 
 -- a field as a table and as an outline have it
 pub record SameField (x : Field) (k : PlainField) : Type 0 where
@@ -44,10 +44,11 @@ pub record OwnMethod (t : Table) (O : Plain) (c : ℕ) (n : List ℕ) (m : ℕ) 
   pub owner : at.member.owner ≡ c
   pub name : at.member.name ≡ n
 
+-- a method that is met: a static one is the one that is found first, and for an instance method an instance method is found first
 pub record MetMethod (t : Table) (O : Plain) (c : ℕ) (n : List ℕ) (m : ℕ) : Type 0 where
   pub at : StandsMethod t O m
-  pub name : at.member.name ≡ n
-  pub above : IsSubclass O c at.member.owner
+  pub static : at.member.is_static ≡ true → IsFirstMethod O c n m at.member
+  pub instance : at.member.is_static ≡ false → (l : ℕ) × (h : PlainMethod) × IsFirstMethod O c n l h × (h.is_static ≡ false)
 
 pub record Sees (t : Table) (O : Plain) : Type 0 where
   pub types : (n : List ℕ) → number_of t.known n ≡ class_named O n

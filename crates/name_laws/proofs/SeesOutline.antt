@@ -1,9 +1,9 @@
 -- The tables of the declarations see what the outline has.
-use Rattle.std.proofs.Common.{◌≡◌, ℕ, ◌<◌, Bool, ◌&&◌, List, [], ◌∷◌, map, length, Option, Some, None, refl, sym, ap, ◌∙◌, subst, arith}
+use Rattle.std.proofs.Common.{◌≡◌, ℕ, ◌<◌, ⊎_elim, Bool, ◌&&◌, List, [], ◌∷◌, map, length, Option, Some, None, Contains, refl, sym, ap, ◌∙◌, subst, arith}
 use Rattle.std.specs.Prelude.{slice_get, ◌==◌, position}
 use Rattle.std.specs.Option.{option_map, option_and_then}
 use Rattle.std.specs.Str.{bytes_eq}
-use Rattle.std.proofs.lemmas.Bool.{and_parts}
+use Rattle.std.proofs.lemmas.Bool.{and_parts, false≢true}
 use Rattle.std.proofs.lemmas.List.{length-map}
 use Rattle.std.proofs.lemmas.Option.{slice_get-map}
 use Rattle.std.proofs.lemmas.Slice.Eq.{bytes_eq-Decides}
@@ -11,9 +11,9 @@ use Rattle.kaba_base.specs.declared.ClassId.{ClassId}
 use Rattle.kaba_base.proofs.ListLemmas.{map_at}
 use Rattle.java_tree.specs.Syntax.{DeclTree}
 use Rattle.java_core.specs.Programs.{Plain, PlainClass, PlainMethod, field_seen}
-use Rattle.java_core.specs.Classes.{IsSubclass, parent_of, first_or, nearest, own_field_of, field_of, is_field_of}
+use Rattle.java_core.specs.Classes.{IsSubclass, parent_of, faces_of, first_or, nearest, own_field_of, field_of, is_field_of}
 use Rattle.java_core.proofs.Positions.{position-map, position-passes, passes-position}
-use Rattle.java_core.proofs.Subclasses.{nearest_of-nearest}
+use Rattle.java_core.proofs.Subclasses.{nearest_of-nearest, supers-within}
 use Rattle.java_core.proofs.Upwards.{nearest-own}
 use Rattle.name_laws.specs.Known.{Known}
 use Rattle.name_laws.specs.declared.parts.Heading.{Heading}
@@ -22,14 +22,17 @@ use Rattle.name_laws.specs.Tables.{Table, parent_in, or_above, nearest_in, neare
 use Rattle.name_laws.specs.Members.{Members}
 use Rattle.name_laws.specs.Resolved as resolved
 use Rattle.name_rules.specs.Outline.{MethodAt, fields_in, methods_in, types_in, method_outline, outline}
-use Rattle.name_rules.specs.Meanings.{IsStaticMethodOf, IsMet}
-use Rattle.name_laws.proofs.Sees.{Sees, StandsField, StandsMethod, OwnMethod, MetMethod}
+use Rattle.name_rules.specs.Meanings.{IsStaticMethodOf, IsMet, first_method}
+use Rattle.name_rules.proofs.FirstMethods.{first-met}
+use Rattle.name_laws.proofs.Sees.{Sees, StandsField, StandsMethod, OwnMethod, MetMethod, same_some}
 use Rattle.name_laws.proofs.Runs.{none-passes, stands-beside}
 use Rattle.name_laws.proofs.KnownTypes.{AreKnown}
-use Rattle.name_laws.proofs.KnownClasses.{known-named}
-use Rattle.name_laws.proofs.Reached.{AreAbove}
+use Rattle.name_laws.proofs.KnownClasses.{HasSupers, known-named}
+use Rattle.name_laws.proofs.Reached.{AreAbove, NoLoops}
+use Rattle.name_laws.proofs.FoundFirst.{IsLadder, met-first, OneMet}
+use Rattle.name_laws.proofs.Ladder.{nothing-above, face-stands, interface-object}
 use Rattle.name_laws.proofs.KnownMembers.{AreMembers, both-true, true-both}
-use Rattle.name_laws.proofs.MethodClashes.{owner-within, method_at-outline, outline-method}
+use Rattle.name_laws.proofs.MethodClashes.{owner-within, not-object, method_at-outline, outline-method}
 
 module _ (tree : List DeclTree) (known : List Known) (are : AreKnown tree known) (rows : List (List Bool)) (above : AreAbove (outline tree) rows)
     (m : Members) (members : AreMembers tree known are (fields_in tree) (methods_in tree) m) where
@@ -142,19 +145,6 @@ module _ (tree : List DeclTree) (known : List Known) (are : AreKnown tree known)
       let a = stands-beside m.headings (methods_in tree) members.count i h e in
       let d = (members.heads i h a.0 e a.1).owner in let w = owner-within tree i a.0 a.1 in omega (arith, d, w)
 
-  met-found : (c : ℕ) (n : List ℕ) (i : ℕ) → method_met T c n ≡ Some i → MetMethod T O c n i
-  unfolding method_met
-  met-found c n i e =
-      let a = position-passes (λ h. is_above rows c h.owner && bytes_eq h.name n) m.headings i e in
-      let b = and_parts (is_above rows c a.0.owner) (bytes_eq a.0.name n) a.2 in
-      let s = method-stands i a.0 a.1 in
-      record {
-        at = s.0;
-        name = s.2 ∙ (bytes_eq-Decides a.0.name n).0 b.1;
-        above = subst (λ z. IsSubclass O c z) (sym s.1)
-            (above.sound c a.0.owner (within-owner i a.0 a.1) b.0);
-      }
-
   met-none : (c : ℕ) (n : List ℕ) → method_met T c n ≡ None → (i : ℕ) (k : PlainMethod) → IsMet O c n i k → ⊥
   unfolding method_met
   met-none c n e i k h =
@@ -163,15 +153,55 @@ module _ (tree : List DeclTree) (known : List Known) (are : AreKnown tree known)
       (ap (λ z. z && bytes_eq a.0.name n) (above.whole c a.0.owner (within-owner i a.0 a.2) (subst (λ z. IsSubclass O c z) a.4 h.above))
       ∙ (bytes_eq-Decides a.0.name n).1 (sym a.5 ∙ h.name))
 
-  pub sees-outline : Sees T O
-  sees-outline = record {
-    types = known-named tree known are;
-    nearest = nearest-field;
-    nearest_stands = nearest-stands;
-    own = own-same;
-    own_stands = own-stands;
-    own_found = own-found;
-    own_only = own-only;
-    met = met-found;
-    met_none = met-none;
-  }
+  module _ (supers : (i : ℕ) (d : DeclTree) → slice_get tree i ≡ Some d → HasSupers tree d) {number : ℕ}
+      (loops : NoLoops tree (outline tree).classes number) (one : OneMet (outline tree)) where
+    -- the types of a tree go in no circle, and an interface has Object as its parent
+    ladder : IsLadder O
+    ladder = record {
+      acyclic = λ c h. loops.none c (supers-within O c h.by h.direct) h;
+      top = nothing-above tree;
+      interfaces = interface-parent;
+    }
+      where
+        interface-parent : (c : ℕ) (k p : ClassId) → Contains (faces_of O c) k → parent_of O k.0 ≡ Some p → p.0 ≡ 0
+        interface-parent c k p has up = let f = face-stands tree known are supers c k has in interface-object tree k.0 p f.0 f.1 f.2 up
+
+    met-found : (c : ℕ) (n : List ℕ) (i : ℕ) → method_met T c n ≡ Some i → MetMethod T O c n i
+    unfolding method_met
+    met-found c n i e =
+        let a = position-passes (λ h. is_above rows c h.owner && bytes_eq h.name n) m.headings i e in
+        let b = and_parts (is_above rows c a.0.owner) (bytes_eq a.0.name n) a.2 in
+        let s = method-stands i a.0 a.1 in
+        let k = s.0.member in
+        let met : IsMet O c n i k = record {
+          stands = s.0.stands;
+          name = s.2 ∙ (bytes_eq-Decides a.0.name n).0 b.1;
+          above = subst (λ z. IsSubclass O c z) (sym s.1) (above.sound c a.0.owner (within-owner i a.0 a.1) b.0);
+        } in
+        let x = outline-method tree i k s.0.stands in
+        let f = met-first O ladder (λ z. not-object tree i x.0 x.1 (ap (λ z. z.owner) x.2 ∙ z)) met in
+        let both = one c n i f.0 k f.1 met (first-met O f.2) in
+        record {
+          at = s.0;
+          static = λ t. ⊎_elim (λ same. let first : first_method O c n ≡ Some i = f.2.first ∙ ap Some (sym same) in record { first = first; stands = s.0.stands })
+              (λ other. absurd (false≢true (sym other.0 ∙ t))) both;
+          instance = λ t. (
+            f.0,
+            f.1,
+            f.2,
+            ⊎_elim (λ same. ap (λ z. z.is_static) (same_some (sym f.2.stands ∙ ap (slice_get O.methods) (sym same) ∙ s.0.stands)) ∙ t) (λ other. other.1) both,
+          );
+        }
+
+    pub sees-outline : Sees T O
+    sees-outline = record {
+      types = known-named tree known are;
+      nearest = nearest-field;
+      nearest_stands = nearest-stands;
+      own = own-same;
+      own_stands = own-stands;
+      own_found = own-found;
+      own_only = own-only;
+      met = met-found;
+      met_none = met-none;
+    }

@@ -20,7 +20,7 @@ use Rattle.name_laws.proofs.KnownTypes.{AreKnown, known-tells}
 use Rattle.name_laws.proofs.KnownClasses.{HasSupers, classes-tells, classes-outline}
 use Rattle.name_laws.proofs.Reached.{above-tells, loops-tells}
 use Rattle.name_laws.proofs.AllMembers.{members-tells}
-use Rattle.name_laws.proofs.MethodClashes.{clashes-tells, main-tells}
+use Rattle.name_laws.proofs.MethodClashes.{clashes-tells, main-tells, outline-met}
 use Rattle.name_laws.proofs.SeesOutline.{sees-outline}
 use Rattle.name_laws.proofs.MethodBodies.{bodies-tells}
 use Rattle.name_laws.proofs.Bridge.{Steps, P, program-resolves}
@@ -58,7 +58,7 @@ resolved-formed tree formed =
         (fields_in tree) m members)
         (λ count clash. tell (ResolvesFormed tree) (ConditionAt tree) (main_of m.headings) _ (main-tells tree known are rows above (fields_in tree) m members)
         (λ i main. tell (ResolvesFormed tree) (ConditionAt tree) (resolved_by.methods_of (resolved_by.table known (outline tree).classes rows m) tree) _
-        (bodies-tells tree known are (resolved_by.table known (outline tree).classes rows m) refl (sees-outline tree known are rows above m members) formed)
+        (bodies-tells tree known are (resolved_by.table known (outline tree).classes rows m) refl (sees-outline tree known are rows above m members supers loops (outline-met tree known are rows above (fields_in tree) m members clash)) formed)
         (λ ks w. goes-through tree (record {
           formed = formed;
           known = known;

@@ -18,7 +18,8 @@ use Rattle.name_rules.specs.Meanings.{bound_names}
 use Rattle.name_rules.specs.Resolves.{target, bound, Counts, ResolvesTo, r_number, r_character, r_text, r_truth, r_null, r_this, r_local, r_static_field, r_own_field, r_class_field, r_field, r_index, r_own_static_call, r_own_call, r_static_call, r_call, r_super_call, r_create, r_create_array, r_cast, r_instance_of, r_unary, r_binary, AllResolve, r_no_more, r_and_more, ResolvesIf, r_none, r_some, scope_after, scope_after_part, IsLocal, StResolves, r_declare, r_block, r_assign, r_act, r_print, r_choose, r_while, r_for, r_return, r_break, r_continue, StsResolve, r_no_statements, r_and_then, ArmsResolve, r_no_else, r_else, r_arm, PartResolves, r_absent, r_present, declares, declares_all, declares_arms, params_from, here_of, BodyResolves, r_no_body, r_body, BodiesResolve, r_no_methods, r_method}
 use Rattle.java_core.specs.Untagged.{bare_tag, bare, bare_all, bare_if, bare_target, bare_st, bare_sts, bare_arms, untag_local, untag_method, untagged, untag_body}
 use Rattle.name_place_laws.proofs.Outlines.{word-same, method_at_unplaced}
-use Rattle.name_place_laws.proofs.Meanings.{names-same, named-same, means, means-cast, class-name-same, static-field, static-method, nearest-field, met}
+use Rattle.name_place_laws.proofs.Meanings.{names-same, named-same, means, means-cast, class-name-same, static-field, static-method, nearest-field}
+use Rattle.name_place_laws.proofs.FirstMethods.{first-method}
 use Rattle.name_place_laws.proofs.Untagged.{variables-same}
 
 target-same : (x : Ex) → target (bare x) ≡ bare_target (target x)
@@ -68,8 +69,8 @@ module _ (O : Plain) (here : Here) where
           r_class_field (class-name-same O here.owner (bound_names scope) c nowhere q ∙ a) (named-same O c ∙ e) (static-field O s)
       ex (r_field h) = r_field (ex h)
       ex (r_index h g) = r_index (ex h) (ex g)
-      ex (r_own_static_call m s o es) = r_own_static_call (met O m) s o (exs es)
-      ex (r_own_call m s o es) = r_own_call (met O m) s o (exs es)
+      ex (r_own_static_call m s o es) = r_own_static_call (first-method O m) s o (exs es)
+      ex (r_own_call m s o es) = r_own_call (first-method O m) s o (exs es)
       ex (r_static_call {c = c} {q = q} a e s es) =
           r_static_call (class-name-same O here.owner (bound_names scope) c nowhere q ∙ a) (named-same O c ∙ e) (static-method O s) (exs es)
       ex (r_call h es) = r_call (ex h) (exs es)

@@ -13,7 +13,8 @@ use Rattle.name_rules.specs.Outline.{is_type_name}
 use Rattle.name_rules.specs.Meanings.{type_names, class_named, is_class_name}
 use Rattle.name_rules.specs.Conditions.{IsUnknownType, no_such_type, IsUnknownCast, no_such_cast, FaultIn, this_in_static, no_variable, static_above, own_in_static, no_class_of_field, no_static_field, in_base, in_array, in_index, no_method, static_method_above, call_in_static, in_arguments, no_class_of_call, no_static_method, in_receiver, in_call_arguments, super_in_static, in_super_arguments, no_class_of_new, in_new_arguments, no_type_of_array, in_size, no_type_of_cast, in_cast, no_class_of_test, in_tested, in_operand, in_left, in_right, FaultInOne, in_first, in_later, FaultInValue, in_value, names_after, names_after_part, StFault, no_type_of_local, type_as_local, local_twice, in_first_value, in_block, in_target, in_assigned, in_call, in_printed, in_choice, in_else, in_while_test, in_while, in_first_part, in_for_test, in_last_part, in_for, in_returned, break_outside, continue_outside, StsFault, in_statement, in_rest, ArmsFault, in_test, in_arm, in_more_arms, PartFault, in_part}
 use Rattle.java_core.specs.Untagged.{untag_method, untagged}
-use Rattle.name_place_laws.proofs.Meanings.{names-same, named-same, class-name-same, static-field, static-method, nearest-back, met, met-back}
+use Rattle.name_place_laws.proofs.Meanings.{names-same, named-same, class-name-same, static-field, static-method, nearest-back, met}
+use Rattle.name_place_laws.proofs.FirstMethods.{first-method-back}
 
 -- no refusal has this
 abbrev pub None-of : (Refusal → Type 0) → Type 0
@@ -105,8 +106,8 @@ module _ (O : Plain) (here : Here) where
       fault (IndexOf e i p) free (in_index h) = fault i (λ r g. free r (in_index g)) h
       fault (CallOf n es p) free (no_method f) = free _ (no_method (λ m k h. f m (untag_method k) (met O h)))
       fault (CallOf n es p) free (static_method_above m s o) =
-          let a = met-back O m in free _ (static_method_above a.1 (ap (λ z. z.is_static) a.2 ∙ s) (λ e. o (ap (λ z. z.owner) (sym a.2) ∙ e)))
-      fault (CallOf n es p) free (call_in_static m s t) = let a = met-back O m in free _ (call_in_static a.1 (ap (λ z. z.is_static) a.2 ∙ s) t)
+          let a = first-method-back O m in free _ (static_method_above a.1 (ap (λ z. z.is_static) a.2 ∙ s) (λ e. o (ap (λ z. z.owner) (sym a.2) ∙ e)))
+      fault (CallOf n es p) free (call_in_static m s t) = let a = first-method-back O m in free _ (call_in_static a.1 (ap (λ z. z.is_static) a.2 ∙ s) t)
       fault (CallOf n es p) free (in_arguments h) = faults es (λ r g. free r (in_arguments g)) h
       fault (CallOn e n es p) free h = before-call e (expr_unplaced e) n es p refl (λ r g i. fault e g i) (λ r g i. faults es g i) free h
       fault (SuperCallOf n es p) free (super_in_static s) = free _ (super_in_static s)

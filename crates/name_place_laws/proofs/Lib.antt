@@ -1,6 +1,7 @@
 pub mod Bodies
 pub mod Conditions
 pub mod Faults
+pub mod FirstMethods
 pub mod Meanings
 pub mod Outlines
 pub mod Resolved

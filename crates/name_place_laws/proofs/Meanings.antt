@@ -56,14 +56,14 @@ module _ (O : Plain) where
 
   -- ---- classes
 
-  parent-same : (a : ℕ) → parent_of bare-outline a ≡ parent_of O a
+  pub parent-same : (a : ℕ) → parent_of bare-outline a ≡ parent_of O a
   parent-same a = ap (option_and_then (λ k. k.parent)) (slice_get-map untag_class O.classes a) ∙ go (slice_get O.classes a)
     where
       go : (k : Option PlainClass) → option_and_then (λ k. k.parent) (option_map untag_class k) ≡ option_and_then (λ k. k.parent) k
       go None = refl
       go (Some k) = refl
 
-  faces-same : (a : ℕ) → faces_of bare-outline a ≡ faces_of O a
+  pub faces-same : (a : ℕ) → faces_of bare-outline a ≡ faces_of O a
   faces-same a = ap (λ z. option_map_or (λ k. k.faces) z []) (slice_get-map untag_class O.classes a) ∙ go (slice_get O.classes a)
     where
       go : (k : Option PlainClass) → option_map_or (λ k. k.faces) (option_map untag_class k) [] ≡ option_map_or (λ k. k.faces) k []

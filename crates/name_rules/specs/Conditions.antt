@@ -23,7 +23,7 @@ use Rattle.name_rules.specs.declared.parts.Here.{Here}
 use Rattle.name_rules.specs.declared.parts.Kind.{Kind}
 use Rattle.name_rules.specs.declared.parts.Kind.TheVariants as kinds
 use Rattle.name_rules.specs.Outline.{FieldAt, MethodAt, is_private, has_word, is_public_word, is_protected_word, is_private_word, is_abstract_word, is_static_word, is_final_word, outline, fields_in, methods_in, types_in, is_text_type, is_type_name, is_known, name_of, place_of, mods_of, parent_named, faces_named}
-use Rattle.name_rules.specs.Meanings.{type_names, class_named, is_bound, is_class_name, IsStaticFieldOf, IsStaticMethodOf, IsNearestField, IsMet}
+use Rattle.name_rules.specs.Meanings.{type_names, class_named, is_bound, is_class_name, IsStaticFieldOf, IsStaticMethodOf, IsNearestField, IsMet, IsFirstMethod}
 use Rattle.name_rules.specs.Asked.{Asks}
 use Rattle.name_rules.specs.Resolves.{here_of}
 
@@ -58,12 +58,13 @@ module _ (O : Plain) (here : Here) (scope : List (List ℕ)) where
       in_base : {e : Expression} {n : List ℕ} {p : Place} {r : Refusal} → is_class_name O here.owner scope e ≡ false → FaultIn e r → FaultIn (FieldOf e n p) r
       in_array : {e i : Expression} {p : Place} {r : Refusal} → FaultIn e r → FaultIn (IndexOf e i p) r
       in_index : {e i : Expression} {p : Place} {r : Refusal} → FaultIn i r → FaultIn (IndexOf e i p) r
-      -- a call by a simple name that no method has, that of a static method of an ancestor, and that of an instance method in a static one
+      -- a call by a simple name that no method has, one that first finds a static method of an ancestor, and one that first finds an instance method, in a
+      -- static method
       no_method : {n : List ℕ} {es : Expressions} {p : Place} → ((m : ℕ) (k : PlainMethod) → IsMet O here.owner n m k → ⊥)
           → FaultIn (CallOf n es p) (Unknown n p)
-      static_method_above : {n : List ℕ} {es : Expressions} {p : Place} {m : ℕ} {k : PlainMethod} → IsMet O here.owner n m k → k.is_static ≡ true
+      static_method_above : {n : List ℕ} {es : Expressions} {p : Place} {m : ℕ} {k : PlainMethod} → IsFirstMethod O here.owner n m k → k.is_static ≡ true
           → k.owner ≢ here.owner → FaultIn (CallOf n es p) (Unknown n p)
-      call_in_static : {n : List ℕ} {es : Expressions} {p : Place} {m : ℕ} {k : PlainMethod} → IsMet O here.owner n m k → k.is_static ≡ false
+      call_in_static : {n : List ℕ} {es : Expressions} {p : Place} {m : ℕ} {k : PlainMethod} → IsFirstMethod O here.owner n m k → k.is_static ≡ false
           → here.is_static ≡ true
           → FaultIn (CallOf n es p) (NotInProfile forms.ThisInStatic p)
       in_arguments : {n : List ℕ} {es : Expressions} {p : Place} {r : Refusal} → FaultInOne es r → FaultIn (CallOf n es p) r

@@ -1,6 +1,6 @@
 -- Believed. What a name means in a body: a variable, a class, a member. `O` is the outline of the program: its classes,
 -- fields and methods.
-use Rattle.std.specs.Prelude.{◌≡◌, ℕ, ◌&&◌, not, Bool, true, false, List, [], ◌∷◌, map, Option, Some, None, slice_get, if◌then◌else◌}
+use Rattle.std.specs.Prelude.{◌≡◌, ℕ, ◌==◌, ◌&&◌, not, Bool, true, false, List, [], ◌∷◌, map, Option, Some, None, slice_get, position, if◌then◌else◌}
 use Rattle.std.specs.Option.{is_none}
 use Rattle.std.specs.List.{list_any}
 use Rattle.std.specs.Str.{bytes_eq}
@@ -12,7 +12,7 @@ use Rattle.java_core.specs.declared.Ty.{Ty}
 use Rattle.java_core.specs.declared.TyBase.{TyBase}
 use Rattle.java_core.specs.declared.TyBase.TheVariants as ty
 use Rattle.java_core.specs.Programs.{Plain, PlainField, PlainMethod}
-use Rattle.java_core.specs.Classes.{IsSubclass, own_field_of, field_of}
+use Rattle.java_core.specs.Classes.{IsSubclass, own_field_of, field_of, search_order, first_found}
 use Rattle.java_core.specs.Subtypes.{class_id}
 use Rattle.name_rules.specs.declared.parts.Bound.{Bound}
 use Rattle.name_rules.specs.Outline.{type_named, is_text_type}
@@ -104,3 +104,21 @@ pub record IsMet (O : Plain) (c : ℕ) (n : List ℕ) (m : ℕ) (member : PlainM
   pub stands : slice_get O.methods m ≡ Some member
   pub name : member.name ≡ n
   pub above : IsSubclass O c member.owner
+
+-- whether a method, an instance or a static one, is declared in this class or interface under this name
+abbrev pub is_named_in : ℕ → List ℕ → PlainMethod → Bool
+is_named_in c n k = (k.owner == c) && bytes_eq k.name n
+
+-- the method of a name that a class or interface itself declares: the first in the text
+abbrev pub named_method : Plain → ℕ → List ℕ → Option ℕ
+named_method O c n = position (λ k. is_named_in c n k) O.methods
+
+-- the method that a call by a simple name finds first, from the holding class upwards: in the class and its superclasses, the nearest first, then
+-- in the interfaces that these name, each followed by its own
+unfoldable pub first_method : Plain → ℕ → List ℕ → Option ℕ
+first_method O c n = first_found (λ k. named_method O k n) (search_order O c)
+
+-- the method that is found first, by its number
+pub record IsFirstMethod (O : Plain) (c : ℕ) (n : List ℕ) (m : ℕ) (member : PlainMethod) : Type 0 where
+  pub first : first_method O c n ≡ Some m
+  pub stands : slice_get O.methods m ≡ Some member

@@ -22,7 +22,7 @@ use Rattle.java_core.specs.Formed.{variables_of, numbers_methods, IsMain}
 use Rattle.name_rules.specs.declared.parts.Bound.{Bound}
 use Rattle.name_rules.specs.declared.parts.Here.{Here}
 use Rattle.name_rules.specs.Outline.{MethodAt, is_static, outline, methods_in, is_type_name}
-use Rattle.name_rules.specs.Meanings.{type_names, class_named, Means, MeansCast, in_scope, is_bound, bound_names, is_class_name, IsStaticFieldOf, IsStaticMethodOf, IsNearestField, IsMet}
+use Rattle.name_rules.specs.Meanings.{type_names, class_named, Means, MeansCast, in_scope, is_bound, bound_names, is_class_name, IsStaticFieldOf, IsStaticMethodOf, IsNearestField, IsFirstMethod}
 use Rattle.name_rules.specs.Asked.{Asks}
 
 -- the operator of a mark; a mark that is none does not come from a text
@@ -153,11 +153,11 @@ module _ (O : Plain) (here : Here) (scope : List Bound) where
           → ResolvesTo (FieldOf (NameRef c q) n p) (static_field (at_place p) f)
       r_field : {e : Expression} {x : Ex} {n : List ℕ} {p : Place} → ResolvesTo e x → ResolvesTo (FieldOf e n p) (field (at_place p) x n)
       r_index : {e i : Expression} {x y : Ex} {p : Place} → ResolvesTo e x → ResolvesTo i y → ResolvesTo (IndexOf e i p) (index (at_place p) x y)
-      -- a call by a simple name: a static method of the class itself, or an instance method of it or an ancestor on `this`
-      r_own_static_call : {n : List ℕ} {es : Expressions} {xs : Exs} {p : Place} {m : ℕ} {k : PlainMethod} → IsMet O here.owner n m k
+      -- a call by a simple name, of the method that is found first: a static method of the class itself, or an instance method, on `this`
+      r_own_static_call : {n : List ℕ} {es : Expressions} {xs : Exs} {p : Place} {m : ℕ} {k : PlainMethod} → IsFirstMethod O here.owner n m k
           → k.is_static ≡ true → k.owner ≡ here.owner → AllResolve es xs
           → ResolvesTo (CallOf n es p) (static_call (at_place p) m xs)
-      r_own_call : {n : List ℕ} {es : Expressions} {xs : Exs} {p : Place} {m : ℕ} {k : PlainMethod} → IsMet O here.owner n m k → k.is_static ≡ false
+      r_own_call : {n : List ℕ} {es : Expressions} {xs : Exs} {p : Place} {m : ℕ} {k : PlainMethod} → IsFirstMethod O here.owner n m k → k.is_static ≡ false
           → here.is_static ≡ false → AllResolve es xs
           → ResolvesTo (CallOf n es p) (call (at_place p) (this (at_place p)) n xs)
       r_static_call : {c n : List ℕ} {es : Expressions} {xs : Exs} {p q : Place} {k m : ℕ} → is_class_name O here.owner (bound_names scope)

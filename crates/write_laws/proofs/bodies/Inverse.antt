@@ -10,6 +10,7 @@ use Rattle.java_core.specs.Programs.{Plain, PlainField, PlainMethod}
 use Rattle.java_core.specs.Classes.{field_of}
 use Rattle.name_rules.specs.declared.parts.Bound.{Bound}
 use Rattle.name_rules.specs.declared.parts.Here.{Here}
+use Rattle.name_rules.proofs.FirstMethods.{first-met}
 use Rattle.name_rules.specs.Meanings.{class_named, in_scope, bound_names, is_class_name, IsStaticFieldOf, IsStaticMethodOf, IsNearestField, IsMet}
 use Rattle.name_rules.specs.Resolves.{ResolvesTo, AllResolve, r_local, r_static_field, r_own_field, r_class_field, r_field, r_own_static_call, r_own_call, r_static_call, r_call}
 
@@ -64,7 +65,7 @@ module _ (O : Plain) (here : Here) (bs : List Bound) where
 
   pub at_own_call : (n : List ℕ) (es : Expressions) (p : Place) (d : Ex) → here.is_static ≡ true → To (CallOf n es p) d → OwnMethod n es p d
   at_own_call n es p d s (r_own_static_call {xs = xs} {m = m} {k = k} met t o all) =
-      record { number = m; member = k; met = met; static = t; owner = o; args = xs; all = all; is = refl }
+      record { number = m; member = k; met = first-met O met; static = t; owner = o; args = xs; all = all; is = refl }
   at_own_call n es p d s (r_own_call met t o all) = absurd (false≢true (sym o ∙ s))
 
   pub at_call : (e : Expression) (n : List ℕ) (es : Expressions) (p : Place) (d : Ex) → is_class_name O here.owner (bound_names bs) e ≡ false

@@ -13,6 +13,7 @@ use Rattle.java_core.specs.Classes.{field_of}
 use Rattle.name_rules.specs.declared.parts.Here.{Here}
 use Rattle.name_rules.specs.declared.Refusal.{Refusal}
 use Rattle.name_rules.specs.Outline.{is_type_name}
+use Rattle.name_rules.proofs.FirstMethods.{first-met}
 use Rattle.name_rules.specs.Meanings.{type_names, class_named, is_bound, is_class_name, IsStaticFieldOf, IsStaticMethodOf, IsNearestField, IsMet}
 use Rattle.name_rules.specs.Conditions.{IsUnknownType, FaultIn, FaultInOne, FaultInValue, no_variable, static_above, own_in_static, no_class_of_field, no_static_field, in_base, no_method, static_method_above, call_in_static, in_arguments, no_class_of_call, no_static_method, in_receiver, in_call_arguments, StFault, StsFault, ArmsFault, PartFault, in_choice, in_else, in_while_test, in_while, in_first_part, in_for_test, in_last_part, in_for, no_type_of_local, type_as_local, local_twice, in_first_value, in_value, names_after_part}
 use Rattle.write_model.specs.Names.{nowhere}
@@ -88,8 +89,8 @@ module _ (O : Plain) (here : Here) (scope : List (List ℕ)) where
       → ((f : ℕ) (k : PlainMethod) → IsMet O here.owner n f k → (k.is_static ≡ true) × (k.owner ≡ here.owner)) → (FaultInOne O here scope es r → ⊥)
       → FaultIn O here scope (CallOf n es p) r → ⊥
   own_call_fault n es p r g new met own args (no_method none) = none g new met
-  own_call_fault n es p r g new met own args (static_method_above {m = m} {k = k} other st differs) = differs (own m k other).1
-  own_call_fault n es p r g new met own args (call_in_static {m = m} {k = k} other st here_static) = false≢true (sym st ∙ (own m k other).0)
+  own_call_fault n es p r g new met own args (static_method_above {m = m} {k = k} other st differs) = differs (own m k (first-met O other)).1
+  own_call_fault n es p r g new met own args (call_in_static {m = m} {k = k} other st here_static) = false≢true (sym st ∙ (own m k (first-met O other)).0)
   own_call_fault n es p r g new met own args (in_arguments x) = args x
 
 module _ (O : Plain) (here : Here) where

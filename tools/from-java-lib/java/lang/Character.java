@@ -1,0 +1,119 @@
+package java.lang;
+
+/** Characters up to 127 are known by their kind; another ends the program where its kind is asked. */
+public final class Character implements Comparable<Character> {
+    public static final char MAX_VALUE = 65535;
+    public static final char MIN_VALUE = 0;
+    char value;
+
+    public static Character valueOf(char value) {
+        Character made = new Character();
+        made.value = value;
+        return made;
+    }
+
+    private static char known(char c) {
+        if (c > 127) {
+            throw new UnsupportedOperationException("the kind of a character over 127");
+        }
+        return c;
+    }
+
+    public static boolean isDigit(char c) {
+        known(c);
+        return c >= '0' && c <= '9';
+    }
+
+    public static boolean isUpperCase(char c) {
+        known(c);
+        return c >= 'A' && c <= 'Z';
+    }
+
+    public static boolean isLowerCase(char c) {
+        known(c);
+        return c >= 'a' && c <= 'z';
+    }
+
+    public static boolean isLetter(char c) {
+        return isUpperCase(c) || isLowerCase(c);
+    }
+
+    public static boolean isAlphabetic(int c) {
+        return isLetter((char) c);
+    }
+
+    public static boolean isLetterOrDigit(char c) {
+        return isLetter(c) || isDigit(c);
+    }
+
+    public static boolean isWhitespace(char c) {
+        known(c);
+        return c == ' ' || c >= 9 && c <= 13 || c >= 28 && c <= 31;
+    }
+
+    public static boolean isSpaceChar(char c) {
+        known(c);
+        return c == ' ';
+    }
+
+    public static char toUpperCase(char c) {
+        return isLowerCase(c) ? (char) (c - 32) : c;
+    }
+
+    public static char toLowerCase(char c) {
+        return isUpperCase(c) ? (char) (c + 32) : c;
+    }
+
+    public static int digit(char c, int radix) {
+        int digit = -1;
+        if (isDigit(c)) {
+            digit = c - '0';
+        } else if (isLetter(c)) {
+            digit = toLowerCase(c) - 'a' + 10;
+        }
+        return digit < radix ? digit : -1;
+    }
+
+    public static char forDigit(int digit, int radix) {
+        if (digit < 0 || digit >= radix) {
+            return '\0';
+        }
+        return digit < 10 ? (char) ('0' + digit) : (char) ('a' + digit - 10);
+    }
+
+    public static int getNumericValue(char c) {
+        return digit(c, 36);
+    }
+
+    public static int compare(char one, char other) {
+        return one - other;
+    }
+
+    public static String toString(char c) {
+        return "" + c;
+    }
+
+    public static int hashCode(char c) {
+        return c;
+    }
+
+    public char charValue() {
+        return value;
+    }
+
+    public int compareTo(Character other) {
+        return value - other.value;
+    }
+
+    public boolean equals(Object other) {
+        return other instanceof Character && ((Character) other).value == value;
+    }
+
+    public int hashCode() {
+        return value;
+    }
+
+    public String toString() {
+        return "" + value;
+    }
+}

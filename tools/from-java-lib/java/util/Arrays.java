@@ -1,0 +1,374 @@
+package java.util;
+
+public final class Arrays {
+    public static void sort(int[] all) {
+        int[] other = new int[all.length];
+        sort(all, other, 0, all.length);
+    }
+
+    public static void sort(int[] all, int from, int to) {
+        int[] other = new int[all.length];
+        sort(all, other, from, to);
+    }
+
+    private static void sort(int[] all, int[] other, int from, int to) {
+        if (to - from < 2) {
+            return;
+        }
+        int middle = (from + to) / 2;
+        sort(all, other, from, middle);
+        sort(all, other, middle, to);
+        int left = from;
+        int right = middle;
+        for (int k = from; k < to; k++) {
+            if (left < middle && (right >= to || all[left] <= all[right])) {
+                other[k] = all[left];
+                left++;
+            } else {
+                other[k] = all[right];
+                right++;
+            }
+        }
+        for (int k = from; k < to; k++) {
+            all[k] = other[k];
+        }
+    }
+
+    public static void sort(char[] all) {
+        char[] other = new char[all.length];
+        sort(all, other, 0, all.length);
+    }
+
+    public static void sort(char[] all, int from, int to) {
+        char[] other = new char[all.length];
+        sort(all, other, from, to);
+    }
+
+    private static void sort(char[] all, char[] other, int from, int to) {
+        if (to - from < 2) {
+            return;
+        }
+        int middle = (from + to) / 2;
+        sort(all, other, from, middle);
+        sort(all, other, middle, to);
+        int left = from;
+        int right = middle;
+        for (int k = from; k < to; k++) {
+            if (left < middle && (right >= to || all[left] <= all[right])) {
+                other[k] = all[left];
+                left++;
+            } else {
+                other[k] = all[right];
+                right++;
+            }
+        }
+        for (int k = from; k < to; k++) {
+            all[k] = other[k];
+        }
+    }
+
+    public static void fill(int[] all, int value) {
+        for (int k = 0; k < all.length; k++) {
+            all[k] = value;
+        }
+    }
+
+    public static void fill(int[] all, int from, int to, int value) {
+        for (int k = from; k < to; k++) {
+            all[k] = value;
+        }
+    }
+
+    public static int[] copyOf(int[] all, int length) {
+        int[] made = new int[length];
+        for (int k = 0; k < length && k < all.length; k++) {
+            made[k] = all[k];
+        }
+        return made;
+    }
+
+    public static int[] copyOfRange(int[] all, int from, int to) {
+        if (from > to) {
+            throw new IllegalArgumentException(from + " > " + to);
+        }
+        if (from < 0 || from > all.length) {
+            throw new ArrayIndexOutOfBoundsException("Array index out of range: " + from);
+        }
+        int[] made = new int[to - from];
+        for (int k = from; k < to && k < all.length; k++) {
+            made[k - from] = all[k];
+        }
+        return made;
+    }
+
+    public static String toString(int[] all) {
+        if (all == null) {
+            return "null";
+        }
+        String text = "[";
+        for (int k = 0; k < all.length; k++) {
+            text = text + (k == 0 ? "" : ", ") + all[k];
+        }
+        return text + "]";
+    }
+
+    public static boolean equals(int[] one, int[] other) {
+        if (one == null || other == null) {
+            return one == other;
+        }
+        if (one.length != other.length) {
+            return false;
+        }
+        for (int k = 0; k < one.length; k++) {
+            if (one[k] != other[k]) {
+                return false;
+            }
+        }
+        return true;
+    }
+
+    public static void fill(char[] all, char value) {
+        for (int k = 0; k < all.length; k++) {
+            all[k] = value;
+        }
+    }
+
+    public static void fill(char[] all, int from, int to, char value) {
+        for (int k = from; k < to; k++) {
+            all[k] = value;
+        }
+    }
+
+    public static char[] copyOf(char[] all, int length) {
+        char[] made = new char[length];
+        for (int k = 0; k < length && k < all.length; k++) {
+            made[k] = all[k];
+        }
+        return made;
+    }
+
+    public static char[] copyOfRange(char[] all, int from, int to) {
+        if (from > to) {
+            throw new IllegalArgumentException(from + " > " + to);
+        }
+        if (from < 0 || from > all.length) {
+            throw new ArrayIndexOutOfBoundsException("Array index out of range: " + from);
+        }
+        char[] made = new char[to - from];
+        for (int k = from; k < to && k < all.length; k++) {
+            made[k - from] = all[k];
+        }
+        return made;
+    }
+
+    public static String toString(char[] all) {
+        if (all == null) {
+            return "null";
+        }
+        String text = "[";
+        for (int k = 0; k < all.length; k++) {
+            text = text + (k == 0 ? "" : ", ") + all[k];
+        }
+        return text + "]";
+    }
+
+    public static boolean equals(char[] one, char[] other) {
+        if (one == null || other == null) {
+            return one == other;
+        }
+        if (one.length != other.length) {
+            return false;
+        }
+        for (int k = 0; k < one.length; k++) {
+            if (one[k] != other[k]) {
+                return false;
+            }
+        }
+        return true;
+    }
+
+    public static void fill(boolean[] all, boolean value) {
+        for (int k = 0; k < all.length; k++) {
+            all[k] = value;
+        }
+    }
+
+    public static void fill(boolean[] all, int from, int to, boolean value) {
+        for (int k = from; k < to; k++) {
+            all[k] = value;
+        }
+    }
+
+    public static boolean[] copyOf(boolean[] all, int length) {
+        boolean[] made = new boolean[length];
+        for (int k = 0; k < length && k < all.length; k++) {
+            made[k] = all[k];
+        }
+        return made;
+    }
+
+    public static boolean[] copyOfRange(boolean[] all, int from, int to) {
+        if (from > to) {
+            throw new IllegalArgumentException(from + " > " + to);
+        }
+        if (from < 0 || from > all.length) {
+            throw new ArrayIndexOutOfBoundsException("Array index out of range: " + from);
+        }
+        boolean[] made = new boolean[to - from];
+        for (int k = from; k < to && k < all.length; k++) {
+            made[k - from] = all[k];
+        }
+        return made;
+    }
+
+    public static String toString(boolean[] all) {
+        if (all == null) {
+            return "null";
+        }
+        String text = "[";
+        for (int k = 0; k < all.length; k++) {
+            text = text + (k == 0 ? "" : ", ") + all[k];
+        }
+        return text + "]";
+    }
+
+    public static boolean equals(boolean[] one, boolean[] other) {
+        if (one == null || other == null) {
+            return one == other;
+        }
+        if (one.length != other.length) {
+            return false;
+        }
+        for (int k = 0; k < one.length; k++) {
+            if (one[k] != other[k]) {
+                return false;
+            }
+        }
+        return true;
+    }
+
+    public static int hashCode(int[] all) {
+        if (all == null) {
+            return 0;
+        }
+        int hash = 1;
+        for (int k = 0; k < all.length; k++) {
+            hash = 31 * hash + all[k];
+        }
+        return hash;
+    }
+
+    public static int binarySearch(int[] all, int key) {
+        int low = 0;
+        int high = all.length - 1;
+        while (low <= high) {
+            int middle = (low + high) >>> 1;
+            if (all[middle] < key) {
+                low = middle + 1;
+            } else if (all[middle] > key) {
+                high = middle - 1;
+            } else {
+                return middle;
+            }
+        }
+        return -(low + 1);
+    }
+
+    public static <T> void sort(T[] all) {
+        sort(all, null);
+    }
+
+    public static <T> void sort(T[] all, Comparator<? super T> order) {
+        T[] other = (T[]) new Object[all.length];
+        sort(all, other, 0, all.length, (Comparator<T>) order);
+    }
+
+    private static <T> int compare(T one, T other, Comparator<T> order) {
+        if (order != null) {
+            return order.compare(one, other);
+        }
+        return ((Comparable<T>) one).compareTo(other);
+    }
+
+    private static <T> void sort(T[] all, T[] other, int from, int to, Comparator<T> order) {
+        if (to - from < 2) {
+            return;
+        }
+        int middle = (from + to) / 2;
+        sort(all, other, from, middle, order);
+        sort(all, other, middle, to, order);
+        int left = from;
+        int right = middle;
+        for (int k = from; k < to; k++) {
+            if (left < middle && (right >= to || compare(all[left], all[right], order) <= 0)) {
+                other[k] = all[left];
+                left++;
+            } else {
+                other[k] = all[right];
+                right++;
+            }
+        }
+        for (int k = from; k < to; k++) {
+            all[k] = other[k];
+        }
+    }
+
+    public static <T> void fill(T[] all, T value) {
+        for (int k = 0; k < all.length; k++) {
+            all[k] = value;
+        }
+    }
+
+    public static <T> T[] copyOf(T[] all, int length) {
+        T[] made = (T[]) new Object[length];
+        for (int k = 0; k < length && k < all.length; k++) {
+            made[k] = all[k];
+        }
+        return made;
+    }
+
+    public static <T> T[] copyOfRange(T[] all, int from, int to) {
+        T[] made = (T[]) new Object[to - from];
+        for (int k = from; k < to && k < all.length; k++) {
+            made[k - from] = all[k];
+        }
+        return made;
+    }
+
+    public static <T> String toString(T[] all) {
+        if (all == null) {
+            return "null";
+        }
+        String text = "[";
+        for (int k = 0; k < all.length; k++) {
+            text = text + (k == 0 ? "" : ", ") + all[k];
+        }
+        return text + "]";
+    }
+
+    public static <T> boolean equals(T[] one, T[] other) {
+        if (one.length != other.length) {
+            return false;
+        }
+        for (int k = 0; k < one.length; k++) {
+            if (!Objects.equals(one[k], other[k])) {
+                return false;
+            }
+        }
+        return true;
+    }
+
+    public static String deepToString(int[][] all) {
+        String text = "[";
+        for (int k = 0; k < all.length; k++) {
+            text = text + (k == 0 ? "" : ", ") + toString(all[k]);
+        }
+        return text + "]";
+    }
+
+    public static <T> List<T> asList(T... all) {
+        ArrayAsList<T> made = new ArrayAsList<>();
+        made.items = all;
+        return made;
+    }
+}

@@ -1,0 +1,53 @@
+package java.util;
+
+import java.util.function.Function;
+import java.util.function.ToIntFunction;
+
+public interface Comparator<T> {
+    int compare(T one, T other);
+
+    default Comparator<T> reversed() {
+        return (one, other) -> compare(other, one);
+    }
+
+    default Comparator<T> thenComparing(Comparator<? super T> next) {
+        return (one, other) -> {
+            int first = compare(one, other);
+            return first != 0 ? first : ((Comparator<T>) next).compare(one, other);
+        };
+    }
+
+    default <U extends Comparable<U>> Comparator<T> thenComparing(Function<T, U> key) {
+        return (one, other) -> {
+            int first = compare(one, other);
+            return first != 0 ? first : key.apply(one).compareTo(key.apply(other));
+        };
+    }
+
+    default Comparator<T> thenComparingInt(ToIntFunction<T> key) {
+        return (one, other) -> {
+            int first = compare(one, other);
+            return first != 0 ? first : Integer.compare(key.applyAsInt(one), key.applyAsInt(other));
+        };
+    }
+
+    static <T, U extends Comparable<U>> Comparator<T> comparing(Function<T, U> key) {
+        return (one, other) -> key.apply(one).compareTo(key.apply(other));
+    }
+
+    static <T, U> Comparator<T> comparing(Function<T, U> key, Comparator<U> order) {
+        return (one, other) -> order.compare(key.apply(one), key.apply(other));
+    }
+
+    static <T> Comparator<T> comparingInt(ToIntFunction<T> key) {
+        return (one, other) -> Integer.compare(key.applyAsInt(one), key.applyAsInt(other));
+    }
+
+    static <T extends Comparable<T>> Comparator<T> naturalOrder() {
+        return (one, other) -> one.compareTo(other);
+    }
+
+    static <T extends Comparable<T>> Comparator<T> reverseOrder() {
+        return (one, other) -> other.compareTo(one);
+    }
+}

@@ -1,0 +1,14 @@
+package java.util;
+
+public class LinkedHashSet<E> extends HashSet<E> {
+    public LinkedHashSet() {
+    }
+
+    public LinkedHashSet(Collection<? extends E> from) {
+        addAll(from);
+    }
+
+    HashMap<E, Boolean> newMap() {
+        return new LinkedHashMap<>();
+    }
+}

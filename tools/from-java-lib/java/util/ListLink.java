@@ -1,0 +1,8 @@
+package java.util;
+
+/** An element of a linked list. */
+final class ListLink<E> {
+    E item;
+    ListLink<E> next;
+    ListLink<E> previous;
+}

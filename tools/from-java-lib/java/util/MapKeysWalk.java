@@ -1,0 +1,33 @@
+package java.util;
+
+final class MapKeysWalk<K, V> implements Iterator<K> {
+    AbstractMap<K, V> map;
+    MapEntry<K, V> at;
+    MapEntry<K, V> last;
+    int size;
+
+    public boolean hasNext() {
+        return at != null;
+    }
+
+    public K next() {
+        if (map.size() != size) {
+            throw new ConcurrentModificationException();
+        }
+        if (at == null) {
+            throw new NoSuchElementException();
+        }
+        last = at;
+        at = map.entryAfter(at);
+        return last.key;
+    }
+
+    public void remove() {
+        if (last == null) {
+            throw new IllegalStateException();
+        }
+        map.take(last.key);
+        last = null;
+        size--;
+    }
+}

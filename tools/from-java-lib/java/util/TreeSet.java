@@ -1,0 +1,78 @@
+package java.util;
+
+public class TreeSet<E> extends AbstractSet<E> {
+    private TreeMap<E, Boolean> map;
+
+    public TreeSet() {
+        map = new TreeMap<>();
+    }
+
+    public TreeSet(Comparator<? super E> order) {
+        map = new TreeMap<>(order);
+    }
+
+    public TreeSet(Collection<? extends E> from) {
+        map = new TreeMap<>();
+        addAll(from);
+    }
+
+    public int size() {
+        return map.size();
+    }
+
+    public boolean contains(E element) {
+        return map.find(element) != null;
+    }
+
+    public boolean add(E element) {
+        int before = map.size();
+        map.insert(element);
+        return map.size() > before;
+    }
+
+    public boolean remove(E element) {
+        return map.take(element) != null;
+    }
+
+    public void clear() {
+        map.clear();
+    }
+
+    public Iterator<E> iterator() {
+        return map.keySet().iterator();
+    }
+
+    public E first() {
+        return map.firstKey();
+    }
+
+    public E last() {
+        return map.lastKey();
+    }
+
+    public E floor(E element) {
+        return map.floorKey(element);
+    }
+
+    public E ceiling(E element) {
+        return map.ceilingKey(element);
+    }
+
+    public E lower(E element) {
+        return map.lowerKey(element);
+    }
+
+    public E higher(E element) {
+        return map.higherKey(element);
+    }
+
+    public E pollFirst() {
+        Map.Entry<E, Boolean> first = map.pollFirstEntry();
+        return first == null ? null : first.getKey();
+    }
+
+    public E pollLast() {
+        Map.Entry<E, Boolean> last = map.pollLastEntry();
+        return last == null ? null : last.getKey();
+    }
+}

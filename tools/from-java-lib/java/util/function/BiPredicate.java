@@ -1,0 +1,6 @@
+package java.util.function;
+
+@FunctionalInterface
+public interface BiPredicate<T, U> {
+    boolean test(T one, U other);
+}

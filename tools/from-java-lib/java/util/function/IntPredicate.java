@@ -1,0 +1,6 @@
+package java.util.function;
+
+@FunctionalInterface
+public interface IntPredicate {
+    boolean test(int value);
+}

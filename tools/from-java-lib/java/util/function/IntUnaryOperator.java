@@ -1,0 +1,10 @@
+package java.util.function;
+
+@FunctionalInterface
+public interface IntUnaryOperator {
+    int applyAsInt(int value);
+
+    default IntUnaryOperator andThen(IntUnaryOperator next) {
+        return value -> next.applyAsInt(applyAsInt(value));
+    }
+}
