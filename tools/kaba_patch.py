@@ -10,9 +10,14 @@ from kaba_tools import Source, fail
 FILE_PART = re.compile(r"(?s).*(?:\r\n|\n|\r)[ \t\f]*(?:\r\n|\n|\r)")
 
 
+def lines_of(text):
+    """The lines of a text with their ends, which are line feeds."""
+    return re.findall(r"[^\n]*\n|[^\n]+", text)
+
+
 def changed_lines(old, new):
     """How many lines of the one and the other text are not in both."""
-    lines = difflib.unified_diff(old.splitlines(True), new.splitlines(True), n=0)
+    lines = difflib.unified_diff(lines_of(old), lines_of(new), n=0)
     return sum(line[0] in "+-" for line in lines) - (2 if old != new else 0)
 
 
