@@ -78,7 +78,7 @@ PATCHED = [
 SHOP_PLAN = """# The lines end as in Windows.\r
 class Tea: Item.leaves, Item.brew()\r
   Item.strength new Item@Shop.main.tea # of tea\r
-class Cup: Item.heat Item.fire() new Item@26\r
+class Cup: Item.heat Item.fire() new Item@27\r
 keep Item\r
 drop empty\r
 """
@@ -90,13 +90,14 @@ BAD_PLANS = [
     ("class Tea: leaves\n", 1, "write its class before it, such as Item.leaves"),
     ("class Tea: Item.never\n", 1, "nothing needs `Item.never`"),
     ("class Tea: Shop.made\n", 1, "`Shop.made` is static"),
-    ("class Tea: new Item@25\n", 1, "no Item is created in line 25, but in 23, 26"),
+    ("class Tea: new Item@25\n", 1, "no Item is created in line 25, but in 24, 27"),
     ("class Tea: new Item@Shop.main.pot\n", 1, "but into Shop.main.cup, Shop.main.tea"),
     ("class Tea: new Item\n", 1, "lacks its place"),
     ("class Tea: Item.leaves\nclass Tea: Item.heat\n", 2, "stands in line 1 too"),
     ("class Tea: Item.leaves\nclass Pot: Item.leaves\n", 2, "is in class Tea of line 1"),
     ("class Tea Item.leaves\n", 1, "a name and a colon"),
     ("class Tea:\n", 1, "names nothing"),
+    ("class Tea: Item.leaves\n", 1, "stands within Item: above it declaration Item.strength, below it body Item.brew"),
     ("keep Item\nonly Item\n", 2, "to stay whole in one line"),
     ("keep Itme\n", 1, "do you mean Item?"),
     ("drop all\n", 1, "drop empty"),
@@ -104,10 +105,12 @@ BAD_PLANS = [
     (b"# \xff\n", 1, "not UTF-8"),
 ]
 
+LINE_OF_NEVER = 1 + SHOP[: SHOP.index("int never")].count("\n")
+
 # A plan that is refused: the line, a part of the sentence, and the obligation.
 REFUSED_PLANS = [
-    ("class tea: Item.leaves\n", 1, "the name tea is", "(B8)"),
-    ("class class: Item.leaves\n", 1, "a keyword", "(B8)"),
+    ("class tea: Item.leaves Item.brew Item.strength new Item@24\n", 1, "the name tea is", "(B8)"),
+    ("\nclass class:\n Item.leaves Item.brew Item.strength new Item@24\n", 2, "a keyword", "(B8)"),
 ]
 
 TWO_PARTS = """class Main {
@@ -131,7 +134,7 @@ class Job {
 }
 """
 
-PROPOSED = """# A plan for @. Its objects carry 4 members that they do not need, after it 0.
+PROPOSED = """# A plan for FILE. Its objects carry 4 members that they do not need, after it 0.
 
 # Job: its objects carry 4 members of it that they do not need, after this 0
 class Call: Job.owner Job.remind() new Job@Main.main.call
@@ -162,7 +165,7 @@ def check_plans(tests):
 def check_proposals(tests):
     file = tests.file("Two.java", TWO_PARTS)
     status, out, err = tests.tool("propose", file)
-    tests.check("propose", (status, out, err) == (0, PROPOSED.replace("@", file), ""), out + err)
+    tests.check("propose", (status, out, err) == (0, PROPOSED.replace("FILE", file), ""), out + err)
     tests.one_line("propose of no class", 1, tests.tool("propose", file, "Nowhere"))
     tests.one_line("propose of an interface", 75, tests.tool("propose", "examples/Shapes.java"))
     status, out, err = tests.tool("propose", "examples/loop.java")
@@ -177,7 +180,7 @@ def check_patches(tests):
     Path(new).parent.mkdir()
     status, diff, err = tests.tool("patch", "-o", new, shop, edits)
     tests.check(f"patch: {status}", status == 0 and diff.startswith(f"--- a/{shop}\n+++ b/{shop}\n@@ "), diff + err)
-    tests.check("patch does not say what is not written", "not written, since nothing needs it: field Item.never, line 41\n" in err, err)
+    tests.check("patch does not say what is not written", f"not written, since nothing needs it: field Item.never, line {LINE_OF_NEVER}\n" in err, err)
     text = Path(new).read_text() if status == 0 else ""
     for part in PATCHED:
         tests.check(f"the patched text does not have {part!r}", part in text, text)
