@@ -64,13 +64,14 @@ final class Item
 PATCHED = [
     "/* Kept: the licence. */\n",
     "// A till.\npublic class Shop {\n  static int made; // how many\n",
-    "class ShopObject {\n  int total;   // cents\n\n  /** Adds. */\n  final void add(Item item) {\n    total += item.cents;\n    Shop.made = Shop.made + 1;\n    Shop.note(\"add \"",
+    "class ShopObject {\n  int total;   // cents\n\n  /** Adds. */\n  final void add(Item item) {\n",
+    "    total += item.cents;\n    Shop.made = Shop.made + 1;\n    Shop.note(\"add \" + item.name());\n",
     "  static void note(String text) {\n    if (log == null) log = \"\"; else log += \"; \";\n",
     "/* All that is sold. */\nabstract class Item\n{\n\tprivate String name;  // its name\n",
     "\tvoid call(final String name, int cents) {\n\t\tthis.name = name;\n",
     "\tpublic final String name() { return name; }\n\t// the end\n}\n",
     "class Tea extends Item {\n\tprivate int leaves;\n\t// of tea\n\tfinal void brew() { leaves++; strength(); }\n",
-    "class Cup extends Item {\n\tpublic int heat; // two on a line\n\tprotected void fire(int n) { for (int k = 0; k < n; k++) heat += k + 1; }\n}\n",
+    "class Cup extends Item {\n\tpublic int heat; // two on a line\n\tprotected void fire(int n) { ",
     "    Tea tea = new Tea();\n",
     "    shop.add(tea); shop.add(cup);\n",
 ]
@@ -151,11 +152,13 @@ def check_plans(tests):
     for text, number, sentence in BAD_PLANS:
         plan = tests.file("bad.plan", text)
         status, out, err = tests.tool("plan", shop, plan)
-        tests.check(f"the plan {text!r}: {status}", status == 69 and out == "" and f"{plan}:{number}: " in err and sentence in err, err)
+        holds = (status, out) == (69, "") and f"{plan}:{number}: " in err and sentence in err
+        tests.check(f"the plan {text!r}: {status}", holds, err)
     for text, number, sentence, rule in REFUSED_PLANS:
         plan = tests.file("refused.plan", text)
         status, out, err = tests.tool("plan", shop, plan)
-        tests.check(f"the plan {text!r}: {status}", status == 4 and out == "" and f"{plan}:{number}: " in err and sentence in err and rule in err, err)
+        holds = (status, out) == (4, "") and f"{plan}:{number}: " in err and sentence in err and rule in err
+        tests.check(f"the plan {text!r}: {status}", holds, err)
     tests.one_line("plan of no plan", 66, tests.tool("plan", shop, "missing.plan"))
     tests.one_line("plan of no program", 66, tests.tool("plan", "missing.java", tests.file("a.plan", "")))
     tests.one_line("plan of an interface", 75, tests.tool("plan", "examples/Shapes.java", tests.file("a.plan", "")))
@@ -180,7 +183,8 @@ def check_patches(tests):
     Path(new).parent.mkdir()
     status, diff, err = tests.tool("patch", "-o", new, shop, edits)
     tests.check(f"patch: {status}", status == 0 and diff.startswith(f"--- a/{shop}\n+++ b/{shop}\n@@ "), diff + err)
-    tests.check("patch does not say what is not written", f"not written, since nothing needs it: field Item.never, line {LINE_OF_NEVER}\n" in err, err)
+    said = f"not written, since nothing needs it: field Item.never, line {LINE_OF_NEVER}\n"
+    tests.check("patch does not say what is not written", said in err, err)
     text = Path(new).read_text() if status == 0 else ""
     for part in PATCHED:
         tests.check(f"the patched text does not have {part!r}", part in text, text)
@@ -198,5 +202,6 @@ def check_patches(tests):
 
 def check_loop(tests):
     status, out, err = tests.tool("check-loop", "examples/Points.java", "examples/Shapes.java")
-    tests.check("check-loop", status == 0 and "left out: Shapes: " in out and out.endswith("\n1 passed, 0 failed\n"), out + err)
+    holds = status == 0 and "left out: Shapes: " in out and out.endswith("\n1 passed, 0 failed\n")
+    tests.check("check-loop", holds, out + err)
     tests.one_line("check-loop of no file", 66, tests.tool("check-loop", "missing.java"))

@@ -48,7 +48,8 @@ class Patch:
         if name in self.olds:
             return name
         best = max(self.olds, key=lambda home: self.size(name, home))
-        return best if self.size(name, best) else self.origins.get(name) if self.origins.get(name) in self.olds else None
+        origin = self.origins.get(name)
+        return best if self.size(name, best) else origin if origin in self.olds else None
 
     def heir_of(self, home):
         """The type that an old class becomes."""
@@ -125,7 +126,7 @@ class Patch:
 
 
 def patch_of(source, written, nodes, labels):
-    """The patch of a program's text to what was written of it, over the nodes of the hierarchy after the tree's steps."""
+    """The patch of a program's text to what was written of it, over the nodes after the steps to the tree."""
     try:
         return Patch(source, Source(written), nodes, labels)
     except (NoTree, NoMatch) as error:
