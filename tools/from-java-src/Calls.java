@@ -157,6 +157,11 @@ final class Calls {
         }
         Program.Slot slot = body.program.slot(at, method, margs);
         body.program.need(at, method, margs);
+        if (body.world.methodNames.isOnlyDefault(method)) {
+            List<Ex> all = new ArrayList<>(List.of(receiver));
+            all.addAll(values);
+            return finish(Ex.active(at.staticToken() + "." + slot.name() + joined(all), Ex.POST, slot.result()), slot.own(), tree, alone, method);
+        }
         String front = receiver.text.equals("this") ? "" : receiver.at(Ex.POST) + ".";
         return finish(Ex.active(front + slot.name() + joined(values), Ex.POST, slot.result()), slot.own(), tree, alone, method);
     }
@@ -196,10 +201,11 @@ final class Calls {
                 null, tree, alone, method);
         }
         Copy at = above == null || body.owner.element == null ? null : above.as(method.getEnclosingElement());
-        if (at == null || at.isInterface()) {
+        if (at == null || tree.getMethodSelect().toString().contains(".super.")) {
             return body.obstacleEx(tree, "super call", "only the method of a class above is called so");
         }
         List<Ty> margs = margs(method, body.world.sources.typeOf(tree.getMethodSelect()));
+        body.program.needInherited(above, method, margs);
         Map<Element, Ty> env = new HashMap<>(environment(Ex.constant("this", at.ty), method, margs));
         List<Ex> values = body.operands(arguments(method, env, tree.getArguments(), tree));
         Program.Slot slot = body.program.slot(at, method, margs);

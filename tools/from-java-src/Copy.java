@@ -1,9 +1,11 @@
 import com.sun.source.tree.CompilationUnitTree;
 import com.sun.source.tree.Tree;
 import java.util.ArrayList;
+import java.util.HashSet;
 import java.util.LinkedHashMap;
 import java.util.List;
 import java.util.Map;
+import java.util.Set;
 import javax.lang.model.element.Element;
 import javax.lang.model.element.ElementKind;
 import javax.lang.model.element.Modifier;
@@ -18,6 +20,7 @@ final class Copy {
     final Map<Element, Ty> env;
     final boolean isLibrary;
     final Ty ty = Ty.of(this);
+    private Set<Copy> above; // this one and all above it
     String name;
     Copy outer; // the class of the object around its objects, where they have one
     Copy superCopy;
@@ -89,7 +92,18 @@ final class Copy {
     }
 
     boolean isBelow(Copy other) {
-        return this == other || superCopy != null && superCopy.isBelow(other) || interfaces.stream().anyMatch(one -> one.isBelow(other));
+        if (above == null || above.size() == 1) {
+            above = new HashSet<>(Set.of(this));
+            if (superCopy != null) {
+                superCopy.isBelow(superCopy);
+                above.addAll(superCopy.above);
+            }
+            for (Copy one : interfaces) {
+                one.isBelow(one);
+                above.addAll(one.above);
+            }
+        }
+        return above.contains(other);
     }
 
     /** The topmost class at or above it. */

@@ -28,7 +28,8 @@ final class Exceptions {
 
     private Ex pending() {
         Copy at = thrown();
-        body.program.needStatic(at);
+        body.program.needStaticField(at, (javax.lang.model.element.VariableElement) at.element.getEnclosedElements().stream()
+            .filter(one -> one.getSimpleName().contentEquals("pending")).findFirst().orElseThrow());
         body.program.create(body.conversions.library("Throwable"), body);
         return Ex.active(at.staticToken() + ".pending", Ex.POST, body.conversions.library("Throwable").ty);
     }

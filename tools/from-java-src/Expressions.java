@@ -128,7 +128,7 @@ final class Expressions {
             if (!body.program.known(at, tree, body)) {
                 return Ex.constant("null", Ty.NULL);
             }
-            body.program.needStatic(at);
+            body.program.needStaticField(at, field);
             return Ex.active(at.staticToken() + "." + Members.field(field), Ex.POST, body.world.ty(field.asType(), at.env));
         }
         Ex from = base == null ? body.around(holder) : base;

@@ -25,7 +25,7 @@ public final class FromJava {
     public static void main(String[] words) throws IOException {
         PrintStream err = new PrintStream(System.err, true, StandardCharsets.UTF_8);
         List<String> files = new ArrayList<>(List.of(words).subList(4, words.length));
-        Result result = new FromJava().bring(files, Path.of(words[0]), words[3]);
+        Result result = bring(files, Path.of(words[0]), words[3]);
         err.print(result.told);
         if (result.text == null) {
             System.exit(REFUSED);
@@ -53,7 +53,11 @@ public final class FromJava {
         String told = "";
     }
 
-    Result bring(List<String> files, Path library, String mainName) throws IOException {
+    static Result bring(List<String> files, Path library, String mainName) throws IOException {
+        return new FromJava().brought(files, library, mainName);
+    }
+
+    private Result brought(List<String> files, Path library, String mainName) throws IOException {
         Result result = new Result();
         Sources plain = new Sources(files, null);
         if (!plain.errors.isEmpty()) {

@@ -166,8 +166,8 @@ final class Lambdas {
             if (type.is(Ty.Kind.ARRAY)) {
                 return inner.creations.sized(type, inner.conversions.convert(values.get(0), Ty.INT, tree));
             }
-            if (inner.result.is(Ty.Kind.CLASS) && type.is(Ty.Kind.CLASS) && inner.result.copy.as(type.copy.element) != null) {
-                type = inner.result.copy.as(type.copy.element).ty;
+            if (inner.result.is(Ty.Kind.CLASS) && type.is(Ty.Kind.CLASS)) {
+                type = constructed(inner, type.copy, inner.result.copy);
             }
             ExecutableElement constructor = (ExecutableElement) element;
             return inner.creations.made(type.copy, constructor, null, fitted(inner, constructor, type.copy.env, values, tree), null);
@@ -180,6 +180,19 @@ final class Lambdas {
         List<Ex> rest = kept != null ? values : values.subList(1, values.size());
         Map<Element, Ty> env = inner.calls.environment(receiver, method, List.of());
         return inner.calls.invoke(receiver, method, List.of(), fitted(inner, method, env, rest, tree), tree, false);
+    }
+
+    /** The copy of a class that a constructor named without type arguments makes where a type is asked. */
+    private static Ty constructed(Body inner, Copy named, Copy asked) {
+        boolean fits = named.isBelow(asked) || named.env.size() != asked.env.size();
+        if (fits) {
+            return named.ty;
+        }
+        Map<Element, Ty> env = new java.util.LinkedHashMap<>();
+        java.util.Iterator<Ty> given = asked.env.values().iterator();
+        named.env.keySet().forEach(one -> env.put(one, given.next()));
+        Copy made = inner.world.copy(named.element, env);
+        return made.isBelow(asked) ? made.ty : named.ty;
     }
 
     private Ex ofClass(Body inner, ExecutableElement method, List<Ex> values, MemberReferenceTree tree) {

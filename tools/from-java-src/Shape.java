@@ -139,17 +139,36 @@ final class Shape {
         return all;
     }
 
+    /** The topmost class at or above one that is below an interface. */
+    private static Copy topmost(Copy one, Copy face) {
+        return one.superCopy != null && one.superCopy.isBelow(face) ? topmost(one.superCopy, face) : one;
+    }
+
     private void replace() {
         for (Copy one : printed) {
-            List<Copy> classes = one.isInterface() && one.isLibrary ? classesOf(one) : List.of();
-            if (classes.size() == 1) {
-                standsFor.put(one, classes.get(0));
+            Set<Copy> tops = new HashSet<>();
+            if (one.isInterface() && one.isLibrary) {
+                classesOf(one).forEach(made -> tops.add(topmost(made, one)));
+            }
+            if (tops.size() == 1) {
+                standsFor.put(one, tops.iterator().next());
             }
         }
         boolean changed = true;
         while (changed) {
-            changed = standsFor.entrySet().removeIf(entry -> printed.stream().anyMatch(other -> other != entry.getKey() && other != entry.getValue()
-                && other.isBelow(entry.getKey()) && standsFor.get(other) != entry.getValue()));
+            changed = standsFor.entrySet().removeIf(entry -> printed.stream().anyMatch(other -> other != entry.getKey()
+                && other.isBelow(entry.getKey()) && !standsFor.getOrDefault(other, other).isBelow(entry.getValue())));
+        }
+        standsFor.forEach(this::giveHeads);
+    }
+
+    /** A class that stands for an interface declares what is called through it. */
+    private static void giveHeads(Copy face, Copy top) {
+        for (Copy.Method head : face.methods) {
+            boolean has = top.methods.stream().anyMatch(method -> method.name.equals(head.name));
+            if (head.body == null && !has) {
+                top.methods.add(head);
+            }
         }
     }
 

@@ -35,6 +35,7 @@ final class World {
     final List<Copy> copies = new ArrayList<>();
     private final Map<List<Object>, Copy> known = new HashMap<>();
     private final Set<String> classNames = new HashSet<>(RESERVED);
+    private final Map<List<Object>, Found> answers = new HashMap<>();
     private boolean toldMany;
     Place place; // where what is asked for stands
     Program program;
@@ -169,6 +170,10 @@ final class World {
         boolean library = tree == null || sources.isLibrary(sources.unitOf.get(element));
         Copy made = new Copy(copies.size(), element, tree, sources.unitOf.get(element), env, library);
         add(key, made, nameFor(element, env, made));
+        boolean raw = env.isEmpty() && !variablesOf(element).isEmpty();
+        if (raw) {
+            return made;
+        }
         setSupertypes(made);
         if (tree != null) {
             program.prepare(made, tree, program.around(element, env));
@@ -267,6 +272,14 @@ final class World {
 
     /** The method that objects of a class run, or the head, for one declared at or above it; null where it has none. */
     Found find(Copy from, ExecutableElement asked) {
+        List<Object> key = List.of(from, asked);
+        if (!answers.containsKey(key)) {
+            answers.put(key, search(from, asked));
+        }
+        return answers.get(key);
+    }
+
+    private Found search(Copy from, ExecutableElement asked) {
         for (Copy at = from; at != null; at = at.superCopy) {
             Found own = declared(at, asked);
             if (own != null) {
