@@ -12,6 +12,7 @@ import compare_regen
 from compare_regen import WORDS, harness
 from from_java_tool import LIBRARY, built, command
 from kaba_tools import HERE, kaba
+from random_everyday import Everyday as RandomProgram
 
 CORPUS = HERE / "examples" / "everyday"
 STEPS = "30000000"
@@ -111,11 +112,20 @@ def brought(programs, folder):
         sys.exit(f"{done.stderr}\nfrom-java failed in {folder}")
 
 
-def compare_everyday(names, run, with_regen=True, corpus=CORPUS):
-    """Judges the programs of the corpus, or those of them that are named, and counts."""
+def random_programs(folder, count, seed):
+    """The files of random programs, written into a folder."""
+    folder.mkdir()
+    for n in range(seed, seed + count):
+        (folder / f"R{n}.java").write_text(RandomProgram(n, f"R{n}").source())
+    return folder
+
+
+def compare_everyday(names, run, with_regen=True, count=0, seed=0):
+    """Judges the programs of the corpus, or those of them that are named, or random ones, and counts."""
     folder = Path(tempfile.mkdtemp(prefix="compare-java-"))
-    paths = sorted(path for path in corpus.iterdir() if path.suffix == ".java" or path.is_dir())
-    programs = [Everyday(path, folder) for path in paths if not names or path.stem in names]
+    corpus = random_programs(folder / "random", count, seed) if count else CORPUS
+    paths = sorted(path for path in corpus.iterdir() if path.suffix == ".java" or path.is_dir() and path.name != "wanted")
+    programs = [Everyday(path, folder) for path in paths if count or not names or path.stem in names]
     brought(programs, folder)
     for program in programs:
         if program.taken():

@@ -59,14 +59,16 @@ public final class FromJava {
 
     private Result brought(List<String> files, Path library, String mainName) throws IOException {
         Result result = new Result();
-        Sources plain = new Sources(files, null);
-        if (!plain.errors.isEmpty()) {
-            StringBuilder told = new StringBuilder();
-            plain.errors.forEach(one -> told.append(line(plain, one)).append('\n'));
-            result.told = told + "from-java: javac refuses the program\n";
-            return result;
-        }
         Sources sources = new Sources(files, library);
+        if (!sources.errors.isEmpty()) {
+            Sources plain = new Sources(files, null);
+            if (!plain.errors.isEmpty()) {
+                StringBuilder told = new StringBuilder();
+                plain.errors.forEach(one -> told.append(line(plain, one)).append('\n'));
+                result.told = told + "from-java: javac refuses the program\n";
+                return result;
+            }
+        }
         for (Diagnostic<? extends JavaFileObject> one : sources.errors) {
             Place place = new Place(sources.nameOf(one.getSource()), (int) one.getLineNumber(), (int) one.getColumnNumber());
             String said = one.getMessage(null).replaceAll("\\s*\\n\\s*", "; ");

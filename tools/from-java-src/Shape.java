@@ -159,7 +159,7 @@ final class Shape {
             changed = standsFor.entrySet().removeIf(entry -> printed.stream().anyMatch(other -> other != entry.getKey()
                 && other.isBelow(entry.getKey()) && !standsFor.getOrDefault(other, other).isBelow(entry.getValue())));
         }
-        standsFor.forEach(this::giveHeads);
+        standsFor.forEach(Shape::giveHeads);
     }
 
     /** A class that stands for an interface declares what is called through it. */
