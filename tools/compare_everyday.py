@@ -44,7 +44,8 @@ class Everyday:
         """Whether it was brought in; if not, what stands in the way is what is wrong."""
         if not self.text.exists():
             told = Path(f"{self.text}.told")
-            self.wrong.append("not brought in: " + (told.read_text().strip().split("\n")[-1] if told.exists() else "the tool failed"))
+            self.wrong.append("not brought in: " + (told.read_text().strip().split("\n")[-1] if told.exists()
+                else "the tool failed"))
         return self.text.exists()
 
     def put(self, part, text):
@@ -64,7 +65,8 @@ class Everyday:
         status, out, err = kaba("regen", str(self.text), "/dev/null")
         if status not in (0, HAS_INTERFACE, 67, 68, 5):
             self.wrong.append(f"regen: {status} {err[-200:]}")
-        self.left_out = {0: "", HAS_INTERFACE: "interface", 67: "too large", 68: "too many concepts", 5: "no tree"}.get(status, "")
+        self.left_out = {0: "", HAS_INTERFACE: "interface", 67: "too large", 68: "too many concepts",
+            5: "no tree"}.get(status, "")
         if status == 0:
             self.analysed = True
             self.put("again", out.decode())
@@ -93,7 +95,8 @@ class Everyday:
         for n, words in enumerate(WORDS):
             out, end = self.outcome("old", n)
             status, got, err = self.ends[n]
-            wanted = {"kaba: fault " + OWN.get(end, "NegativeSize"), "kaba: fault NegativeSize"} if end != "ok" else {""}
+            wanted = {"kaba: fault " + OWN.get(end, "NegativeSize"),
+                "kaba: fault NegativeSize"} if end != "ok" else {""}
             if got != out or err not in wanted:
                 self.wrong.append(f"kaba run differs on {words}: {status} {err}, java {end}")
             for part in self.classes:
@@ -106,7 +109,8 @@ class Everyday:
 def brought(programs, folder):
     """Brings all programs in by one call of the Java half."""
     (folder / "bring").write_text("".join(program.job() + "\n" for program in programs))
-    words = [command("java"), "-XX:TieredStopAtLevel=1", "-cp", str(built()), "Batch", str(LIBRARY), str(folder / "bring")]
+    words = [command("java"), "-XX:TieredStopAtLevel=1", "-cp", str(built()), "Batch", str(LIBRARY),
+        str(folder / "bring")]
     done = subprocess.run(words, capture_output=True, text=True)
     if done.returncode:
         sys.exit(f"{done.stderr}\nfrom-java failed in {folder}")
@@ -124,7 +128,8 @@ def compare_everyday(names, run, with_regen=True, count=0, seed=0):
     """Judges the programs of the corpus, or those of them that are named, or random ones, and counts."""
     folder = Path(tempfile.mkdtemp(prefix="compare-java-"))
     corpus = random_programs(folder / "random", count, seed) if count else CORPUS
-    paths = sorted(path for path in corpus.iterdir() if path.suffix == ".java" or path.is_dir() and path.name != "wanted")
+    paths = sorted(path for path in corpus.iterdir() if path.suffix == ".java" or path.is_dir()
+        and path.name != "wanted")
     programs = [Everyday(path, folder) for path in paths if count or not names or path.stem in names]
     brought(programs, folder)
     for program in programs:
@@ -133,7 +138,8 @@ def compare_everyday(names, run, with_regen=True, count=0, seed=0):
     there = [program for program in programs if program.text.exists()]
     (folder / "Judge.java").write_text(harness())
     (folder / "jobs").write_text("".join(job + "\n" for program in there for job in program.jobs()))
-    for words in ([command("javac"), "-nowarn", "Judge.java"], [command("java"), "-Dline.separator=\n", "-cp", ".", "Judge"]):
+    for words in ([command("javac"), "-nowarn", "Judge.java"],
+        [command("java"), "-Dline.separator=\n", "-cp", ".", "Judge"]):
         done = run(words, cwd=folder)
         if done.returncode:
             sys.exit(f"{done.stderr.decode()}\n{words[0]} failed in {folder}")

@@ -79,7 +79,8 @@ class Everyday:
     def number(self, depth=3):
         """An int expression."""
         if depth == 0:
-            return self.chance.choice(["i", "j", "x", "a[i & 3]", "cell.n", self.small(), "calls", "list.size()", "boxed"])
+            return self.chance.choice(["i", "j", "x", "a[i & 3]", "cell.n", self.small(), "calls", "list.size()",
+                "boxed"])
         less = depth - 1
         forms = [
             lambda: f"({self.number(less)} {self.chance.choice('+-*&|^')} {self.number(less)})",
@@ -123,7 +124,8 @@ class Everyday:
     def cell(self, depth=1):
         if depth == 0:
             return "cell"
-        return self.pick(lambda: f"new Cell({self.number(depth - 1)})", lambda: f"c({self.number(depth - 1)})", lambda: "cell",
+        return self.pick(lambda: f"new Cell({self.number(depth - 1)})", lambda: f"c({self.number(depth - 1)})",
+            lambda: "cell",
                          lambda: f"({self.test(depth - 1)} ? cell : c({self.number(0)}))")
 
     def statement(self, depth):
@@ -142,13 +144,15 @@ class Everyday:
         return "{ " + " ".join(self.statement(depth) for _ in range(self.chance.randint(1, 3))) + " }"
 
     def choice(self, depth):
-        return lambda: f"if ({self.test()}) {self.block(depth - 1)}" + (f" else {self.block(depth - 1)}" if self.chance.random() < 0.5 else "")
+        return lambda: f"if ({self.test()}) {self.block(depth - 1)}" + (f" else {self.block(depth - 1)}"
+            if self.chance.random() < 0.5 else "")
 
     def loop(self, depth):
         def written():
             self.fresh += 1
             k, label = f"k{self.fresh}", f"out{self.fresh}"
-            leave = self.chance.choice([f"if ({self.test(1)}) break {label};", f"if ({self.test(1)}) continue {label};", f"if ({self.test(1)}) break;", ""])
+            leave = self.chance.choice([f"if ({self.test(1)}) break {label};",
+                f"if ({self.test(1)}) continue {label};", f"if ({self.test(1)}) break;", ""])
             inner = f"for (int m{self.fresh} = 0; m{self.fresh} < 2; m{self.fresh}++) {{ {self.statement(0)} {leave} }}"
             return f"{label}: for (int {k} = 0, q{k} = 3; {k}++ < 3 && {self.test(1)} | q{k}-- > 0; ) {{ {self.statement(depth - 1)} {inner} }}"
         return written

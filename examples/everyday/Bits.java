@@ -84,7 +84,8 @@ public class Bits {
         System.out.println(random.chance(50) ? "yes" : "no");
         BitSet set = new BitSet();
         for (int i = 0; i < 100; i += 7) set.set(i);
-        System.out.println(set.size() + " " + set.get(14) + " " + set.get(15) + " " + set.get(98) + " " + set.get(1000) + " " + set.words.length);
+        System.out.println(set.size() + " " + set.get(14) + " " + set.get(15) + " " + set.get(98) + " "
+            + set.get(1000) + " " + set.words.length);
         System.out.println(count(-1) + " " + Integer.bitCount(255) + " " + (1 << 33) + " " + (-1 >>> 31));
     }
 }

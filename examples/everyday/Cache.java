@@ -100,7 +100,8 @@ public class Cache<K, V> {
         System.out.println(grid.get(new Pair<>(1, 2)).orElse("no") + " " + grid.get(Pair.of(2, 1)).orElse("no"));
         Pair<String, Integer> p = Pair.of("x", args.length);
         Pair<Integer, String> q = p.swap();
-        System.out.println(p + " " + q + " " + q.first() + q.second() + " " + p.equals(q.swap()) + " " + p.equals(null) + " " + Pair.of(null, "n"));
+        System.out.println(p + " " + q + " " + q.first() + q.second() + " " + p.equals(q.swap()) + " "
+            + p.equals(null) + " " + Pair.of(null, "n"));
         System.out.println(fibonacci(40) + " " + KNOWN.size());
         System.out.println(cache.get("zzz").get());
     }

@@ -77,8 +77,10 @@ public final class Clock implements Comparable<Clock> {
     public static void main(String[] args) {
         Clock start = new Clock(22, 45), wake = Clock.of("7:05");
         System.out.println(start + " " + wake + " " + NOON + " " + MIDNIGHT);
-        System.out.println(start.plus(90) + " " + start.plus(8, 20) + " " + wake.plus(NOON) + " " + new Clock(wake).equals(wake));
-        System.out.println(latest(wake, start, NOON) + " " + latest() + " " + wake.isBefore(NOON) + " " + start.compareTo(wake));
+        System.out.println(start.plus(90) + " " + start.plus(8, 20) + " " + wake.plus(NOON) + " "
+            + new Clock(wake).equals(wake));
+        System.out.println(latest(wake, start, NOON) + " " + latest() + " " + wake.isBefore(NOON) + " "
+            + start.compareTo(wake));
         Clock at = MIDNIGHT.plus(-1);
         int n = 0;
         while (!at.equals(NOON)) {

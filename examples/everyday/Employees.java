@@ -97,7 +97,8 @@ public class Employees {
 
     public static void main(String[] args) {
         Manager ann = new Manager("Ann", "lab");
-        Employee bob = new Engineer("Bob", "lab").raise(), cem = new Engineer("Cem", "shop"), dee = new Engineer("Dee", "lab").raise().raise();
+        Employee bob = new Engineer("Bob", "lab").raise(), cem = new Engineer("Cem", "shop"),
+            dee = new Engineer("Dee", "lab").raise().raise();
         ann.lead(bob, cem, dee);
         ann.lead();
         List<Employee> all = new ArrayList<>(Arrays.asList(ann, bob, cem, dee));
@@ -111,7 +112,8 @@ public class Employees {
         Rule pay = Employee::pay;
         Rule bonus = e -> e instanceof Manager ? 50 : 10;
         System.out.println(sum(all, pay) + " " + sum(all, bonus.twice()) + " " + Employee.getCount());
-        all.sort(Comparator.comparing((Employee e) -> e.department).thenComparing(e -> e.name, Comparator.reverseOrder()));
+        all.sort(Comparator.comparing((Employee e) -> e.department).thenComparing(e -> e.name,
+            Comparator.reverseOrder()));
         for (Employee e : all) System.out.println(e);
     }
 }

@@ -80,9 +80,11 @@ public class Events {
         Supplier<Integer> a = counter(5), b = counter(100);
         System.out.println(a.get() + a.get() * b.get() + b.get());
         Function<Integer, Integer> inc = x -> x + 1, twice = x -> x * 2;
-        System.out.println(compose(inc, twice).apply(5) + " " + compose(twice, inc).apply(5) + " " + inc.andThen(twice).andThen(inc).apply(1));
+        System.out.println(compose(inc, twice).apply(5) + " " + compose(twice, inc).apply(5) + " "
+            + inc.andThen(twice).andThen(inc).apply(1));
         int[] numbers = {3, 9, 4};
-        System.out.println(fold(numbers, 0, Integer::sum) + " " + fold(numbers, numbers[0], Math::max) + " " + fold(numbers, 1, (x, y) -> x * y));
+        System.out.println(fold(numbers, 0, Integer::sum) + " " + fold(numbers, numbers[0], Math::max) + " "
+            + fold(numbers, 1, (x, y) -> x * y));
         BiFunction<String, Integer, String> repeat = String::repeat;
         Supplier<List<String>> maker = ArrayList::new;
         List<String> made = maker.get();

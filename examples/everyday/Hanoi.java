@@ -43,7 +43,8 @@ public class Hanoi {
     }
 
     static boolean isPalindrome(String s) {
-        return s.length() < 2 || s.charAt(0) == s.charAt(s.length() - 1) && isPalindrome(s.substring(1, s.length() - 1));
+        return s.length() < 2 || s.charAt(0) == s.charAt(s.length() - 1)
+            && isPalindrome(s.substring(1, s.length() - 1));
     }
 
     static void permute(String front, String rest) {

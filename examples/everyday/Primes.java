@@ -81,8 +81,10 @@ public class Primes {
             }
         }
         System.out.println(longest + " takes " + best);
-        System.out.println(reversed(12340) + " " + power(3, 45, 7) + " " + Integer.toBinaryString(10) + " " + Integer.toHexString(-1)
-            + " " + Integer.parseInt("-77") + " " + Integer.MAX_VALUE + " " + (Integer.MIN_VALUE - 1) + " " + Math.floorMod(-7, 3) + " " + -7 % 3 + " " + -7 / 2
+        System.out.println(reversed(12340) + " " + power(3, 45, 7) + " " + Integer.toBinaryString(10) + " "
+            + Integer.toHexString(-1)
+            + " " + Integer.parseInt("-77") + " " + Integer.MAX_VALUE + " " + (Integer.MIN_VALUE - 1) + " "
+                + Math.floorMod(-7, 3) + " " + -7 % 3 + " " + -7 / 2
             + " " + (-7 >> 1) + " " + (-7 >>> 28) + " " + (5 & 3 | 8 ^ 2) + " " + ~5);
     }
 }

@@ -71,7 +71,8 @@ public class Sets {
         list.remove(1);
         list.remove(Integer.valueOf(8));
         list.add(0, 9);
-        System.out.println(list + " " + list.indexOf(7) + " " + list.contains(8) + " " + list.subList(1, 3) + " " + list.equals(Arrays.asList(9, 5, 7)));
+        System.out.println(list + " " + list.indexOf(7) + " " + list.contains(8) + " " + list.subList(1, 3) + " "
+            + list.equals(Arrays.asList(9, 5, 7)));
         List<String> fixed = List.of("one");
         fixed.add("two");
     }

@@ -42,7 +42,8 @@ public class Student {
 
     public static void main(String[] args) {
         Student[] students = {
-            new Student("Ann", 90, 85, 100), new Student("Bob", 70, 65), new Student("Cem", 88, 79, 83, 91), new Student("Dee")
+            new Student("Ann", 90, 85, 100), new Student("Bob", 70, 65), new Student("Cem", 88, 79, 83, 91),
+                new Student("Dee")
         };
         Student best = null;
         int[] histogram = new int[11];

@@ -34,14 +34,16 @@ public class Temperature {
             }
             System.out.println("day " + (d + 1) + ":" + line);
         }
-        System.out.println(min + " to " + max + ", mean " + sum / (DAYS * HOURS) + ", in F " + toFahrenheit(min) + " to " + toFahrenheit(max));
+        System.out.println(min + " to " + max + ", mean " + sum / (DAYS * HOURS) + ", in F " + toFahrenheit(min)
+            + " to " + toFahrenheit(max));
         byte b = (byte) 200;
         short s = (short) 70000;
         b += 100;
         s++;
         byte[] raw = {1, -1, 127};
         raw[2]++;
-        System.out.println(b + " " + s + " " + raw[2] + " " + (raw[1] & 0xFF) + " " + (byte) (raw[0] << 7) + " " + (char) (raw[0] + 64));
+        System.out.println(b + " " + s + " " + raw[2] + " " + (raw[1] & 0xFF) + " " + (byte) (raw[0] << 7) + " "
+            + (char) (raw[0] + 64));
         int hot = 0;
         week:
         for (int d = 0; d < DAYS; d++) {

@@ -88,8 +88,10 @@ public class Text {
         System.out.println(runs("aaabccdddd") + " " + runs("x") + runs(""));
         wrap("the quick brown   fox jumps over the lazy dog and runs away", 16);
         System.out.println(vowels(text) + " " + title("  the END of it ") + " " + number("MCMXCIV"));
-        System.out.println(text.contains("World") + " " + text.startsWith("Hell") + " " + text.endsWith("a") + " " + text.lastIndexOf('o')
-            + " " + text.replace('l', 'L').replace("Ka", "ka-") + " " + text.compareTo("Help") + " " + "b".compareToIgnoreCase("A"));
+        System.out.println(text.contains("World") + " " + text.startsWith("Hell") + " " + text.endsWith("a") + " "
+            + text.lastIndexOf('o')
+            + " " + text.replace('l', 'L').replace("Ka", "ka-") + " " + text.compareTo("Help") + " "
+                + "b".compareToIgnoreCase("A"));
         StringBuilder b = new StringBuilder("0123456789");
         b.insert(3, "abc").deleteCharAt(0).setCharAt(1, '-');
         b.delete(4, 6).append(1 == 1).append(null == text).append(7 / 2);
@@ -97,7 +99,9 @@ public class Text {
         int x = 'a' + 1;
         char y = (char) x;
         y++;
-        System.out.println(x + " " + y + " " + (char) (y + 1) + 'a' + 1 + " " + ('a' + 'b') + " " + (int) 'A' + "\t\"\\" + (args.length > 0 ? args[0] : "none"));
-        System.out.println("abc".hashCode() + " " + "x".equals("X".toLowerCase()) + " " + "Ab".equalsIgnoreCase("aB") + " " + String.valueOf(new char[] {'o', 'k'}));
+        System.out.println(x + " " + y + " " + (char) (y + 1) + 'a' + 1 + " " + ('a' + 'b') + " " + (int) 'A'
+            + "\t\"\\" + (args.length > 0 ? args[0] : "none"));
+        System.out.println("abc".hashCode() + " " + "x".equals("X".toLowerCase()) + " " + "Ab".equalsIgnoreCase("aB")
+            + " " + String.valueOf(new char[] {'o', 'k'}));
     }
 }

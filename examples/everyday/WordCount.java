@@ -60,6 +60,7 @@ public class WordCount {
                 longest = word;
             }
         }
-        System.out.println("longest: " + longest + ", the: " + counts.getOrDefault("the", 0) + ", cow: " + counts.getOrDefault("cow", 0));
+        System.out.println("longest: " + longest + ", the: " + counts.getOrDefault("the", 0) + ", cow: "
+            + counts.getOrDefault("cow", 0));
     }
 }

@@ -48,7 +48,8 @@ final class Copy {
         Place at;
     }
 
-    Copy(int number, TypeElement element, Tree tree, CompilationUnitTree unit, Map<Element, Ty> env, boolean isLibrary) {
+    Copy(int number, TypeElement element, Tree tree, CompilationUnitTree unit, Map<Element, Ty> env,
+        boolean isLibrary) {
         this.number = number;
         this.element = element;
         this.tree = tree;
@@ -76,7 +77,8 @@ final class Copy {
 
     private boolean isEnumWithBodies() {
         return element != null && element.getKind() == ElementKind.ENUM && element.getEnclosedElements().stream()
-            .anyMatch(member -> member.getKind() == ElementKind.METHOD && member.getModifiers().contains(Modifier.ABSTRACT));
+            .anyMatch(member -> member.getKind() == ElementKind.METHOD
+                && member.getModifiers().contains(Modifier.ABSTRACT));
     }
 
     /** The class or interface at or above this one that is a copy of an element, or null. */

@@ -70,7 +70,8 @@ public final class FromJava {
             }
         }
         for (Diagnostic<? extends JavaFileObject> one : sources.errors) {
-            Place place = new Place(sources.nameOf(one.getSource()), (int) one.getLineNumber(), (int) one.getColumnNumber());
+            Place place = new Place(sources.nameOf(one.getSource()), (int) one.getLineNumber(),
+                (int) one.getColumnNumber());
             String said = one.getMessage(null).replaceAll("\\s*\\n\\s*", "; ");
             obstacles.add(place, "library", "this is not in the library: " + said);
         }
@@ -111,8 +112,10 @@ public final class FromJava {
 
     private static ExecutableElement mainOf(Sources sources, String name) {
         for (TypeElement one : sources.classes) {
-            boolean asked = name.equals("-") || one.getSimpleName().contentEquals(name) || one.getQualifiedName().contentEquals(name);
-            for (Element member : asked && !sources.isLibrary(sources.unitOf.get(one)) ? one.getEnclosedElements() : List.<Element>of()) {
+            boolean asked = name.equals("-") || one.getSimpleName().contentEquals(name)
+                || one.getQualifiedName().contentEquals(name);
+            for (Element member : asked && !sources.isLibrary(sources.unitOf.get(one)) ? one.getEnclosedElements()
+                : List.<Element>of()) {
                 if (member.getKind() == ElementKind.METHOD && member.toString().equals("main(java.lang.String[])")
                     && member.getModifiers().containsAll(Set.of(Modifier.PUBLIC, Modifier.STATIC))) {
                     return (ExecutableElement) member;

@@ -158,7 +158,8 @@ final class Lambdas {
     private Ex called(Body inner, MemberReferenceTree tree, List<Ex> values, Ty kept) {
         Element element = inner.elementOf(tree);
         if (isOutput(tree)) {
-            inner.emit(new St.Do("System.out." + tree.getName() + "(" + inner.conversions.text(values.get(0), tree).text + ")"));
+            inner.emit(new St.Do("System.out." + tree.getName() + "("
+                + inner.conversions.text(values.get(0), tree).text + ")"));
             return null;
         }
         if (tree.getMode() == MemberReferenceTree.ReferenceMode.NEW) {
@@ -170,7 +171,8 @@ final class Lambdas {
                 type = constructed(inner, type.copy, inner.result.copy);
             }
             ExecutableElement constructor = (ExecutableElement) element;
-            return inner.creations.made(type.copy, constructor, null, fitted(inner, constructor, type.copy.env, values, tree), null);
+            return inner.creations.made(type.copy, constructor, null,
+                fitted(inner, constructor, type.copy.env, values, tree), null);
         }
         ExecutableElement method = (ExecutableElement) element;
         if (method.getModifiers().contains(Modifier.STATIC)) {
@@ -196,7 +198,8 @@ final class Lambdas {
     }
 
     private Ex ofClass(Body inner, ExecutableElement method, List<Ex> values, MemberReferenceTree tree) {
-        if (method.getEnclosingElement().toString().equals("java.lang.String") && method.getSimpleName().contentEquals("valueOf")) {
+        if (method.getEnclosingElement().toString().equals("java.lang.String")
+            && method.getSimpleName().contentEquals("valueOf")) {
             return inner.conversions.string(values.get(0), tree);
         }
         Map<Element, Ty> env = new HashMap<>();
@@ -207,14 +210,17 @@ final class Lambdas {
             }
         }
         List<Ty> margs = new ArrayList<>();
-        method.getTypeParameters().forEach(one -> margs.add(env.getOrDefault(one, inner.world.ty(one.asType(), Map.of()))));
+        method.getTypeParameters().forEach(one -> margs.add(env.getOrDefault(one,
+            inner.world.ty(one.asType(), Map.of()))));
         return inner.calls.invokeStatic(method, margs, fitted(inner, method, env, values, tree), false);
     }
 
-    private static List<Ex> fitted(Body inner, ExecutableElement method, Map<Element, Ty> env, List<Ex> values, Tree tree) {
+    private static List<Ex> fitted(Body inner, ExecutableElement method, Map<Element, Ty> env, List<Ex> values,
+        Tree tree) {
         List<Ex> all = new ArrayList<>();
         for (int k = 0; k < values.size() && k < method.getParameters().size(); k++) {
-            all.add(inner.conversions.convert(values.get(k), inner.world.ty(method.getParameters().get(k).asType(), env), tree));
+            all.add(inner.conversions.convert(values.get(k),
+                inner.world.ty(method.getParameters().get(k).asType(), env), tree));
         }
         return all;
     }

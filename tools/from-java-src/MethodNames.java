@@ -21,7 +21,8 @@ import javax.lang.model.util.ElementFilter;
 
 /** One name for all methods that override one another, and no name twice among related classes. */
 final class MethodNames {
-    private static final Set<String> AVOIDED = Set.of("wait", "notify", "notifyAll", "getClass", "finalize", "clone", "yield", "record", "var", "sealed",
+    private static final Set<String> AVOIDED = Set.of("wait", "notify", "notifyAll", "getClass", "finalize", "clone",
+        "yield", "record", "var", "sealed",
         "permits", "instanceof", "outer");
     private final Sources sources;
     private final Map<Element, Element> above = new HashMap<>(); // union-find over methods, and over classes
@@ -131,7 +132,8 @@ final class MethodNames {
         method.getParameters().forEach(one -> all.add(one.asType()));
         for (TypeMirror type : all) {
             String erased = sources.types.erasure(type).toString();
-            joins |= !type.getKind().isPrimitive() && type.getKind() != TypeKind.VOID && !erased.equals("java.lang.String");
+            joins |= !type.getKind().isPrimitive() && type.getKind() != TypeKind.VOID
+                && !erased.equals("java.lang.String");
             text.append(erased).append(',');
         }
         return joins ? text.toString() : null;
@@ -179,7 +181,8 @@ final class MethodNames {
         return names.getOrDefault(find(method), method.getSimpleName().toString());
     }
 
-    /** Whether an interface gives the one body that a method has anywhere: it can be written once, with the object as an argument. */
+    /** Whether an interface gives the one body that a method has anywhere: it can be written once,
+        with the object as an argument. */
     boolean isOnlyDefault(ExecutableElement method) {
         return method.isDefault() && counts.getOrDefault(find(method), 0) == 1;
     }

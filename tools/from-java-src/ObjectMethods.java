@@ -27,7 +27,8 @@ final class ObjectMethods {
 
     ExecutableElement method(String name) {
         TypeElement object = program.world.sources.elements.getTypeElement("java.lang.Object");
-        return ElementFilter.methodsIn(object.getEnclosedElements()).stream().filter(one -> one.getSimpleName().contentEquals(name)).findFirst().orElseThrow();
+        return ElementFilter.methodsIn(object.getEnclosedElements()).stream()
+            .filter(one -> one.getSimpleName().contentEquals(name)).findFirst().orElseThrow();
     }
 
     /** A call on any object or string. */
@@ -38,7 +39,8 @@ final class ObjectMethods {
         Ty result = name.equals("equals") ? Ty.BOOLEAN : name.equals("hashCode") ? Ty.INT : Ty.STRING;
         List<Ex> given = new ArrayList<>();
         values.forEach(value -> given.add(body.conversions.convert(value, Ty.OBJECT, null)));
-        boolean direct = receiver.type.is(Ty.Kind.CLASS) && !receiver.type.copy.isInterface() && receiver.type.copy.element != null;
+        boolean direct = receiver.type.is(Ty.Kind.CLASS) && !receiver.type.copy.isInterface()
+            && receiver.type.copy.element != null;
         if (receiver.type.is(Ty.Kind.CLASS) && receiver.type.copy.isInterface()) {
             head(receiver.type.copy, name);
             return Ex.active(receiver.at(Ex.POST) + "." + name + Calls.joined(given), Ex.POST, result);
@@ -50,7 +52,8 @@ final class ObjectMethods {
         }
         Copy root = receiver.type.copy.root();
         if (name.equals("toString") && !isDeclared(root) && !body.owner.isLibrary) {
-            return body.obstacleEx(null, "text of an object", "the class " + root.name + " has no toString, and Java shows an address").as(Ty.STRING);
+            return body.obstacleEx(null, "text of an object", "the class " + root.name
+                + " has no toString, and Java shows an address").as(Ty.STRING);
         }
         need(root, name);
         String front = receiver.text.equals("this") ? "" : receiver.at(Ex.POST) + ".";
@@ -65,7 +68,8 @@ final class ObjectMethods {
         for (TypeElement one : program.world.sources.classes) {
             boolean below = program.world.sources.types.isSubtype(program.world.sources.types.erasure(one.asType()),
                 program.world.sources.types.erasure(root.element.asType()));
-            boolean has = ElementFilter.methodsIn(one.getEnclosedElements()).stream().anyMatch(member -> member.toString().equals("toString()"));
+            boolean has = ElementFilter.methodsIn(one.getEnclosedElements()).stream().anyMatch(member ->
+                member.toString().equals("toString()"));
             if (below && has) {
                 return true;
             }
@@ -87,7 +91,8 @@ final class ObjectMethods {
         if (name.equals("equals")) {
             head.params.add("Object other");
         }
-        head.at = program.main == null || face.tree == null ? null : program.world.sources.placeOf(face.unit, face.tree);
+        head.at = program.main == null || face.tree == null ? null
+            : program.world.sources.placeOf(face.unit, face.tree);
         face.methods.add(head);
     }
 
@@ -118,7 +123,8 @@ final class ObjectMethods {
             } else if (name.equals("hashCode")) {
                 identity(body, root);
             } else {
-                body.exceptions.raiseNew("UnsupportedOperationException", Literals.string("the object has no text but its address"));
+                body.exceptions.raiseNew("UnsupportedOperationException",
+                    Literals.string("the object has no text but its address"));
             }
         });
         body.result = name.equals("equals") ? Ty.BOOLEAN : name.equals("hashCode") ? Ty.INT : Ty.STRING;
@@ -132,7 +138,8 @@ final class ObjectMethods {
         Copy numbers = body.conversions.library("Thrown");
         String next = program.needNamed(numbers, "nextIdentity");
         Ex none = Ex.binary(Ex.active("this.identity", Ex.POST, Ty.INT), "==", Ex.EQUAL, Literals.of(0), Ty.BOOLEAN);
-        body.emit(new St.If(none, body.within(() -> body.set("this.identity", Ex.active(numbers.staticToken() + "." + next + "()", Ex.POST, Ty.INT))), new ArrayList<>()));
+        body.emit(new St.If(none, body.within(() -> body.set("this.identity",
+            Ex.active(numbers.staticToken() + "." + next + "()", Ex.POST, Ty.INT))), new ArrayList<>()));
         body.emit(new St.Return("this.identity"));
     }
 
@@ -180,7 +187,8 @@ final class ObjectMethods {
         int before = program.count();
         for (String name : List.copyOf(asked)) {
             if (!isName(name)) {
-                roots().stream().filter(one -> !name.equals("toString") || isDeclared(one)).forEach(one -> need(one, name));
+                roots().stream().filter(one -> !name.equals("toString") || isDeclared(one)).forEach(one ->
+                    need(one, name));
             }
         }
         Map.copyOf(heads).forEach((face, names) -> {
@@ -234,10 +242,12 @@ final class ObjectMethods {
     private void names(Body body, String name) {
         List<Copy> all = new ArrayList<>();
         Copy top = tops.get(name);
-        program.world.copies.stream().filter(one -> one.created && one.element != null && (top == null || one.isBelow(top))).forEach(all::add);
+        program.world.copies.stream().filter(one -> one.created && one.element != null
+            && (top == null || one.isBelow(top))).forEach(all::add);
         List<Copy> sorted = new ArrayList<>();
         while (!all.isEmpty()) {
-            Copy low = all.stream().filter(one -> all.stream().noneMatch(other -> other != one && other.isBelow(one))).findFirst().orElseThrow();
+            Copy low = all.stream().filter(one -> all.stream().noneMatch(other -> other != one
+                && other.isBelow(one))).findFirst().orElseThrow();
             all.remove(low);
             sorted.add(low);
         }

@@ -70,7 +70,8 @@ final class Program {
     void build(ExecutableElement mainElement) {
         main = world.staticCopy((TypeElement) mainElement.getEnclosingElement());
         for (TypeElement one : world.sources.classes) {
-            boolean member = one.getNestingKind() == NestingKind.TOP_LEVEL || one.getNestingKind() == NestingKind.MEMBER;
+            boolean member = one.getNestingKind() == NestingKind.TOP_LEVEL
+                || one.getNestingKind() == NestingKind.MEMBER;
             if (member && !world.sources.isLibrary(world.sources.unitOf.get(one))) {
                 world.staticCopy(one);
             }
@@ -148,10 +149,12 @@ final class Program {
             return;
         }
         for (Element member : copy.element.getEnclosedElements()) {
-            if (member instanceof ExecutableElement method && (method.getTypeParameters().isEmpty() || !hasCopies(method))) {
+            if (member instanceof ExecutableElement method && (method.getTypeParameters().isEmpty()
+                || !hasCopies(method))) {
                 boolean isStatic = member.getModifiers().contains(Modifier.STATIC);
                 boolean made = world.sources.treeOf.get(member) == null;
-                if (!made && member.getKind() == ElementKind.METHOD && (isStatic ? isRaw || copy.env.isEmpty() : !isRaw)) {
+                if (!made && member.getKind() == ElementKind.METHOD
+                    && (isStatic ? isRaw || copy.env.isEmpty() : !isRaw)) {
                     need(copy, method, List.of());
                 } else if (member.getKind() == ElementKind.CONSTRUCTOR && !isRaw) {
                     later(() -> inits.name(copy, method));
@@ -169,7 +172,8 @@ final class Program {
         if (member.getConstantValue() == null) {
             Place at = world.sources.placeOf(copy.unit, world.sources.treeOf.getOrDefault(member, copy.tree));
             world.place = at;
-            to.add(new Copy.Field(Members.field(member), world.ty(member.asType(), copy.env).text(), at, member.getSimpleName().toString()));
+            to.add(new Copy.Field(Members.field(member), world.ty(member.asType(), copy.env).text(), at,
+                member.getSimpleName().toString()));
         }
     }
 
@@ -303,10 +307,12 @@ final class Program {
             }
             for (Copy copy : List.copyOf(world.copies)) {
                 boolean has = copy.created || !copy.isLibrary && !copy.isInterface();
-                if (has && resolved.add(number * 100000L + copy.number) && copy.tree != null && !copy.isInterface() && copy.isBelow(need.at)) {
+                if (has && resolved.add(number * 100000L + copy.number) && copy.tree != null && !copy.isInterface()
+                    && copy.isBelow(need.at)) {
                     World.Found found = world.find(copy, need.method);
                     if (found != null && World.isBody(found)) {
-                        write(found.copy().isInterface() ? lowest(copy, found) : found.copy(), found.copy(), found.method(), need.margs);
+                        write(found.copy().isInterface() ? lowest(copy, found) : found.copy(), found.copy(),
+                            found.method(), need.margs);
                     }
                 }
             }
@@ -385,7 +391,8 @@ final class Program {
 
     private List<St> statements(Body body, Copy to, ExecutableElement method, MethodTree tree) {
         return body.within(() -> {
-            if (tree != null && tree.getBody() != null && !Records.isRecord(to) || tree != null && tree.getBody() != null && !tree.getBody().getStatements().isEmpty()) {
+            if (tree != null && tree.getBody() != null && !Records.isRecord(to) || tree != null
+                && tree.getBody() != null && !tree.getBody().getStatements().isEmpty()) {
                 if (method.getModifiers().contains(Modifier.SYNCHRONIZED)) {
                     body.obstacle(tree, "synchronized", "threads are not brought in; leave the word out");
                 }

@@ -27,7 +27,8 @@ final class Shape {
         replace();
         findClasses();
         for (Copy one : program.world.copies) {
-            boolean split = hasStatics(one) && printed.contains(one) && (one.created || hasInstances(one) || isAbove(one));
+            boolean split = hasStatics(one) && printed.contains(one)
+                && (one.created || hasInstances(one) || isAbove(one));
             staticNames.put(one, split ? program.world.unique(one.name + "Statics") : one.name);
         }
     }
@@ -53,8 +54,10 @@ final class Shape {
     private void findPrinted() {
         for (Copy one : program.world.copies) {
             boolean own = !one.isLibrary && one.element != null && !isRaw(one);
-            boolean asked = one.isInterface() ? one.used : one.created || one.used && (one.element == null || !hasOnlyStatics(one));
-            if (one.tree != null && (own && (one.isInterface() || hasInstances(one) || one.created || !hasStatics(one)) || asked)) {
+            boolean asked = one.isInterface() ? one.used : one.created || one.used
+                && (one.element == null || !hasOnlyStatics(one));
+            if (one.tree != null && (own && (one.isInterface() || hasInstances(one) || one.created
+                || !hasStatics(one)) || asked)) {
                 print(one);
             }
         }
@@ -90,7 +93,8 @@ final class Shape {
             }
             for (String text : texts) {
                 for (int at = text.indexOf('\u0001'); at >= 0; at = text.indexOf('\u0001', at + 1)) {
-                    found.add(program.world.copies.get(Integer.parseInt(text.substring(at + 1, text.indexOf('\u0002', at)))));
+                    found.add(program.world.copies.get(Integer.parseInt(text.substring(at + 1,
+                        text.indexOf('\u0002', at)))));
                 }
             }
             if (one.holdsOuter) {
@@ -162,14 +166,17 @@ final class Shape {
         standsFor.forEach(Shape::giveHeads);
     }
 
-    /** A class that stands for an interface declares what is called through it. */
+    /** A class that stands for an interface declares what is called through it, where it does not have it already. */
     private static void giveHeads(Copy face, Copy top) {
         for (Copy.Method head : face.methods) {
-            boolean has = top.methods.stream().anyMatch(method -> method.name.equals(head.name));
-            if (head.body == null && !has) {
+            if (head.body == null && !has(top, head.name)) {
                 top.methods.add(head);
             }
         }
+    }
+
+    private static boolean has(Copy one, String name) {
+        return one != null && (one.methods.stream().anyMatch(method -> method.name.equals(name)) || has(one.superCopy, name));
     }
 
     private void findClasses() {
@@ -186,7 +193,8 @@ final class Shape {
                 for (Copy one : printed) {
                     List<Copy> its = shownInterfaces(one, new ArrayList<>());
                     if (one != face && its.contains(face)) {
-                        fits &= one.isInterface() ? asClasses.contains(one) && its.size() == 1 : one.superCopy == null && its.size() == 1;
+                        fits &= one.isInterface() ? asClasses.contains(one) && its.size() == 1
+                            : one.superCopy == null && its.size() == 1;
                     }
                 }
                 return !fits;
@@ -224,7 +232,8 @@ final class Shape {
     }
 
     boolean isAbstract(Copy copy) {
-        return asClasses.contains(copy) || copy.isAbstract() || copy.methods.stream().anyMatch(method -> method.body == null);
+        return asClasses.contains(copy) || copy.isAbstract()
+            || copy.methods.stream().anyMatch(method -> method.body == null);
     }
 
     Copy superOf(Copy copy) {

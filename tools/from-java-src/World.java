@@ -139,7 +139,8 @@ final class World {
             List<? extends TypeParameterElement> own = ((TypeElement) at.asElement()).getTypeParameters();
             for (int k = 0; k < own.size() && k < at.getTypeArguments().size(); k++) {
                 TypeMirror argument = at.getTypeArguments().get(k);
-                boolean open = argument.getKind() == TypeKind.WILDCARD && ((WildcardType) argument).getExtendsBound() == null
+                boolean open = argument.getKind() == TypeKind.WILDCARD
+                    && ((WildcardType) argument).getExtendsBound() == null
                     && ((WildcardType) argument).getSuperBound() == null;
                 if (!open) {
                     given.put(own.get(k), ty(argument, env));
@@ -196,7 +197,8 @@ final class World {
         copies.add(made);
         if (copies.size() > MOST && !toldMany) {
             toldMany = true;
-            obstacles.add(new Place("-", 1, 1), "generics", "more than " + MOST + " classes for the types that are given to variables");
+            obstacles.add(new Place("-", 1, 1), "generics", "more than " + MOST
+                + " classes for the types that are given to variables");
         }
         if (copies.size() > 2 * MOST) {
             throw new TooMany();
@@ -225,7 +227,8 @@ final class World {
     private String nameFor(TypeElement element, Map<Element, Ty> env, Copy made) {
         String simple = element.getSimpleName().toString();
         if (element.getNestingKind() == NestingKind.ANONYMOUS) {
-            TypeMirror above = element.getInterfaces().isEmpty() ? element.getSuperclass() : element.getInterfaces().get(0);
+            TypeMirror above = element.getInterfaces().isEmpty() ? element.getSuperclass()
+                : element.getInterfaces().get(0);
             return ((DeclaredType) above).asElement().getSimpleName() + "1";
         }
         if (element.toString().equals("java.lang.String")) {
@@ -290,7 +293,8 @@ final class World {
             Found found = null;
             for (Copy one : at.interfaces) {
                 Found here = find(one, asked);
-                found = found == null || here != null && isBody(here) && !isBody(found) ? (here != null ? here : found) : found;
+                found = found == null || here != null && isBody(here) && !isBody(found)
+                    ? (here != null ? here : found) : found;
             }
             if (found != null) {
                 return found;
@@ -346,7 +350,8 @@ final class World {
             return false;
         }
         if (element.getNestingKind() == NestingKind.MEMBER) {
-            return holder.getKind() == ElementKind.CLASS || holder.getKind() == ElementKind.ENUM || holder.getKind() == ElementKind.RECORD;
+            return holder.getKind() == ElementKind.CLASS || holder.getKind() == ElementKind.ENUM
+                || holder.getKind() == ElementKind.RECORD;
         }
         return true;
     }
@@ -356,7 +361,8 @@ final class World {
     }
 
     static boolean isLocal(Element element) {
-        return element instanceof VariableElement && (element.getKind() == ElementKind.LOCAL_VARIABLE || element.getKind() == ElementKind.PARAMETER
+        return element instanceof VariableElement && (element.getKind() == ElementKind.LOCAL_VARIABLE
+            || element.getKind() == ElementKind.PARAMETER
             || element.getKind() == ElementKind.EXCEPTION_PARAMETER || element.getKind() == ElementKind.BINDING_VARIABLE
             || element.getKind() == ElementKind.RESOURCE_VARIABLE);
     }
