@@ -26,6 +26,7 @@ final class Copy {
     Copy superCopy;
     List<Copy> interfaces = new ArrayList<>();
     boolean created;
+    boolean live; // there are objects of it or of a class below
     boolean used; // stands somewhere as a type
     boolean holdsOuter;
     final Map<Element, Ty> captured = new LinkedHashMap<>(); // locals of the method around it

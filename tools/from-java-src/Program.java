@@ -202,6 +202,9 @@ final class Program {
     void create(Copy copy, Body body) {
         copy.created = true;
         copy.used = true;
+        for (Copy up = copy; up != null && !up.live; up = up.superCopy) {
+            up.live = true;
+        }
     }
 
     void arrayOf(Ty type) {
@@ -306,7 +309,7 @@ final class Program {
                 continue;
             }
             for (Copy copy : List.copyOf(world.copies)) {
-                boolean has = copy.created || !copy.isLibrary && !copy.isInterface();
+                boolean has = copy.live || !copy.isLibrary && !copy.isInterface();
                 if (has && resolved.add(number * 100000L + copy.number) && copy.tree != null && !copy.isInterface()
                     && copy.isBelow(need.at)) {
                     World.Found found = world.find(copy, need.method);
