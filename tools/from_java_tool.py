@@ -35,7 +35,8 @@ def built():
         made = Path(tempfile.mkdtemp(prefix="making-", dir=cache))
     except OSError as error:
         fail(f"cannot write into {cache}: {error.strerror}", 74)
-    done = subprocess.run([command("javac"), "-encoding", "UTF-8", "-nowarn", "-d", str(made), *map(str, files)], capture_output=True, text=True)
+    done = subprocess.run([command("javac"), "-encoding", "UTF-8", "-nowarn", "-d", str(made), *map(str, files)],
+        capture_output=True, text=True)
     if done.returncode:
         shutil.rmtree(made, ignore_errors=True)
         said = next((line for line in done.stderr.splitlines() if line), "no reason told")
@@ -67,4 +68,5 @@ def sources_of(paths):
 def brought(files, out="-", where="-", main="-"):
     """What the tool says of the files."""
     java = [command("java"), "-Xshare:auto", "-XX:TieredStopAtLevel=1", "-cp", str(built()), "FromJava"]
-    return subprocess.run([*java, str(LIBRARY), out, where, main, *files], stdin=subprocess.DEVNULL, capture_output=True)
+    return subprocess.run([*java, str(LIBRARY), out, where, main, *files], stdin=subprocess.DEVNULL,
+        capture_output=True)

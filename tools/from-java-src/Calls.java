@@ -92,7 +92,8 @@ final class Calls {
     // ---- calls by kind
 
     /** A call on an object whose value is known, with arguments of the sources. */
-    Ex on(Ex receiver, ExecutableElement method, List<Ty> margs, List<? extends ExpressionTree> arguments, Tree tree, boolean alone) {
+    Ex on(Ex receiver, ExecutableElement method, List<Ty> margs, List<? extends ExpressionTree> arguments, Tree tree,
+        boolean alone) {
         Map<Element, Ty> env = environment(receiver, method, margs);
         List<Supplier<Ex>> parts = new ArrayList<>();
         parts.add(() -> receiver);
@@ -114,7 +115,8 @@ final class Calls {
             .filter(one -> one.toString().equals("append(java.lang.String)")).findFirst().orElseThrow();
     }
 
-    /** The types for the variables of the class that declares a method, as the receiver has them, and for the method's own. */
+    /** The types for the variables of the class that declares a method, as the receiver has them,
+        and for the method's own. */
     Map<Element, Ty> environment(Ex receiver, ExecutableElement method, List<Ty> margs) {
         Map<Element, Ty> env = new HashMap<>();
         Element holder = method.getEnclosingElement();
@@ -144,21 +146,30 @@ final class Calls {
             return ofObject(receiver, method, values, tree, alone);
         }
         if (!receiver.type.is(Ty.Kind.CLASS) || receiver.type.copy.as(holder) == null) {
-            return body.obstacleEx(tree, "generics", "what " + receiver.type + " has is not known here; give the variable a type argument");
+            return body.obstacleEx(tree, "generics", "what " + receiver.type
+                + " has is not known here; give the variable a type argument");
         }
         Copy at = receiver.type.copy.as(holder);
         if (!body.program.known(at, tree, body)) {
             return body.obstacleEx(tree, "library", holder + " is not in the library");
         }
-        World.Found own = margs.isEmpty() && at.isInterface() && !receiver.type.copy.isInterface() ? body.world.find(receiver.type.copy, method) : null;
+        World.Found own = margs.isEmpty() && at.isInterface() && !receiver.type.copy.isInterface()
+            ? body.world.find(receiver.type.copy, method) : null;
         if (own != null && !own.copy().isInterface()) {
             at = own.copy();
             method = own.method();
         }
         Program.Slot slot = body.program.slot(at, method, margs);
         body.program.need(at, method, margs);
+        if (body.world.methodNames.isOnlyDefault(method)) {
+            List<Ex> all = new ArrayList<>(List.of(receiver));
+            all.addAll(values);
+            return finish(Ex.active(at.staticToken() + "." + slot.name() + joined(all), Ex.POST, slot.result()),
+                slot.own(), tree, alone, method);
+        }
         String front = receiver.text.equals("this") ? "" : receiver.at(Ex.POST) + ".";
-        return finish(Ex.active(front + slot.name() + joined(values), Ex.POST, slot.result()), slot.own(), tree, alone, method);
+        return finish(Ex.active(front + slot.name() + joined(values), Ex.POST, slot.result()), slot.own(), tree,
+            alone, method);
     }
 
     static String joined(List<Ex> values) {
@@ -192,19 +203,22 @@ final class Calls {
     private Ex ofSuper(MethodInvocationTree tree, ExecutableElement method, boolean alone) {
         Copy above = body.owner.superCopy;
         if (above == null && method.getEnclosingElement().toString().equals("java.lang.Object")) {
-            return finish(body.program.objects.plain(body, method, body.ex(tree.getArguments().isEmpty() ? null : tree.getArguments().get(0))),
+            return finish(body.program.objects.plain(body, method,
+                body.ex(tree.getArguments().isEmpty() ? null : tree.getArguments().get(0))),
                 null, tree, alone, method);
         }
         Copy at = above == null || body.owner.element == null ? null : above.as(method.getEnclosingElement());
-        if (at == null || at.isInterface()) {
+        if (at == null || tree.getMethodSelect().toString().contains(".super.")) {
             return body.obstacleEx(tree, "super call", "only the method of a class above is called so");
         }
         List<Ty> margs = margs(method, body.world.sources.typeOf(tree.getMethodSelect()));
+        body.program.needInherited(above, method, margs);
         Map<Element, Ty> env = new HashMap<>(environment(Ex.constant("this", at.ty), method, margs));
         List<Ex> values = body.operands(arguments(method, env, tree.getArguments(), tree));
         Program.Slot slot = body.program.slot(at, method, margs);
         body.program.need(at, method, margs);
-        return finish(Ex.active("super." + slot.name() + joined(values), Ex.POST, slot.result()), slot.own(), tree, alone, method);
+        return finish(Ex.active("super." + slot.name() + joined(values), Ex.POST, slot.result()), slot.own(), tree,
+            alone, method);
     }
 
     private Ex ofClass(MethodInvocationTree tree, ExecutableElement method, TypeElement holder, boolean alone) {
@@ -221,12 +235,14 @@ final class Calls {
         Copy at = body.world.staticCopy((TypeElement) method.getEnclosingElement());
         Program.Slot slot = body.program.slot(at, method, margs);
         body.program.need(at, method, margs);
-        return finish(Ex.active(at.staticToken() + "." + slot.name() + joined(values), Ex.POST, slot.result()), slot.own(), null, alone, method);
+        return finish(Ex.active(at.staticToken() + "." + slot.name() + joined(values), Ex.POST, slot.result()),
+            slot.own(), null, alone, method);
     }
 
     // ---- arguments
 
-    List<Supplier<Ex>> arguments(ExecutableElement method, Map<Element, Ty> env, List<? extends ExpressionTree> given, Tree tree) {
+    List<Supplier<Ex>> arguments(ExecutableElement method, Map<Element, Ty> env,
+        List<? extends ExpressionTree> given, Tree tree) {
         List<Ty> types = new ArrayList<>();
         for (VariableElement one : method.getParameters()) {
             types.add(body.world.ty(one.asType(), env));
@@ -255,7 +271,8 @@ final class Calls {
             return true;
         }
         TypeMirror asked = body.world.sources.types.erasure(method.getParameters().get(last).asType());
-        return type.getKind() == TypeKind.ARRAY && body.world.sources.types.isAssignable(body.world.sources.types.erasure(type), asked);
+        return type.getKind() == TypeKind.ARRAY
+            && body.world.sources.types.isAssignable(body.world.sources.types.erasure(type), asked);
     }
 
     // ---- type arguments of methods
@@ -271,27 +288,32 @@ final class Calls {
         }
         match(method.getReturnType(), type.getReturnType(), found);
         List<Ty> all = new ArrayList<>();
-        method.getTypeParameters().forEach(one -> all.add(found.getOrDefault(one, body.world.ty(one.asType(), Map.of()))));
+        method.getTypeParameters().forEach(one -> all.add(found.getOrDefault(one,
+            body.world.ty(one.asType(), Map.of()))));
         return all;
     }
 
     void match(TypeMirror declared, TypeMirror given, Map<Element, Ty> found) {
-        if (declared.getKind() == TypeKind.TYPEVAR && given.getKind() != TypeKind.NONE && given.getKind() != TypeKind.VOID) {
+        if (declared.getKind() == TypeKind.TYPEVAR && given.getKind() != TypeKind.NONE
+            && given.getKind() != TypeKind.VOID) {
             Element variable = ((TypeVariable) declared).asElement();
-            if (variable.getEnclosingElement() instanceof ExecutableElement && !found.containsKey(variable) && !given.getKind().isPrimitive()) {
+            if (variable.getEnclosingElement() instanceof ExecutableElement && !found.containsKey(variable)
+                && !given.getKind().isPrimitive()) {
                 found.put(variable, body.ty(given));
             }
         } else if (declared.getKind() == TypeKind.ARRAY && given.getKind() == TypeKind.ARRAY) {
             match(((ArrayType) declared).getComponentType(), ((ArrayType) given).getComponentType(), found);
         } else if (declared.getKind() == TypeKind.DECLARED && given.getKind() == TypeKind.DECLARED) {
-            List<? extends TypeMirror> one = ((DeclaredType) declared).getTypeArguments(), other = ((DeclaredType) given).getTypeArguments();
+            List<? extends TypeMirror> one = ((DeclaredType) declared).getTypeArguments(),
+                other = ((DeclaredType) given).getTypeArguments();
             for (int k = 0; k < one.size() && k < other.size(); k++) {
                 match(one.get(k), other.get(k), found);
             }
         } else if (declared.getKind() == TypeKind.WILDCARD) {
             WildcardType one = (WildcardType) declared;
             TypeMirror bound = one.getExtendsBound() != null ? one.getExtendsBound() : one.getSuperBound();
-            TypeMirror other = given instanceof WildcardType wild ? wild.getExtendsBound() != null ? wild.getExtendsBound() : wild.getSuperBound() : given;
+            TypeMirror other = given instanceof WildcardType wild ? wild.getExtendsBound() != null
+                ? wild.getExtendsBound() : wild.getSuperBound() : given;
             if (bound != null && other != null) {
                 match(bound, other, found);
             }

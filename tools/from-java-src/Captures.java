@@ -62,7 +62,8 @@ final class Captures {
             TypeElement element = world.sources.localOf.get(tree);
             classes.push(element);
             if (tree.getExtendsClause() != null || element.getNestingKind() == NestingKind.ANONYMOUS) {
-                uses(element.getSuperclass() instanceof javax.lang.model.type.DeclaredType above ? (TypeElement) above.asElement() : null);
+                uses(element.getSuperclass() instanceof javax.lang.model.type.DeclaredType above
+                    ? (TypeElement) above.asElement() : null);
             }
             super.visitClass(tree, nothing);
             classes.pop();
@@ -83,7 +84,8 @@ final class Captures {
                 made.object |= classes.isEmpty();
             } else if (World.isLocal(element)) {
                 local(element);
-            } else if (element != null && (element.getKind() == ElementKind.FIELD || element.getKind() == ElementKind.METHOD)) {
+            } else if (element != null && (element.getKind() == ElementKind.FIELD
+                || element.getKind() == ElementKind.METHOD)) {
                 member(element);
             }
             return null;
@@ -96,18 +98,21 @@ final class Captures {
         }
 
         private void member(Element element) {
-            boolean own = element.getModifiers().contains(Modifier.STATIC) || element.getEnclosingElement().toString().equals("java.lang.Object");
+            boolean own = element.getModifiers().contains(Modifier.STATIC)
+                || element.getEnclosingElement().toString().equals("java.lang.Object");
             made.object |= !own && !isOfInside((TypeElement) element.getEnclosingElement());
         }
 
         private boolean isOfInside(TypeElement holder) {
-            return classes.stream().anyMatch(one -> world.sources.types.isSubtype(world.sources.types.erasure(one.asType()),
+            return classes.stream().anyMatch(one ->
+                world.sources.types.isSubtype(world.sources.types.erasure(one.asType()),
                 world.sources.types.erasure(holder.asType())));
         }
 
         @Override
         public Void visitMemberSelect(MemberSelectTree tree, Void nothing) {
-            if (tree.getIdentifier().contentEquals("this") && world.sources.elementOf(tree.getExpression()) instanceof TypeElement outer) {
+            if (tree.getIdentifier().contentEquals("this")
+                && world.sources.elementOf(tree.getExpression()) instanceof TypeElement outer) {
                 made.object |= !classes.contains(outer);
                 return null;
             }
@@ -117,7 +122,8 @@ final class Captures {
         @Override
         public Void visitNewClass(NewClassTree tree, Void nothing) {
             if (tree.getClassBody() == null && tree.getEnclosingExpression() == null
-                && world.sources.elementOf(tree) != null && world.sources.elementOf(tree).getEnclosingElement() instanceof TypeElement made) {
+                && world.sources.elementOf(tree) != null
+                    && world.sources.elementOf(tree).getEnclosingElement() instanceof TypeElement made) {
                 uses(made);
             }
             return super.visitNewClass(tree, nothing);
@@ -125,7 +131,8 @@ final class Captures {
 
         /** An object of a class is made, or a class stands below it: what that class takes is needed too. */
         private void uses(TypeElement element) {
-            if (element == null || !world.isInner(element) || !(world.sources.treeOf.get(element) instanceof ClassTree tree)) {
+            if (element == null || !world.isInner(element)
+                || !(world.sources.treeOf.get(element) instanceof ClassTree tree)) {
                 return;
             }
             Found of = Captures.this.of(tree);

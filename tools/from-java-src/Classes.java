@@ -28,12 +28,14 @@ final class Classes {
 
     private static Ex of(Body body, ExpressionTree tree) {
         ExpressionTree select = ((MethodInvocationTree) bare(tree)).getMethodSelect();
-        return select instanceof MemberSelectTree member && !(member.getExpression() instanceof IdentifierTree id && id.getName().contentEquals("this"))
+        return select instanceof MemberSelectTree member && !(member.getExpression() instanceof IdentifierTree id
+            && id.getName().contentEquals("this"))
             ? body.ex(member.getExpression()) : body.thisObject();
     }
 
     static Ex compare(Body body, BinaryTree tree) {
-        List<Ex> both = body.operands(List.of(() -> of(body, tree.getLeftOperand()), () -> of(body, tree.getRightOperand())));
+        List<Ex> both = body.operands(List.of(() -> of(body, tree.getLeftOperand()), () ->
+            of(body, tree.getRightOperand())));
         Ex left = body.program.objects.nameOf(body, both.get(0), "className");
         Ex right = body.program.objects.nameOf(body, both.get(1), "className");
         Ex same = Ex.active(left.text + ".equals(" + right.text + ")", Ex.POST, Ty.BOOLEAN);

@@ -7,7 +7,8 @@ import javax.lang.model.element.TypeElement;
 
 /** Values of one type as values of another, as Java does it without being told, and casts. */
 final class Conversions {
-    private static final Map<Ty.Kind, String> BOXES = Map.of(Ty.Kind.INT, "Integer", Ty.Kind.CHAR, "Character", Ty.Kind.BOOLEAN, "Boolean",
+    private static final Map<Ty.Kind, String> BOXES = Map.of(Ty.Kind.INT, "Integer", Ty.Kind.CHAR, "Character",
+        Ty.Kind.BOOLEAN, "Boolean",
         Ty.Kind.BYTE, "Integer", Ty.Kind.SHORT, "Integer");
     private final Body body;
 
@@ -52,7 +53,8 @@ final class Conversions {
     private Ex reference(Ex value, Ty to, Tree at) {
         Ty from = value.type;
         if (to.is(Ty.Kind.OBJECT)) {
-            return from.is(Ty.Kind.ARRAY) ? body.obstacleEx(at, "array as Object", "give the variable the array's own type") : value;
+            return from.is(Ty.Kind.ARRAY) ? body.obstacleEx(at, "array as Object",
+                "give the variable the array's own type") : value;
         }
         if (from.is(Ty.Kind.ARRAY) || to.is(Ty.Kind.ARRAY)) {
             boolean fits = from.is(Ty.Kind.ARRAY) && to.is(Ty.Kind.ARRAY) && fitsElement(from.of, to.of);
@@ -69,7 +71,8 @@ final class Conversions {
 
     private boolean fitsElement(Ty from, Ty to) {
         return from.same(to) || from.is(Ty.Kind.CLASS) && to.is(Ty.Kind.CLASS) && from.copy.isBelow(to.copy)
-            || from.is(Ty.Kind.CLASS) && to.is(Ty.Kind.OBJECT) || from.is(Ty.Kind.ARRAY) && to.is(Ty.Kind.ARRAY) && fitsElement(from.of, to.of);
+            || from.is(Ty.Kind.CLASS) && to.is(Ty.Kind.OBJECT) || from.is(Ty.Kind.ARRAY) && to.is(Ty.Kind.ARRAY)
+                && fitsElement(from.of, to.of);
     }
 
     private Ex mismatch(Ex value, Ty to, Tree at) {
@@ -104,7 +107,8 @@ final class Conversions {
         }
         boolean fits = to.is(Ty.Kind.SHORT) && value.type.is(Ty.Kind.BYTE);
         Ex bits = Ex.constant(to.is(Ty.Kind.BYTE) ? "24" : "16", Ty.INT);
-        return fits ? value.as(to) : Ex.binary(Ex.binary(value, "<<", Ex.SHIFT, bits, Ty.INT), ">>", Ex.SHIFT, bits, to);
+        return fits ? value.as(to) : Ex.binary(Ex.binary(value, "<<", Ex.SHIFT, bits, Ty.INT), ">>", Ex.SHIFT, bits,
+            to);
     }
 
     // ---- boxes
@@ -119,7 +123,8 @@ final class Conversions {
             return Ex.active(value.at(Ex.POST) + ".value", Ex.POST, type);
         }
         if (!value.isNull()) {
-            body.obstacle(at, "unboxing", "a value of the type " + value.type + " stands where a number or a boolean is asked");
+            body.obstacle(at, "unboxing", "a value of the type " + value.type
+                + " stands where a number or a boolean is asked");
         }
         return Ex.constant("0", Ty.INT);
     }
@@ -145,7 +150,8 @@ final class Conversions {
 
     Ex ofCharacters(Ex value) {
         Copy strings = body.world.staticCopy(body.world.sources.elements.getTypeElement("java.lang.String"));
-        return Ex.active(strings.staticToken() + "." + body.program.needNamed(strings, "ofCharacters") + "(" + value.text + ")", Ex.POST, Ty.STRING);
+        return Ex.active(strings.staticToken() + "." + body.program.needNamed(strings, "ofCharacters") + "("
+            + value.text + ")", Ex.POST, Ty.STRING);
     }
 
     // ---- casts
@@ -154,7 +160,8 @@ final class Conversions {
         if (to.isPrimitive()) {
             return narrow(primitive(value, at), to);
         }
-        if (value.type.isPrimitive() || value.isNull() || value.type.same(to) || to.is(Ty.Kind.OBJECT) || value.type.is(Ty.Kind.STRING)) {
+        if (value.type.isPrimitive() || value.isNull() || value.type.same(to) || to.is(Ty.Kind.OBJECT)
+            || value.type.is(Ty.Kind.STRING)) {
             return convert(value, to, at);
         }
         if (to.is(Ty.Kind.STRING)) {
@@ -195,7 +202,8 @@ final class Conversions {
         }
         Ex wide = isRelated(value.type, type) ? value : value.prefix("(Object) ", Ty.OBJECT);
         type.copy.used = true;
-        return new Ex(wide.at(Ex.SHIFT) + " instanceof " + type.text(), Ex.COMPARE, Ty.BOOLEAN, value.pure, value.reads);
+        return new Ex(wide.at(Ex.SHIFT) + " instanceof " + type.text(), Ex.COMPARE, Ty.BOOLEAN, value.pure,
+            value.reads);
     }
 
     // ---- texts
@@ -209,7 +217,8 @@ final class Conversions {
             return Ex.constant("\"null\"", Ty.STRING);
         }
         if (value.type.is(Ty.Kind.ARRAY)) {
-            return body.obstacleEx(at, "text of an array", "Java shows an address; write Arrays.toString(..)").as(Ty.STRING);
+            return body.obstacleEx(at, "text of an array",
+                "Java shows an address; write Arrays.toString(..)").as(Ty.STRING);
         }
         if (value.text.equals("this")) {
             return body.program.objects.call(body, "toString", value, List.of());
@@ -218,13 +227,15 @@ final class Conversions {
         String name = body.fresh(Ty.STRING);
         body.emit(new St.Let("String", name, "\"null\""));
         Ex there = Ex.binary(kept, "!=", Ex.EQUAL, Ex.constant("null", Ty.NULL), Ty.BOOLEAN);
-        body.emit(new St.If(there, body.within(() -> body.setLocal(name, body.program.objects.call(body, "toString", kept, List.of()))), new ArrayList<>()));
+        body.emit(new St.If(there, body.within(() -> body.setLocal(name,
+            body.program.objects.call(body, "toString", kept, List.of()))), new ArrayList<>()));
         return Ex.local(name, Ty.STRING);
     }
 
     /** A value as a String. */
     Ex string(Ex value, Tree at) {
         Ex text = text(value, at);
-        return text.type.is(Ty.Kind.STRING) ? text : Ex.binary(Ex.constant("\"\"", Ty.STRING), "+", Ex.SUM, text, Ty.STRING);
+        return text.type.is(Ty.Kind.STRING) ? text : Ex.binary(Ex.constant("\"\"", Ty.STRING), "+", Ex.SUM, text,
+            Ty.STRING);
     }
 }

@@ -1,9 +1,11 @@
 import com.sun.source.tree.CompilationUnitTree;
 import com.sun.source.tree.Tree;
 import java.util.ArrayList;
+import java.util.HashSet;
 import java.util.LinkedHashMap;
 import java.util.List;
 import java.util.Map;
+import java.util.Set;
 import javax.lang.model.element.Element;
 import javax.lang.model.element.ElementKind;
 import javax.lang.model.element.Modifier;
@@ -18,11 +20,13 @@ final class Copy {
     final Map<Element, Ty> env;
     final boolean isLibrary;
     final Ty ty = Ty.of(this);
+    private Set<Copy> above; // this one and all above it
     String name;
     Copy outer; // the class of the object around its objects, where they have one
     Copy superCopy;
     List<Copy> interfaces = new ArrayList<>();
     boolean created;
+    boolean live; // there are objects of it or of a class below
     boolean used; // stands somewhere as a type
     boolean holdsOuter;
     final Map<Element, Ty> captured = new LinkedHashMap<>(); // locals of the method around it
@@ -45,7 +49,8 @@ final class Copy {
         Place at;
     }
 
-    Copy(int number, TypeElement element, Tree tree, CompilationUnitTree unit, Map<Element, Ty> env, boolean isLibrary) {
+    Copy(int number, TypeElement element, Tree tree, CompilationUnitTree unit, Map<Element, Ty> env,
+        boolean isLibrary) {
         this.number = number;
         this.element = element;
         this.tree = tree;
@@ -73,7 +78,8 @@ final class Copy {
 
     private boolean isEnumWithBodies() {
         return element != null && element.getKind() == ElementKind.ENUM && element.getEnclosedElements().stream()
-            .anyMatch(member -> member.getKind() == ElementKind.METHOD && member.getModifiers().contains(Modifier.ABSTRACT));
+            .anyMatch(member -> member.getKind() == ElementKind.METHOD
+                && member.getModifiers().contains(Modifier.ABSTRACT));
     }
 
     /** The class or interface at or above this one that is a copy of an element, or null. */
@@ -89,7 +95,18 @@ final class Copy {
     }
 
     boolean isBelow(Copy other) {
-        return this == other || superCopy != null && superCopy.isBelow(other) || interfaces.stream().anyMatch(one -> one.isBelow(other));
+        if (above == null || above.size() == 1) {
+            above = new HashSet<>(Set.of(this));
+            if (superCopy != null) {
+                superCopy.isBelow(superCopy);
+                above.addAll(superCopy.above);
+            }
+            for (Copy one : interfaces) {
+                one.isBelow(one);
+                above.addAll(one.above);
+            }
+        }
+        return above.contains(other);
     }
 
     /** The topmost class at or above it. */

@@ -12,7 +12,8 @@ import javax.lang.model.element.ExecutableElement;
 import javax.lang.model.element.TypeElement;
 import javax.lang.model.element.TypeParameterElement;
 
-/** Creations of objects and arrays, each at its place: first the object, then a call of the method that its constructor became. */
+/** Creations of objects and arrays, each at its place: first the object,
+    then a call of the method that its constructor became. */
 final class Creations {
     private final Body body;
 
@@ -22,6 +23,9 @@ final class Creations {
 
     /** A creation; where `name` is given, the object is declared as a local of that name. */
     Ex creation(NewClassTree tree, String name) {
+        if (tree.getClassBody() == null && body.tyOf(tree).is(Ty.Kind.STRING)) {
+            return newString(tree);
+        }
         Copy copy = copyOf(tree);
         if (copy == null || !body.program.known(copy, tree, body)) {
             return Ex.constant("null", Ty.NULL);
@@ -37,9 +41,24 @@ final class Creations {
         }
         parts.addAll(body.calls.arguments(constructor, copy.env, tree.getArguments(), tree));
         List<Ex> values = body.operands(parts);
-        Ex made = made(copy, constructor, around ? values.get(0) : null, around ? values.subList(1, values.size()) : values, name);
+        Ex made = made(copy, constructor, around ? values.get(0) : null, around ? values.subList(1, values.size())
+            : values, name);
         body.place = saved;
         return made;
+    }
+
+    /** `new String(..)` of nothing, of a string or of characters. */
+    private Ex newString(NewClassTree tree) {
+        if (tree.getArguments().isEmpty()) {
+            return Literals.string("");
+        }
+        Ex value = body.ex(tree.getArguments().get(0));
+        boolean one = tree.getArguments().size() == 1;
+        if (one && value.type.is(Ty.Kind.ARRAY) && value.type.of.is(Ty.Kind.CHAR)) {
+            return body.conversions.ofCharacters(value);
+        }
+        return one && value.type.is(Ty.Kind.STRING) ? value
+            : body.obstacleEx(tree, "new String", "write the string itself, or String.valueOf of the characters");
     }
 
     private Copy copyOf(NewClassTree tree) {
@@ -129,7 +148,7 @@ final class Creations {
             asked = asked.of;
         }
         boolean open = inner.is(Ty.Kind.OBJECT) || inner.is(Ty.Kind.CLASS) && !inner.copy.env.isEmpty();
-        return open && asked.isReference() && !asked.is(Ty.Kind.ARRAY) ? wanted : own;
+        return open && asked.isReference() ? wanted : own;
     }
 
     Ex sized(Ty type, Ex size) {
@@ -175,7 +194,8 @@ final class Creations {
         body.emit(new St.Let(type.text(), array.text, sized(type, Ex.constant("" + elements.size(), Ty.INT)).text));
         for (int k = 0; k < elements.size(); k++) {
             ExpressionTree element = elements.get(k);
-            Ex value = element instanceof NewArrayTree inner ? array(inner, type.of, null) : body.exTo(element, type.of);
+            Ex value = element instanceof NewArrayTree inner ? array(inner, type.of, null)
+                : body.exTo(element, type.of);
             body.set(array.text + "[" + k + "]", value);
         }
         return array;
@@ -188,7 +208,8 @@ final class Creations {
         body.emit(new St.Let(array.type.text(), to.text, sized(array.type, length).text));
         String index = body.fresh("index");
         St.Loop loop = counting(index, length);
-        loop.body = body.within(() -> body.set(to.text + "[" + index + "]", Ex.active(from.text + "[" + index + "]", Ex.POST, array.type.of)));
+        loop.body = body.within(() -> body.set(to.text + "[" + index + "]",
+            Ex.active(from.text + "[" + index + "]", Ex.POST, array.type.of)));
         body.emit(loop);
         return to;
     }

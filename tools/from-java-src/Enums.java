@@ -61,9 +61,11 @@ final class Enums {
         }
         for (VariableElement one : all) {
             Ex test = Ex.active("name.equals(\"" + one.getSimpleName() + "\")", Ex.POST, Ty.BOOLEAN);
-            body.emit(new St.If(test, body.within(() -> body.emit(new St.Return(body.expressions.field(null, one, null).text))), new ArrayList<>()));
+            body.emit(new St.If(test, body.within(() -> body.emit(new St.Return(body.expressions.field(null, one,
+                null).text))), new ArrayList<>()));
         }
-        body.exceptions.raiseNew("IllegalArgumentException", Ex.binary(Literals.string("No enum constant " + copy.element.getQualifiedName() + "."), "+", Ex.SUM,
+        body.exceptions.raiseNew("IllegalArgumentException",
+            Ex.binary(Literals.string("No enum constant " + copy.element.getQualifiedName() + "."), "+", Ex.SUM,
             Ex.local("name", Ty.STRING), Ty.STRING));
         return true;
     }

@@ -3,7 +3,8 @@ import java.util.TreeSet;
 
 /** An expression of the text: its characters, how tightly it binds, its type, and what it depends on. */
 final class Ex {
-    static final int OR = 0, AND = 1, BIT_OR = 2, BIT_XOR = 3, BIT_AND = 4, EQUAL = 5, COMPARE = 6, SHIFT = 7, SUM = 8, PRODUCT = 9,
+    static final int OR = 0, AND = 1, BIT_OR = 2, BIT_XOR = 3, BIT_AND = 4, EQUAL = 5, COMPARE = 6, SHIFT = 7,
+        SUM = 8, PRODUCT = 9,
         PREFIX = 10, POST = 11;
 
     final String text;
@@ -37,7 +38,8 @@ final class Ex {
         boolean divides = (mark.equals("/") || mark.equals("%")) && !right.text.matches("[1-9][0-9]*");
         Set<String> reads = new TreeSet<>(left.reads);
         reads.addAll(right.reads);
-        return new Ex(left.at(level) + " " + mark + " " + right.at(level + 1), level, type, left.pure && right.pure && !divides, reads);
+        return new Ex(left.at(level) + " " + mark + " " + right.at(level + 1), level, type, left.pure && right.pure
+            && !divides, reads);
     }
 
     Ex prefix(String mark, Ty as) {
@@ -70,7 +72,8 @@ final class Ex {
         if (level == PREFIX && text.startsWith("!")) {
             String inner = text.substring(1);
             boolean wrapped = inner.startsWith("(") && matching(inner) == inner.length() - 1;
-            return new Ex(wrapped ? inner.substring(1, inner.length() - 1) : inner, wrapped ? OR : POST, Ty.BOOLEAN, pure, reads);
+            return new Ex(wrapped ? inner.substring(1, inner.length() - 1) : inner, wrapped ? OR : POST, Ty.BOOLEAN,
+                pure, reads);
         }
         return prefix("!", Ty.BOOLEAN);
     }

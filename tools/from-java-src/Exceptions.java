@@ -12,7 +12,8 @@ import javax.lang.model.element.Element;
 import javax.lang.model.element.ExecutableElement;
 
 /**
- * Exceptions. Where the sources have no `try`, a throw ends the program. Where they have one, what was thrown waits in a
+ * Exceptions. Where the sources have no `try`, a throw ends the program. Where they have one,
+     what was thrown waits in a
  * static field, and it is asked for behind each call that may throw.
  */
 final class Exceptions {
@@ -28,7 +29,9 @@ final class Exceptions {
 
     private Ex pending() {
         Copy at = thrown();
-        body.program.needStatic(at);
+        body.program.needStaticField(at,
+            (javax.lang.model.element.VariableElement) at.element.getEnclosedElements().stream()
+            .filter(one -> one.getSimpleName().contentEquals("pending")).findFirst().orElseThrow());
         body.program.create(body.conversions.library("Throwable"), body);
         return Ex.active(at.staticToken() + ".pending", Ex.POST, body.conversions.library("Throwable").ty);
     }
@@ -63,7 +66,8 @@ final class Exceptions {
         Copy copy = body.conversions.library(name);
         ExecutableElement constructor = null;
         for (Element member : copy.element.getEnclosedElements()) {
-            if (member instanceof ExecutableElement one && one.getSimpleName().contentEquals("<init>") && one.getParameters().size() == 1) {
+            if (member instanceof ExecutableElement one && one.getSimpleName().contentEquals("<init>")
+                && one.getParameters().size() == 1) {
                 constructor = one;
             }
         }
@@ -80,7 +84,8 @@ final class Exceptions {
                 Ex text = Literals.string(values.isEmpty() ? name : name + ": ");
                 for (Ex value : values.subList(0, Math.min(1, values.size()))) {
                     text = value.text.startsWith("\"") && value.level == Ex.POST
-                        ? new Ex(text.text.substring(0, text.text.length() - 1) + value.text.substring(1), Ex.POST, Ty.STRING, true, text.reads)
+                        ? new Ex(text.text.substring(0, text.text.length() - 1) + value.text.substring(1), Ex.POST,
+                            Ty.STRING, true, text.reads)
                         : Ex.binary(text, "+", Ex.SUM, value, Ty.STRING);
                 }
                 stop(text);
@@ -185,7 +190,8 @@ final class Exceptions {
             withCatches(tree);
             return;
         }
-        Runnable last = () -> body.emit(new St.Block(body.scoped(() -> tree.getFinallyBlock().getStatements().forEach(body::statement))));
+        Runnable last = () -> body.emit(new St.Block(body.scoped(() ->
+            tree.getFinallyBlock().getStatements().forEach(body::statement))));
         Body.Target region = region(last);
         body.targets.push(region);
         List<St> made = body.within(() -> withCatches(tree));

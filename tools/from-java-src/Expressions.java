@@ -39,7 +39,8 @@ final class Expressions {
     /** An expression; `wanted` is the type that is asked where it stands, or null. */
     Ex ex(ExpressionTree tree, Ty wanted) {
         TypeMirror type = body.world.sources.typeOf(tree);
-        if (type != null && (type.getKind() == TypeKind.DOUBLE || type.getKind() == TypeKind.FLOAT || type.getKind() == TypeKind.LONG)) {
+        if (type != null && (type.getKind() == TypeKind.DOUBLE || type.getKind() == TypeKind.FLOAT
+            || type.getKind() == TypeKind.LONG)) {
             return refusedNumber(tree, type);
         }
         switch (tree.getKind()) {
@@ -100,7 +101,8 @@ final class Expressions {
 
     /** A local of this body, or one that the class of this body took from the method around it. */
     Ex local(Element element, Tree tree) {
-        Object constant = element.getModifiers().contains(Modifier.FINAL) ? ((VariableElement) element).getConstantValue() : null;
+        Object constant = element.getModifiers().contains(Modifier.FINAL)
+            ? ((VariableElement) element).getConstantValue() : null;
         if (constant != null && body.nameOf(element) == null) {
             return Literals.of(constant, body.ty(element.asType()));
         }
@@ -110,11 +112,14 @@ final class Expressions {
         Ex at = body.self;
         for (Copy copy = body.owner; copy != null && at != null; copy = copy.outer) {
             if (copy.captured.containsKey(element)) {
-                return new Ex(at.text + "." + Captures.name(element), Ex.POST, copy.captured.get(element), at.pure, at.reads);
+                return new Ex(at.text + "." + Captures.name(element), Ex.POST, copy.captured.get(element), at.pure,
+                    at.reads);
             }
-            at = new Ex(at.text + "." + Members.outer(copy), Ex.POST, copy.outer == null ? copy.ty : copy.outer.ty, at.pure, at.reads);
+            at = new Ex(at.text + "." + Members.outer(copy), Ex.POST, copy.outer == null ? copy.ty : copy.outer.ty,
+                at.pure, at.reads);
         }
-        return body.obstacleEx(tree, "captured local", "the variable " + element + " is not at hand here; give it as an argument");
+        return body.obstacleEx(tree, "captured local", "the variable " + element
+            + " is not at hand here; give it as an argument");
     }
 
     /** A field of an object, of this one or one around it where `base` is null, or a static one. */
@@ -128,8 +133,9 @@ final class Expressions {
             if (!body.program.known(at, tree, body)) {
                 return Ex.constant("null", Ty.NULL);
             }
-            body.program.needStatic(at);
-            return Ex.active(at.staticToken() + "." + Members.field(field), Ex.POST, body.world.ty(field.asType(), at.env));
+            body.program.needStaticField(at, field);
+            return Ex.active(at.staticToken() + "." + Members.field(field), Ex.POST,
+                body.world.ty(field.asType(), at.env));
         }
         Ex from = base == null ? body.around(holder) : base;
         if (from == null || !from.type.is(Ty.Kind.CLASS) || from.type.copy.as(holder) == null) {
@@ -144,12 +150,14 @@ final class Expressions {
         String name = tree.getIdentifier().toString();
         if (name.equals("this")) {
             Ex around = body.around(body.elementOf(tree.getExpression()));
-            return around != null ? around : body.obstacleEx(tree, "outer this", "the object around is not at hand here");
+            return around != null ? around : body.obstacleEx(tree, "outer this",
+                "the object around is not at hand here");
         }
         if (element instanceof VariableElement variable && element.getModifiers().contains(Modifier.STATIC)) {
             return field(null, variable, tree);
         }
-        if (name.equals("length") && (element == null || element.getKind() == ElementKind.FIELD) && isArray(tree.getExpression())) {
+        if (name.equals("length") && (element == null || element.getKind() == ElementKind.FIELD)
+            && isArray(tree.getExpression())) {
             Ex array = body.ex(tree.getExpression());
             return Ex.active(array.at(Ex.POST) + ".length", Ex.POST, Ty.INT);
         }
@@ -166,7 +174,8 @@ final class Expressions {
     }
 
     private Ex element(ArrayAccessTree tree) {
-        List<Ex> parts = body.operands(List.of(() -> body.ex(tree.getExpression()), () -> body.exTo(tree.getIndex(), Ty.INT)));
+        List<Ex> parts = body.operands(List.of(() -> body.ex(tree.getExpression()), () ->
+            body.exTo(tree.getIndex(), Ty.INT)));
         return elementOf(parts.get(0), parts.get(1));
     }
 
@@ -179,7 +188,8 @@ final class Expressions {
 
     private Ex conditional(ConditionalExpressionTree tree, Ty wanted) {
         Ty own = body.tyOf(tree);
-        Ty type = own.isReference() && wanted != null && wanted.isReference() && !wanted.is(Ty.Kind.NULL) ? wanted : own;
+        Ty type = own.isReference() && wanted != null && wanted.isReference() && !wanted.is(Ty.Kind.NULL) ? wanted
+            : own;
         if (type.is(Ty.Kind.NULL)) {
             type = wanted != null ? wanted : Ty.OBJECT;
         }
@@ -219,7 +229,8 @@ final class Expressions {
     }
 
     private Ex instanceOf(InstanceOfTree tree) {
-        Tree named = tree.getPattern() == null ? tree.getType() : ((com.sun.source.tree.BindingPatternTree) tree.getPattern()).getVariable().getType();
+        Tree named = tree.getPattern() == null ? tree.getType()
+            : ((com.sun.source.tree.BindingPatternTree) tree.getPattern()).getVariable().getType();
         Ty type = body.tyOf(named);
         Ex value = body.ex(tree.getExpression());
         if (tree.getPattern() == null) {
@@ -232,7 +243,8 @@ final class Expressions {
         Ex is = body.conversions.instanceOf(kept, type, tree);
         String test = body.fresh(Ty.BOOLEAN);
         body.emit(new St.Let("boolean", test, is.text));
-        body.emit(new St.If(Ex.local(test, Ty.BOOLEAN), body.within(() -> body.setLocal(name, body.conversions.cast(kept, type, tree))), List.of()));
+        body.emit(new St.If(Ex.local(test, Ty.BOOLEAN), body.within(() ->
+            body.setLocal(name, body.conversions.cast(kept, type, tree))), List.of()));
         return Ex.local(test, Ty.BOOLEAN);
     }
 }

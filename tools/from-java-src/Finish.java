@@ -93,7 +93,8 @@ final class Finish {
             } else if (one instanceof St.Loop loop) {
                 loop.body = reached(loop.body);
                 List<St> turn = loop.body;
-                if (!turn.isEmpty() && turn.get(turn.size() - 1) instanceof St.Jump jump && jump.goesOn && jump.loop == loop) {
+                if (!turn.isEmpty() && turn.get(turn.size() - 1) instanceof St.Jump jump && jump.goesOn
+                    && jump.loop == loop) {
                     turn.remove(turn.size() - 1);
                 }
             }

@@ -56,7 +56,8 @@ final class Formats {
             return left == null || right == null ? null : left + right;
         }
         boolean named = tree instanceof IdentifierTree || tree instanceof MemberSelectTree;
-        return named && body.elementOf(tree) instanceof VariableElement field && field.getConstantValue() instanceof String text ? text : null;
+        return named && body.elementOf(tree) instanceof VariableElement field
+            && field.getConstantValue() instanceof String text ? text : null;
     }
 
     Ex format(List<? extends ExpressionTree> arguments, Tree tree) {
@@ -87,7 +88,8 @@ final class Formats {
         for (Ex one : body.operands(parts)) {
             all = all == null ? one : Ex.binary(all, "+", Ex.SUM, one, Ty.STRING);
         }
-        return all == null ? Literals.string("") : all.type.is(Ty.Kind.STRING) ? all : body.conversions.string(all, tree);
+        return all == null ? Literals.string("") : all.type.is(Ty.Kind.STRING) ? all
+            : body.conversions.string(all, tree);
     }
 
     private void literal(String text, List<Supplier<Ex>> parts, Tree tree) {
@@ -111,14 +113,16 @@ final class Formats {
         Copy strings = body.world.staticCopy(body.world.sources.elements.getTypeElement("java.lang.String"));
         if (kind.equals("x") || kind.equals("X")) {
             String hex = body.program.needNamed(strings, "hexadecimal");
-            value = Ex.active(strings.staticToken() + "." + hex + "(" + body.conversions.primitive(value, argument).text + ", " + kind.equals("X") + ")", Ex.POST, Ty.STRING);
+            value = Ex.active(strings.staticToken() + "." + hex + "("
+                + body.conversions.primitive(value, argument).text + ", " + kind.equals("X") + ")", Ex.POST, Ty.STRING);
         }
         if (kind.equals("d")) {
             value = body.conversions.primitive(value, argument);
             if (!flags.isEmpty() && !flags.equals("-")) {
                 String number = body.program.needNamed(strings, "number");
                 boolean zeros = flags.contains("0");
-                value = Ex.active(strings.staticToken() + "." + number + "(" + value.text + ", " + (zeros ? width : "0") + ", " + flags.contains(",") + ", "
+                value = Ex.active(strings.staticToken() + "." + number + "(" + value.text + ", "
+                    + (zeros ? width : "0") + ", " + flags.contains(",") + ", "
                     + flags.contains("+") + ")", Ex.POST, Ty.STRING);
             }
         }
@@ -128,13 +132,15 @@ final class Formats {
         Ex text = body.conversions.text(value, argument);
         if (precision != null) {
             String cut = body.program.needNamed(strings, "cut");
-            text = Ex.active(strings.staticToken() + "." + cut + "(" + body.conversions.string(text, argument).text + ", " + precision.substring(1) + ")", Ex.POST, Ty.STRING);
+            text = Ex.active(strings.staticToken() + "." + cut + "(" + body.conversions.string(text, argument).text
+                + ", " + precision.substring(1) + ")", Ex.POST, Ty.STRING);
         }
         if (width.isEmpty()) {
             return text.type.is(Ty.Kind.STRING) ? text : body.conversions.string(text, argument);
         }
         String padded = body.program.needNamed(strings, "padded");
-        return Ex.active(strings.staticToken() + "." + padded + "(" + body.conversions.string(text, argument).text + ", " + width + ", " + flags.contains("-") + ")",
+        return Ex.active(strings.staticToken() + "." + padded + "(" + body.conversions.string(text, argument).text
+            + ", " + width + ", " + flags.contains("-") + ")",
             Ex.POST, Ty.STRING);
     }
 }

@@ -25,7 +25,7 @@ public final class FromJava {
     public static void main(String[] words) throws IOException {
         PrintStream err = new PrintStream(System.err, true, StandardCharsets.UTF_8);
         List<String> files = new ArrayList<>(List.of(words).subList(4, words.length));
-        Result result = new FromJava().bring(files, Path.of(words[0]), words[3]);
+        Result result = bring(files, Path.of(words[0]), words[3]);
         err.print(result.told);
         if (result.text == null) {
             System.exit(REFUSED);
@@ -53,18 +53,25 @@ public final class FromJava {
         String told = "";
     }
 
-    Result bring(List<String> files, Path library, String mainName) throws IOException {
+    static Result bring(List<String> files, Path library, String mainName) throws IOException {
+        return new FromJava().brought(files, library, mainName);
+    }
+
+    private Result brought(List<String> files, Path library, String mainName) throws IOException {
         Result result = new Result();
-        Sources plain = new Sources(files, null);
-        if (!plain.errors.isEmpty()) {
-            StringBuilder told = new StringBuilder();
-            plain.errors.forEach(one -> told.append(line(plain, one)).append('\n'));
-            result.told = told + "from-java: javac refuses the program\n";
-            return result;
-        }
         Sources sources = new Sources(files, library);
+        if (!sources.errors.isEmpty()) {
+            Sources plain = new Sources(files, null);
+            if (!plain.errors.isEmpty()) {
+                StringBuilder told = new StringBuilder();
+                plain.errors.forEach(one -> told.append(line(plain, one)).append('\n'));
+                result.told = told + "from-java: javac refuses the program\n";
+                return result;
+            }
+        }
         for (Diagnostic<? extends JavaFileObject> one : sources.errors) {
-            Place place = new Place(sources.nameOf(one.getSource()), (int) one.getLineNumber(), (int) one.getColumnNumber());
+            Place place = new Place(sources.nameOf(one.getSource()), (int) one.getLineNumber(),
+                (int) one.getColumnNumber());
             String said = one.getMessage(null).replaceAll("\\s*\\n\\s*", "; ");
             obstacles.add(place, "library", "this is not in the library: " + said);
         }
@@ -105,8 +112,10 @@ public final class FromJava {
 
     private static ExecutableElement mainOf(Sources sources, String name) {
         for (TypeElement one : sources.classes) {
-            boolean asked = name.equals("-") || one.getSimpleName().contentEquals(name) || one.getQualifiedName().contentEquals(name);
-            for (Element member : asked && !sources.isLibrary(sources.unitOf.get(one)) ? one.getEnclosedElements() : List.<Element>of()) {
+            boolean asked = name.equals("-") || one.getSimpleName().contentEquals(name)
+                || one.getQualifiedName().contentEquals(name);
+            for (Element member : asked && !sources.isLibrary(sources.unitOf.get(one)) ? one.getEnclosedElements()
+                : List.<Element>of()) {
                 if (member.getKind() == ElementKind.METHOD && member.toString().equals("main(java.lang.String[])")
                     && member.getModifiers().containsAll(Set.of(Modifier.PUBLIC, Modifier.STATIC))) {
                     return (ExecutableElement) member;

@@ -48,7 +48,8 @@ final class Inits {
     /** The call of another constructor with which a constructor begins, or null. */
     private static MethodInvocationTree first(MethodTree tree) {
         List<? extends StatementTree> all = tree.getBody().getStatements();
-        if (!all.isEmpty() && all.get(0) instanceof ExpressionStatementTree one && one.getExpression() instanceof MethodInvocationTree call) {
+        if (!all.isEmpty() && all.get(0) instanceof ExpressionStatementTree one
+            && one.getExpression() instanceof MethodInvocationTree call) {
             String name = call.getMethodSelect() instanceof IdentifierTree id ? id.getName().toString()
                 : call.getMethodSelect() instanceof MemberSelectTree select ? select.getIdentifier().toString() : "";
             return name.equals("super") || name.equals("this") ? call : null;
@@ -57,7 +58,8 @@ final class Inits {
     }
 
     private static boolean isThis(MethodInvocationTree call) {
-        return call != null && call.getMethodSelect() instanceof IdentifierTree id && id.getName().contentEquals("this");
+        return call != null && call.getMethodSelect() instanceof IdentifierTree id
+            && id.getName().contentEquals("this");
     }
 
     private boolean isTrivial(Copy copy, ExecutableElement constructor) {
@@ -71,7 +73,8 @@ final class Inits {
             return false;
         }
         Copy above = above(copy);
-        return above == null || call == null || isTrivial(above, (ExecutableElement) program.world.sources.elementOf(call));
+        return above == null || call == null || isTrivial(above,
+            (ExecutableElement) program.world.sources.elementOf(call));
     }
 
     /** The class above, but for that of all enums. */
@@ -164,7 +167,8 @@ final class Inits {
     }
 
     static Ex initial(Body body, ExpressionTree value, Ty type) {
-        return value instanceof com.sun.source.tree.NewArrayTree array ? body.creations.array(array, type, null) : body.exTo(value, type);
+        return value instanceof com.sun.source.tree.NewArrayTree array ? body.creations.array(array, type, null)
+            : body.exTo(value, type);
     }
 
     // ---- static members

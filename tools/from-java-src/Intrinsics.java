@@ -45,7 +45,8 @@ final class Intrinsics {
                 return all;
             }
             case "toString":
-                return tree.getArguments().size() == 1 ? body.conversions.string(values(tree.getArguments()).get(0), tree) : null;
+                return tree.getArguments().size() == 1 ? body.conversions.string(values(tree.getArguments()).get(0),
+                    tree) : null;
             default:
                 return null;
         }
@@ -75,7 +76,8 @@ final class Intrinsics {
         String index = body.fresh("index");
         St.Loop loop = body.creations.counting(index, count);
         Ex k = Ex.local(index, Ty.INT);
-        loop.body = body.within(() -> body.set(Expressions.elementOf(to, sum(place, k)).text, Expressions.elementOf(from, sum(at, k))));
+        loop.body = body.within(() -> body.set(Expressions.elementOf(to, sum(place, k)).text,
+            Expressions.elementOf(from, sum(at, k))));
         body.emit(loop);
     }
 

@@ -158,7 +158,8 @@ final class Lambdas {
     private Ex called(Body inner, MemberReferenceTree tree, List<Ex> values, Ty kept) {
         Element element = inner.elementOf(tree);
         if (isOutput(tree)) {
-            inner.emit(new St.Do("System.out." + tree.getName() + "(" + inner.conversions.text(values.get(0), tree).text + ")"));
+            inner.emit(new St.Do("System.out." + tree.getName() + "("
+                + inner.conversions.text(values.get(0), tree).text + ")"));
             return null;
         }
         if (tree.getMode() == MemberReferenceTree.ReferenceMode.NEW) {
@@ -166,11 +167,12 @@ final class Lambdas {
             if (type.is(Ty.Kind.ARRAY)) {
                 return inner.creations.sized(type, inner.conversions.convert(values.get(0), Ty.INT, tree));
             }
-            if (inner.result.is(Ty.Kind.CLASS) && type.is(Ty.Kind.CLASS) && inner.result.copy.as(type.copy.element) != null) {
-                type = inner.result.copy.as(type.copy.element).ty;
+            if (inner.result.is(Ty.Kind.CLASS) && type.is(Ty.Kind.CLASS)) {
+                type = constructed(inner, type.copy, inner.result.copy);
             }
             ExecutableElement constructor = (ExecutableElement) element;
-            return inner.creations.made(type.copy, constructor, null, fitted(inner, constructor, type.copy.env, values, tree), null);
+            return inner.creations.made(type.copy, constructor, null,
+                fitted(inner, constructor, type.copy.env, values, tree), null);
         }
         ExecutableElement method = (ExecutableElement) element;
         if (method.getModifiers().contains(Modifier.STATIC)) {
@@ -182,8 +184,22 @@ final class Lambdas {
         return inner.calls.invoke(receiver, method, List.of(), fitted(inner, method, env, rest, tree), tree, false);
     }
 
+    /** The copy of a class that a constructor named without type arguments makes where a type is asked. */
+    private static Ty constructed(Body inner, Copy named, Copy asked) {
+        boolean fits = named.isBelow(asked) || named.env.size() != asked.env.size();
+        if (fits) {
+            return named.ty;
+        }
+        Map<Element, Ty> env = new java.util.LinkedHashMap<>();
+        java.util.Iterator<Ty> given = asked.env.values().iterator();
+        named.env.keySet().forEach(one -> env.put(one, given.next()));
+        Copy made = inner.world.copy(named.element, env);
+        return made.isBelow(asked) ? made.ty : named.ty;
+    }
+
     private Ex ofClass(Body inner, ExecutableElement method, List<Ex> values, MemberReferenceTree tree) {
-        if (method.getEnclosingElement().toString().equals("java.lang.String") && method.getSimpleName().contentEquals("valueOf")) {
+        if (method.getEnclosingElement().toString().equals("java.lang.String")
+            && method.getSimpleName().contentEquals("valueOf")) {
             return inner.conversions.string(values.get(0), tree);
         }
         Map<Element, Ty> env = new HashMap<>();
@@ -194,14 +210,17 @@ final class Lambdas {
             }
         }
         List<Ty> margs = new ArrayList<>();
-        method.getTypeParameters().forEach(one -> margs.add(env.getOrDefault(one, inner.world.ty(one.asType(), Map.of()))));
+        method.getTypeParameters().forEach(one -> margs.add(env.getOrDefault(one,
+            inner.world.ty(one.asType(), Map.of()))));
         return inner.calls.invokeStatic(method, margs, fitted(inner, method, env, values, tree), false);
     }
 
-    private static List<Ex> fitted(Body inner, ExecutableElement method, Map<Element, Ty> env, List<Ex> values, Tree tree) {
+    private static List<Ex> fitted(Body inner, ExecutableElement method, Map<Element, Ty> env, List<Ex> values,
+        Tree tree) {
         List<Ex> all = new ArrayList<>();
         for (int k = 0; k < values.size() && k < method.getParameters().size(); k++) {
-            all.add(inner.conversions.convert(values.get(k), inner.world.ty(method.getParameters().get(k).asType(), env), tree));
+            all.add(inner.conversions.convert(values.get(k),
+                inner.world.ty(method.getParameters().get(k).asType(), env), tree));
         }
         return all;
     }

@@ -46,7 +46,8 @@ final class Literals {
     }
 
     static Ex character(char c) {
-        return isPlain(c) ? Ex.constant("'" + escape(c, '\'') + "'", Ty.CHAR) : new Ex("(char) " + (int) c, Ex.PREFIX, Ty.CHAR, true, Set.of());
+        return isPlain(c) ? Ex.constant("'" + escape(c, '\'') + "'", Ty.CHAR)
+            : new Ex("(char) " + (int) c, Ex.PREFIX, Ty.CHAR, true, Set.of());
     }
 
     /** A string; what no literal can hold is joined to it. */
@@ -55,7 +56,8 @@ final class Literals {
         boolean joined = false;
         for (int k = 0; k < text.length(); k++) {
             char c = text.charAt(k);
-            boolean pair = Character.isHighSurrogate(c) && k + 1 < text.length() && Character.isLowSurrogate(text.charAt(k + 1));
+            boolean pair = Character.isHighSurrogate(c) && k + 1 < text.length()
+                && Character.isLowSurrogate(text.charAt(k + 1));
             if (pair) {
                 made.append(c).append(text.charAt(++k));
             } else if (isPlain(c)) {

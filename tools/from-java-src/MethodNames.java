@@ -21,13 +21,17 @@ import javax.lang.model.util.ElementFilter;
 
 /** One name for all methods that override one another, and no name twice among related classes. */
 final class MethodNames {
-    private static final Set<String> AVOIDED = Set.of("wait", "notify", "notifyAll", "getClass", "finalize", "clone", "yield", "record", "var", "sealed",
+    private static final Set<String> AVOIDED = Set.of("wait", "notify", "notifyAll", "getClass", "finalize", "clone",
+        "yield", "record", "var", "sealed",
         "permits", "instanceof", "outer");
     private final Sources sources;
     private final Map<Element, Element> above = new HashMap<>(); // union-find over methods, and over classes
     private final Map<Element, String> names = new HashMap<>(); // of the group's representative
     private final Map<ExecutableElement, Integer> constructors = new HashMap<>();
-    private final Set<String> taken = new HashSet<>();
+    private final Map<String, Set<Element>> taken = new HashMap<>(); // the classes that have a method of a name
+    private final Map<Element, Set<Element>> below = new HashMap<>();
+    private final Map<Element, Integer> counts = new HashMap<>(); // how many methods a group has
+    private final Map<Element, Set<Element>> holders = new HashMap<>(); // of each group
     private final Map<String, Element> plain = new HashMap<>();
     private final Set<String> ofObject = new HashSet<>();
 
@@ -45,6 +49,8 @@ final class MethodNames {
             }
             for (ExecutableElement member : ElementFilter.methodsIn(one.getEnclosedElements())) {
                 Element group = find(member);
+                counts.merge(group, 1, Integer::sum);
+                holders.computeIfAbsent(group, key -> new HashSet<>()).addAll(below.get(one));
                 boolean fromObject = group.getEnclosingElement().toString().equals("java.lang.Object");
                 order.computeIfAbsent(fromObject ? 0 : library ? 2 : 1, rank -> new LinkedHashSet<>()).add(group);
             }
@@ -78,9 +84,7 @@ final class MethodNames {
     private void join(TypeElement one) {
         Map<String, List<ExecutableElement>> members = new LinkedHashMap<>();
         for (TypeElement up : allAbove(one, new LinkedHashSet<>())) {
-            if (!up.toString().equals("java.lang.Object")) {
-                union(one, up);
-            }
+            below.computeIfAbsent(up, key -> new HashSet<>()).add(one);
             for (ExecutableElement method : ElementFilter.methodsIn(up.getEnclosedElements())) {
                 if (!method.getModifiers().contains(Modifier.STATIC)) {
                     members.computeIfAbsent(method.getSimpleName().toString(), name -> new ArrayList<>()).add(method);
@@ -128,7 +132,8 @@ final class MethodNames {
         method.getParameters().forEach(one -> all.add(one.asType()));
         for (TypeMirror type : all) {
             String erased = sources.types.erasure(type).toString();
-            joins |= !type.getKind().isPrimitive() && type.getKind() != TypeKind.VOID && !erased.equals("java.lang.String");
+            joins |= !type.getKind().isPrimitive() && type.getKind() != TypeKind.VOID
+                && !erased.equals("java.lang.String");
             text.append(erased).append(',');
         }
         return joins ? text.toString() : null;
@@ -137,7 +142,7 @@ final class MethodNames {
     private void give(Element group) {
         ExecutableElement method = (ExecutableElement) group;
         TypeElement holder = (TypeElement) method.getEnclosingElement();
-        Element related = find(holder);
+        Set<Element> touched = holders.get(group);
         String base = method.getSimpleName().toString();
         List<String> tries = new ArrayList<>();
         boolean fromObject = holder.toString().equals("java.lang.Object");
@@ -154,7 +159,9 @@ final class MethodNames {
             tries.add(0, base + capital(holder.getSimpleName().toString()));
         }
         for (String name : tries) {
-            if ((fromObject || !ofObject.contains(name)) && taken.add(related + " " + name)) {
+            Set<Element> there = taken.computeIfAbsent(name, key -> new HashSet<>());
+            if (fromObject || !ofObject.contains(name) && java.util.Collections.disjoint(there, touched)) {
+                there.addAll(touched);
                 ofObject.addAll(fromObject ? Set.of(name) : Set.of());
                 names.put(group, name);
                 if (signature != null) {
@@ -172,6 +179,12 @@ final class MethodNames {
             return count == 1 ? "" : "" + count;
         }
         return names.getOrDefault(find(method), method.getSimpleName().toString());
+    }
+
+    /** Whether an interface gives the one body that a method has anywhere: it can be written once,
+        with the object as an argument. */
+    boolean isOnlyDefault(ExecutableElement method) {
+        return method.isDefault() && counts.getOrDefault(find(method), 0) == 1;
     }
 
     /** Whether two methods are one as far as overriding goes. */

@@ -1,5 +1,6 @@
 import java.util.ArrayList;
 import java.util.HashSet;
+import java.util.LinkedHashMap;
 import java.util.LinkedHashSet;
 import java.util.List;
 import java.util.Map;
@@ -16,6 +17,8 @@ final class ObjectMethods {
     private final Program program;
     private final Set<String> asked = new LinkedHashSet<>(); // of the class Any
     private final Set<String> injected = new HashSet<>();
+    private final Map<Copy, Set<String>> heads = new LinkedHashMap<>();
+    private final Map<String, Copy> tops = new LinkedHashMap<>(); // of what asks for a name, the class that it knows
     private Copy any;
 
     ObjectMethods(Program program) {
@@ -24,7 +27,8 @@ final class ObjectMethods {
 
     ExecutableElement method(String name) {
         TypeElement object = program.world.sources.elements.getTypeElement("java.lang.Object");
-        return ElementFilter.methodsIn(object.getEnclosedElements()).stream().filter(one -> one.getSimpleName().contentEquals(name)).findFirst().orElseThrow();
+        return ElementFilter.methodsIn(object.getEnclosedElements()).stream()
+            .filter(one -> one.getSimpleName().contentEquals(name)).findFirst().orElseThrow();
     }
 
     /** A call on any object or string. */
@@ -35,15 +39,21 @@ final class ObjectMethods {
         Ty result = name.equals("equals") ? Ty.BOOLEAN : name.equals("hashCode") ? Ty.INT : Ty.STRING;
         List<Ex> given = new ArrayList<>();
         values.forEach(value -> given.add(body.conversions.convert(value, Ty.OBJECT, null)));
-        boolean direct = receiver.type.is(Ty.Kind.CLASS) && !receiver.type.copy.isInterface() && receiver.type.copy.element != null;
+        boolean direct = receiver.type.is(Ty.Kind.CLASS) && !receiver.type.copy.isInterface()
+            && receiver.type.copy.element != null;
+        if (receiver.type.is(Ty.Kind.CLASS) && receiver.type.copy.isInterface()) {
+            head(receiver.type.copy, name);
+            return Ex.active(receiver.at(Ex.POST) + "." + name + Calls.joined(given), Ex.POST, result);
+        }
         if (!direct) {
             asked.add(name);
             given.add(0, receiver);
             return Ex.active(any().staticToken() + "." + name + Calls.joined(given), Ex.POST, result);
         }
         Copy root = receiver.type.copy.root();
-        if (name.equals("toString") && !isDeclared(root)) {
-            return body.obstacleEx(null, "text of an object", "the class " + root.name + " has no toString, and Java shows an address").as(Ty.STRING);
+        if (name.equals("toString") && !isDeclared(root) && !body.owner.isLibrary) {
+            return body.obstacleEx(null, "text of an object", "the class " + root.name
+                + " has no toString, and Java shows an address").as(Ty.STRING);
         }
         need(root, name);
         String front = receiver.text.equals("this") ? "" : receiver.at(Ex.POST) + ".";
@@ -58,12 +68,32 @@ final class ObjectMethods {
         for (TypeElement one : program.world.sources.classes) {
             boolean below = program.world.sources.types.isSubtype(program.world.sources.types.erasure(one.asType()),
                 program.world.sources.types.erasure(root.element.asType()));
-            boolean has = ElementFilter.methodsIn(one.getEnclosedElements()).stream().anyMatch(member -> member.toString().equals("toString()"));
+            boolean has = ElementFilter.methodsIn(one.getEnclosedElements()).stream().anyMatch(member ->
+                member.toString().equals("toString()"));
             if (below && has) {
                 return true;
             }
         }
         return false;
+    }
+
+    /** Declares a method in an interface; each class below it then has it. */
+    private void head(Copy face, String name) {
+        if (!heads.computeIfAbsent(face, key -> new LinkedHashSet<>()).add(name)) {
+            return;
+        }
+        program.need(face, method(name), List.of());
+        Copy.Method head = new Copy.Method();
+        head.name = name;
+        head.was = name;
+        head.isPublic = true;
+        head.result = name.equals("equals") ? "boolean" : name.equals("hashCode") ? "int" : "String";
+        if (name.equals("equals")) {
+            head.params.add("Object other");
+        }
+        head.at = program.main == null || face.tree == null ? null
+            : program.world.sources.placeOf(face.unit, face.tree);
+        face.methods.add(head);
     }
 
     /** Asks for a method of a topmost class, which gets Object's where it has none. */
@@ -81,6 +111,7 @@ final class ObjectMethods {
         method.was = name;
         method.isPublic = true;
         method.at = body.placeOf(root.tree);
+        body.isMain = false;
         body.place = method.at;
         method.result = name.equals("equals") ? "boolean" : name.equals("hashCode") ? "int" : "String";
         if (name.equals("equals")) {
@@ -92,7 +123,8 @@ final class ObjectMethods {
             } else if (name.equals("hashCode")) {
                 identity(body, root);
             } else {
-                body.exceptions.raiseNew("UnsupportedOperationException", Literals.string("the object has no text but its address"));
+                body.exceptions.raiseNew("UnsupportedOperationException",
+                    Literals.string("the object has no text but its address"));
             }
         });
         body.result = name.equals("equals") ? Ty.BOOLEAN : name.equals("hashCode") ? Ty.INT : Ty.STRING;
@@ -106,7 +138,8 @@ final class ObjectMethods {
         Copy numbers = body.conversions.library("Thrown");
         String next = program.needNamed(numbers, "nextIdentity");
         Ex none = Ex.binary(Ex.active("this.identity", Ex.POST, Ty.INT), "==", Ex.EQUAL, Literals.of(0), Ty.BOOLEAN);
-        body.emit(new St.If(none, body.within(() -> body.set("this.identity", Ex.active(numbers.staticToken() + "." + next + "()", Ex.POST, Ty.INT))), new ArrayList<>()));
+        body.emit(new St.If(none, body.within(() -> body.set("this.identity",
+            Ex.active(numbers.staticToken() + "." + next + "()", Ex.POST, Ty.INT))), new ArrayList<>()));
         body.emit(new St.Return("this.identity"));
     }
 
@@ -120,8 +153,15 @@ final class ObjectMethods {
     }
 
     Ex nameOf(Body body, Ex value, String which) {
-        asked.add(which);
-        return Ex.active(any().staticToken() + "." + which + "(" + body.conversions.convert(value, Ty.OBJECT, null).text + ")", Ex.POST, Ty.STRING);
+        Copy top = value.type.is(Ty.Kind.CLASS) && value.type.copy.element != null ? value.type.copy : null;
+        String name = which + (top == null ? "" : "Of" + top.name);
+        asked.add(name);
+        tops.put(name, top);
+        return Ex.active(any().staticToken() + "." + name + "(" + value.text + ")", Ex.POST, Ty.STRING);
+    }
+
+    private static boolean isName(String asked) {
+        return asked.startsWith("simpleName") || asked.startsWith("className");
     }
 
     // ---- the class Any
@@ -135,7 +175,7 @@ final class ObjectMethods {
     private List<Copy> roots() {
         Set<Copy> all = new LinkedHashSet<>();
         for (Copy one : program.world.copies) {
-            if (one.created && one.element != null) {
+            if (one.created && one.element != null && one.tree != null) {
                 all.add(one.root());
             }
         }
@@ -146,10 +186,18 @@ final class ObjectMethods {
     boolean settle() {
         int before = program.count();
         for (String name : List.copyOf(asked)) {
-            if (!name.endsWith("Name")) {
-                roots().stream().filter(one -> !name.equals("toString") || isDeclared(one)).forEach(one -> need(one, name));
+            if (!isName(name)) {
+                roots().stream().filter(one -> !name.equals("toString") || isDeclared(one)).forEach(one ->
+                    need(one, name));
             }
         }
+        Map.copyOf(heads).forEach((face, names) -> {
+            for (Copy one : List.copyOf(program.world.copies)) {
+                if (one.created && one.isBelow(face)) {
+                    List.copyOf(names).forEach(name -> need(one.root(), name));
+                }
+            }
+        });
         return program.count() != before;
     }
 
@@ -161,7 +209,7 @@ final class ObjectMethods {
             method.isStatic = true;
             method.at = body.placeOf(program.main.tree);
             body.place = method.at;
-            method.params.add("Object value");
+            method.params.add((tops.get(name) == null ? "Object" : tops.get(name).token()) + " value");
             body.result = name.equals("equals") ? Ty.BOOLEAN : name.equals("hashCode") ? Ty.INT : Ty.STRING;
             method.result = body.result.text();
             if (name.equals("equals")) {
@@ -171,14 +219,10 @@ final class ObjectMethods {
             method.body = Finish.finish(made, body.result, body);
             any.staticMethods.add(method);
         }
-        if (any != null) {
-            any.staticFields.add(new Copy.Field("none", any.token(), new Place("-", 1, 1), null));
-            any.fields.add(new Copy.Field("text", "String", new Place("-", 1, 1), null));
-        }
     }
 
     private void cases(Body body, String name) {
-        if (name.endsWith("Name")) {
+        if (isName(name)) {
             names(body, name);
         } else {
             String argument = name.equals("equals") ? "(other)" : "()";
@@ -186,7 +230,10 @@ final class ObjectMethods {
                 "((" + one.token() + ") value)." + name + argument));
         }
         Ex isNull = Ex.binary(Ex.local("value", Ty.OBJECT), "==", Ex.EQUAL, Ex.constant("null", Ty.NULL), Ty.BOOLEAN);
-        body.emit(new St.If(isNull, body.within(() -> body.emit(new St.Set_(any.staticToken() + ".none.text", "\"\"", null))), new ArrayList<>()));
+        body.emit(new St.If(isNull, body.within(() -> {
+            body.emit(new St.Let("String", "none", "null"));
+            body.emit(new St.Let("int", "length", "none.length()"));
+        }), new ArrayList<>()));
         if (name.equals("equals")) {
             body.emit(new St.Return("value == other"));
         }
@@ -194,15 +241,18 @@ final class ObjectMethods {
 
     private void names(Body body, String name) {
         List<Copy> all = new ArrayList<>();
-        program.world.copies.stream().filter(one -> one.created && one.element != null).forEach(all::add);
+        Copy top = tops.get(name);
+        program.world.copies.stream().filter(one -> one.created && one.element != null
+            && (top == null || one.isBelow(top))).forEach(all::add);
         List<Copy> sorted = new ArrayList<>();
         while (!all.isEmpty()) {
-            Copy low = all.stream().filter(one -> all.stream().noneMatch(other -> other != one && other.isBelow(one))).findFirst().orElseThrow();
+            Copy low = all.stream().filter(one -> all.stream().noneMatch(other -> other != one
+                && other.isBelow(one))).findFirst().orElseThrow();
             all.remove(low);
             sorted.add(low);
         }
         for (Copy one : sorted) {
-            String text = name.equals("simpleName") ? one.element.getSimpleName().toString()
+            String text = name.startsWith("simpleName") ? one.element.getSimpleName().toString()
                 : program.world.sources.elements.getBinaryName(one.element).toString();
             choose(body, one, Literals.string(text).text);
         }

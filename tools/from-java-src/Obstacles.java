@@ -30,7 +30,8 @@ final class Obstacles {
             out.println(one.place + ": " + one.form + ": " + one.advice);
         }
         StringBuilder told = new StringBuilder();
-        forms.forEach((form, ones) -> told.append(told.length() == 0 ? "" : ", ").append(ones.size()).append(" x ").append(form));
+        forms.forEach((form, ones) -> told.append(told.length() == 0 ? ""
+            : ", ").append(ones.size()).append(" x ").append(form));
         out.println("in the way: " + told);
     }
 

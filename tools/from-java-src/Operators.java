@@ -25,10 +25,13 @@ final class Operators {
         Map.entry("PLUS", new Mark("+", Ex.SUM)), Map.entry("MINUS", new Mark("-", Ex.SUM)),
         Map.entry("MULTIPLY", new Mark("*", Ex.PRODUCT)), Map.entry("DIVIDE", new Mark("/", Ex.PRODUCT)),
         Map.entry("REMAINDER", new Mark("%", Ex.PRODUCT)), Map.entry("LEFT_SHIFT", new Mark("<<", Ex.SHIFT)),
-        Map.entry("RIGHT_SHIFT", new Mark(">>", Ex.SHIFT)), Map.entry("UNSIGNED_RIGHT_SHIFT", new Mark(">>>", Ex.SHIFT)),
-        Map.entry("AND", new Mark("&", Ex.BIT_AND)), Map.entry("OR", new Mark("|", Ex.BIT_OR)), Map.entry("XOR", new Mark("^", Ex.BIT_XOR)),
+        Map.entry("RIGHT_SHIFT", new Mark(">>", Ex.SHIFT)), Map.entry("UNSIGNED_RIGHT_SHIFT",
+            new Mark(">>>", Ex.SHIFT)),
+        Map.entry("AND", new Mark("&", Ex.BIT_AND)), Map.entry("OR", new Mark("|", Ex.BIT_OR)),
+            Map.entry("XOR", new Mark("^", Ex.BIT_XOR)),
         Map.entry("LESS_THAN", new Mark("<", Ex.COMPARE)), Map.entry("GREATER_THAN", new Mark(">", Ex.COMPARE)),
-        Map.entry("LESS_THAN_EQUAL", new Mark("<=", Ex.COMPARE)), Map.entry("GREATER_THAN_EQUAL", new Mark(">=", Ex.COMPARE)),
+        Map.entry("LESS_THAN_EQUAL", new Mark("<=", Ex.COMPARE)),
+            Map.entry("GREATER_THAN_EQUAL", new Mark(">=", Ex.COMPARE)),
         Map.entry("EQUAL_TO", new Mark("==", Ex.EQUAL)), Map.entry("NOT_EQUAL_TO", new Mark("!=", Ex.EQUAL)));
 
     private final Body body;
@@ -52,7 +55,8 @@ final class Operators {
         if (constant != null) {
             return Literals.of(constant);
         }
-        List<Ex> parts = body.operands(List.of(() -> part(tree.getLeftOperand(), joins), () -> part(tree.getRightOperand(), joins)));
+        List<Ex> parts = body.operands(List.of(() -> part(tree.getLeftOperand(), joins), () ->
+            part(tree.getRightOperand(), joins)));
         return apply(kind, parts.get(0), parts.get(1), tree);
     }
 
@@ -122,7 +126,8 @@ final class Operators {
             return body.obstacleEx(tree, "== of strings", "it compares objects; write equals").as(Ty.BOOLEAN);
         }
         if (!none && body.conversions.isBox(left.type) && body.conversions.isBox(right.type)) {
-            return body.obstacleEx(tree, "== of boxed values", "it compares objects; write equals, or intValue()").as(Ty.BOOLEAN);
+            return body.obstacleEx(tree, "== of boxed values",
+                "it compares objects; write equals, or intValue()").as(Ty.BOOLEAN);
         }
         if (!none && left.type.is(Ty.Kind.CLASS) && right.type.is(Ty.Kind.CLASS)
             && !left.type.copy.isBelow(right.type.copy) && !right.type.copy.isBelow(left.type.copy)) {
@@ -138,15 +143,18 @@ final class Operators {
             case POSTFIX_INCREMENT: return step(tree, true, false, wanted);
             case POSTFIX_DECREMENT: return step(tree, false, false, wanted);
             case LOGICAL_COMPLEMENT: return body.test(tree.getExpression()).not();
-            case UNARY_MINUS: return body.conversions.primitive(body.ex(tree.getExpression()), tree).prefix("-", Ty.INT);
-            case BITWISE_COMPLEMENT: return body.conversions.primitive(body.ex(tree.getExpression()), tree).prefix("~", Ty.INT);
+            case UNARY_MINUS: return body.conversions.primitive(body.ex(tree.getExpression()), tree).prefix("-",
+                Ty.INT);
+            case BITWISE_COMPLEMENT: return body.conversions.primitive(body.ex(tree.getExpression()),
+                tree).prefix("~", Ty.INT);
             default: return body.conversions.primitive(body.ex(tree.getExpression()), tree).prefix("+", Ty.INT);
         }
     }
 
     // ---- what is assigned
 
-    /** What stands to the left of an assignment: its parts, which are evaluated first, and how it is written of them. */
+    /** What stands to the left of an assignment: its parts, which are evaluated first,
+        and how it is written of them. */
     private final class Place_ {
         final List<Ex> parts = new ArrayList<>();
         String local;
@@ -158,7 +166,8 @@ final class Operators {
             if (fixed != null) {
                 return fixed;
             }
-            return field != null ? body.expressions.field(of.get(0), field, tree) : Expressions.elementOf(of.get(0), of.get(1));
+            return field != null ? body.expressions.field(of.get(0), field, tree)
+                : Expressions.elementOf(of.get(0), of.get(1));
         }
 
         void put(List<Ex> of, Ex value) {
@@ -173,7 +182,8 @@ final class Operators {
         Place_ made = new Place_();
         made.tree = tree;
         if (tree instanceof ArrayAccessTree access) {
-            made.parts.addAll(body.operands(List.of(() -> body.ex(access.getExpression()), () -> body.exTo(access.getIndex(), Ty.INT))));
+            made.parts.addAll(body.operands(List.of(() -> body.ex(access.getExpression()), () ->
+                body.exTo(access.getIndex(), Ty.INT))));
             return made;
         }
         Element element = body.elementOf(tree);
@@ -194,7 +204,8 @@ final class Operators {
     }
 
     private boolean isThis(ExpressionTree tree) {
-        return tree instanceof IdentifierTree id && (id.getName().contentEquals("this") || id.getName().contentEquals("super"));
+        return tree instanceof IdentifierTree id && (id.getName().contentEquals("this")
+            || id.getName().contentEquals("super"));
     }
 
     Ex assign(AssignmentTree tree, boolean wanted) {

@@ -40,6 +40,7 @@ final class Program {
     private final Deque<Runnable> queue = new ArrayDeque<>();
     private final Set<Need> needs = new LinkedHashSet<>();
     private final Set<List<Object>> written = new HashSet<>();
+    private final Set<Long> resolved = new HashSet<>();
     private int prepared;
 
     Program(World world) {
@@ -69,7 +70,8 @@ final class Program {
     void build(ExecutableElement mainElement) {
         main = world.staticCopy((TypeElement) mainElement.getEnclosingElement());
         for (TypeElement one : world.sources.classes) {
-            boolean member = one.getNestingKind() == NestingKind.TOP_LEVEL || one.getNestingKind() == NestingKind.MEMBER;
+            boolean member = one.getNestingKind() == NestingKind.TOP_LEVEL
+                || one.getNestingKind() == NestingKind.MEMBER;
             if (member && !world.sources.isLibrary(world.sources.unitOf.get(one))) {
                 world.staticCopy(one);
             }
@@ -147,10 +149,12 @@ final class Program {
             return;
         }
         for (Element member : copy.element.getEnclosedElements()) {
-            if (member instanceof ExecutableElement method && (method.getTypeParameters().isEmpty() || !hasCopies(method))) {
+            if (member instanceof ExecutableElement method && (method.getTypeParameters().isEmpty()
+                || !hasCopies(method))) {
                 boolean isStatic = member.getModifiers().contains(Modifier.STATIC);
                 boolean made = world.sources.treeOf.get(member) == null;
-                if (!made && member.getKind() == ElementKind.METHOD && (isStatic ? isRaw || copy.env.isEmpty() : !isRaw)) {
+                if (!made && member.getKind() == ElementKind.METHOD
+                    && (isStatic ? isRaw || copy.env.isEmpty() : !isRaw)) {
                     need(copy, method, List.of());
                 } else if (member.getKind() == ElementKind.CONSTRUCTOR && !isRaw) {
                     later(() -> inits.name(copy, method));
@@ -168,14 +172,15 @@ final class Program {
         if (member.getConstantValue() == null) {
             Place at = world.sources.placeOf(copy.unit, world.sources.treeOf.getOrDefault(member, copy.tree));
             world.place = at;
-            to.add(new Copy.Field(Members.field(member), world.ty(member.asType(), copy.env).text(), at, member.getSimpleName().toString()));
+            to.add(new Copy.Field(Members.field(member), world.ty(member.asType(), copy.env).text(), at,
+                member.getSimpleName().toString()));
         }
     }
 
     private void statics(Copy copy) {
         for (Element member : copy.element.getEnclosedElements()) {
             boolean isField = member.getKind() == ElementKind.FIELD || member.getKind() == ElementKind.ENUM_CONSTANT;
-            if (isField && member.getModifiers().contains(Modifier.STATIC)) {
+            if (isField && member.getModifiers().contains(Modifier.STATIC) && !copy.isLibrary) {
                 field(copy, (VariableElement) member, copy.staticFields);
             }
         }
@@ -197,6 +202,9 @@ final class Program {
     void create(Copy copy, Body body) {
         copy.created = true;
         copy.used = true;
+        for (Copy up = copy; up != null && !up.live; up = up.superCopy) {
+            up.live = true;
+        }
     }
 
     void arrayOf(Ty type) {
@@ -211,6 +219,14 @@ final class Program {
         }
     }
 
+    /** A static field of the library, which is there where it is asked for. */
+    void needStaticField(Copy at, VariableElement field) {
+        if (at.isLibrary && written.add(List.of(at, field))) {
+            field(at, field, at.staticFields);
+        }
+        needStatic(at);
+    }
+
     void needInit(Copy copy, ExecutableElement constructor) {
         if (written.add(List.of(copy, constructor))) {
             later(() -> copy.methods.add(inits.write(copy, constructor)));
@@ -219,7 +235,7 @@ final class Program {
 
     void need(Copy at, ExecutableElement method, List<Ty> margs) {
         if (needs.add(new Need(at, method, margs))) {
-            at.used = true;
+            at.used |= !method.getModifiers().contains(Modifier.STATIC);
             boolean isObject = method.getEnclosingElement().toString().equals("java.lang.Object");
             boolean own = !isObject && at.element != null && method.getEnclosingElement().equals(at.element);
             if (own) {
@@ -286,19 +302,31 @@ final class Program {
 
     /** Writes for each class of which there are objects what its objects run for what was asked. */
     private void resolve() {
+        int number = 0;
         for (Need need : List.copyOf(needs)) {
-            if (need.method.getModifiers().contains(Modifier.STATIC)) {
+            number++;
+            if (need.method.getModifiers().contains(Modifier.STATIC) || world.methodNames.isOnlyDefault(need.method)) {
                 continue;
             }
             for (Copy copy : List.copyOf(world.copies)) {
-                boolean has = copy.created || !copy.isLibrary && !copy.isInterface();
-                if (has && copy.tree != null && !copy.isInterface() && copy.isBelow(need.at)) {
+                boolean has = copy.live || !copy.isLibrary && !copy.isInterface();
+                if (has && resolved.add(number * 100000L + copy.number) && copy.tree != null && !copy.isInterface()
+                    && copy.isBelow(need.at)) {
                     World.Found found = world.find(copy, need.method);
                     if (found != null && World.isBody(found)) {
-                        write(found.copy().isInterface() ? lowest(copy, found) : found.copy(), found.copy(), found.method(), need.margs);
+                        write(found.copy().isInterface() ? lowest(copy, found) : found.copy(), found.copy(),
+                            found.method(), need.margs);
                     }
                 }
             }
+        }
+    }
+
+    /** Writes what a class has from an interface into a class above, so that it can be called by `super`. */
+    void needInherited(Copy above, ExecutableElement method, List<Ty> margs) {
+        World.Found found = world.find(above, method);
+        if (found != null && found.copy().isInterface() && World.isBody(found)) {
+            write(lowest(above, found), found.copy(), found.method(), margs);
         }
     }
 
@@ -326,7 +354,8 @@ final class Program {
             return;
         }
         boolean hasBody = !modifiers.contains(Modifier.ABSTRACT);
-        if (hasBody && from.isInterface() && to == from && !isStatic) {
+        boolean withSelf = ofString || world.methodNames.isOnlyDefault(method);
+        if (hasBody && from.isInterface() && to == from && !isStatic && !withSelf) {
             hasBody = false;
         }
         Body body = new Body(this, to, environment(from, method, margs), isStatic);
@@ -334,16 +363,17 @@ final class Program {
         Copy.Method made = new Copy.Method();
         made.name = slot.name();
         made.was = method.getSimpleName().toString();
-        made.isStatic = isStatic || ofString;
+        made.isStatic = isStatic || withSelf;
         made.isPublic = modifiers.contains(Modifier.PUBLIC) && !made.isStatic || method == mainElement();
         made.result = slot.result().text();
         made.at = tree == null ? body.placeOf(to.tree) : body.placeOf(tree);
         body.place = made.at;
         world.place = made.at;
         body.result = slot.result();
-        if (ofString && !isStatic) {
-            body.self = Ex.local("self", Ty.STRING);
-            made.params.add("String self");
+        if (withSelf && !isStatic) {
+            body.self = Ex.local("self", ofString ? Ty.STRING : to.ty);
+            made.params.add(body.self.type.text() + " self");
+            to.used |= !ofString;
         }
         for (VariableElement one : method.getParameters()) {
             Ty type = body.ty(one.asType());
@@ -364,7 +394,8 @@ final class Program {
 
     private List<St> statements(Body body, Copy to, ExecutableElement method, MethodTree tree) {
         return body.within(() -> {
-            if (tree != null && tree.getBody() != null && !Records.isRecord(to) || tree != null && tree.getBody() != null && !tree.getBody().getStatements().isEmpty()) {
+            if (tree != null && tree.getBody() != null && !Records.isRecord(to) || tree != null
+                && tree.getBody() != null && !tree.getBody().getStatements().isEmpty()) {
                 if (method.getModifiers().contains(Modifier.SYNCHRONIZED)) {
                     body.obstacle(tree, "synchronized", "threads are not brought in; leave the word out");
                 }

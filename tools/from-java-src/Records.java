@@ -81,7 +81,7 @@ final class Records {
         switch (name) {
             case "toString": text(body, copy); return true;
             case "hashCode": hash(body, copy); return true;
-            case "equals": equal(body, copy); return true;
+            case "equals": equal(body, copy, body.nameOf(method.getParameters().get(0))); return true;
             default: return false;
         }
     }
@@ -112,8 +112,8 @@ final class Records {
         body.emit(new St.Return("all"));
     }
 
-    private static void equal(Body body, Copy copy) {
-        Ex other = Ex.local("other", Ty.OBJECT);
+    private static void equal(Body body, Copy copy, String name) {
+        Ex other = Ex.local(name, Ty.OBJECT);
         Ex is = body.conversions.instanceOf(other, copy.ty, null);
         body.emit(new St.If(is.not(), body.within(() -> body.emit(new St.Return("false"))), new ArrayList<>()));
         body.emit(new St.Let(copy.token(), "that", body.conversions.cast(other, copy.ty, null).text));

@@ -27,7 +27,8 @@ final class Shape {
         replace();
         findClasses();
         for (Copy one : program.world.copies) {
-            boolean split = hasStatics(one) && printed.contains(one) && (one.created || hasInstances(one) || isAbove(one));
+            boolean split = hasStatics(one) && printed.contains(one)
+                && (one.created || hasInstances(one) || isAbove(one));
             staticNames.put(one, split ? program.world.unique(one.name + "Statics") : one.name);
         }
     }
@@ -53,8 +54,10 @@ final class Shape {
     private void findPrinted() {
         for (Copy one : program.world.copies) {
             boolean own = !one.isLibrary && one.element != null && !isRaw(one);
-            boolean asked = one.isInterface() ? one.used : one.created || one.used && (one.element == null || !hasOnlyStatics(one));
-            if (one.tree != null && (own && (one.isInterface() || hasInstances(one) || one.created || !hasStatics(one)) || asked)) {
+            boolean asked = one.isInterface() ? one.used : one.created || one.used
+                && (one.element == null || !hasOnlyStatics(one));
+            if (one.tree != null && (own && (one.isInterface() || hasInstances(one) || one.created
+                || !hasStatics(one)) || asked)) {
                 print(one);
             }
         }
@@ -90,7 +93,8 @@ final class Shape {
             }
             for (String text : texts) {
                 for (int at = text.indexOf('\u0001'); at >= 0; at = text.indexOf('\u0001', at + 1)) {
-                    found.add(program.world.copies.get(Integer.parseInt(text.substring(at + 1, text.indexOf('\u0002', at)))));
+                    found.add(program.world.copies.get(Integer.parseInt(text.substring(at + 1,
+                        text.indexOf('\u0002', at)))));
                 }
             }
             if (one.holdsOuter) {
@@ -139,18 +143,40 @@ final class Shape {
         return all;
     }
 
+    /** The topmost class at or above one that is below an interface. */
+    private static Copy topmost(Copy one, Copy face) {
+        return one.superCopy != null && one.superCopy.isBelow(face) ? topmost(one.superCopy, face) : one;
+    }
+
     private void replace() {
         for (Copy one : printed) {
-            List<Copy> classes = one.isInterface() && one.isLibrary ? classesOf(one) : List.of();
-            if (classes.size() == 1) {
-                standsFor.put(one, classes.get(0));
+            Set<Copy> tops = new HashSet<>();
+            if (one.isInterface() && one.isLibrary) {
+                classesOf(one).forEach(made -> tops.add(topmost(made, one)));
+            }
+            if (tops.size() == 1) {
+                standsFor.put(one, tops.iterator().next());
             }
         }
         boolean changed = true;
         while (changed) {
-            changed = standsFor.entrySet().removeIf(entry -> printed.stream().anyMatch(other -> other != entry.getKey() && other != entry.getValue()
-                && other.isBelow(entry.getKey()) && standsFor.get(other) != entry.getValue()));
+            changed = standsFor.entrySet().removeIf(entry -> printed.stream().anyMatch(other -> other != entry.getKey()
+                && other.isBelow(entry.getKey()) && !standsFor.getOrDefault(other, other).isBelow(entry.getValue())));
         }
+        standsFor.forEach(Shape::giveHeads);
+    }
+
+    /** A class that stands for an interface declares what is called through it, where it does not have it already. */
+    private static void giveHeads(Copy face, Copy top) {
+        for (Copy.Method head : face.methods) {
+            if (head.body == null && !has(top, head.name)) {
+                top.methods.add(head);
+            }
+        }
+    }
+
+    private static boolean has(Copy one, String name) {
+        return one != null && (one.methods.stream().anyMatch(method -> method.name.equals(name)) || has(one.superCopy, name));
     }
 
     private void findClasses() {
@@ -167,7 +193,8 @@ final class Shape {
                 for (Copy one : printed) {
                     List<Copy> its = shownInterfaces(one, new ArrayList<>());
                     if (one != face && its.contains(face)) {
-                        fits &= one.isInterface() ? asClasses.contains(one) && its.size() == 1 : one.superCopy == null && its.size() == 1;
+                        fits &= one.isInterface() ? asClasses.contains(one) && its.size() == 1
+                            : one.superCopy == null && its.size() == 1;
                     }
                 }
                 return !fits;
@@ -205,7 +232,8 @@ final class Shape {
     }
 
     boolean isAbstract(Copy copy) {
-        return asClasses.contains(copy) || copy.isAbstract() || copy.methods.stream().anyMatch(method -> method.body == null);
+        return asClasses.contains(copy) || copy.isAbstract()
+            || copy.methods.stream().anyMatch(method -> method.body == null);
     }
 
     Copy superOf(Copy copy) {

@@ -67,7 +67,8 @@ final class Sources {
                 });
             }
         }
-        JavacTask task = (JavacTask) compiler.getTask(null, manager, said, options, null, manager.getJavaFileObjectsFromFiles(all));
+        JavacTask task = (JavacTask) compiler.getTask(null, manager, said, options, null,
+            manager.getJavaFileObjectsFromFiles(all));
         for (CompilationUnitTree unit : task.parse()) {
             units.add(unit);
         }

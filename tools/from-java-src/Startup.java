@@ -62,7 +62,8 @@ final class Startup {
             if (element == null || !seen.add(element)) {
                 return;
             }
-            boolean first = element instanceof ExecutableElement || element instanceof VariableElement && element.getModifiers().contains(Modifier.STATIC);
+            boolean first = element instanceof ExecutableElement || element instanceof VariableElement
+                && element.getModifiers().contains(Modifier.STATIC);
             if (first && element.getEnclosingElement() instanceof TypeElement holder
                 && program.withStatics.stream().anyMatch(copy -> copy.element.equals(holder))) {
                 visit(holder);

@@ -59,8 +59,10 @@ final class Statements {
             case TRY -> body.exceptions.tried((TryTree) tree);
             case EMPTY_STATEMENT -> { }
             case CLASS -> body.program.local((TypeElement) body.elementOf(tree), body);
-            case ASSERT -> body.program.leftOut(body.placeOf(tree), "assert: Java passes over it unless it is told not to");
-            default -> body.obstacle(tree, tree.getKind().toString().toLowerCase().replace('_', ' '), "it is not brought in");
+            case ASSERT -> body.program.leftOut(body.placeOf(tree),
+                "assert: Java passes over it unless it is told not to");
+            default -> body.obstacle(tree, tree.getKind().toString().toLowerCase().replace('_', ' '),
+                "it is not brought in");
         }
     }
 
@@ -101,7 +103,8 @@ final class Statements {
         String name = body.declare(element, type);
         int before = body.out.size();
         Ex made = initial(value, type, name);
-        boolean declared = body.out.subList(before, body.out.size()).stream().anyMatch(one -> one instanceof St.Let let && let.name.equals(name));
+        boolean declared = body.out.subList(before, body.out.size()).stream().anyMatch(one ->
+            one instanceof St.Let let && let.name.equals(name));
         if (!declared) {
             body.emit(new St.Let(type.text(), name, made.text));
         }
@@ -112,7 +115,8 @@ final class Statements {
         if (value instanceof NewArrayTree array) {
             return body.creations.array(array, type, name);
         }
-        boolean plain = name != null && value instanceof NewClassTree made && made.getClassBody() == null && body.tyOf(value).same(type);
+        boolean plain = name != null && value instanceof NewClassTree made && made.getClassBody() == null
+            && body.tyOf(value).same(type);
         return plain ? body.creations.creation((NewClassTree) value, name) : body.exTo(value, type);
     }
 
@@ -206,7 +210,8 @@ final class Statements {
         target.next = () -> {
             Ex value = body.test(tree.getCondition());
             if (!value.text.equals("true")) {
-                body.emit(new St.If(value.not(), new ArrayList<>(List.of(jump(target.loop, false))), new ArrayList<>()));
+                body.emit(new St.If(value.not(), new ArrayList<>(List.of(jump(target.loop, false))),
+                    new ArrayList<>()));
             }
         };
         turn(target, List.of(), tree.getStatement(), target.next);
@@ -218,7 +223,8 @@ final class Statements {
             Body.Target target = target(label, true);
             List<St> before = test(tree.getCondition(), target.loop);
             List<St> next = body.within(() -> tree.getUpdate().forEach(one -> expression(one.getExpression())));
-            if (next.size() == 1 && next.get(0) instanceof St.Set_ set && (target.loop.test != null || before.isEmpty())) {
+            if (next.size() == 1 && next.get(0) instanceof St.Set_ set
+                && (target.loop.test != null || before.isEmpty())) {
                 target.loop.next = set;
                 takeFirst(target.loop);
                 turn(target, before, tree.getStatement(), () -> { });
@@ -269,7 +275,8 @@ final class Statements {
         List<St> turn = part(tree.getStatement());
         body.targets.pop();
         body.close();
-        boolean stays = over.pure && over.level == Ex.POST && over.reads.stream().noneMatch(St.assigned(turn)::contains);
+        boolean stays = over.pure && over.level == Ex.POST
+            && over.reads.stream().noneMatch(St.assigned(turn)::contains);
         Ex array = stays ? over : body.spill(over);
         if (array == over && !stays) {
             String kept = body.fresh(over.type);
@@ -285,7 +292,8 @@ final class Statements {
         finishTurn(target, turn, name, element, type, tree);
     }
 
-    private void finishTurn(Body.Target target, List<St> turn, String name, Ex element, Ty type, EnhancedForLoopTree tree) {
+    private void finishTurn(Body.Target target, List<St> turn, String name, Ex element, Ty type,
+        EnhancedForLoopTree tree) {
         List<St> all = body.within(() -> {
             Ex value = body.conversions.convert(element, type, tree);
             body.emit(new St.Let(type.text(), name, value.text));
@@ -342,7 +350,8 @@ final class Statements {
 
     private void leave(javax.lang.model.element.Name label, boolean goesOn, StatementTree tree) {
         for (Body.Target target : body.targets) {
-            boolean fits = target.last == null && target.breaks && !target.isTry && (label != null ? label.contentEquals(target.label == null ? "" : target.label)
+            boolean fits = target.last == null && target.breaks && !target.isTry
+                && (label != null ? label.contentEquals(target.label == null ? "" : target.label)
                 : goesOn ? target.isLoop : target.isLoop || target.label == null);
             if (fits) {
                 body.exceptions.leaveTo(target, () -> {

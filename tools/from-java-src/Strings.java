@@ -7,7 +7,8 @@ import javax.lang.model.element.ExecutableElement;
 import javax.lang.model.element.Modifier;
 import javax.lang.model.element.TypeElement;
 
-/** Calls of methods of strings: those of the language, and those of the library, which take the string as their first argument. */
+/** Calls of methods of strings: those of the language, and those of the library,
+    which take the string as their first argument. */
 final class Strings {
     private final Body body;
 
@@ -18,7 +19,8 @@ final class Strings {
     Ex call(Ex receiver, ExecutableElement method, List<Ex> values, Tree tree) {
         String name = method.getSimpleName().toString();
         if (name.equals("length") && values.isEmpty() || name.equals("charAt")) {
-            return Ex.active(receiver.at(Ex.POST) + "." + name + Calls.joined(values), Ex.POST, name.equals("length") ? Ty.INT : Ty.CHAR);
+            return Ex.active(receiver.at(Ex.POST) + "." + name + Calls.joined(values), Ex.POST, name.equals("length")
+                ? Ty.INT : Ty.CHAR);
         }
         if (name.equals("toString") && values.isEmpty()) {
             return receiver;
@@ -51,6 +53,7 @@ final class Strings {
         }
         Copy box = body.conversions.library("StringObject");
         String method = body.program.needNamed(box, "same");
-        return Ex.active(box.staticToken() + "." + method + "(" + receiver.text + ", " + value.text + ")", Ex.POST, Ty.BOOLEAN);
+        return Ex.active(box.staticToken() + "." + method + "(" + receiver.text + ", " + value.text + ")", Ex.POST,
+            Ty.BOOLEAN);
     }
 }

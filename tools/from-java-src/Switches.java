@@ -72,9 +72,11 @@ final class Switches {
         body.exceptions.leaveTo(at.target, () -> body.emit(new St.Jump(at.target.loop, false)));
     }
 
-    private void lower(ExpressionTree selector, List<? extends CaseTree> cases, Body.Target target, Yield yield, Tree tree) {
+    private void lower(ExpressionTree selector, List<? extends CaseTree> cases, Body.Target target, Yield yield,
+        Tree tree) {
         Ex value = body.ex(selector);
-        boolean isPlain = value.type.is(Ty.Kind.STRING) || value.type.is(Ty.Kind.CLASS) && !body.conversions.isBox(value.type);
+        boolean isPlain = value.type.is(Ty.Kind.STRING) || value.type.is(Ty.Kind.CLASS)
+            && !body.conversions.isBox(value.type);
         Ex kept = body.settle(isPlain ? value : body.conversions.primitive(value, selector));
         shareLocals(cases);
         List<Group> groups = new ArrayList<>();
@@ -87,7 +89,8 @@ final class Switches {
             group.tree = one;
             group.labels.addAll(one.getExpressions());
             group.isDefault |= one.getExpressions().isEmpty();
-            if (one.getCaseKind() == CaseTree.CaseKind.STATEMENT && one.getStatements().isEmpty() && one != cases.get(cases.size() - 1)) {
+            if (one.getCaseKind() == CaseTree.CaseKind.STATEMENT && one.getStatements().isEmpty()
+                && one != cases.get(cases.size() - 1)) {
                 open = group;
                 continue;
             }
@@ -122,7 +125,8 @@ final class Switches {
     /** Declares before the switch what one group declares and another uses. */
     private void shareLocals(List<? extends CaseTree> cases) {
         for (CaseTree one : cases) {
-            for (StatementTree statement : one.getStatements() == null ? List.<StatementTree>of() : one.getStatements()) {
+            for (StatementTree statement : one.getStatements() == null ? List.<StatementTree>of()
+                : one.getStatements()) {
                 if (statement instanceof VariableTree variable) {
                     Element element = body.elementOf(variable);
                     boolean elsewhere = cases.stream().anyMatch(other -> other != one && uses(other, element));
@@ -164,17 +168,21 @@ final class Switches {
             return Ex.active(value.at(Ex.POST) + ".equals(" + body.ex(label).text + ")", Ex.POST, Ty.BOOLEAN);
         }
         if (value.type.is(Ty.Kind.CLASS)) {
-            String name = label instanceof MemberSelectTree select ? select.getIdentifier().toString() : label.toString();
+            String name = label instanceof MemberSelectTree select ? select.getIdentifier().toString()
+                : label.toString();
             VariableElement constant = constant(value.type.copy.element, name);
             String method = body.program.needNamed(value.type.copy.root(), "is");
-            return Ex.active(value.at(Ex.POST) + "." + method + "(" + body.expressions.field(null, constant, label).text + ")", Ex.POST, Ty.BOOLEAN);
+            return Ex.active(value.at(Ex.POST) + "." + method + "("
+                + body.expressions.field(null, constant, label).text + ")", Ex.POST, Ty.BOOLEAN);
         }
-        return Ex.binary(value, "==", Ex.EQUAL, body.conversions.convert(body.ex(label), value.type, label), Ty.BOOLEAN);
+        return Ex.binary(value, "==", Ex.EQUAL, body.conversions.convert(body.ex(label), value.type, label),
+            Ty.BOOLEAN);
     }
 
     private static VariableElement constant(TypeElement holder, String name) {
         return (VariableElement) holder.getEnclosedElements().stream()
-            .filter(one -> one.getKind() == ElementKind.ENUM_CONSTANT && one.getSimpleName().contentEquals(name)).findFirst().orElseThrow();
+            .filter(one -> one.getKind() == ElementKind.ENUM_CONSTANT
+                && one.getSimpleName().contentEquals(name)).findFirst().orElseThrow();
     }
 
     // ---- writing

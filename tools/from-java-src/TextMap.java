@@ -25,9 +25,11 @@ final class TextMap {
         List<String> classes = new ArrayList<>(), members = new ArrayList<>();
         for (Shape.Part part : writer.shape().parts()) {
             Copy copy = part.copy();
-            String was = copy.element == null ? "lambda" : copy.element.getQualifiedName().length() == 0 ? "anonymous" : copy.element.getQualifiedName().toString();
+            String was = copy.element == null ? "lambda" : copy.element.getQualifiedName().length() == 0
+                ? "anonymous" : copy.element.getQualifiedName().toString();
             Place at = copy.tree == null ? null : program.world.sources.placeOf(copy.unit, copy.tree);
-            classes.add(quoted(part.name()) + ":{\"was\":" + quoted(was) + ",\"at\":" + place(at) + ",\"library\":" + copy.isLibrary + "}");
+            classes.add(quoted(part.name()) + ":{\"was\":" + quoted(was) + ",\"at\":" + place(at) + ",\"library\":"
+                + copy.isLibrary + "}");
             List<Copy.Method> methods = new ArrayList<>();
             List<Copy.Field> fields = new ArrayList<>();
             if (part.isStatic() || part.both()) {
@@ -38,10 +40,13 @@ final class TextMap {
                 methods.addAll(copy.methods);
                 fields.addAll(copy.fields);
             }
-            methods.forEach(one -> members.add(quoted(part.name() + "." + one.name + "()") + ":{\"was\":" + quoted("" + one.was) + ",\"at\":" + place(one.at) + "}"));
-            fields.forEach(one -> members.add(quoted(part.name() + "." + one.name()) + ":{\"was\":" + quoted("" + one.was()) + ",\"at\":" + place(one.at()) + "}"));
+            methods.forEach(one -> members.add(quoted(part.name() + "." + one.name + "()") + ":{\"was\":"
+                + quoted("" + one.was) + ",\"at\":" + place(one.at) + "}"));
+            fields.forEach(one -> members.add(quoted(part.name() + "." + one.name()) + ":{\"was\":"
+                + quoted("" + one.was()) + ",\"at\":" + place(one.at()) + "}"));
         }
-        return "{\"lines\":[" + String.join(",\n", lines) + "],\n\"classes\":{" + String.join(",\n", classes) + "},\n\"members\":{"
+        return "{\"lines\":[" + String.join(",\n", lines) + "],\n\"classes\":{" + String.join(",\n", classes)
+            + "},\n\"members\":{"
             + String.join(",\n", members) + "}}\n";
     }
 }

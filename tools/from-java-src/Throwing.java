@@ -10,7 +10,8 @@ import java.util.Set;
 import javax.lang.model.element.Element;
 import javax.lang.model.element.ExecutableElement;
 
-/** Which methods may end in a throw: those that have one, and those that call such a method or one that it overrides. */
+/** Which methods may end in a throw: those that have one,
+    and those that call such a method or one that it overrides. */
 final class Throwing {
     private final Sources sources;
     private final MethodNames names;
@@ -69,7 +70,8 @@ final class Throwing {
     boolean mayThrow(ExecutableElement method) {
         return answers.computeIfAbsent(method, one -> throwing.contains(one)
             || one.getSimpleName().contentEquals("<init>") && false
-            || throwing.stream().anyMatch(other -> !other.getSimpleName().contentEquals("<init>") && names.same(one, other))
+            || throwing.stream().anyMatch(other -> !other.getSimpleName().contentEquals("<init>")
+                && names.same(one, other))
             || isFunctional(one));
     }
 
@@ -77,7 +79,8 @@ final class Throwing {
     private boolean isFunctional(ExecutableElement method) {
         Element holder = method.getEnclosingElement();
         return holder.getKind().isInterface() && lambdasThrow && !holder.toString().startsWith("java.util.Iterator")
-            && !holder.toString().startsWith("java.util.List") && method.getModifiers().contains(javax.lang.model.element.Modifier.ABSTRACT);
+            && !holder.toString().startsWith("java.util.List")
+                && method.getModifiers().contains(javax.lang.model.element.Modifier.ABSTRACT);
     }
 
     private boolean lambdasThrow;

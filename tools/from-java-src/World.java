@@ -35,6 +35,7 @@ final class World {
     final List<Copy> copies = new ArrayList<>();
     private final Map<List<Object>, Copy> known = new HashMap<>();
     private final Set<String> classNames = new HashSet<>(RESERVED);
+    private final Map<List<Object>, Found> answers = new HashMap<>();
     private boolean toldMany;
     Place place; // where what is asked for stands
     Program program;
@@ -138,7 +139,8 @@ final class World {
             List<? extends TypeParameterElement> own = ((TypeElement) at.asElement()).getTypeParameters();
             for (int k = 0; k < own.size() && k < at.getTypeArguments().size(); k++) {
                 TypeMirror argument = at.getTypeArguments().get(k);
-                boolean open = argument.getKind() == TypeKind.WILDCARD && ((WildcardType) argument).getExtendsBound() == null
+                boolean open = argument.getKind() == TypeKind.WILDCARD
+                    && ((WildcardType) argument).getExtendsBound() == null
                     && ((WildcardType) argument).getSuperBound() == null;
                 if (!open) {
                     given.put(own.get(k), ty(argument, env));
@@ -169,6 +171,10 @@ final class World {
         boolean library = tree == null || sources.isLibrary(sources.unitOf.get(element));
         Copy made = new Copy(copies.size(), element, tree, sources.unitOf.get(element), env, library);
         add(key, made, nameFor(element, env, made));
+        boolean raw = env.isEmpty() && !variablesOf(element).isEmpty();
+        if (raw) {
+            return made;
+        }
         setSupertypes(made);
         if (tree != null) {
             program.prepare(made, tree, program.around(element, env));
@@ -191,7 +197,8 @@ final class World {
         copies.add(made);
         if (copies.size() > MOST && !toldMany) {
             toldMany = true;
-            obstacles.add(new Place("-", 1, 1), "generics", "more than " + MOST + " classes for the types that are given to variables");
+            obstacles.add(new Place("-", 1, 1), "generics", "more than " + MOST
+                + " classes for the types that are given to variables");
         }
         if (copies.size() > 2 * MOST) {
             throw new TooMany();
@@ -220,7 +227,8 @@ final class World {
     private String nameFor(TypeElement element, Map<Element, Ty> env, Copy made) {
         String simple = element.getSimpleName().toString();
         if (element.getNestingKind() == NestingKind.ANONYMOUS) {
-            TypeMirror above = element.getInterfaces().isEmpty() ? element.getSuperclass() : element.getInterfaces().get(0);
+            TypeMirror above = element.getInterfaces().isEmpty() ? element.getSuperclass()
+                : element.getInterfaces().get(0);
             return ((DeclaredType) above).asElement().getSimpleName() + "1";
         }
         if (element.toString().equals("java.lang.String")) {
@@ -267,6 +275,14 @@ final class World {
 
     /** The method that objects of a class run, or the head, for one declared at or above it; null where it has none. */
     Found find(Copy from, ExecutableElement asked) {
+        List<Object> key = List.of(from, asked);
+        if (!answers.containsKey(key)) {
+            answers.put(key, search(from, asked));
+        }
+        return answers.get(key);
+    }
+
+    private Found search(Copy from, ExecutableElement asked) {
         for (Copy at = from; at != null; at = at.superCopy) {
             Found own = declared(at, asked);
             if (own != null) {
@@ -277,7 +293,8 @@ final class World {
             Found found = null;
             for (Copy one : at.interfaces) {
                 Found here = find(one, asked);
-                found = found == null || here != null && isBody(here) && !isBody(found) ? (here != null ? here : found) : found;
+                found = found == null || here != null && isBody(here) && !isBody(found)
+                    ? (here != null ? here : found) : found;
             }
             if (found != null) {
                 return found;
@@ -333,7 +350,8 @@ final class World {
             return false;
         }
         if (element.getNestingKind() == NestingKind.MEMBER) {
-            return holder.getKind() == ElementKind.CLASS || holder.getKind() == ElementKind.ENUM || holder.getKind() == ElementKind.RECORD;
+            return holder.getKind() == ElementKind.CLASS || holder.getKind() == ElementKind.ENUM
+                || holder.getKind() == ElementKind.RECORD;
         }
         return true;
     }
@@ -343,7 +361,8 @@ final class World {
     }
 
     static boolean isLocal(Element element) {
-        return element instanceof VariableElement && (element.getKind() == ElementKind.LOCAL_VARIABLE || element.getKind() == ElementKind.PARAMETER
+        return element instanceof VariableElement && (element.getKind() == ElementKind.LOCAL_VARIABLE
+            || element.getKind() == ElementKind.PARAMETER
             || element.getKind() == ElementKind.EXCEPTION_PARAMETER || element.getKind() == ElementKind.BINDING_VARIABLE
             || element.getKind() == ElementKind.RESOURCE_VARIABLE);
     }

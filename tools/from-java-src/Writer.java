@@ -40,7 +40,8 @@ final class Writer {
         StringBuilder made = new StringBuilder();
         while (found.find()) {
             Copy copy = program.world.copies.get(Integer.parseInt(found.group(2)));
-            found.appendReplacement(made, Matcher.quoteReplacement(found.group(1).equals("\u0001") ? shape.nameOf(copy) : shape.staticNameOf(copy)));
+            found.appendReplacement(made, Matcher.quoteReplacement(found.group(1).equals("\u0001")
+                ? shape.nameOf(copy) : shape.staticNameOf(copy)));
         }
         return found.appendTail(made).toString();
     }
@@ -67,7 +68,8 @@ final class Writer {
 
     private void type(Copy copy, String name, boolean both) {
         boolean isInterface = shape.isInterface(copy);
-        StringBuilder head = new StringBuilder(isInterface ? "interface " : shape.isAbstract(copy) ? "abstract class " : "class ").append(name);
+        StringBuilder head = new StringBuilder(isInterface ? "interface " : shape.isAbstract(copy)
+            ? "abstract class " : "class ").append(name);
         Copy above = shape.superOf(copy);
         List<Copy> interfaces = shape.interfacesOf(copy);
         if (above != null) {
@@ -81,7 +83,8 @@ final class Writer {
         }
         line(0, head.append(" {").toString(), placeOf(copy));
         if (both) {
-            copy.staticFields.forEach(field -> line(1, "static " + field.type() + " " + field.name() + ";", field.at()));
+            copy.staticFields.forEach(field -> line(1, "static " + field.type() + " " + field.name() + ";",
+                field.at()));
         }
         if (copy.holdsOuter) {
             line(1, copy.outer.token() + " " + Members.outer(copy) + ";", placeOf(copy));
@@ -98,7 +101,8 @@ final class Writer {
     private void method(Copy.Method method, Copy copy, boolean inInterface) {
         String head = method.result + " " + method.name + "(" + String.join(", ", method.params) + ")";
         if (method.body == null) {
-            line(1, (inInterface ? "" : method.isPublic || copy.isInterface() ? "public abstract " : "abstract ") + head + ";", method.at);
+            line(1, (inInterface ? "" : method.isPublic || copy.isInterface() ? "public abstract " : "abstract ")
+                + head + ";", method.at);
             return;
         }
         String words = (method.isPublic ? "public " : "") + (method.isStatic ? "static " : "");
@@ -167,7 +171,8 @@ final class Writer {
             String first = loop.first instanceof St.Let let ? let.type + " " + let.name + " = " + let.value
                 : loop.first instanceof St.Set_ set ? set.target + " = " + set.value : "";
             String next = loop.next == null ? "" : loop.next.text();
-            line(depth, "for (" + first + ";" + (loop.test == null ? "" : " " + test) + ";" + (next.isEmpty() ? "" : " " + next) + ") {", loop.at);
+            line(depth, "for (" + first + ";" + (loop.test == null ? "" : " " + test) + ";"
+                + (next.isEmpty() ? "" : " " + next) + ") {", loop.at);
         }
         list(depth + 1, loop.body);
         line(depth, "}", loop.at);

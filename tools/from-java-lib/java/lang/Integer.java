@@ -28,7 +28,8 @@ public final class Integer extends Number implements Comparable<Integer> {
         boolean negative = size > 0 && text.charAt(0) == '-';
         int k = negative || size > 0 && text.charAt(0) == '+' ? 1 : 0;
         if (k == size) {
-            throw new NumberFormatException(size == 0 ? "For input string: \"\"" + under(radix) : "For input string: \"" + text + "\"" + under(radix));
+            throw new NumberFormatException(size == 0 ? "For input string: \"\"" + under(radix)
+                : "For input string: \"" + text + "\"" + under(radix));
         }
         int most = negative ? MIN_VALUE : -MAX_VALUE;
         int least = most / radix;

@@ -2,6 +2,15 @@ package java.lang;
 
 /** Methods of strings; in the text each takes the string as its first argument. */
 public final class String implements Comparable<String>, CharSequence {
+    public String() {
+    }
+
+    public String(String text) {
+    }
+
+    public String(char[] characters) {
+    }
+
     public native int length();
 
     public native char charAt(int index);
@@ -172,7 +181,8 @@ public final class String implements Comparable<String>, CharSequence {
     }
 
     public boolean equalsIgnoreCase(String other) {
-        return other != null && length() == other.length() && toUpperCase().toLowerCase().equals(other.toUpperCase().toLowerCase());
+        return other != null && length() == other.length()
+            && toUpperCase().toLowerCase().equals(other.toUpperCase().toLowerCase());
     }
 
     public int hashCode() {

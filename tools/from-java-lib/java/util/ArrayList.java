@@ -19,7 +19,8 @@ public class ArrayList<E> extends AbstractList<E> {
 
     private void check(int index, int end) {
         if (index < 0 || index >= end) {
-            throw new IndexOutOfBoundsException(end == count ? "Index " + index + " out of bounds for length " + count : "Index: " + index + ", Size: " + count);
+            throw new IndexOutOfBoundsException(end == count ? "Index " + index + " out of bounds for length "
+                + count : "Index: " + index + ", Size: " + count);
         }
     }
 

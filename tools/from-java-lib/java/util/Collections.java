@@ -1,7 +1,7 @@
 package java.util;
 
 public final class Collections {
-    public static <T extends Comparable<T>> void sort(List<T> list) {
+    public static <T extends Comparable<? super T>> void sort(List<T> list) {
         list.sort(null);
     }
 
@@ -22,7 +22,7 @@ public final class Collections {
         list.set(other, kept);
     }
 
-    public static <T extends Comparable<T>> T max(Collection<T> all) {
+    public static <T extends Comparable<? super T>> T max(Collection<T> all) {
         Iterator<T> at = all.iterator();
         T most = at.next();
         while (at.hasNext()) {
@@ -34,7 +34,7 @@ public final class Collections {
         return most;
     }
 
-    public static <T extends Comparable<T>> T min(Collection<T> all) {
+    public static <T extends Comparable<? super T>> T min(Collection<T> all) {
         Iterator<T> at = all.iterator();
         T least = at.next();
         while (at.hasNext()) {
@@ -92,7 +92,7 @@ public final class Collections {
         return changed;
     }
 
-    public static <T extends Comparable<T>> Comparator<T> reverseOrder() {
+    public static <T extends Comparable<? super T>> Comparator<T> reverseOrder() {
         return Comparator.reverseOrder();
     }
 

@@ -13,41 +13,48 @@ public interface Comparator<T> {
     default Comparator<T> thenComparing(Comparator<? super T> next) {
         return (one, other) -> {
             int first = compare(one, other);
-            return first != 0 ? first : ((Comparator<T>) next).compare(one, other);
+            return first != 0 ? first : next.compare(one, other);
         };
     }
 
-    default <U extends Comparable<U>> Comparator<T> thenComparing(Function<T, U> key) {
+    default <U extends Comparable<? super U>> Comparator<T> thenComparing(Function<? super T, ? extends U> key) {
         return (one, other) -> {
             int first = compare(one, other);
             return first != 0 ? first : key.apply(one).compareTo(key.apply(other));
         };
     }
 
-    default Comparator<T> thenComparingInt(ToIntFunction<T> key) {
+    default <U> Comparator<T> thenComparing(Function<? super T, ? extends U> key, Comparator<? super U> order) {
+        return (one, other) -> {
+            int first = compare(one, other);
+            return first != 0 ? first : order.compare(key.apply(one), key.apply(other));
+        };
+    }
+
+    default Comparator<T> thenComparingInt(ToIntFunction<? super T> key) {
         return (one, other) -> {
             int first = compare(one, other);
             return first != 0 ? first : Integer.compare(key.applyAsInt(one), key.applyAsInt(other));
         };
     }
 
-    static <T, U extends Comparable<U>> Comparator<T> comparing(Function<T, U> key) {
+    static <T, U extends Comparable<? super U>> Comparator<T> comparing(Function<? super T, ? extends U> key) {
         return (one, other) -> key.apply(one).compareTo(key.apply(other));
     }
 
-    static <T, U> Comparator<T> comparing(Function<T, U> key, Comparator<U> order) {
+    static <T, U> Comparator<T> comparing(Function<? super T, ? extends U> key, Comparator<? super U> order) {
         return (one, other) -> order.compare(key.apply(one), key.apply(other));
     }
 
-    static <T> Comparator<T> comparingInt(ToIntFunction<T> key) {
+    static <T> Comparator<T> comparingInt(ToIntFunction<? super T> key) {
         return (one, other) -> Integer.compare(key.applyAsInt(one), key.applyAsInt(other));
     }
 
-    static <T extends Comparable<T>> Comparator<T> naturalOrder() {
+    static <T extends Comparable<? super T>> Comparator<T> naturalOrder() {
         return (one, other) -> one.compareTo(other);
     }
 
-    static <T extends Comparable<T>> Comparator<T> reverseOrder() {
+    static <T extends Comparable<? super T>> Comparator<T> reverseOrder() {
         return (one, other) -> other.compareTo(one);
     }
 }
