@@ -4,7 +4,7 @@ from importlib.machinery import SourceFileLoader
 from importlib.util import module_from_spec, spec_from_loader
 
 from kaba_tools import HERE, kaba
-from workbench_browser import Page, Workbench
+from workbench_browser import SECONDS, Page, Workbench
 
 LETTERS = 10000
 TYPES = 500
@@ -79,7 +79,7 @@ import('./diagram.js').then(async (it) => {
 
 def frames(page):
     """The middle time of a frame, in milliseconds, while the whole picture is moved."""
-    page.driver.set_script_timeout(60)
+    page.driver.set_script_timeout(SECONDS)
     return round(page.driver.execute_async_script(FRAMES), 1)
 
 
@@ -112,7 +112,7 @@ def check_large(tests):
         print(f"left out: the workbench on 2,000 lines; this program takes {own:.1f} s for each edit by itself")
         return
     with Workbench(file) as workbench, Page(1920, 1080) as page:
-        page.driver.set_script_timeout(60)
+        page.driver.set_script_timeout(SECONDS)
         page.open(workbench.address)
         page.until("all types are known", lambda: len(page.state()["nodes"]) == 1111)
         for edits in (["type n5 Fifth"], ["merge n100 n5"], ["under n200 n5"]):

@@ -158,7 +158,6 @@ def check_words(tests):
         ("a port", ["--port", "http", str(file)], 64, "port"),
         ("no file", [str(file.parent / "None.java")], 66, "cannot read"),
         ("a program that is refused", [str(plan)], 65, "refused"),
-        ("an interface", [str(EXAMPLES / "Shapes.java")], 75, "interface"),
         ("a script with a fault", [str(file), str(bad)], 1, ":2: "),
         ("a folder that is not there", [str(file), str(file.parent / "no" / "x.edits")], 66, "no folder"),
     ):

@@ -1,4 +1,4 @@
-"""The syntax tree of a program that Kaba takes, with the tokens of each form, so that its text can be changed in place."""
+"""The syntax tree of a program that Kaba takes, with the tokens of each form, for changes of its text in place."""
 from kaba_tools import MODIFIERS
 
 BASIC = {"int", "boolean", "char"}
@@ -8,9 +8,11 @@ KEYWORDS = set(
     " public return short static strictfp super switch synchronized this throw throws transient try void volatile"
     " while true false null _".split()
 )
-LEVELS = [["||"], ["&&"], ["|"], ["^"], ["&"], ["==", "!="], ["<", ">", "<=", ">="], ["<<", ">>", ">>>"], ["+", "-"], ["*", "/", "%"]]
+LEVELS = [["||"], ["&&"], ["|"], ["^"], ["&"], ["==", "!="], ["<", ">", "<=", ">="], ["<<", ">>", ">>>"]]
+LEVELS += [["+", "-"], ["*", "/", "%"]]
 COMPARISON = 6  # the level at which `instanceof` stands
 PREFIX = {"+", "-", "!", "~"}
+OPERANDS = {"this", "super", "new", "true", "false", "null"}
 COMPOUND = {"+=", "-=", "*=", "/=", "%="}
 ESCAPES = {"b": "\b", "t": "\t", "n": "\n", "f": "\f", "r": "\r"}
 
@@ -128,9 +130,7 @@ class Expressions(Cursor):
             return False
         if self.text(1) in ("int", "char"):
             return True
-        begins = self.kind(3) in ("word", "number", "char", "string") and (
-            self.kind(3) != "word" or self.text(3) not in KEYWORDS or self.text(3) in ("this", "super", "new", "true", "false", "null")
-        )
+        begins = self.kind(3) in ("number", "char", "string") or self.is_name(3) or self.text(3) in OPERANDS
         return self.is_name(1) and (begins or self.text(3) in ("(", "!", "~"))
 
     def prefix(self):
@@ -365,7 +365,8 @@ class Declared(Statements):
             members.append(self.member())
         last = self.take("}")
         kind = "Interface" if self.tokens[word].text == "interface" else "Class"
-        return Form(kind, first, last, mods=mods, word=word, name=name, parent=parent, faces=faces, opens=opens, members=members)
+        head = {"mods": mods, "word": word, "name": name, "parent": parent, "faces": faces, "opens": opens}
+        return Form(kind, first, last, **head, members=members)
 
     def member(self):
         first = self.at

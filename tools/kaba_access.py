@@ -1,4 +1,4 @@
-"""Which modifiers the members of a changed program must have, so that each use of a member may see it, and Java agrees."""
+"""Which modifiers the members of a changed program must have, so that each use may see its member, and Java agrees."""
 from collections import namedtuple
 
 from kaba_match import forms_in, is_static
@@ -145,8 +145,10 @@ class Access:
     def __init__(self, declarations, placed):
         self.types = Types(declarations)
         self.ranks, self.placed = {}, placed
-        self.below = {name: [other for other in self.types.types if name in self.types.above(other)] for name in self.types.types}
-        self.used_elsewhere = {(use.owner, use.name) for use in Uses(self.types).found if {use.user, use.receiver} != {use.owner}}
+        types = self.types.types
+        self.below = {name: [other for other in types if name in self.types.above(other)] for name in types}
+        uses = Uses(self.types).found
+        self.used_elsewhere = {(use.owner, use.name) for use in uses if {use.user, use.receiver} != {use.owner}}
         for name, members in placed.items():
             for member in members:
                 self.ranks[name, key_of(member.new)] = self.first_rank(name, member)
@@ -163,7 +165,8 @@ class Access:
             return PUBLIC
         key = key_of(member.new)
         if member.old is None:
-            olds = [it.old for other in self.below[name] for it in self.placed[other] if it.old and key_of(it.new) == key]
+            below = [it for other in self.below[name] for it in self.placed[other]]
+            olds = [it.old for it in below if it.old and key_of(it.new) == key]
             return max(PACKAGE, min((rank_of(old.mods) for old in olds), default=PACKAGE))
         rank = rank_of(member.old.mods)
         if rank == PRIVATE and ((name, key) in self.used_elsewhere or self.has_relatives(name, member.new)):

@@ -6,7 +6,7 @@ ANY = "Any"
 
 
 class Group:
-    """Nodes that become one: the name of their type, the class whose rest they are, and the line of the plan, if any."""
+    """Nodes that become one: the name of their type, the class whose rest they are, and their line, if any."""
 
     def __init__(self, name, nodes, number=None, of_class=None):
         self.name, self.nodes, self.number, self.of_class = name, set(nodes), number, of_class
@@ -59,15 +59,17 @@ class Groups:
         for group in self.lines:
             for word, nodes in self.plan.named[group.name]:
                 for k in nodes:
-                    other = owner.setdefault(k, (group, word))
-                    if other[0] is not group:
-                        same = "" if other[1].text == word.text else f", and stands where `{said(word)}` of that line stands: the same variables need both"
-                        self.fault(word.number, f"`{said(other[1])}` is in class {other[0].name} of line {other[0].number}{same}")
+                    other, known = owner.setdefault(k, (group, word))
+                    if other is not group:
+                        same = f", and stands where `{said(word)}` does: the same variables need both"
+                        place = f"`{said(known)}` is in class {other.name} of line {other.number}"
+                        self.fault(word.number, place + ("" if known.text == word.text else same))
         for number, group in enumerate(self.lines):
             for other in self.lines[:number]:
                 common = group.nodes & other.nodes
                 if common and not self.faults:
-                    self.fault(group.number, f"class {group.name} and class {other.name} of line {other.number} cannot be parted: {self.words(common)} lies between what each of them names")
+                    both = f"class {group.name} and class {other.name} of line {other.number} cannot be parted"
+                    self.fault(group.number, f"{both}: {self.words(common)} lies between what each of them names")
 
     def words(self, nodes):
         """What stands at these nodes, in a plan's words."""
@@ -107,8 +109,9 @@ class Groups:
             if not part & fixed and not members_at(self.program, part):
                 group.nodes |= part
                 return part
-        said = f"above it {self.words(above)}, below it {self.words(below)}"
-        self.fault(group.number, f"class {group.name} stands within {name}: {said}; name the ones or the others in this line")
+        parts = f"above it {self.words(above)}, below it {self.words(below)}"
+        place = f"class {group.name} stands within {name}: {parts}"
+        self.fault(group.number, f"{place}; name the ones or the others in this line")
         return set()
 
     def name_of_rest(self, name):
@@ -130,7 +133,9 @@ class Groups:
         for group in [*self.lines, *self.rests]:
             other = names.setdefault(group.name, group)
             if other is not group and group.number:
-                self.fault(group.number, f"the name {group.name} is that of line {other.number} too" if other.number else f"the name {group.name} is that of the class {other.of_class}, which is kept")
+                kept = f"of the class {other.of_class}, which is kept"
+                owner = f"of line {other.number} too" if other.number else kept
+                self.fault(group.number, f"the name {group.name} is that {owner}")
 
     def all(self):
         return [*self.lines, *self.rests]

@@ -1,4 +1,4 @@
-"""The text of a changed program, put together of the old text's pieces: each member with its comments and its layout."""
+"""The text of a changed program, put together of the old text's pieces: each member with its comments and layout."""
 import re
 from collections import Counter
 
@@ -49,7 +49,7 @@ class Text:
         return split_gap(self.gaps[last + 1])[0]
 
     def changed(self, first, last, changes):
-        """The text from one token to another with its changes; where a token is left out, so are the blanks behind it."""
+        """The text between two tokens with its changes; with a token that is left out go the blanks behind it."""
         parts, left_out = [], False
         for k in range(first, last + 1):
             if k > first and not (left_out and not self.gaps[k].strip()):
@@ -153,11 +153,15 @@ class Pieces:
             words.append("abstract")
         mods = "".join(f"{word} " for word in words if word)
         lines = self.written.changed(member.type.at, member.last, Changes()).split("\n")
-        said = [mods + lines[0]] + [re.sub("^(?:  )+", lambda found: self.indent * (len(found[0]) // 2 - 1), line) for line in lines[1:]]
+        said = [mods + lines[0]] + [self.further_line(line) for line in lines[1:]]
         lead = self.line_end + (self.line_end if self.spaced_methods and not is_first else "")
         if member.body is not None:
             said.insert(0, "// never called")
         return lead + self.line_end.join(self.indent + line for line in said)
+
+    def further_line(self, line):
+        """A line of the written text behind the first of a member, without the member's own indent."""
+        return re.sub("^(?:  )+", lambda found: self.indent * (len(found[0]) // 2 - 1), line)
 
     def members(self, name, home):
         """The members of a type: the old ones of its home, of other classes, and the new ones."""

@@ -10,9 +10,14 @@ from kaba_tools import Source, fail
 FILE_PART = re.compile(r"(?s).*(?:\r\n|\n|\r)[ \t\f]*(?:\r\n|\n|\r)")
 
 
+def lines_of(text):
+    """The lines of a text with their ends, which are line feeds."""
+    return re.findall(r"[^\n]*\n|[^\n]+", text)
+
+
 def changed_lines(old, new):
     """How many lines of the one and the other text are not in both."""
-    lines = difflib.unified_diff(old.splitlines(True), new.splitlines(True), n=0)
+    lines = difflib.unified_diff(lines_of(old), lines_of(new), n=0)
     return sum(line[0] in "+-" for line in lines) - (2 if old != new else 0)
 
 
@@ -43,7 +48,8 @@ class Patch:
         if name in self.olds:
             return name
         best = max(self.olds, key=lambda home: self.size(name, home))
-        return best if self.size(name, best) else self.origins.get(name) if self.origins.get(name) in self.olds else None
+        origin = self.origins.get(name)
+        return best if self.size(name, best) else origin if origin in self.olds else None
 
     def heir_of(self, home):
         """The type that an old class becomes."""
@@ -120,7 +126,7 @@ class Patch:
 
 
 def patch_of(source, written, nodes, labels):
-    """The patch of a program's text to what was written of it, over the nodes of the hierarchy after the tree's steps."""
+    """The patch of a program's text to what was written of it, over the nodes after the steps to the tree."""
     try:
         return Patch(source, Source(written), nodes, labels)
     except (NoTree, NoMatch) as error:

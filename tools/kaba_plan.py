@@ -3,6 +3,7 @@ import difflib
 import re
 from collections import namedtuple
 
+from kaba_match import is_static
 from kaba_tools import class_of
 
 NAME = r"[^\W\d][\w$]*|\$[\w$]*"
@@ -38,7 +39,7 @@ class BadPlan(Exception):
 
 
 def joined_lines(text):
-    """The lines of a plan without comments and with their numbers; one that begins with a blank goes on with the one before."""
+    """The lines of a plan without comments, with their numbers; one that begins with a blank goes on with the last."""
     found = []
     for number, line in enumerate(text.split("\n"), 1):
         said = re.sub(r"(^|\s)#.*", "", line).rstrip()
@@ -133,7 +134,8 @@ class Reader:
         seen = {}
         for line in self.lines:
             if line.word == "class" and seen.setdefault(line.name, line.number) != line.number:
-                self.fault(line.number, f"class {line.name} stands in line {seen[line.name]} too: put all that it has in one line")
+                sentence = f"class {line.name} stands in line {seen[line.name]} too: put all that it has in one line"
+                self.fault(line.number, sentence)
 
 
 class Names:
@@ -170,14 +172,16 @@ class Names:
         return found or self.fault(word, f"nothing needs `{text}`: it will not be written, so leave it out")
 
     def unknown_member(self, word, plain):
-        known = sorted({self.analysis.member(c) for c in range(len(self.lattice.columns)) if "." in self.lattice.columns[c]})
+        columns = self.lattice.columns
+        known = sorted({self.analysis.member(c) for c, label in enumerate(columns) if "." in label})
         if word.kind == "test":
             return f"there is no cast, instanceof or array of `{plain}`"
         if "." not in plain:
             if plain in self.program.classes:
                 return f"`{plain}` is a class: members are written {plain}.NAME; `keep {plain}` leaves the class whole"
             owners = [name for name in known if name.split(".")[1] == plain]
-            return f"`{word.text}` is no member: write its class before it" + (f", such as {owners[0]}" if owners else "")
+            example = f", such as {owners[0]}" if owners else ""
+            return f"`{word.text}` is no member: write its class before it{example}"
         owner, _, member = plain.partition(".")
         if owner not in self.program.classes:
             return f"the program has no class {owner}{self.near(owner, self.program.classes)}"
@@ -187,9 +191,8 @@ class Names:
         return f"the program has no {kind} {plain}{self.near(plain, known)}"
 
     def static_members(self):
-        from kaba_match import is_static
-
-        return {f"{it.name.name}.{member.name.name}" for it in self.program.tree for member in it.members if is_static(member)}
+        members = [(it.name.name, member) for it in self.program.tree for member in it.members]
+        return {f"{owner}.{member.name.name}" for owner, member in members if is_static(member)}
 
     def near(self, name, known):
         found = difflib.get_close_matches(name, known, 1)
@@ -200,10 +203,13 @@ class Names:
         rows = self.lattice.rows
         if word.kind == "variable":
             found = [r for r, label in enumerate(rows) if label == word.text]
-            return found or self.fault(word, f"the program has no variable {word.text}{self.near(word.text, [row for row in rows if ' ' not in row])}")
+            near = self.near(word.text, [row for row in rows if " " not in row])
+            return found or self.fault(word, f"the program has no variable {word.text}{near}")
         name, at, place = word.text.partition("@")
         if not at or not place:
-            return self.fault(word, f"`{word.kind} {word.text}` lacks its place: {word.kind} {name or 'C'}@LINE" + (f" or new {name or 'C'}@VARIABLE" if word.kind == "new" else ""))
+            named = name or "C"
+            forms = f"{word.kind} {named}@LINE" + (f" or new {named}@VARIABLE" if word.kind == "new" else "")
+            return self.fault(word, f"`{word.kind} {word.text}` lacks its place: {forms}")
         if name.rstrip("[]") not in self.program.classes:
             return self.fault(word, f"the program has no class {name}{self.near(name, self.program.classes)}")
         if place.isdecimal():
@@ -211,17 +217,22 @@ class Names:
             return found or self.fault(word, self.no_row(word, name, place))
         if word.kind != "new":
             return self.fault(word, f"a number of a line stands behind @ in `{word.kind} {word.text}`")
-        found = [r for r, into in self.program.creations.items() if place in into and rows[r].startswith(f"new {name}@")]
+        made = [(r, into) for r, into in self.program.creations.items() if rows[r].startswith(f"new {name}@")]
+        found = [r for r, into in made if place in into]
         return found or self.fault(word, self.no_creation(name, place))
 
     def no_row(self, word, name, line):
         lines = [label.rsplit("@", 1)[1] for label in self.lattice.rows if label.startswith(f"{word.kind} {name}@")]
-        what = {"new": f"no {name} is created", "cast": f"there is no cast to {name}", "instanceof": f"there is no test for {name}"}[word.kind]
-        return f"{what} in line {line}" + (f", but in {', '.join(lines)}" if lines else "")
+        what = {"new": "no {} is created", "cast": "there is no cast to {}", "instanceof": "there is no test for {}"}
+        elsewhere = f", but in {', '.join(lines)}" if lines else ""
+        return f"{what[word.kind].format(name)} in line {line}{elsewhere}"
 
     def no_creation(self, name, place):
-        into = sorted({label for r, labels in self.program.creations.items() for label in labels if self.lattice.rows[r].startswith(f"new {name}@")})
-        return f"no {name} is put into {place} where it is created" + (f", but into {', '.join(into[:6])}" if into else "")
+        rows = self.lattice.rows
+        made = [labels for r, labels in self.program.creations.items() if rows[r].startswith(f"new {name}@")]
+        into = sorted({label for labels in made for label in labels})
+        elsewhere = f", but into {', '.join(into[:6])}" if into else ""
+        return f"no {name} is put into {place} where it is created{elsewhere}"
 
     def classes(self, words):
         for word in words:
@@ -231,7 +242,7 @@ class Names:
 
 
 class Plan:
-    """A plan over a program: for each class line its nodes, and the classes of the other lines. BadPlan where it is none."""
+    """A plan over a program: each class line with its nodes, and the other lines; BadPlan where it is none."""
 
     def __init__(self, data, program):
         try:
@@ -251,7 +262,8 @@ class Plan:
                 if line.name:
                     self.new_names[name] = line.name
         for name in self.kept.keys() & self.only.keys():
-            read.fault(max(self.kept[name], self.only[name]), f"class {name} is to stay whole in one line and to come apart in another")
+            sentence = f"class {name} is to stay whole in one line and to come apart in another"
+            read.fault(max(self.kept[name], self.only[name]), sentence)
         self.drops_empty = any(line.word == "drop" for line in read.lines)
         if read.faults:
             raise BadPlan(sorted(read.faults))

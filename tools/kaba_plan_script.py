@@ -5,6 +5,9 @@ from kaba_plan import owner_of
 from kaba_tools import class_of
 
 
+SPARE = {"under": "below the class that it extends", "move": "back to its own class", "drop": "empty types"}
+
+
 class Edit:
     """An edit of the script: its text, the group for which it stands, and whether the script is right without it."""
 
@@ -61,7 +64,8 @@ class Script:
 
     def homes(self):
         """The group of each class that is kept, by its name."""
-        return {group.of_class: group for group in self.groups.all() if group.is_rest() and not self.is_dropped(group.nodes)}
+        rests = [group for group in self.groups.all() if group.is_rest() and not self.is_dropped(group.nodes)]
+        return {group.of_class: group for group in rests}
 
     def unders(self):
         """A kept class stays below the one that it extends."""
@@ -85,8 +89,12 @@ class Script:
             if word == "move":
                 at[int(numbers[0][1:])] = int(numbers[1][1:])
         above = {n: reached(near, n) for n in near}
-        rows = {r: group_of[k] for r, k in self.program.node_of_row.items()}
-        return [{"number": n, "above": above[n], "columns": [c for c in at if at[c] == n], "rows": [r for r in rows if rows[r] == n]} for n in near]
+        nodes = {n: {"number": n, "above": above[n], "columns": [], "rows": []} for n in near}
+        for c, n in at.items():
+            nodes[n]["columns"].append(c)
+        for r, k in self.program.node_of_row.items():
+            nodes[group_of[k]]["rows"].append(r)
+        return list(nodes.values())
 
     def moves(self):
         """A member that stands with a class below its own goes back to its own."""
@@ -136,8 +144,7 @@ class Script:
 
     def heading(self, edit):
         if edit.is_spare:
-            first = edit.text.split(" ")[0]
-            return {"under": "below the class that it extends", "move": "back to its own class", "drop": "empty types"}[first]
+            return SPARE[edit.text.split(" ")[0]]
         group = edit.group
         line = f", line {group.number}" if group.number else ", as it was"
         return f"class {group.name}{line}"
@@ -147,7 +154,8 @@ class Script:
         return f"class {group.name}" if group else f"what has {self.groups.words({number})}"
 
     def column_words(self, c):
-        return self.program.analysis.column_words(c).replace("()", f"() of {class_of(self.program.lattice.columns[c])}", 1)
+        owner = class_of(self.program.lattice.columns[c])
+        return self.program.analysis.column_words(c).replace("()", f"() of {owner}", 1)
 
     def words(self, edit, refusal):
         """A refused edit in the plan's words."""
@@ -159,7 +167,8 @@ class Script:
     def of_B1(self, group, refusal):
         number = refusal["nodes"][0]
         between = self.group_of[number].nodes if number in self.group_of else {number}
-        above, below = (group.nodes & set().union(*(way[k] for k in between)) for way in (self.program.up, self.program.down))
+        above = group.nodes & set().union(*(self.program.up[k] for k in between))
+        below = group.nodes & set().union(*(self.program.down[k] for k in between))
         said = f"below {self.groups.words(above)}, and above {self.groups.words(below)}"
         return f"{self.node_words(number)} lies between what becomes this class: {said}"
 
@@ -170,7 +179,8 @@ class Script:
         return f"{self.row_words(refusal['row'])} would have a type that does not fit"
 
     def of_B4(self, _group, refusal):
-        return f"the object of {self.row_words(refusal['row'])} would no longer run the {self.column_words(refusal['column'])}"
+        body = self.column_words(refusal["column"])
+        return f"the object of {self.row_words(refusal['row'])} would no longer run the {body}"
 
     def of_B5(self, _group, refusal):
         method = self.row_words(refusal["row"]).removesuffix(".this")
@@ -178,14 +188,17 @@ class Script:
 
     def of_B6(self, _group, refusal):
         name = self.program.analysis.member(refusal["column"]).split(".")[1]
-        owners = [class_of(label) for label in self.program.lattice.columns if label.startswith("def(") and label.endswith(f".{name})")]
+        bodies = [label for label in self.program.lattice.columns if label.startswith("def(")]
+        owners = [class_of(label) for label in bodies if label.endswith(f".{name})")]
         return f"it would have two bodies of {name}(), of those in {', '.join(owners)}"
 
     def of_B7(self, _group, refusal):
         target = self.node_words(refusal["nodes"][1])
-        return f"a cast, an instanceof or a store into an array at {target} would come out otherwise for {self.row_words(refusal['row'])}"
+        what = f"a cast, an instanceof or a store into an array at {target}"
+        return f"{what} would come out otherwise for {self.row_words(refusal['row'])}"
 
     def of_B8(self, group, refusal):
         if refusal["column"] is None:
-            return f"the name {group.name} is a keyword, or that of another type, or of a variable, a parameter or a field of the program"
+            others = "another type, or of a variable, a parameter or a field of the program"
+            return f"the name {group.name} is a keyword, or that of {others}"
         return f"it would have two members of the name of the {self.column_words(refusal['column'])}"

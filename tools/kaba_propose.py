@@ -6,7 +6,7 @@ from kaba_hierarchy import MADE, MOST_CONCEPTS, asked, nodes_in, tree_in, with_s
 from kaba_plan import BadPlan, Plan, owner_of
 from kaba_plan_script import Refused, Script, reached
 
-WIDTH = 118
+FILLED = textwrap.TextWrapper(118, subsequent_indent="  ", break_long_words=False, break_on_hyphens=False)
 
 
 class Figures:
@@ -36,7 +36,8 @@ class Figures:
         above, columns = all_above(nodes), {node["number"]: set(node["columns"]) for node in nodes}
         at = {r: node["number"] for node in nodes for r in node["rows"]}
         marks = {c for c, label in enumerate(self.lattice.columns) if label.startswith("is(")}
-        return self.counted({r: columns[at[r]].union(*(columns[up] for up in above[at[r]])) - marks for r in self.sites})
+        offered = {r: columns[at[r]].union(*(columns[up] for up in above[at[r]])) for r in self.sites}
+        return self.counted({r: found - marks for r, found in offered.items()})
 
 
 def crosses(one, other):
@@ -61,10 +62,10 @@ def least_around(sets, sites):
 class Parting:
     """The parts of a class: sets of creations, with the nodes of what these and no others need.
 
-    Each node of the class has the creations of which the whole rows have what it has. Where the sets of two nodes cross,
-    neither within the other, the nodes are not parted. A method's body stays with its declaration, and with it what it
-    uses; what no object needs, such as a method that is never called, stands with what it uses, and keeps that together.
-    A part without members joins the one around it. What the most creations need stays with the class.
+    Each node of the class has the creations of which the whole rows have what it has. Where the sets of two nodes
+    cross, neither within the other, the nodes are not parted. A method's body stays with its declaration, and with it
+    what it uses; what no object needs, such as a method that is never called, stands with what it uses, and keeps that
+    together. A part without members joins the one around it. What the most creations need stays with the class.
     """
 
     def __init__(self, program, name, homes):
@@ -113,7 +114,8 @@ class Parting:
     def method_nodes(self):
         """The nodes of the declaration and the body of each method that has both here."""
         at, labels = self.program.node_of_column, self.program.lattice.columns
-        both = [(at.get(c), at.get(c + 1)) for c in range(len(labels) - 1) if labels[c + 1] == labels[c].replace("dcl", "def", 1)]
+        heads = [c for c in range(len(labels) - 1) if labels[c + 1] == labels[c].replace("dcl", "def", 1)]
+        both = [(at.get(c), at.get(c + 1)) for c in heads]
         return [(head, body) for head, body in both if head in self.set_of and body in self.set_of and head != body]
 
     def pushed(self, homes):
@@ -162,7 +164,10 @@ class Proposal:
         return words
 
     def named_so(self, made, variable):
-        return {r for r, into in self.program.creations.items() if variable in into and self.program.lattice.rows[r].startswith(f"{made}@")}
+        """The creations that a plan names by a variable."""
+        rows = self.program.lattice.rows
+        into = [r for r, variables in self.program.creations.items() if variable in variables]
+        return {r for r in into if rows[r].startswith(f"{made}@")}
 
     def name_of(self, owner, rows, members):
         """A free name for a part: that of the variable that holds its objects, or of its first member."""
@@ -184,7 +189,7 @@ class Proposal:
         for name in self.names:
             lines += ["", *(f"# {line}" for line in heads.get(name, []))]
             for part, things in self.lines[name]:
-                lines += textwrap.wrap(f"class {part}: {' '.join(things)}", WIDTH, subsequent_indent="  ", break_long_words=False, break_on_hyphens=False)
+                lines += FILLED.wrap(f"class {part}: {' '.join(things)}")
         kept = [name for name in self.program.classes if name in self.homes.values() and not self.is_line(name)]
         lines += ["", "# whole as they are"] if heads and kept else []
         lines += [f"keep {name}" for name in kept]
@@ -202,7 +207,7 @@ class Proposal:
             return None
 
     def nodes(self):
-        """The nodes of the hierarchy that the plan comes to, with the steps to the tree; None where it comes to none."""
+        """The nodes that the plan comes to, with the steps to the tree; None where it comes to none."""
         script = self.script()
         try:
             nodes = script.tried() if script else None
@@ -227,7 +232,9 @@ def is_tree(program, nodes):
     above = all_above(nodes)
     labels = program.lattice.columns
     objects = set(program.objects())
-    made = {n["number"] for n in nodes if objects & set(n["rows"]) or any(labels[c][:3] in ("fld", "def") for c in n["columns"])}
+    made = {n["number"] for n in nodes if objects & set(n["rows"])}
+    made |= {n["number"] for n in nodes if any(labels[c][:3] in ("fld", "def") for c in n["columns"])}
     classes = {n for n in above if n in made or above[n] & made}
     chains = [(above[n] | {n}) & classes for n in classes]
-    return all(one in above[other] or other in above[one] for chain in chains for one in chain for other in chain if one < other)
+    pairs = [(one, other) for chain in chains for one in chain for other in chain if one < other]
+    return all(one in above[other] or other in above[one] for one, other in pairs)

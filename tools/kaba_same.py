@@ -36,7 +36,9 @@ def part_of(text, written):
 def is_member(holder, member, other):
     """Whether a member is another one, form by form."""
     changes = Changes()
-    if is_static(member) != is_static(other) or member.kind == "Method" and (member.body is None) != (other.body is None):
+    if is_static(member) != is_static(other):
+        return False
+    if member.kind == "Method" and (member.body is None) != (other.body is None):
         return False
     try:
         Rewriting(changes, holder, member, other)
@@ -60,6 +62,8 @@ def compared(text_file, written_file):
     found = first_difference(text_file, written_file, side_by_side)
     if found:
         words, bound, was, now = found
-        return Said(False, False, f"with {bound} steps and the words {words} the written program gives {now}, the patched text {was}")
+        asked = f"with {bound} steps and the words {words}"
+        return Said(False, False, f"{asked} the written program gives {now}, the patched text {was}")
     count = f"{len(WORDS)} lists of words at {len(BOUNDS)} bounds on the steps"
-    return Said(True, False, f"this program has no `kaba same`: both texts were run on {count} and do the same, which is a test and no proof")
+    done = f"both texts were run on {count} and do the same, which is a test and no proof"
+    return Said(True, False, f"this program has no `kaba same`: {done}")

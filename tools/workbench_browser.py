@@ -13,7 +13,7 @@ from pathlib import Path
 from kaba_tools import HERE
 
 CHROMIUM, DRIVER = "/usr/bin/chromium", "/usr/bin/chromedriver"
-SECONDS = 60
+SECONDS = 180  # on a machine that is busy, or with a program that was compiled before its proof
 
 
 class Workbench:

@@ -54,10 +54,10 @@ def patch_of(session, text):
             raise Superseded
         if not target.is_file():
             raise Fault(answer.error or "tools/patch wrote nothing")
-        said = [line for line in answer.error.split("\n") if line.startswith("patch: ")]
+        said = [line[7:] for line in answer.error.split("\n") if line.startswith("patch: ")]
         diff = answer.output.replace(str(session.program.copy).lstrip("/").encode(), session.program.copy.name.encode())
         diff = diff.replace(str(session.program.copy).encode(), session.program.copy.name.encode())
-        return {"text": target.read_text(encoding="utf-8", errors="replace"), "diff": diff, "said": "".join(said)}
+        return {"text": target.read_text(encoding="utf-8", errors="replace"), "diff": diff, "said": "; ".join(said)}
     finally:
         script.unlink(missing_ok=True)
         target.unlink(missing_ok=True)

@@ -44,7 +44,7 @@ function sized(box) {
 export function boxElement(box, level) {
   const { node } = box;
   const hue = store.model.hue(node);
-  const classes = ["node", node.kind, node.is_empty && "empty", hue === null && "grey", box.folded && "folded"];
+  const classes = ["node", node.kind, node.is_empty && "empty", level === 0 && "far", hue === null && "grey", box.folded && "folded"];
   const group = draw("g", { class: classes.filter((it) => it).join(" "), id: "n" + node.number, role: "option", hue: hue ?? 0 });
   group.setAttribute("aria-label", store.model.sentence(node));
   group.append(draw("rect", { class: "box", width: box.width, height: box.height, rx: node.kind === "interface" ? 12 : 4 }));

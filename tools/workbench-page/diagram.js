@@ -5,14 +5,14 @@ import { layered } from "./layered.js";
 import { tell } from "./server.js";
 import { emit, on, store } from "./store.js";
 
-const NEAR = 0.42, FAR = 0.16, LEAST = 0.02, MOST = 3, MOST_FOR_GRAPHVIZ = 400, MOST_DOWNWARDS = 24;
+const NEAR = 0.42, FAR = 0.16, LEAST = 0.02, MOST = 3, MOST_FOR_GRAPHVIZ = 400, MOST_DOWNWARDS = 24, MANY = 40;
 
 // `sideways` is null where the number of types decides.
 export const shown = { variables: true, empty: true, foldUnasked: false, sideways: null, folded: new Set(), unfolded: new Set(), hidden: new Set() };
 export const view = { x: 0, y: 0, k: 1 };
-export const laid = { boxes: new Map(), edges: [], places: new Map(), sideways: false, ready: Promise.resolve() };
+export const laid = { boxes: new Map(), edges: [], places: new Map(), sideways: false, tops: new Set(), ready: Promise.resolve() };
 
-const elements = new Map();
+const elements = new Map(), drawn = {};
 let asked = false, turn = 0, fitted = false;
 
 const isShown = (node) => (shown.empty || !node.is_empty) && !shown.hidden.has(node.origin ?? "");
@@ -46,7 +46,7 @@ export function relay() {
       view.y += (b - d) * view.k;
     }
     const turned = sideways !== laid.sideways;
-    Object.assign(laid, { boxes, edges, places, sideways });
+    Object.assign(laid, { boxes, edges, places, sideways, tops: topsOf(edges) });
     for (const it of elements.values()) it.element.remove();
     elements.clear();
     if (!fitted || turned) fit();
@@ -56,6 +56,13 @@ export function relay() {
   });
   at("counts").textContent = boxes.size === model.nodes.size ? `${boxes.size} types` : `${boxes.size} of ${model.nodes.size} types`;
   return laid.ready;
+}
+
+// The types without one above that very many stand below: lines to them are faint.
+function topsOf(edges) {
+  const count = new Map(), lower = new Set(edges.map(([a]) => a));
+  for (const [, b] of edges) count.set(b, (count.get(b) || 0) + 1);
+  return new Set([...count].filter(([n, k]) => k > MANY && !lower.has(n)).map(([n]) => n));
 }
 
 async function placesOf(boxes, edges, sideways) {
@@ -68,7 +75,8 @@ async function placesOf(boxes, edges, sideways) {
       // The page's own layout serves as well.
     }
   }
-  return layered(sizes, edges, sideways);
+  const size = at("diagram").getBoundingClientRect();
+  return layered(sizes, edges, sideways, size.width / Math.max(1, size.height));
 }
 
 export function redraw() {
@@ -89,7 +97,7 @@ function paint() {
     const seen = x + box.width / 2 > left && x - box.width / 2 < right && y + box.height / 2 > top && y - box.height / 2 < bottom;
     place(n, box, x, y, seen, level);
   }
-  paintEdges(left, top, right, bottom);
+  paintEdges({ left, top, right, bottom });
   emit("painted");
 }
 
@@ -118,18 +126,24 @@ function curve(a, b) {
   return [`M${x1} ${from}C${x1} ${from - bend} ${x2} ${to + bend} ${x2} ${to}`, `M${x2} ${to - 9}l6 9h-12z`];
 }
 
-function paintEdges(left, top, right, bottom) {
-  const plain = ["", ""], lit = ["", ""];
+// The lines in sight and a window's width around it; they are drawn anew where what is seen comes to its edge.
+function paintEdges(seen) {
+  const known = drawn.places === laid.places && drawn.selected === store.selected && drawn.k / view.k < 2 && view.k / drawn.k < 2;
+  if (known && seen.left >= drawn.left && seen.top >= drawn.top && seen.right <= drawn.right && seen.bottom <= drawn.bottom) return;
+  const width = seen.right - seen.left, height = seen.bottom - seen.top;
+  const left = seen.left - width, top = seen.top - height, right = seen.right + width, bottom = seen.bottom + height;
+  Object.assign(drawn, { places: laid.places, selected: store.selected, k: view.k, left, top, right, bottom });
+  const plain = ["", ""], lit = ["", ""], faint = ["", ""];
   for (const [a, b] of laid.edges) {
     const [x1, y1] = laid.places.get(a), [x2, y2] = laid.places.get(b);
     if (Math.max(x1, x2) < left || Math.min(x1, x2) > right || Math.max(y1, y2) < top || Math.min(y1, y2) > bottom) continue;
-    const into = store.selected.has(a) || store.selected.has(b) ? lit : plain;
+    const into = store.selected.has(a) || store.selected.has(b) ? lit : laid.tops.has(b) ? faint : plain;
     const [line, head] = curve(a, b);
     into[0] += line;
     into[1] += head;
   }
   at("edges").replaceChildren(
-    draw("path", { class: "edge", d: plain[0] }), draw("path", { class: "arrow", d: plain[1] }),
+    draw("path", { class: "edge faint", d: faint[0] }), draw("path", { class: "edge", d: plain[0] }), draw("path", { class: "arrow", d: plain[1] }),
     draw("path", { class: "edge lit", d: lit[0] }), draw("path", { class: "arrow lit", d: lit[1] }),
   );
 }

@@ -3,11 +3,11 @@
 const GAP = 26, LAYER = 54, ROW = 90, SWEEPS = 6;
 
 // The middle of each box by its number; sideways, each layer stands to the right of the one above.
-export function layered(sizes, edges, sideways) {
+export function layered(sizes, edges, sideways, shape) {
   const graph = neighbours(sizes, edges);
   const turned = sideways ? new Map([...sizes].map(([n, [w, h]]) => [n, [h, w]])) : sizes;
   const blocks = components(graph).map((part) => turnedBack(placedPart(part, graph, turned), sideways));
-  return packed(blocks);
+  return packed(blocks, shape);
 }
 
 function turnedBack(block, sideways) {
@@ -112,10 +112,10 @@ function ordered(layers, { ups, downs }) {
   }
 }
 
-// The parts in rows of about the shape of a screen.
-function packed(blocks) {
+// The parts in rows, all of it of about this shape: its width for a height of one.
+function packed(blocks, shape) {
   const area = blocks.reduce((sum, it) => sum + (it.width + ROW) * (it.height + ROW), 0);
-  const most = Math.max(Math.sqrt(area) * 1.5, ...blocks.map((it) => it.width));
+  const most = Math.max(Math.sqrt(area * shape) * 1.1, ...blocks.map((it) => it.width));
   const found = new Map();
   let x = 0, y = 0, height = 0;
   for (const block of blocks) {

@@ -149,6 +149,11 @@ function toolbar() {
   for (const [id, key] of [["show-variables", "variables"], ["show-empty", "empty"], ["fold-unasked", "foldUnasked"]]) {
     at(id).addEventListener("change", () => { shown[key] = at(id).checked; shown.unfolded.clear(); relay(); });
   }
+  at("wider").addEventListener("click", () => {
+    const wide = document.querySelector("main").classList.toggle("wide");
+    at("wider").setAttribute("aria-pressed", String(wide));
+    redraw();
+  });
   at("sideways").addEventListener("change", () => { shown.sideways = at("sideways").checked; relay(); });
   on("laid", () => { at("sideways").checked = laid.sideways; });
   for (const it of TABS) at("tab-" + it).addEventListener("click", () => showTab(it));

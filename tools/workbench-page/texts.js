@@ -58,13 +58,14 @@ async function showJava() {
     const bodies = [];
     for (let k = 0; k < answer.rows.length; k += CHUNK) bodies.push(make("tbody", {}, answer.rows.slice(k, k + CHUNK).map(diffRow)));
     const table = make("table", { class: "diff mono", id: "diff" }, make("caption", { class: "unseen" }, "The old text on the left, the new one on the right"),
-      make("colgroup", {}, make("col", { class: "number" }), make("col"), make("col", { class: "number" }), make("col")), bodies);
+      make("colgroup", {}, make("col", { class: "count" }), make("col"), make("col", { class: "count" }), make("col")), bodies);
     const file = answer.form + ".java";
     view.replaceChildren(
       make("div", { class: "bar" }, make("label", {}, "The new text ", formField()), button("Next difference", () => nextChange(table, 1)),
         button("The one before", () => nextChange(table, -1)), make("a", { href: "get/" + file, download: "", class: "button", id: "get-java" }, "Download"),
         answer.form === "patched" ? make("a", { href: "get/patched.diff", download: "", class: "button" }, "As a diff") : null,
-        make("span", { class: "quiet" }, `${answer.changed} of ${answer.rows.length} lines differ${answer.said ? "; " + answer.said : ""}`)),
+        make("span", { class: "quiet" }, `${answer.changed} of ${answer.rows.length} lines differ`)),
+      answer.said ? make("p", { class: "quiet note" }, answer.said) : "",
       make("div", { class: "scroll", tabindex: "0", "aria-label": "Old and new text beside each other" }, table));
   } catch (fault) {
     if (mine === turn) view.replaceChildren(make("div", { class: "bar" }, make("label", {}, "The new text ", formField())), make("p", { class: "fault" }, fault.message));

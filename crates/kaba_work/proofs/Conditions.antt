@@ -248,4 +248,4 @@ module _ (n : ℕ) (most : n ≤ 100) where
       mods_agree kind mods i j a b (few_mods kind mods h) p q lt
   no_condition _ (modifier_unfit {kind = kind} {mods = mods} {a = a} h c u) = mods_fit kind mods a (few_mods kind mods h) c u
   no_condition _ (wrong_body {m = m} c w) = let z = method_in n m c in sound_body z.0 m z.1 w
-  no_condition r (in_body {m = m} {ss = ss} c b f) = let z = method_in n m c in no_body_fault n most apart z.0 m ss r z.1 b f
+  no_condition r (in_body {m = m} {ss = ss} c b f) = let z = method_in n m c in no_body_fault n most z.0 m ss r z.1 b f
