@@ -26,15 +26,15 @@ stands-back : {A : Type 0} (u : A → A) (xs : List A) (i : ℕ) (y : A) → sli
     → (x : A) × (slice_get xs i ≡ Some x) × (u x ≡ y)
 stands-back u xs i y e = map_at u xs i y (ap (λ z. slice_get z i) (sym (all-mapped u xs)) ∙ e)
 
-kind-same : (d : DeclTree) → kind_of (decl_unplaced d) ≡ kind_of d
+pub kind-same : (d : DeclTree) → kind_of (decl_unplaced d) ≡ kind_of d
 kind-same (ClassTree ms n c fs bs p) = refl
 kind-same (InterfaceTree ms n fs hs p) = refl
 
-mods-same : (d : DeclTree) → mods_of (decl_unplaced d) ≡ all_unplaced modifier_unplaced (mods_of d)
+pub mods-same : (d : DeclTree) → mods_of (decl_unplaced d) ≡ all_unplaced modifier_unplaced (mods_of d)
 mods-same (ClassTree ms n c fs bs p) = refl
 mods-same (InterfaceTree ms n fs hs p) = refl
 
-some-body : (b : Option Statements) → is_some (may_unplaced stmts_unplaced b) ≡ is_some b
+pub some-body : (b : Option Statements) → is_some (may_unplaced stmts_unplaced b) ≡ is_some b
 some-body None = refl
 some-body (Some ss) = refl
 
@@ -60,7 +60,7 @@ module _ (tree : List DeclTree) where
       let g = subst (λ z. IsProperSubclass z a a) same h in
       record { by = g.by; direct = subst (λ z. Contains z g.by) (supers-same O a) g.direct; rest = below-back O g.rest }
 
-  method-in : (i : ℕ) (k : PlainMethod) → slice_get (outline (unplaced tree)).methods i ≡ Some k
+  pub method-in : (i : ℕ) (k : PlainMethod) → slice_get (outline (unplaced tree)).methods i ≡ Some k
       → (h : PlainMethod) × (slice_get O.methods i ≡ Some h) × (untag_method h ≡ k)
   method-in i k e = map_at untag_method O.methods i k (ap (λ (z : Plain). slice_get z.methods i) (sym same) ∙ e)
 
@@ -94,10 +94,10 @@ module _ (tree : List DeclTree) where
   wrong-back m (superfluous a b) = superfluous (sym (word-same is_abstract_word m.head.mods) ∙ a) (sym (some-body m.body) ∙ b)
   wrong-back m (in_concrete a b) = in_concrete (sym (word-same is_abstract_word m.head.mods) ∙ a) b
 
-  here-same : (m : MethodAt) → here_of (method_at_unplaced m) ≡ here_of m
+  pub here-same : (m : MethodAt) → here_of (method_at_unplaced m) ≡ here_of m
   here-same m = ap (λ z. record { owner = m.owner; is_static = z }) (word-same is_static_word m.head.mods)
 
-  names-same : (m : MethodAt) → map (λ q. q.name) (all_unplaced param_unplaced m.head.params) ≡ map (λ q. q.name) m.head.params
+  pub names-same : (m : MethodAt) → map (λ q. q.name) (all_unplaced param_unplaced m.head.params) ≡ map (λ q. q.name) m.head.params
   names-same m = same-all param_unplaced (λ q. q.name) (λ q. refl) m.head.params
 
   module _ (none : HasNoCondition tree) where

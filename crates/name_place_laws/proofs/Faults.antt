@@ -134,11 +134,11 @@ module _ (O : Plain) (here : Here) where
     value-fault (Some e) free (in_value h) = fault e (λ r g. free r (in_value g)) h
 
   -- the names in scope after a statement
-  after : (scope : List (List ℕ)) (s : Statement) → names_after scope (stmt_unplaced s) ≡ names_after scope s
+  pub after : (scope : List (List ℕ)) (s : Statement) → names_after scope (stmt_unplaced s) ≡ names_after scope s
   after scope (LocalOf f u n v p) = refl
   after scope _ = refl
 
-  after-part : (scope : List (List ℕ)) (s : OptionalStatement) → names_after_part scope (step_unplaced s) ≡ names_after_part scope s
+  pub after-part : (scope : List (List ℕ)) (s : OptionalStatement) → names_after_part scope (step_unplaced s) ≡ names_after_part scope s
   after-part scope absent = refl
   after-part scope (present s) = after scope s
 

@@ -1,6 +1,8 @@
 pub mod Bodies
 pub mod Conditions
+pub mod ConditionsKept
 pub mod Faults
+pub mod FaultsKept
 pub mod FirstMethods
 pub mod Meanings
 pub mod Outlines

@@ -73,7 +73,7 @@ module _ (O : Plain) where
   pub supers-same : (a : ℕ) → supers_of bare-outline a ≡ supers_of O a
   supers-same a = ap₂ (λ p fs. option_to_list p ++ fs) (parent-same a) (faces-same a)
 
-  below : {a b : ℕ} → IsSubclass O a b → IsSubclass bare-outline a b
+  pub below : {a b : ℕ} → IsSubclass O a b → IsSubclass bare-outline a b
   below same_class = same_class
   below (through {a = a} {c = c} h r) = through (subst (λ z. Contains z c) (sym (supers-same a)) h) (below r)
 
@@ -83,10 +83,10 @@ module _ (O : Plain) where
 
   -- ---- members
 
-  own-field-same : (c : ℕ) (n : List ℕ) → own_field_of bare-outline c n ≡ own_field_of O c n
+  pub own-field-same : (c : ℕ) (n : List ℕ) → own_field_of bare-outline c n ≡ own_field_of O c n
   own-field-same c n = position-map untag_field (λ f. is_field_of c n f) O.fields
 
-  nearest-same : (f g : ℕ → Option ℕ) → ((k : ℕ) → f k ≡ g k) → (n c : ℕ) → nearest bare-outline f n c ≡ nearest O g n c
+  pub nearest-same : (f g : ℕ → Option ℕ) → ((k : ℕ) → f k ≡ g k) → (n c : ℕ) → nearest bare-outline f n c ≡ nearest O g n c
   nearest-same f g e zero c = e c
   nearest-same f g e (suc n) c =
       ap₂ first_or (e c) (ap (option_and_then (λ p. nearest bare-outline f n p.0)) (parent-same c) ∙ go (λ k. nearest-same f g e n k) (parent_of O c))
@@ -110,9 +110,24 @@ module _ (O : Plain) where
   static-field {c} {f} {n} s =
       record { member = untag_field s.member; own = own-field-same c n ∙ s.own; stands = at_map untag_field O.fields f s.member s.stands; static = s.static }
 
+  pub static-field-back : {c f : ℕ} {n : List ℕ} → IsStaticFieldOf bare-outline c n f → IsStaticFieldOf O c n f
+  static-field-back {c} {f} {n} s =
+      let a = map_at untag_field O.fields f s.member s.stands in
+      record { member = a.0; own = sym (own-field-same c n) ∙ s.own; stands = a.1; static = ap (λ z. z.is_static) a.2 ∙ s.static }
+
   pub static-method : {c m : ℕ} {n : List ℕ} → IsStaticMethodOf O c n m → IsStaticMethodOf bare-outline c n m
   static-method {c} {m} {n} s =
       record { member = untag_method s.member; stands = at_map untag_method O.methods m s.member s.stands; owner = s.owner; name = s.name; static = s.static }
+
+  pub static-method-back : {c m : ℕ} {n : List ℕ} → IsStaticMethodOf bare-outline c n m → IsStaticMethodOf O c n m
+  static-method-back {c} {m} {n} s =
+      let a = map_at untag_method O.methods m s.member s.stands in record {
+        member = a.0;
+        stands = a.1;
+        owner = ap (λ z. z.owner) a.2 ∙ s.owner;
+        name = ap (λ z. z.name) a.2 ∙ s.name;
+        static = ap (λ z. z.is_static) a.2 ∙ s.static;
+      }
 
   pub nearest-field : {c f : ℕ} {n : List ℕ} {k : PlainField} → IsNearestField O c n f k → IsNearestField bare-outline c n f (untag_field k)
   nearest-field {c} {f} {n} {k} s = record { nearest = field-same c n ∙ s.nearest; stands = at_map untag_field O.fields f k s.stands }

@@ -102,7 +102,7 @@ module _ (P : Plain) where
   pub main-bare : {k : PlainMethod} → IsMain k → IsMain (untag_method k)
   main-bare {k} m = record { static = m.static; name = m.name; params = param-types-same k.params ∙ m.params; result = m.result }
 
-  main-back : (k : PlainMethod) → IsMain (untag_method k) → IsMain k
+  pub main-back : (k : PlainMethod) → IsMain (untag_method k) → IsMain k
   main-back k m = record { static = m.static; name = m.name; params = sym (param-types-same k.params) ∙ m.params; result = m.result }
 
 -- ---- the whole
