@@ -125,7 +125,7 @@ judges bound bytes script p F text facts has edits are = record {
 written_bare : (tree : List DeclTree) (p : Program) → unplaced tree ≡ tree → IsGiven tree → HasNoCondition tree → Resolves tree (program_of p)
     → untagged (program_of p) ≡ program_of p
 unfolding HasNoPlaces
-written_bare = has_no_places
+written_bare tree p = has_no_places tree (program_of p)
 
 rebuilt : (p : Program) (F : Facts) (H : Hierarchy) (text out : List ℕ) → out ≡ text → IsWrittenText p F H text → IsRebuilt p F H out
 rebuilt p F H text out e w = subst (IsRebuilt p F H) (sym e) (record {

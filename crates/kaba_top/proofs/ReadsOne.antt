@@ -22,4 +22,4 @@ reads_one bytes tree new q read resolves is =
       derived = record
           { placed = is.tree; derived = r.placed; same = refl };
     } in
-    has_one_program bytes tree is.tree new q read again is.has.none resolves is.has.resolves
+    has_one_program bytes tree is.tree (program_of new) (program_of q) read again is.has.none resolves is.has.resolves
