@@ -6,9 +6,9 @@ import shutil
 import subprocess
 import sys
 import tempfile
+from concurrent.futures import ThreadPoolExecutor
 from pathlib import Path
 
-import compare_regen
 from compare_regen import WORDS, harness
 from from_java_tool import LIBRARY, built, command
 from kaba_tools import HERE, kaba
@@ -34,7 +34,7 @@ class Everyday:
         for file in self.files:
             shutil.copy(file, self.folder / "old" / file.name)
         self.main = next((file.stem for file in self.files if "void main(String" in file.read_text()), path.stem)
-        self.text = self.folder / "text.java"
+        self.text, self.left_out = self.folder / "text.java", ""
         self.classes = {}
 
     def job(self):
@@ -132,10 +132,9 @@ def compare_everyday(names, run, with_regen=True, count=0, seed=0):
         and path.name != "wanted")
     programs = [Everyday(path, folder) for path in paths if count or not names or path.stem in names]
     brought(programs, folder)
-    for program in programs:
-        if program.taken():
-            program.run(with_regen)
-    there = [program for program in programs if program.text.exists()]
+    there = [program for program in programs if program.taken()]
+    with ThreadPoolExecutor(3) as pool:
+        list(pool.map(lambda program: program.run(with_regen), there))
     (folder / "Judge.java").write_text(harness())
     (folder / "jobs").write_text("".join(job + "\n" for program in there for job in program.jobs()))
     for words in ([command("javac"), "-nowarn", "Judge.java"],

@@ -10,9 +10,8 @@ public class Chores {
             this.title = title;
         }
 
-        Job ownedBy(String owner) {
+        void give(String owner) {
             this.owner = owner;
-            return this;
         }
 
         String remind() {
@@ -38,7 +37,7 @@ public class Chores {
 
     public static void main(String[] args) {
         Job call = new Job("call");
-        call.ownedBy("Ann");
+        call.give("Ann");
         System.out.println(call.remind());
         call.finish();
         System.out.println(call.remind());

@@ -79,9 +79,7 @@ final class Expressions {
     }
 
     private Ex refusedNumber(Tree tree, TypeMirror type) {
-        String advice = type.getKind() == TypeKind.LONG ? "long is not brought in; write int where the values fit"
-            : "there are no numbers with a fraction; write whole ones, such as cents";
-        body.obstacle(tree, type.toString(), advice);
+        body.obstacle(tree, type.toString(), World.numberAdvice(type));
         return Ex.constant("0", Ty.INT);
     }
 

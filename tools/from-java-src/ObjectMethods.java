@@ -117,6 +117,7 @@ final class ObjectMethods {
         if (name.equals("equals")) {
             method.params.add("Object other");
         }
+        body.result = name.equals("equals") ? Ty.BOOLEAN : name.equals("hashCode") ? Ty.INT : Ty.STRING;
         List<St> made = body.within(() -> {
             if (name.equals("equals")) {
                 body.emit(new St.Return("this == other"));
@@ -127,7 +128,6 @@ final class ObjectMethods {
                     Literals.string("the object has no text but its address"));
             }
         });
-        body.result = name.equals("equals") ? Ty.BOOLEAN : name.equals("hashCode") ? Ty.INT : Ty.STRING;
         method.body = Finish.finish(made, body.result, body);
         root.methods.add(method);
     }

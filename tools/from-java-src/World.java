@@ -64,8 +64,22 @@ final class World {
             case TYPEVAR: return variable((TypeVariable) type, env);
             case WILDCARD: return wildcard((WildcardType) type, env);
             case INTERSECTION: return intersection((IntersectionType) type, env);
+            case LONG: case FLOAT: case DOUBLE: return refused(type);
             default: return Ty.OBJECT;
         }
+    }
+
+    /** Numbers that are not brought in; int in their place, so that nothing more is told of them. */
+    private Ty refused(TypeMirror type) {
+        if (place != null) {
+            obstacles.add(place, type.toString(), numberAdvice(type));
+        }
+        return Ty.INT;
+    }
+
+    static String numberAdvice(TypeMirror type) {
+        return type.getKind() == TypeKind.LONG ? "long is not brought in; write int where the values fit"
+            : "there are no numbers with a fraction; write whole ones, such as cents";
     }
 
     private Ty intersection(IntersectionType type, Map<Element, Ty> env) {
