@@ -16,7 +16,6 @@ from random_everyday import Everyday as RandomProgram
 
 CORPUS = HERE / "examples" / "everyday"
 STEPS = "30000000"
-HAS_INTERFACE = 75
 OWN = {
     "NullPointerException": "Null", "ArrayIndexOutOfBoundsException": "Bounds", "NegativeArraySizeException": "NegativeSize",
     "ArrayStoreException": "ArrayStore", "ClassCastException": "ClassCast", "ArithmeticException": "DivZero",
@@ -63,10 +62,9 @@ class Everyday:
         if not with_regen:
             return
         status, out, err = kaba("regen", str(self.text), "/dev/null")
-        if status not in (0, HAS_INTERFACE, 67, 68, 5):
+        if status not in (0, 67, 68, 5):
             self.wrong.append(f"regen: {status} {err[-200:]}")
-        self.left_out = {0: "", HAS_INTERFACE: "interface", 67: "too large", 68: "too many concepts",
-            5: "no tree"}.get(status, "")
+        self.left_out = {0: "", 67: "too large", 68: "too many concepts", 5: "no tree"}.get(status, "")
         if status == 0:
             self.analysed = True
             self.put("again", out.decode())
