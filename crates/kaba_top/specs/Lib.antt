@@ -1,5 +1,8 @@
 pub mod Lines
 pub mod About
+pub mod Agreement
+pub mod TextPrograms
+pub mod TextFacts
 pub mod Reading
 pub mod RunAnswers
 pub mod FactsAnswers
