@@ -11,3 +11,17 @@ pub mod ReadsOne
 pub mod Promised
 pub mod Making
 pub mod Stuck
+pub mod SameLists
+pub mod SameFacts
+pub mod SameSets
+pub mod SameHierarchies
+pub mod SameObligations
+pub mod SameSteps
+pub mod SameWritten
+pub mod SameTexts
+pub mod OneCommand
+pub mod OneScript
+pub mod OneText
+pub mod OneAnalysis
+pub mod OneEach
+pub mod Completing

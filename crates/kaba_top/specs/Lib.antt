@@ -13,6 +13,7 @@ pub mod Fresh
 pub mod RegenAnswers
 pub mod MakeAnswers
 pub mod Answers
+pub mod OneAnswer
 pub mod Fetching
 pub mod Readings
 pub mod Analyses

@@ -11,6 +11,7 @@ mod analysis;
 mod answer;
 mod cause_words;
 mod edit;
+mod laws;
 mod make;
 mod reading;
 mod regen;
@@ -19,6 +20,7 @@ mod run;
 mod script;
 
 use crate::answer::answer;
+pub use crate::laws::one_answer;
 use crate::reply::deliver;
 use kaba_base::{Shelf, Sink};
 pub use kaba_words::{Command, WordsFault, read_words};
