@@ -22,9 +22,8 @@ use Rattle.edit_script.specs.declared.lines.Line.{Line}
 use Rattle.hier_script.specs.Scripts.{kept, after_edit, after_edits}
 use Rattle.hier_tree.specs.Kept.{HasNoInterface}
 use Rattle.hier_tree.specs.Reached.{IsReached, begun, dropped, type_named, member_named}
-use Rattle.kaba_top.specs.Fresh.{IsDropOrFresh, AreDropsAndFreshNames}
+use Rattle.kaba_top.specs.Fresh.{DeclaresNoInterface, IsDropOrFresh, AreDropsAndFreshNames}
 use Rattle.kaba_top.specs.FactsAnswers.{HasFacts}
-use Rattle.kaba_top.specs.RegenAnswers.{DeclaresNoInterface}
 
 module _ (F : Facts) (pt : PointsTo) (t : Table) (l : Lattice) where
   -- an edit that was accepted or refused

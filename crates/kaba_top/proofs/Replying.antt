@@ -6,7 +6,8 @@ use Rattle.kaba_top.specs.declared.reply.Reply.{Reply}
 use Rattle.kaba_words.specs.declared.words.Command.{Command}
 use Rattle.kaba_words.specs.Commands.{Cmd, command_of, Fits, FitsNone}
 use Rattle.kaba_top.specs.Lines.{Says, usage, cannot_read, most_bytes, file_too_large}
-use Rattle.kaba_top.specs.Answers.{Agrees, IsMissing, IsTooLarge, FileAnswers, IsFault, Names, CommandAnswers, CommandReplies, Replies}
+use Rattle.kaba_top.specs.Agreement.{Agrees}
+use Rattle.kaba_top.specs.Answers.{IsMissing, IsTooLarge, FileAnswers, IsFault, Names, CommandAnswers, CommandReplies, Replies}
 use Rattle.kaba_top.specs.declared.answer.Shows.{Shows}
 use Rattle.kaba_top.specs.declared.answer.Shows.TheVariants as shows
 use Rattle.kaba_top.specs.Shown.{ShownAnswers, command_showing}
