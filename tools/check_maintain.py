@@ -161,7 +161,8 @@ def check_plans(tests):
         tests.check(f"the plan {text!r}: {status}", holds, err)
     tests.one_line("plan of no plan", 66, tests.tool("plan", shop, "missing.plan"))
     tests.one_line("plan of no program", 66, tests.tool("plan", "missing.java", tests.file("a.plan", "")))
-    tests.one_line("plan of an interface", 75, tests.tool("plan", "examples/Shapes.java", tests.file("a.plan", "")))
+    status, out, err = tests.tool("plan", "examples/Shapes.java", tests.file("a.plan", "keep Cube\n"))
+    tests.check("plan of a program with an interface", status == 0 and "type n9 Cube" in out, out + err)
     tests.one_line("plan without words", 64, tests.tool("plan"))
 
 
@@ -170,7 +171,8 @@ def check_proposals(tests):
     status, out, err = tests.tool("propose", file)
     tests.check("propose", (status, out, err) == (0, PROPOSED.replace("FILE", file), ""), out + err)
     tests.one_line("propose of no class", 1, tests.tool("propose", file, "Nowhere"))
-    tests.one_line("propose of an interface", 75, tests.tool("propose", "examples/Shapes.java"))
+    status, out, err = tests.tool("propose", "examples/Shapes.java")
+    tests.check("propose of a program with an interface", status == 0 and "keep Cube" in out, out + err)
     status, out, err = tests.tool("propose", "examples/loop.java")
     tests.check("propose without classes to part", status == 0 and "No class can be parted" in out, out + err)
 

@@ -21,11 +21,13 @@ STRINGS = [
 def hostile():
     """A program with markup in its strings and comments, names of many letters, and many types."""
     long_class, long_field, long_method = ("C" + "x" * LETTERS, "f" + "y" * LETTERS, "m" + "z" * LETTERS)
-    lines = ["// </script><script>window.broken = 5</script> <b>", "class Main {", "  static void main(String[] args) {"]
+    lines = ["// </script><script>window.broken = 5</script> <b>", "class Main {",
+        "  static void main(String[] args) {"]
     lines += [f'    System.out.println("{it}");' for it in STRINGS]
     lines += [f"    {long_class} v = new {long_class}();", f"    v.{long_field} = 1;", f"    v.{long_method}();"]
     lines += [f"    P a{n} = new P(); a{n}.f{n} = {n};" for n in range(TYPES)]
-    lines += ["  }", "}", f"class {long_class} {{ int {long_field}; int {long_method}() {{ return {long_field}; }} }}", "class P {"]
+    lines += ["  }", "}", f"class {long_class} {{ int {long_field}; int {long_method}() {{ return {long_field}; }} }}",
+        "class P {"]
     return "\n".join([*lines, *(f"  int f{n};" for n in range(TYPES)), "}", ""])
 
 
@@ -52,7 +54,8 @@ def check_hostile(tests):
         page.one("#name-type").send_keys("<b>bold</b>")
         page.press_text("Name", "#side")
         page.until("a name with markup is refused", lambda: "'<b>bold</b>' is no name" in page.text("#refusal"))
-        broken = page.script("return [window.broken, document.querySelectorAll('#view-source script, img, #refusal b').length]")
+        broken = page.script(
+            "return [window.broken, document.querySelectorAll('#view-source script, img, #refusal b').length]")
         tests.check("nothing of the text runs or becomes markup", broken == [None, 0], str(broken))
         wide = page.script("return document.documentElement.scrollWidth")
         tests.check("the page is not wider than its window", wide <= 1280, str(wide))

@@ -30,7 +30,8 @@ def check_first_sight(tests):
     with Workbench(house(tests, "sight")) as workbench, Page() as page:
         page.open(workbench.address)
         page.until("58 types", lambda: len(page.all("#boxes .node")) == 58)
-        tests.check("the source is shown", "class Device {" in page.text("#view-source") and len(page.all(".source-line")) == 161)
+        tests.check("the source is shown", "class Device {" in page.text("#view-source")
+            and len(page.all(".source-line")) == 161)
         page.press("#line40 .spot")
         page.until("the creation's type is selected", lambda: page.selected() == [LAMP])
         lit = [it.get_attribute("data-items") for it in page.all(".spot.lit")]
@@ -40,11 +41,13 @@ def check_first_sight(tests):
         page.one("#found li").click()
         page.until("the member's type is selected", lambda: page.selected() == [25])
         page.press("#show-empty")
-        page.until("empty types are hidden", lambda: len(page.script("return import('./diagram.js').then((it) => [...it.laid.boxes.keys()])")) == 51)
+        page.until("empty types are hidden", lambda: len(page.script(
+            "return import('./diagram.js').then((it) => [...it.laid.boxes.keys()])")) == 51)
         page.press("#fold-unasked")
         page.until("what nothing asks for is folded", lambda: page.all("#boxes .node.folded"))
         page.tab("classes")
-        page.until("old and new classes", lambda: len(page.all(".card[data-class]")) == 3 and len(page.all(".card[data-node]")) == 58)
+        page.until("old and new classes", lambda: len(page.all(".card[data-class]")) == 3
+            and len(page.all(".card[data-node]")) == 58)
         faults = page.faults()
         tests.check("the browser complains of nothing, and asks no other host", not faults, "\n".join(faults))
         check_looks(tests, page)
@@ -62,7 +65,8 @@ def check_looks(tests, page):
         grounds.append(page.script("return getComputedStyle(document.body).backgroundColor"))
     tests.check("light and dark", grounds == ["rgb(246, 247, 249)", "rgb(21, 24, 29)"], str(grounds))
     nameless = page.script(
-        "return [...document.querySelectorAll('button, input, select, textarea, a')].filter((it) => !it.textContent.trim() && !it.ariaLabel"
+        "return [...document.querySelectorAll('button, input, select, textarea, a')]"
+        ".filter((it) => !it.textContent.trim() && !it.ariaLabel"
         " && !(it.labels && it.labels.length) && !it.title).map((it) => it.outerHTML.slice(0, 120))"
     )
     tests.check("each control has a name", not nameless, str(nameless))
@@ -80,7 +84,8 @@ def check_refused(tests):
         tests.check("no script is begun", not file.with_suffix(".edits").exists() and page.state()["steps"] == [])
         page.press_text("Merge what lies between too", "#refusal")
         page.settled(1)
-        tests.check("the mend is made", edits_in(file.with_suffix(".edits").read_text()) == ["merge n11 n23 n24 n41 n44 n45 n55"])
+        tests.check("the mend is made", edits_in(file.with_suffix(".edits").read_text()) == [
+            "merge n11 n23 n24 n41 n44 n45 n55"])
         page.name_in_place(page.see(11).find_element("css selector", ".head"), "lamp")
         page.until("a bad name is refused", lambda: "'lamp' is taken" in page.text("#refusal"))
         page.press_text("Call it Lamp", "#refusal")
@@ -89,7 +94,8 @@ def check_refused(tests):
         page.settled(1)
         page.press("#redo")
         page.settled(2)
-        tests.check("undo and redo", page.state()["nodes"][10]["name"] == "Device_10" and page.script("return import('./store.js').then((it) => it.store.model.name(11))") == "Lamp")
+        tests.check("undo and redo", page.state()["nodes"][10]["name"] == "Device_10"
+            and page.script("return import('./store.js').then((it) => it.store.model.name(11))") == "Lamp")
         check_drag(tests, page)
         check_keys(tests, page)
 
@@ -104,12 +110,14 @@ def check_drag(tests, page):
     page.press("#refusal .close")
     page.drag(page.see(13).find_element("css selector", ".member"), page.see(6).find_element("css selector", ".head"))
     page.settled(count + 1)
-    tests.check("the member is moved", page.state()["steps"][-1]["lines"] == ["move c18 n6"], str(page.state()["steps"][-1]))
+    tests.check("the member is moved", page.state()["steps"][-1]["lines"] == ["move c18 n6"],
+        str(page.state()["steps"][-1]))
     page.drag(page.see(14).find_element("css selector", ".head"), page.see(13).find_element("css selector", ".head"))
     page.until("what may be done with it", lambda: page.all("#menu button"))
     page.press_text("Put", "#menu")
     page.settled(count + 2)
-    tests.check("the type is put under the other", page.state()["steps"][-1]["lines"] == ["under n14 n13"], str(page.state()["steps"][-1]))
+    tests.check("the type is put under the other", page.state()["steps"][-1]["lines"] == ["under n14 n13"],
+        str(page.state()["steps"][-1]))
 
 
 def check_keys(tests, page):
@@ -129,7 +137,8 @@ def check_keys(tests, page):
     before = page.script("return import('./store.js').then((it) => it.store.focus)")
     press(Keys.ARROW_RIGHT, " ")
     page.until("the next type is selected too", lambda: len(page.selected()) == 2)
-    tests.check("arrow keys go to another type", page.script("return import('./store.js').then((it) => it.store.focus)") != before)
+    tests.check("arrow keys go to another type", page.script(
+        "return import('./store.js').then((it) => it.store.focus)") != before)
     page.actions().key_down(Keys.CONTROL).send_keys("z").key_up(Keys.CONTROL).perform()
     page.settled(count)
     page.actions().key_down(Keys.CONTROL).send_keys("y").key_up(Keys.CONTROL).perform()
@@ -186,7 +195,10 @@ def check_results(tests, page, file, downloads):
     page.until("the texts stand beside each other", lambda: page.all("#diff tr"))
     if len(page.all("#java-form option")) > 1:
         page.press('#java-form option[value="written"]')
-    whole = "return [...document.querySelectorAll('#diff .code.right')].map((it) => it.textContent).filter((it) => it).join('\\n')"
+    whole = (
+        "return [...document.querySelectorAll('#diff .code.right')].map((it) => it.textContent)"
+        ".filter((it) => it).join('\\n')"
+    )
     same = page.until("the new Java is shown", lambda: page.script(whole) == text.decode().rstrip("\n"))
     tests.check("the new Java is that of kaba regen", same)
     tests.check("differences are marked", page.all("#diff tr.gone, #diff tr.changed") and page.all("#diff tr.same"))
@@ -234,9 +246,11 @@ def check_conflict(tests):
         page.open(workbench.address)
         page.until("no tree", lambda: page.text("#tree") == "tree: none")
         page.press("#tree")
-        page.until("the conflict in words", lambda: "C_5 (n5) stands below both A_3 (n3) and B_4 (n4)" in page.text("#view-tree"))
+        page.until("the conflict in words", lambda: "C_5 (n5) stands below both A_3 (n3) and B_4 (n4)" in page.text(
+            "#view-tree"))
         page.press_text("Show it in the picture", "#view-tree")
-        page.until("and in the picture", lambda: page.selected() == [3, 4, 5] and len(page.all("#boxes .node.refused")) == 3)
+        page.until("and in the picture", lambda: page.selected() == [3, 4, 5]
+            and len(page.all("#boxes .node.refused")) == 3)
         page.tab("java")
         page.until("no Java is written", lambda: "no tree is found" in page.text("#view-java"))
         tests.check("a bound script is opened whole", len(page.state()["steps"]) == 2)
@@ -262,7 +276,8 @@ def check_plans(tests):
         tests.check("the proposal's script is that of tools/plan", got == edits_in(script.read_text()), "\n".join(got))
         page.press("#plan-of")
         page.until("the plan of what is shown", lambda: "exactly the types that are shown" in page.text("#plan-said"))
-        tests.check("it names what stands there", "class Heater: Device.wanted" in page.one("#plan-text").get_attribute("value"))
+        tests.check("it names what stands there", "class Heater: Device.wanted" in page.one("#plan-text").get_attribute(
+            "value"))
         if has_tool("patch"):
             check_patched(tests, page, file, script)
         page.tab("proposals")
@@ -283,7 +298,8 @@ def check_opened_plan(tests, file, plan):
         tests.check("a plan is opened", workbench.ask("api/state")[1].count('"name": "Lamp"') == 1, workbench.said)
         tests.check("as a script beside it", "type n11 Lamp" in plan.with_suffix(".edits").read_text())
     with Workbench(*words) as workbench:
-        tests.check("a script that is there is not written over", "is there already" in workbench.said and not workbench.address, workbench.said)
+        tests.check("a script that is there is not written over", "is there already" in workbench.said
+            and not workbench.address, workbench.said)
 
 
 def check_patched(tests, page, file, script):
@@ -291,8 +307,11 @@ def check_patched(tests, page, file, script):
     new = file.with_name("patched.java")
     tool("patch", "-o", new, file, script)
     page.tab("java")
-    page.until("the old text, changed", lambda: page.all("#diff tr.same") and page.one("#java-form").get_attribute("value") == "patched")
-    shown = page.script("return [...document.querySelectorAll('#diff tr')].filter((it) => it.children[2].textContent).map((it) => it.children[3].textContent).join('\\n')")
+    page.until("the old text, changed", lambda: page.all("#diff tr.same")
+        and page.one("#java-form").get_attribute("value") == "patched")
+    shown = page.script(
+        "return [...document.querySelectorAll('#diff tr')].filter((it) => it.children[2].textContent)"
+        ".map((it) => it.children[3].textContent).join('\\n')")
     tests.check("the change of the old text is that of tools/patch", shown == new.read_text().rstrip("\n"), shown[:600])
 
 

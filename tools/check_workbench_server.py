@@ -48,9 +48,11 @@ def check_refused_requests(tests):
             tests.check(f"{what}: wanted {wanted}, got {got}", got == wanted)
         got = workbench.ask("api/edit", {"choices": [["drop n0"]], "title": ""}, {"Origin": "http://evil.example"})[0]
         tests.check("an edit from another origin", got == 403)
-        for path in ("", "api/state", "wrong/", "wrong/api/state", workbench.address[len(root) : -2] + "/api/state", "index.html"):
+        for path in ("", "api/state", "wrong/", "wrong/api/state", workbench.address[len(root) : -2] + "/api/state",
+            "index.html"):
             tests.check(f"without the key: {path}", workbench.ask(path, address=root)[0] == 404)
-        for path in ("../../etc/passwd", "../kaba_tools.py", "..%2fkaba_tools.py", "/etc/passwd", "api/", "api/nothing", "get/../x", "page.css/.."):
+        for path in ("../../etc/passwd", "../kaba_tools.py", "..%2fkaba_tools.py", "/etc/passwd", "api/", "api/nothing",
+            "get/../x", "page.css/.."):
             tests.check(f"a path outside: {path}", raw(port, workbench.address, path) == 404)
         check_bad_bodies(tests, workbench)
         tests.check("it listens on 127.0.0.1 alone", not listens_elsewhere(int(port)))
@@ -102,13 +104,17 @@ def check_script(tests):
     with Workbench(file) as workbench:
         tests.check("no script before the first edit", not script.exists())
         refused = edit(workbench, "merge n11 n55")
-        tests.check("a refused edit", not refused["accepted"] and refused["refusal"]["where"]["nodes"] == [23], str(refused)[:300])
-        tests.check("it is told in words", "Device_23" in refused["refusal"]["text"] and "between" in refused["refusal"]["text"], str(refused)[:300])
+        tests.check("a refused edit", not refused["accepted"] and refused["refusal"]["where"]["nodes"] == [23],
+            str(refused)[:300])
+        tests.check("it is told in words", "Device_23" in refused["refusal"]["text"]
+            and "between" in refused["refusal"]["text"], str(refused)[:300])
         tests.check("and the script is not begun", not script.exists())
         mends = asked(workbench, "api/mends", {"edits": ["merge n11 n55"], "title": ""})[1]["mends"]
-        tests.check("what lies between mends it", mends and all(edit_is_taken(file, it["edits"]) for it in mends), str(mends))
+        tests.check("what lies between mends it", mends and all(edit_is_taken(file, it["edits"]) for it in mends),
+            str(mends))
         tests.check("an edit", edit(workbench, MERGE)["accepted"])
-        tests.check("two edits in a step", edit(workbench, "type n1 Device", "drop n0", title="a name\nand a drop")["accepted"])
+        both = edit(workbench, "type n1 Device", "drop n0", title="a name\nand a drop")
+        tests.check("two edits in a step", both["accepted"])
         wanted = f"{MERGE}\n# 2 edits: a name and a drop\ntype n1 Device\ndrop n0\n"
         tests.check("the script is on disk", script.read_text() == wanted, script.read_text())
         refused = edit(workbench, "type n1 Lamp", "type n11 lamp")
@@ -119,7 +125,8 @@ def check_script(tests):
     tests.check("what is undone is kept", script.read_text() == f"{MERGE}\n{undone}", script.read_text())
     with Workbench(file) as workbench:
         state = asked(workbench, "api/state")[1]
-        tests.check("a killed workbench loses nothing", (len(state["steps"]), len(state["undone"])) == (1, 1), str(state)[:300])
+        tests.check("a killed workbench loses nothing", (len(state["steps"]), len(state["undone"])) == (1, 1),
+            str(state)[:300])
         status, text = workbench.ask("get/script.edits")
         tests.check("the script that is handed out has no undone edits", text == f"{MERGE}\n", text)
         state = asked(workbench, "api/undo", {"count": -1})[1]["state"]
@@ -139,12 +146,15 @@ def check_outside_change(tests, workbench, script):
     """A script that another program writes is not written over unasked."""
     script.write_text("# mine\ndrop n0\nmerge n11 n55\n")
     status, answer = asked(workbench, "api/edit", {"choices": [["drop n0"]], "title": ""})
-    tests.check("a script changed outside is left alone", status == 422 and script.read_text().startswith("# mine"), str(answer)[:300])
+    tests.check("a script changed outside is left alone", status == 422 and script.read_text().startswith("# mine"),
+        str(answer)[:300])
     state = asked(workbench, "api/reread", {})[1]
-    tests.check("and is read again", [it["lines"][-1] for it in state["steps"]] == ["drop n0", "merge n11 n55"], str(state)[:300])
+    tests.check("and is read again", [it["lines"][-1] for it in state["steps"]] == ["drop n0", "merge n11 n55"],
+        str(state)[:300])
     tests.check("its refused edit is told", [it["line"] for it in state["refused"]] == [3], str(state["refused"]))
     state = asked(workbench, "api/clean", {})[1]["state"]
-    tests.check("and taken out", script.read_text() == "# mine\ndrop n0\n" and state["refused"] == [], script.read_text())
+    tests.check("and taken out", script.read_text() == "# mine\ndrop n0\n" and state["refused"] == [],
+        script.read_text())
 
 
 def check_words(tests):
@@ -161,10 +171,12 @@ def check_words(tests):
         ("a script with a fault", [str(file), str(bad)], 1, ":2: "),
         ("a folder that is not there", [str(file), str(file.parent / "no" / "x.edits")], 66, "no folder"),
     ):
-        done = subprocess.run([sys.executable, str(HERE / "tools" / "workbench"), *words], capture_output=True, text=True, timeout=60)
+        done = subprocess.run([sys.executable, str(HERE / "tools" / "workbench"), *words], capture_output=True,
+            text=True, timeout=60)
         one = done.returncode == status and done.stderr.count("\n") == 1 and part in done.stderr and not done.stdout
         tests.check(f"{what}: wanted one line and {status}, got {done.returncode}", one, done.stdout + done.stderr)
-    done = subprocess.run([sys.executable, str(HERE / "tools" / "workbench"), "--help"], capture_output=True, text=True, timeout=60)
+    done = subprocess.run([sys.executable, str(HERE / "tools" / "workbench"), "--help"], capture_output=True, text=True,
+        timeout=60)
     tests.check("--help", done.returncode == 0 and "127.0.0.1" in done.stdout, done.stderr)
 
 
@@ -174,9 +186,11 @@ def check_read_only(tests):
     with Workbench(file, file.parent / "x.edits") as workbench:
         shutil.move(file.parent, file.parent.with_name("moved"))
         status, answer = asked(workbench, "api/edit", {"choices": [["drop n0"]], "title": ""})
-        tests.check("a script that cannot be written", status == 422 and "nothing was changed" in answer["why"], str(answer)[:300])
+        tests.check("a script that cannot be written", status == 422 and "nothing was changed" in answer["why"],
+            str(answer)[:300])
         shutil.move(file.parent.with_name("moved"), file.parent)
-        tests.check("and then can", edit(workbench, "drop n0")["accepted"] and (file.parent / "x.edits").read_text() == "drop n0\n")
+        tests.check("and then can", edit(workbench, "drop n0")["accepted"]
+            and (file.parent / "x.edits").read_text() == "drop n0\n")
         file.write_text(file.read_text() + "// more\n")
         tests.check("another text of the program is told", asked(workbench, "api/state")[1]["stale"])
         file.write_text("class A {")
@@ -202,7 +216,8 @@ def check_steps(tests):
         script = Script(path)
         script.read()
         tests.check(f"steps of {name}", [title_of(it) for it in script.steps] == steps, str(script.steps))
-        tests.check(f"text of {name}", script.whole() == (text + "\n" if text and not text.endswith("\n") else text), script.whole())
+        tests.check(f"text of {name}", script.whole() == (text + "\n" if text and not text.endswith("\n") else text),
+            script.whole())
         script.put(script.steps[:-1], script.steps[-1:])
         again = Script(path)
         again.read()

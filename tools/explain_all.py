@@ -94,7 +94,7 @@ class Faults:
 
 
 def grouped(found):
-    """The faults of one kind and sentence together: the program's own first one, and then in the order of their places."""
+    """The faults of one kind and sentence together: the program's own first one, and then by their places."""
     groups = {}
     for fault in found:
         groups.setdefault((fault.kind, fault.sentence), []).append(fault)

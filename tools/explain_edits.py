@@ -92,7 +92,8 @@ def reason(case, after, names):
         n = refusal["nodes"][0]
         node = after.nodes[n]
         there = [column_words(after, c) for c in node["columns"]] + [row_words(after, r) for r in node["rows"]]
-        return f"{node_words(after, n)} is not empty: {', '.join(there[:6])}{' and more' if len(there) > 6 else ''} stand there"
+        shown = ", ".join(there[:6]) + (" and more" if len(there) > 6 else "")
+        return f"{node_words(after, n)} is not empty: {shown} stand there"
     return f"breaks {refusal['obligation']}: {REASONS[refusal['obligation']](case, after, names)}"
 
 
@@ -131,8 +132,8 @@ def offers(case, after, _):
 def flows(case, after, _):
     low, high = case.refusal["nodes"][0], case.refusal["nodes"][-1]
     return (
-        f"what {row_words(after, case.refusal['row'])} holds flows into a variable, or is compared with one, of the type "
-        f"{node_words(after, high)}, and {node_words(after, low)} would stand neither there nor below"
+        f"what {row_words(after, case.refusal['row'])} holds flows into a variable, or is compared with one, of the "
+        f"type {node_words(after, high)}, and {node_words(after, low)} would stand neither there nor below"
     )
 
 
@@ -154,13 +155,14 @@ def calls(case, after, _):
     n, r, c = case.refusal["nodes"][0], case.refusal["row"], case.refusal["column"]
     nearer = ", ".join(other_bodies(after, n, c))
     other = f", or another body would stand between ({nearer})" if nearer else ""
-    return f"{row_words(after, r)} calls {column_words(after, c)} by super, which would not stand strictly above {node_words(after, n)}{other}"
+    called = f"{row_words(after, r)} calls {column_words(after, c)} by super"
+    return f"{called}, which would not stand strictly above {node_words(after, n)}{other}"
 
 
 def bodies(case, after, _):
     n, c = case.refusal["nodes"][0], case.refusal["column"]
-    here = [k for k in other_bodies_at(after, n, c)]
-    return f"{node_words(after, n)} would have two bodies of one method: {' and '.join(here + [column_words(after, c)])}"
+    two = " and ".join([*other_bodies_at(after, n, c), column_words(after, c)])
+    return f"{node_words(after, n)} would have two bodies of one method: {two}"
 
 
 def other_bodies_at(after, n, c):

@@ -4,7 +4,7 @@ from collections import namedtuple
 
 import explain_words as words
 
-# at: the place of its byte, or none; exact: whether the column is known; kind and sentence: what is said; name: of what.
+# at: the place of its byte, or none; exact: whether the column is known; kind, sentence: what is said; name: of what.
 Fault = namedtuple("Fault", "at exact kind sentence name")
 
 

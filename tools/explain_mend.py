@@ -1,7 +1,7 @@
-"""How a form that the language does not have is taken out of a text, so that what stands behind it can be looked at too.
+"""How a form that the language does not have is taken out of a text, so that what stands behind it is looked at too.
 
-Each rule knows a form by the pieces round the place of a refusal, and gives the changes that leave the least of it. What
-a rule takes out may have declared names: they are noted, and what is unknown only for that is told to nobody.
+Each rule knows a form by the pieces round the place of a refusal, and gives the changes that leave the least of it.
+What a rule takes out may have declared names: they are noted, and what is unknown only for that is told to nobody.
 """
 import re
 
@@ -62,12 +62,14 @@ class Mender:
     def names_at(self, at):
         """The names in the statement of a place."""
         first = self.first_of_statement(self.text.at(at))
-        return {self.text.text(k) for k in range(first, self.end_of_statement(first) + 1) if self.text.kind(k) == "word"}
+        pieces = range(first, self.end_of_statement(first) + 1)
+        return {self.text.text(k) for k in pieces if self.text.kind(k) == "word"}
 
     def names_in(self, first, last):
         """Notes the names that are declared between two pieces: behind a type, and before what follows a name."""
         for k in range(first, last + 1):
-            named = self.text.kind(k) == "word" and self.text.text(k + 1) in ("=", ";", ",", ")", "(", ":", "{", "->", "[")
+            ends = self.text.text(k + 1) in ("=", ";", ",", ")", "(", ":", "{", "->", "[")
+            named = ends and self.text.kind(k) == "word"
             if named and (self.text.kind(k - 1) == "word" or self.text.text(k - 1) in ("]", ">")):
                 if self.text.text(k - 1) not in ("return", "new", "else", "throw"):
                     self.lost.add(self.text.text(k))

@@ -83,7 +83,8 @@ def with_declaration(case, after):
     c = case.edit.numbers[0][1]
     node = nodes_of(case.edit)[0]
     for k, column in enumerate(columns):
-        if k != c and column["name"] == columns[c]["name"] and column["kind"] == "declaration" and column["node"] is not None:
+        is_declared = column["kind"] == "declaration" and column["node"] is not None
+        if k != c and is_declared and column["name"] == columns[c]["name"]:
             yield [text("move", f"c{k}", node), case.edit.text]
 
 

@@ -1,4 +1,4 @@
-"""The tokens of a text as Java has them, past what the language does not have, and the text as it is changed piece by piece.
+"""The tokens of a text as Java has them, past what the language does not have, and a text that is changed in pieces.
 
 `Mended` is a text of which each byte knows the place of the original that it stands for: so what is found in the
 changed text is told with its place in the user's own.

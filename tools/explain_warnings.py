@@ -13,8 +13,8 @@ def unicode_escapes(data):
             continue
         for escape in ESCAPE.finditer(comment[0]):
             if escape[2] is None:
-                said = "javac refuses `\\u` in a comment where no four hexadecimal digits follow: leave the backslash out"
+                said = "javac refuses `\\u` in a comment without four hexadecimal digits: leave the backslash out"
             else:
-                said = "Java reads this escape in the comment too, so that it may end the comment: leave the backslash out"
+                said = "Java reads this escape in the comment too, which it may end: leave the backslash out"
             found.append((comment.start() + escape.start(1), said))
     return found

@@ -8,8 +8,8 @@ from kaba_tools import Declarations, Source, bytes_of, fail, kaba
 
 CONDITIONS = ("if", "while", "for")
 CONSTANT = (
-    "a `final` variable of a constant value decides here, and is written without `final`: where javac needs that value to "
-    "know how the method goes on, write the constant itself (`while (true)`)"
+    "a `final` variable of a constant value decides here, and is written without `final`: where javac needs that value "
+    "to know how the method goes on, write the constant itself (`while (true)`)"
 )
 
 
@@ -90,7 +90,8 @@ def explain_written(file, script):
     if status not in (0, 10, 11):
         fail(error or f"the program ends with {status}", status)
     declared = Declarations(source)
-    told = [f"{file}:{line}: {said}\n    {source.line(line).strip()}" for line, said in sorted(of_text(source, declared))]
+    found = sorted(of_text(source, declared))
+    told = [f"{file}:{line}: {said}\n    {source.line(line).strip()}" for line, said in found]
     if script:
         data = bytes_of(script)
         lines = data.decode(errors="replace").split("\n")

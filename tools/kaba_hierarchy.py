@@ -71,7 +71,8 @@ def nodes_in(text):
 
 def broken_in(rule, nodes, row, column):
     """The obligation that an edit would break, and its first instance."""
-    return {"obligation": rule, "nodes": numbers_in(nodes), "row": number_or_none(row), "column": number_or_none(column)}
+    place = {"nodes": numbers_in(nodes), "row": number_or_none(row), "column": number_or_none(column)}
+    return {"obligation": rule, **place}
 
 
 def refusals_in(text):

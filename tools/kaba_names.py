@@ -2,9 +2,9 @@
 
 KEYWORDS = set(
     """abstract assert boolean break byte case catch char class const continue default do double else enum extends final
-    finally float for goto if implements import instanceof int interface long native new package private protected public
-    return short static strictfp super switch synchronized this throw throws transient try void volatile while true false
-    null _""".split()
+    finally float for goto if implements import instanceof int interface long native new package private protected
+    public return short static strictfp super switch synchronized this throw throws transient try void volatile while
+    true false null _""".split()
 )
 KNOWN = {"Object", "String", "System"}
 # Java reads them as words of its own in some places.
@@ -15,7 +15,9 @@ METHODS_OF_OBJECT = FINAL_METHODS | {"clone", "equals", "finalize", "hashCode", 
 # What the methods of Object without parameters give that a class may declare anew.
 RESULTS = {"clone": "Object", "finalize": "void", "hashCode": "int", "toString": "String"}
 NO_OBJECT = ("int", "boolean", "char", "void")
-IN_BETWEEN = "javac refuses it where an abstract class inherits it from an interface alone, since Object has one that is not public"
+IN_BETWEEN = (
+    "javac refuses it where an abstract class inherits it from an interface alone, since Object has one that is not public"
+)
 
 
 def warning_of_type(name):

@@ -110,7 +110,7 @@ def fault_of_words(line):
 def fault_of_numbers(word, rest):
     """Why the words behind the name of an edit do not fit it."""
     form = f"this edit is written {FORMS[word]}"
-    kinds = {"merge": "n" * max(2, len(rest)), "under": "nn", "move": "cn", "type": "n", "member": "c", "drop": "n"}[word]
+    kinds = {"under": "nn", "move": "cn", "type": "n", "member": "c", "drop": "n"}.get(word, "n" * max(2, len(rest)))
     for it, kind in zip(rest, kinds):
         what = "node" if kind == "n" else "column"
         if re.fullmatch(r"[0-9]+", it):

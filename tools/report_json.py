@@ -19,7 +19,7 @@ def class_json(analysis, name):
         for c in analysis.columns_of(name)
     ]
     creations = [
-        {"row": r, "label": analysis.lattice.rows[r], "line": analysis.row_lines[r], "unused": unused(analysis, name, r)}
+        {**row_json(analysis, r), "unused": unused(analysis, name, r)}
         for r in analysis.creations(name)
     ]
     common, parts = analysis.split(name)
@@ -27,6 +27,10 @@ def class_json(analysis, name):
     declared = analysis.declared
     place = {"name": name, "line": declared.classes[name], "extends": declared.parents.get(name)}
     return {**place, "members": members, "creations": creations, "split": split}
+
+
+def row_json(analysis, r):
+    return {"row": r, "label": analysis.lattice.rows[r], "line": analysis.row_lines[r]}
 
 
 def unused(analysis, name, r):
@@ -37,11 +41,15 @@ def report_json(analysis, names, dead, lone):
     """The whole report as a text."""
     lattice = analysis.lattice
     columns = [
-        {"label": label, "kind": analysis.kind(c), "line": analysis.column_line(c)} for c, label in enumerate(lattice.columns)
+        {"label": label, "kind": analysis.kind(c), "line": analysis.column_line(c)}
+        for c, label in enumerate(lattice.columns)
     ]
     rows = [{"label": label, "line": analysis.row_lines[r]} for r, label in enumerate(lattice.rows)]
     slots = [
-        [{"member": head.label, "parameters": head.parameters, "result": head.result, "line": head.line} for head in heads]
+        [
+            {"member": head.label, "parameters": head.parameters, "result": head.result, "line": head.line}
+            for head in heads
+        ]
         for heads in shared_slots(analysis.declared)
     ]
     held = [{"field": it[0], "type": it[1], "line": it[2], "creations": it[3]} for it in containers(analysis)]

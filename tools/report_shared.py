@@ -70,7 +70,8 @@ def container_line(analysis, container):
 
 def sections(analysis, names):
     """The parts of the report that tell of these, left out where there are none."""
-    slots = [heads for heads in shared_slots(analysis.declared) if {head.label.split(".")[0] for head in heads} & set(names)]
+    slots = shared_slots(analysis.declared)
+    slots = [heads for heads in slots if {head.label.split(".")[0] for head in heads} & set(names)]
     held = [it for it in containers(analysis) if it[0].split(".")[0] in names]
     found = []
     if slots:

@@ -21,7 +21,8 @@ class Workbench:
 
     def __init__(self, *words):
         words = [sys.executable, str(HERE / "tools" / "workbench"), *map(str, words)]
-        self.process = subprocess.Popen(words, stdin=subprocess.DEVNULL, stdout=subprocess.PIPE, stderr=subprocess.STDOUT, text=True)
+        self.process = subprocess.Popen(words, stdin=subprocess.DEVNULL, stdout=subprocess.PIPE,
+            stderr=subprocess.STDOUT, text=True)
         self.said, self.address = "", ""
         for line in self.process.stdout:
             self.said += line
@@ -45,7 +46,8 @@ class Workbench:
     def ask(self, path, value=None, headers=(), address=None):
         """The status and the text of one request; with a value it is a question in JSON."""
         body = value if value is None or isinstance(value, bytes) else json.dumps(value).encode()
-        request = urllib.request.Request((address or self.address) + path, data=body, headers={"Content-Type": "application/json", **dict(headers)})
+        request = urllib.request.Request((address or self.address) + path, data=body,
+            headers={"Content-Type": "application/json", **dict(headers)})
         try:
             with urllib.request.urlopen(request, timeout=SECONDS) as answer:
                 return answer.status, answer.read().decode()
@@ -67,7 +69,8 @@ class Page:
 
         options = webdriver.ChromeOptions()
         options.binary_location = CHROMIUM
-        for word in ("--headless=new", "--no-sandbox", "--disable-gpu", "--disable-dev-shm-usage", "--no-proxy-server", "--disable-background-networking"):
+        for word in ("--headless=new", "--no-sandbox", "--disable-gpu", "--disable-dev-shm-usage", "--no-proxy-server",
+            "--disable-background-networking"):
             options.add_argument(word)
         options.set_capability("goog:loggingPrefs", {"browser": "ALL", "performance": "ALL"})
         if downloads:
@@ -86,7 +89,8 @@ class Page:
         self.driver.execute_cdp_cmd("Emulation.setDeviceMetricsOverride", metrics)
 
     def scheme(self, name):
-        self.driver.execute_cdp_cmd("Emulation.setEmulatedMedia", {"features": [{"name": "prefers-color-scheme", "value": name}]})
+        self.driver.execute_cdp_cmd("Emulation.setEmulatedMedia",
+            {"features": [{"name": "prefers-color-scheme", "value": name}]})
 
     def open(self, address):
         self.driver.get(address)
@@ -114,7 +118,9 @@ class Page:
             if found:
                 return found
             time.sleep(0.05)
-        raise AssertionError(f"the page did not come to this: {what}; refusal: {self.text('#refusal')}; notices: {self.text('#notices')}")
+        raise AssertionError(
+            f"the page did not come to this: {what}; refusal: {self.text('#refusal')};"
+            f" notices: {self.text('#notices')}")
 
     @staticmethod
     def quietly(holds):
@@ -134,11 +140,15 @@ class Page:
 
     def press(self, selector):
         """A click on what is there, once it can be clicked."""
-        self.until(f"{selector} can be pressed", lambda: self.one(selector).is_enabled() and (self.one(selector).click() or True))
+        self.until(f"{selector} can be pressed", lambda: self.one(selector).is_enabled()
+            and (self.one(selector).click() or True))
 
     def press_text(self, text, within="body"):
         """A click on the button with this text."""
-        find = "return [...document.querySelectorAll(arguments[0] + ' button')].find((it) => it.textContent.trim().startsWith(arguments[1]) && !it.disabled)"
+        find = (
+            "return [...document.querySelectorAll(arguments[0] + ' button')]"
+            ".find((it) => it.textContent.trim().startsWith(arguments[1]) && !it.disabled)"
+        )
         found = self.until(f"a button {text}", lambda: self.script(find, within, text))
         self.script("arguments[0].scrollIntoView({block: 'nearest'})", found)
         found.click()
@@ -152,7 +162,8 @@ class Page:
 
     def is_seen(self, number):
         return self.script(
-            "const a = document.getElementById('n' + arguments[0]).getBoundingClientRect(), b = document.getElementById('diagram').getBoundingClientRect();"
+            "const place = (id) => document.getElementById(id).getBoundingClientRect();"
+            "const a = place('n' + arguments[0]), b = place('diagram');"
             "return a.left >= b.left && a.right <= b.right && a.top >= b.top && a.bottom <= b.bottom",
             number,
         )
@@ -177,10 +188,17 @@ class Page:
     def name_in_place(self, element, name):
         from selenium.webdriver.common.keys import Keys
 
-        self.actions().double_click(element).perform()
-        field = self.until("a field for the name", lambda: self.one("input.in-place"))
+        field = self.until("a field for the name", lambda: self.field_after_double_click(element))
         field.send_keys(Keys.CONTROL, "a")
         field.send_keys(name, Keys.ENTER)
+
+    def field_after_double_click(self, element):
+        """Two clicks are one double click where the machine is quick enough, so this may be tried again."""
+        self.actions().double_click(element).perform()
+        ends = time.monotonic() + 2
+        while time.monotonic() < ends and not self.all("input.in-place"):
+            time.sleep(0.05)
+        return self.one("input.in-place")
 
     def tab(self, name):
         self.press(f"#tab-{name}")

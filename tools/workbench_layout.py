@@ -21,7 +21,8 @@ def positions(nodes, edges, sideways):
     if not nodes or len(nodes) > MOST_NODES or not shutil.which("dot"):
         return None
     try:
-        done = subprocess.run(["dot", "-Tplain"], input=text_of(nodes, edges, sideways).encode(), capture_output=True, timeout=SECONDS)
+        done = subprocess.run(["dot", "-Tplain"], input=text_of(nodes, edges, sideways).encode(), capture_output=True,
+            timeout=SECONDS)
     except (OSError, subprocess.TimeoutExpired):
         return None
     if done.returncode:

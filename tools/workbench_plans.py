@@ -1,4 +1,4 @@
-"""Plans in the workbench: those that tools/propose writes, the edits that tools/plan makes of one, and the plan of what is shown."""
+"""Plans: what tools/propose writes, the edits that tools/plan makes of one, and the plan of what is shown."""
 import re
 
 from workbench_runs import Fault, has_tool
@@ -77,7 +77,8 @@ def plan_text(program, nodes):
 def types_in(nodes):
     """The types of a hierarchy by what stands there, with their names and what is right above."""
     names = {node["number"]: node["name"] for node in nodes}
-    return {(node["name"], tuple(node["columns"]), tuple(node["rows"]), tuple(sorted(names[n] for n in node["above"]))) for node in nodes}
+    return {(node["name"], tuple(node["columns"]), tuple(node["rows"]), tuple(sorted(names[n] for n in node["above"])))
+        for node in nodes}
 
 
 def plan_of(session):
@@ -96,4 +97,7 @@ def compared(session, text, nodes):
     made = session.asked("".join(line + "\n" for line in edits))["nodes"]
     if types_in(made) == types_in(nodes):
         return "tools/plan makes exactly the types that are shown of this plan."
-    return "Of this plan tools/plan makes other types than those that are shown: a plan has no words for each edit. The script does."
+    return (
+        "Of this plan tools/plan makes other types than those that are shown: "
+        "a plan has no words for each edit. The script has."
+    )

@@ -53,13 +53,17 @@ class Program:
     def row(self, r):
         label = self.analysis.lattice.rows[r]
         found = MARKED.fullmatch(label)
-        kind = found[1] if found else "this" if label.endswith(".this") else "result" if label.endswith(".return") else "variable"
-        return {"label": label, "kind": kind, "line": self.analysis.row_lines[r], "needs": sorted(self.analysis.needs[r])}
+        last = {"this": "this", "return": "result"}.get(label.rpartition(".")[2], "variable")
+        kind = found[1] if found else last
+        return {"label": label, "kind": kind, "line": self.analysis.row_lines[r],
+            "needs": sorted(self.analysis.needs[r])}
 
     def classes(self):
         declared = self.analysis.declared
         labels = self.analysis.lattice.columns
-        found = {name: {"name": name, "line": line, "parent": declared.parents.get(name), "columns": []} for name, line in declared.classes.items()}
+        found = {}
+        for name, line in declared.classes.items():
+            found[name] = {"name": name, "line": line, "parent": declared.parents.get(name), "columns": []}
         for c, label in enumerate(labels):
             if not label.startswith("is(") and class_of(label) in found:
                 found[class_of(label)]["columns"].append(c)
@@ -116,7 +120,8 @@ def put_row(places, r, label, line, taken):
     elif found:
         places.put_first(line, lambda k: places.text(k) == found[1] and places.text(k + 1) == base, ["r", r], taken)
     elif method:
-        places.put_first(line, lambda k: places.is_declared(k, method) and places.text(k + 1) == "(", ["r", r, name], set())
+        places.put_first(line, lambda k: places.is_declared(k, method) and places.text(k + 1) == "(", ["r", r, name],
+            set())
     else:
         places.put_first(line, lambda k: places.is_declared(k, name) and places.text(k + 1) != "(", ["r", r], taken)
 

@@ -51,7 +51,8 @@ GET = {
 }
 POST = {
     "edit": lambda session, given: session.edit(lists(given, "choices"), text(given, "title"), given.get("revision")),
-    "mends": lambda session, given: {"mends": session.mends(words(given, "edits"), text(given, "title"), given.get("revision"))},
+    "mends": lambda session, given: {"mends": session.mends(
+        words(given, "edits"), text(given, "title"), given.get("revision"))},
     "undo": lambda session, given: session.undo(number(given, "count"), given.get("revision")),
     "clean": lambda session, given: session.without_refused(given.get("revision")),
     "reread": lambda session, given: session.read_again(),
@@ -122,7 +123,8 @@ class Handler(BaseHTTPRequestHandler):
             self.wfile.write(body)
 
     def send_json(self, status, value):
-        self.send(status, "application/json; charset=utf-8", json.dumps(value, ensure_ascii=False).encode(errors="replace"))
+        self.send(status, "application/json; charset=utf-8",
+            json.dumps(value, ensure_ascii=False).encode(errors="replace"))
 
     def refuse(self, status, why):
         self.close_connection = True
@@ -176,7 +178,8 @@ class Handler(BaseHTTPRequestHandler):
     def download(self, name, session):
         body = DOWNLOADS[name](session)
         file = Path(session.program.file)
-        own = {"script.edits": Path(session.script.path).name, "patched.diff": file.stem + ".diff", "plan": file.stem + ".plan"}.get(name, file.name)
+        own = {"script.edits": Path(session.script.path).name, "patched.diff": file.stem + ".diff",
+            "plan": file.stem + ".plan"}.get(name, file.name)
         plain = "".join(c if c.isascii() and (c.isalnum() or c in "._-") else "_" for c in own)
         self.send(200, "application/octet-stream", body, [("Content-Disposition", f'attachment; filename="{plain}"')])
 

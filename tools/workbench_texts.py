@@ -33,7 +33,8 @@ def beside(old, new):
 def tree(session):
     """Whether a tree is found, its steps, or the conflict."""
     made = session.regenerated()
-    return {"found": made["found"], "steps": made["steps"], "conflict": made["conflict"], "revision": session.script.revision()}
+    return {"found": made["found"], "steps": made["steps"], "conflict": made["conflict"],
+        "revision": session.script.revision()}
 
 
 def patched(session):

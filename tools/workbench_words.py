@@ -4,9 +4,10 @@ import re
 from kaba_scripts import edit_of
 
 KEYWORDS = set(
-    "abstract assert boolean break byte case catch char class const continue default do double else enum extends final finally"
-    " float for goto if implements import instanceof int interface long native new package private protected public return"
-    " short static strictfp super switch synchronized this throw throws transient try void volatile while true false null _".split()
+    "abstract assert boolean break byte case catch char class const continue default do double else enum extends final"
+    " finally float for goto if implements import instanceof int interface long native new package private protected"
+    " public return short static strictfp super switch synchronized this throw throws transient try void volatile while"
+    " true false null _".split()
 )
 IDENTIFIER = re.compile(r"[^\W\d][\w$]*|\$[\w$]*")
 MOST_MENDS = 8
@@ -28,9 +29,12 @@ class Names:
     def column(self, c):
         column = self.columns[c]
         holder, name = short(column["holder"]), short(column["name"])
-        return {"field": f"the field {holder}.{name}", "declaration": f"the method {holder}.{name}()", "body": f"the body of {holder}.{name}()"}.get(
-            column["kind"], f"the mark of the tested type {holder}"
-        )
+        said = {
+            "field": f"the field {holder}.{name}",
+            "declaration": f"the method {holder}.{name}()",
+            "body": f"the body of {holder}.{name}()",
+        }
+        return said.get(column["kind"], f"the mark of the tested type {holder}")
 
     def above(self, n):
         """The nodes at or above a node."""
@@ -63,7 +67,8 @@ def told(refused, edit, names):
             return f"{names.column(refused['column'])} has no name.".capitalize()
         return f"Nothing needs {names.column(refused['column'])}, so it stands nowhere."
     if refused["why"] == "not empty":
-        return f"{names.node(refused['nodes'][0])} is not empty: only a type without members and variables can be dropped."
+        node = names.node(refused["nodes"][0])
+        return f"{node} is not empty: only a type without members and variables can be dropped."
     return OF_RULE[refused["obligation"]](refused, edit, names)
 
 
@@ -76,34 +81,44 @@ def told_b1(refused, edit, names):
 
 def told_b2(refused, edit, names):
     row, column = names.row(refused["row"]), names.column(refused["column"])
-    return f"{row} needs {column}, and its type {names.node(refused['nodes'][0])} would no longer have it: it would stand neither there nor above."
+    node = names.node(refused["nodes"][0])
+    return f"{row} needs {column}, which would stand neither at its type {node} nor above."
 
 
 def told_b3(refused, edit, names):
     lower, upper = (names.node(n) for n in refused["nodes"][:2])
-    return f"The values of {names.row(refused['row'])} go where the type {upper} is wanted, so its type {lower} has to stay at or below that one."
+    row = names.row(refused["row"])
+    return f"The values of {row} go where the type {upper} is wanted, so its type {lower} has to stay at or below it."
 
 
 def told_b4(refused, edit, names):
     row, column, node = names.row(refused["row"]), names.column(refused["column"]), names.node(refused["nodes"][0])
-    return f"The object of {row}, of type {node}, runs {column}. After the edit it would not have that body, or another body would be nearer."
+    return (
+        f"The object of {row}, of type {node}, runs {column}. "
+        "After the edit it would not have that body, or another body would be nearer."
+    )
 
 
 def told_b5(refused, edit, names):
     row, column = names.row(refused["row"]), names.column(refused["column"])
-    return f"{row} calls {column} by super. After the edit that call would not reach it, or would reach another body first."
+    return (
+        f"{row} calls {column} by super. "
+        "After the edit that call would not reach it, or would reach another body first."
+    )
 
 
 def told_b6(refused, edit, names):
     column = names.columns[refused["column"]]
-    return f"{names.node(refused['nodes'][0])} would have two bodies of one method {short(column['name'])}(); a type has one."
+    node, name = names.node(refused["nodes"][0]), short(column["name"])
+    return f"{node} would have two bodies of one method {name}(); a type has one."
 
 
 def told_b7(refused, edit, names):
     object_node, target = (names.node(n) for n in refused["nodes"][:2])
     return (
-        f"A cast, an instanceof or a store into an array would end otherwise for the object of {names.row(refused['row'])}: "
-        f"its type {object_node} and the type that is asked, {target}, must stay apart, or below one another, as they are."
+        "A cast, an instanceof or a store into an array would end otherwise for the object of "
+        f"{names.row(refused['row'])}: its type {object_node} and the type that is asked, {target}, "
+        "must stay apart, or below one another, as they are."
     )
 
 
@@ -114,17 +129,22 @@ def told_b8(refused, edit, names):
         why = "a word of the language" if name in KEYWORDS else "no name that Java can write"
         return f"'{short(name)}' is {why}."
     if column is None and name is not None:
-        return f"'{short(name)}' is taken: another type, a class with static members, or a variable, parameter or field of the text is called so."
+        return (
+            f"'{short(name)}' is taken: another type, a class with static members, "
+            "or a variable, parameter or field of the text is called so."
+        )
     if column is None:
         return f"The name of {names.node(node)} would be taken by another type or a variable."
     member = names.columns[column]
     return (
-        f"{names.node(node)} would have two members called {short(name or member['name'])}, or one with the name of a type: "
+        f"{names.node(node)} would have two members called {short(name or member['name'])}, "
+        "or one with the name of a type: "
         f"{names.column(column)} is one of them."
     )
 
 
-OF_RULE = {"B1": told_b1, "B2": told_b2, "B3": told_b3, "B4": told_b4, "B5": told_b5, "B6": told_b6, "B7": told_b7, "B8": told_b8}
+OF_RULE = {"B1": told_b1, "B2": told_b2, "B3": told_b3, "B4": told_b4, "B5": told_b5, "B6": told_b6, "B7": told_b7,
+    "B8": told_b8}
 
 
 def merge_of(numbers):
@@ -135,12 +155,14 @@ def mends(refused, edit, names):
     """What could be done instead of a refused edit: words and edits, the likeliest first."""
     found = []
     nodes = [n for kind, n in edit.numbers if kind == "n" and n in names.nodes]
-    made = {"merge": mends_of_merge, "under": mends_of_under, "move": mends_of_move, "drop": mends_of_drop}.get(edit.word)
+    makers = {"merge": mends_of_merge, "under": mends_of_under, "move": mends_of_move, "drop": mends_of_drop}
+    made = makers.get(edit.word)
     if refused["obligation"] == "B8":
         found += mends_of_names(refused, edit, names)
     if refused["obligation"] == "B3" and all(n in names.nodes for n in refused["nodes"]):
         lower, upper = refused["nodes"][:2]
-        found.append((f"Put {names.node(lower)} under {names.node(upper)} first", [f"under n{lower} n{upper}", edit.text]))
+        found.append((f"Put {names.node(lower)} under {names.node(upper)} first",
+            [f"under n{lower} n{upper}", edit.text]))
     if made and nodes:
         found += made(refused, edit, names, nodes)
     seen, kept = set(), []
@@ -160,7 +182,8 @@ def mends_of_merge(refused, edit, names, nodes):
         found.append((f"Merge what lies between too: {said}", [merge_of(closed)]))
     if len(nodes) == 2:
         a, b = nodes
-        found += [(f"Put {names.node(x)} under {names.node(y)} instead", [f"under n{x} n{y}"]) for x, y in ((b, a), (a, b))]
+        for x, y in ((x, y) for x, y in ((b, a), (a, b)) if y not in names.above(x)):
+            found.append((f"Put {names.node(x)} under {names.node(y)} instead", [f"under n{x} n{y}"]))
     elif len(nodes) > 2:
         for n in [*(n for n in refused["nodes"] if n in nodes), *reversed(nodes)]:
             rest = [k for k in nodes if k != n]
@@ -184,14 +207,17 @@ def mends_of_move(refused, edit, names, nodes):
         n = refused["nodes"][0]
         found.append((f"Put {names.node(n)} under {names.node(wanted)} first", [f"under n{n} n{wanted}", edit.text]))
     if wanted != now:
-        found.append((f"Merge {names.node(now)} and {names.node(wanted)} instead", [merge_of(names.between([now, wanted]))]))
-    near = [*names.nodes[wanted]["above"], *names.nodes[now]["above"], *names.nodes[wanted]["below"], *names.nodes[now]["below"]]
+        found.append((f"Merge {names.node(now)} and {names.node(wanted)} instead",
+            [merge_of(names.between([now, wanted]))]))
+    near = [*names.nodes[wanted]["above"], *names.nodes[now]["above"], *names.nodes[wanted]["below"],
+        *names.nodes[now]["below"]]
     found += [(f"Move it to {names.node(n)} instead", [f"move c{column} n{n}"]) for n in near if n != now]
     return found
 
 
 def mends_of_drop(refused, edit, names, nodes):
-    return [(f"Merge it with {names.node(n)} instead", [merge_of([nodes[0], n])]) for n in names.nodes[nodes[0]]["above"]]
+    return [(f"Merge it with {names.node(n)} instead", [merge_of([nodes[0], n])])
+        for n in names.nodes[nodes[0]]["above"]]
 
 
 def mends_of_names(refused, edit, names):
@@ -199,14 +225,16 @@ def mends_of_names(refused, edit, names):
         base = re.sub(r"[^\w$]", "", edit.name) or "Type"
         base = base if not base[0].isdigit() else "_" + base
         front = base[0].upper() + base[1:] if edit.word == "type" else base
-        words = [name for name in (front, front + "_", front + "2", front + "Type") if name != edit.name and name not in KEYWORDS]
+        guesses = (front, front + "_", front + "2", front + "Type")
+        words = [name for name in guesses if name != edit.name and name not in KEYWORDS]
         where = edit.text.rpartition(" ")[0]
         return [(f"Call it {short(name)}", [f"{where} {name}"]) for name in words]
     if refused["column"] is None:
         return []
     column = names.columns[refused["column"]]
     name = f"{column['name']}Of{column['holder']}"
-    return [(f"Call {names.column(refused['column'])} {short(name)} first", [f"member c{refused['column']} {name}", edit.text])]
+    return [(f"Call {names.column(refused['column'])} {short(name)} first",
+        [f"member c{refused['column']} {name}", edit.text])]
 
 
 def refusal(refused, edits, names):
@@ -214,4 +242,5 @@ def refusal(refused, edits, names):
     edit = edit_of(edits[refused["index"]], 1)
     where = {"nodes": refused["nodes"], "row": refused["row"], "column": refused["column"]}
     rule = refused["obligation"] or refused["why"]
-    return {"edit": edit.text, "rule": rule, "text": told(refused, edit, names), "where": where, "line": refused["line"]}
+    return {"edit": edit.text, "rule": rule, "text": told(refused, edit, names), "where": where,
+        "line": refused["line"]}

@@ -60,14 +60,17 @@ export function undo(count = 1) {
 
 export const refresh = () => inTurn(async () => {
   const state = await ask("state");
-  if (state.revision !== store.state.revision || state.changed !== store.state.changed || state.stale !== store.state.stale) setState(state);
+  if (state.revision !== store.state.revision || state.changed !== store.state.changed
+    || state.stale !== store.state.stale) setState(state);
 });
 
 export const post = (name, value = {}) => inTurn(async () => setState(await tell(name, value)));
-export const clean = () => inTurn(async () => setState((await tell("clean", { revision: store.state.revision })).state));
+export const clean = () => inTurn(async () => setState((await tell("clean",
+  { revision: store.state.revision })).state));
 
 const name = (n) => store.model.name(n);
-const many = (numbers) => numbers.slice(0, 4).map(name).join(", ") + (numbers.length > 4 ? ` and ${numbers.length - 4} more` : "");
+const many = (numbers) => numbers.slice(0, 4).map(name).join(", ")
+  + (numbers.length > 4 ? ` and ${numbers.length - 4} more` : "");
 
 export function merge(numbers, named = "") {
   const sorted = [...numbers].sort((a, b) => a - b);

@@ -8,9 +8,11 @@ import { emit, on, store } from "./store.js";
 const NEAR = 0.42, FAR = 0.16, LEAST = 0.02, MOST = 3, MOST_FOR_GRAPHVIZ = 400, MOST_DOWNWARDS = 24, MANY = 40;
 
 // `sideways` is null where the number of types decides.
-export const shown = { variables: true, empty: true, foldUnasked: false, sideways: null, folded: new Set(), unfolded: new Set(), hidden: new Set() };
+export const shown = { variables: true, empty: true, foldUnasked: false, sideways: null, folded: new Set(),
+  unfolded: new Set(), hidden: new Set() };
 export const view = { x: 0, y: 0, k: 1 };
-export const laid = { boxes: new Map(), edges: [], places: new Map(), sideways: false, tops: new Set(), ready: Promise.resolve() };
+export const laid = { boxes: new Map(), edges: [], places: new Map(), sideways: false, tops: new Set(),
+  ready: Promise.resolve() };
 
 const elements = new Map(), drawn = {};
 let asked = false, turn = 0, fitted = false;
@@ -23,7 +25,8 @@ function edgesShown(model) {
   const over = (n) => {
     if (nearest.has(n)) return nearest.get(n);
     const found = new Set();
-    for (const m of model.nodes.get(n).above) if (isShown(model.nodes.get(m))) found.add(m); else for (const k of over(m)) found.add(k);
+    for (const m of model.nodes.get(n).above) if (isShown(model.nodes.get(m))) found.add(m);
+      else for (const k of over(m)) found.add(k);
     const list = [...found];
     const kept = list.filter((m) => !list.some((k) => k !== m && model.isBelow(k, m)));
     nearest.set(n, kept);
@@ -39,7 +42,8 @@ export function relay() {
   const edges = edgesShown(model), sideways = shown.sideways ?? boxes.size > MOST_DOWNWARDS;
   laid.ready = placesOf(boxes, edges, sideways).then((places) => {
     if (mine !== turn) return;
-    const anchor = sideways === laid.sideways && [store.focus, ...store.selected, ...boxes.keys()].find((n) => laid.places.has(n) && places.has(n));
+    const anchor = sideways === laid.sideways && [store.focus, ...store.selected,
+      ...boxes.keys()].find((n) => laid.places.has(n) && places.has(n));
     if (fitted && anchor !== undefined && anchor !== false) {
       const [a, b] = laid.places.get(anchor), [c, d] = places.get(anchor);
       view.x += (a - c) * view.k;
@@ -54,7 +58,8 @@ export function relay() {
     redraw();
     emit("laid");
   });
-  at("counts").textContent = boxes.size === model.nodes.size ? `${boxes.size} types` : `${boxes.size} of ${model.nodes.size} types`;
+  at("counts").textContent = boxes.size === model.nodes.size ? `${boxes.size} types`
+    : `${boxes.size} of ${model.nodes.size} types`;
   return laid.ready;
 }
 
@@ -69,7 +74,8 @@ async function placesOf(boxes, edges, sideways) {
   const sizes = new Map([...boxes].map(([n, box]) => [n, [box.width, box.height]]));
   if (boxes.size && boxes.size <= MOST_FOR_GRAPHVIZ) {
     try {
-      const { positions } = await tell("layout", { nodes: [...sizes].map(([n, [w, h]]) => [n, w, h]), edges, sideways });
+      const { positions } = await tell("layout", { nodes: [...sizes].map(([n, [w, h]]) => [n, w, h]), edges,
+        sideways });
       if (positions) return new Map(Object.entries(positions).map(([n, place]) => [Number(n), place]));
     } catch (fault) {
       // The page's own layout serves as well.
@@ -94,7 +100,8 @@ function paint() {
   at("world").setAttribute("transform", `translate(${view.x} ${view.y}) scale(${view.k})`);
   for (const [n, box] of laid.boxes) {
     const [x, y] = laid.places.get(n);
-    const seen = x + box.width / 2 > left && x - box.width / 2 < right && y + box.height / 2 > top && y - box.height / 2 < bottom;
+    const seen = x + box.width / 2 > left && x - box.width / 2 < right && y + box.height / 2 > top
+      && y - box.height / 2 < bottom;
     place(n, box, x, y, seen, level);
   }
   paintEdges({ left, top, right, bottom });
@@ -128,22 +135,26 @@ function curve(a, b) {
 
 // The lines in sight and a window's width around it; they are drawn anew where what is seen comes to its edge.
 function paintEdges(seen) {
-  const known = drawn.places === laid.places && drawn.selected === store.selected && drawn.k / view.k < 2 && view.k / drawn.k < 2;
-  if (known && seen.left >= drawn.left && seen.top >= drawn.top && seen.right <= drawn.right && seen.bottom <= drawn.bottom) return;
+  const known = drawn.places === laid.places && drawn.selected === store.selected && drawn.k / view.k < 2
+    && view.k / drawn.k < 2;
+  if (known && seen.left >= drawn.left && seen.top >= drawn.top && seen.right <= drawn.right
+    && seen.bottom <= drawn.bottom) return;
   const width = seen.right - seen.left, height = seen.bottom - seen.top;
   const left = seen.left - width, top = seen.top - height, right = seen.right + width, bottom = seen.bottom + height;
   Object.assign(drawn, { places: laid.places, selected: store.selected, k: view.k, left, top, right, bottom });
   const plain = ["", ""], lit = ["", ""], faint = ["", ""];
   for (const [a, b] of laid.edges) {
     const [x1, y1] = laid.places.get(a), [x2, y2] = laid.places.get(b);
-    if (Math.max(x1, x2) < left || Math.min(x1, x2) > right || Math.max(y1, y2) < top || Math.min(y1, y2) > bottom) continue;
+    if (Math.max(x1, x2) < left || Math.min(x1, x2) > right || Math.max(y1, y2) < top
+      || Math.min(y1, y2) > bottom) continue;
     const into = store.selected.has(a) || store.selected.has(b) ? lit : laid.tops.has(b) ? faint : plain;
     const [line, head] = curve(a, b);
     into[0] += line;
     into[1] += head;
   }
   at("edges").replaceChildren(
-    draw("path", { class: "edge faint", d: faint[0] }), draw("path", { class: "edge", d: plain[0] }), draw("path", { class: "arrow", d: plain[1] }),
+    draw("path", { class: "edge faint", d: faint[0] }), draw("path", { class: "edge", d: plain[0] }),
+      draw("path", { class: "arrow", d: plain[1] }),
     draw("path", { class: "edge lit", d: lit[0] }), draw("path", { class: "arrow lit", d: lit[1] }),
   );
 }
@@ -157,7 +168,8 @@ function mark(n, element) {
   element.setAttribute("aria-selected", store.selected.has(n));
   for (const line of element.querySelectorAll(".line")) {
     const columns = (line.dataset.columns || "").split(" ");
-    const named = where && ((where.column !== null && columns.includes(String(where.column))) || line.dataset.rows === String(where.row));
+    const named = where && ((where.column !== null && columns.includes(String(where.column)))
+      || line.dataset.rows === String(where.row));
     line.classList.toggle("refused", Boolean(named));
   }
 }

@@ -9,7 +9,8 @@ function filled(element, attributes, children) {
     else if (name === "hue") element.style.setProperty("--hue", value);
     else element.setAttribute(name, value === true ? "" : String(value));
   }
-  for (const child of children.flat()) if (child !== null && child !== undefined && child !== false) element.append(child);
+  for (const child of children.flat()) if (child !== null && child !== undefined
+    && child !== false) element.append(child);
   return element;
 }
 

@@ -32,10 +32,12 @@ function neighbour(key) {
     .sort((a, b) => distance(now, laid.places.get(a), key) - distance(now, laid.places.get(b), key))[0];
   const [upwards, downwards] = laid.sideways ? ["ArrowLeft", "ArrowRight"] : ["ArrowUp", "ArrowDown"];
   if (key === upwards || key === downwards) {
-    const linked = laid.edges.flatMap(([a, b]) => key === upwards ? (a === store.focus ? [b] : []) : b === store.focus ? [a] : []);
+    const linked = laid.edges.flatMap(([a, b]) => key === upwards ? (a === store.focus ? [b] : []) : b === store.focus
+      ? [a] : []);
     if (linked.length) return near(linked);
   }
-  const side = { ArrowLeft: (p) => p[0] < now[0] - 1, ArrowRight: (p) => p[0] > now[0] + 1, ArrowUp: (p) => p[1] < now[1] - 1, ArrowDown: (p) => p[1] > now[1] + 1 }[key];
+  const side = { ArrowLeft: (p) => p[0] < now[0] - 1, ArrowRight: (p) => p[0] > now[0] + 1,
+    ArrowUp: (p) => p[1] < now[1] - 1, ArrowDown: (p) => p[1] > now[1] + 1 }[key];
   return near([...laid.places.keys()].filter((n) => side(laid.places.get(n))));
 }
 
@@ -113,8 +115,10 @@ export function help() {
   at("help").replaceChildren(
     make("h2", { id: "help-title" }, "Keys"),
     make("table", {}, make("tbody", {}, rows)),
-    make("p", {}, "By the mouse: drag a type onto another, drag a member onto a type, double-click a name, drag the ground to move the "
-      + "picture, turn the wheel to come closer; with Shift a click adds to the selection, and a frame on the ground selects what is in it."),
+    make("p", {},
+      "By the mouse: drag a type onto another, drag a member onto a type, double-click a name, drag the ground to "
+      + "move the picture, turn the wheel to come closer; with Shift a click adds to the selection, and a frame on "
+      + "the ground selects what is in it."),
     button("Close", () => at("help").close(), { autofocus: true }),
   );
   at("help").showModal();

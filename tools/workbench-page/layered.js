@@ -26,7 +26,8 @@ function neighbours(sizes, edges) {
 // The parts that hang together; what nearly all stand below joins nothing.
 function components({ ups, downs }) {
   const many = Math.max(12, ups.size / 6);
-  const seen = new Set(), parts = [], apart = [...downs].filter(([n, below]) => below.length > many && !ups.get(n).length).map(([n]) => n);
+  const seen = new Set(), parts = [], apart = [...downs].filter(([n, below]) => below.length > many
+    && !ups.get(n).length).map(([n]) => n);
   for (const n of apart) { seen.add(n); parts.push([n]); }
   for (const start of ups.keys()) {
     if (seen.has(start)) continue;

@@ -27,7 +27,8 @@ export function showTab(name) {
 }
 
 function tabKeys(event) {
-  const seen = TABS.filter((it) => !at("tab-" + it).hidden), now = seen.findIndex((it) => at("tab-" + it) === document.activeElement);
+  const seen = TABS.filter((it) => !at("tab-" + it).hidden),
+    now = seen.findIndex((it) => at("tab-" + it) === document.activeElement);
   const step = { ArrowRight: 1, ArrowLeft: -1 }[event.key];
   if (!step || now < 0) return;
   const next = seen[(now + step + seen.length) % seen.length];
@@ -37,12 +38,14 @@ function tabKeys(event) {
 }
 
 function legend() {
-  const entries = store.program.classes.filter((it) => store.model.ofClass(it.name).length || shown.hidden.has(it.name)).map((it) => {
+  const entries = store.program.classes.filter((it) => store.model.ofClass(it.name).length
+    || shown.hidden.has(it.name)).map((it) => {
     const entry = button(short(it.name, 24), () => {
       if (!shown.hidden.delete(it.name)) shown.hidden.add(it.name);
       legend();
       relay();
-    }, { class: "swatch", hue: store.model.hues.get(it.name), "aria-pressed": !shown.hidden.has(it.name), title: it.name.slice(0, 200) });
+    }, { class: "swatch", hue: store.model.hues.get(it.name), "aria-pressed": !shown.hidden.has(it.name),
+      title: it.name.slice(0, 200) });
     return entry;
   });
   at("legend").replaceChildren(...entries);
@@ -51,11 +54,14 @@ function legend() {
 function notices() {
   const { state } = store, parts = [];
   if (state.changed) {
-    parts.push(make("p", {}, "The script was changed by another program. ", button("Take what the file has", () => actions.post("reread"), { id: "reread" }), " ",
+    parts.push(make("p", {}, "The script was changed by another program. ",
+      button("Take what the file has", () => actions.post("reread"), { id: "reread" }), " ",
       button("Write mine over it", () => actions.post("keep"))));
   }
-  if (state.stale) parts.push(make("p", {}, "The program's file has another text now; what is shown is the text before. ", button("Read it again", readAgain)));
-  if (state.refused.length) parts.push(make("p", {}, `${state.refused.length} edits of the script are refused. `, button("Show them", () => showTab("script"))));
+  if (state.stale) parts.push(make("p", {},
+    "The program's file has another text now; what is shown is the text before. ", button("Read it again", readAgain)));
+  if (state.refused.length) parts.push(make("p", {}, `${state.refused.length} edits of the script are refused. `,
+    button("Show them", () => showTab("script"))));
   for (const old of at("notices").querySelectorAll(".lasting")) old.remove();
   for (const part of parts) part.className = "lasting";
   at("notices").prepend(...parts);
@@ -79,7 +85,8 @@ function restate() {
   const { state } = store;
   at("undo").disabled = !state.steps.length;
   at("redo").disabled = !state.undone.length;
-  at("undo").title = state.steps.length ? `Undo: ${short(state.steps[state.steps.length - 1].title, 80)} (Ctrl+Z)` : "Nothing to undo";
+  at("undo").title = state.steps.length ? `Undo: ${short(state.steps[state.steps.length - 1].title, 80)} (Ctrl+Z)`
+    : "Nothing to undo";
   at("redo").title = state.undone.length ? `Redo: ${short(state.undone[0].title, 80)} (Ctrl+Y)` : "Nothing to redo";
   at("kept").textContent = state.saved ? "kept in " + state.script.split("/").pop() : "not changed";
   at("kept").title = state.script;
@@ -91,7 +98,8 @@ function restate() {
 function found(word) {
   const wanted = word.toLowerCase(), hits = [];
   for (const node of store.model.nodes.values()) {
-    const texts = [node.name, ...store.model.members(node).map((it) => it.text), ...node.rows.map((r) => store.program.rows[r].label)];
+    const texts = [node.name, ...store.model.members(node).map((it) => it.text),
+      ...node.rows.map((r) => store.program.rows[r].label)];
     const k = texts.findIndex((it) => it.toLowerCase().includes(wanted));
     if (k >= 0 || "n" + node.number === wanted) hits.push({ node, text: k > 0 ? texts[k] : "", rank: k === 0 ? 0 : 1 });
   }
@@ -100,7 +108,8 @@ function found(word) {
 
 function search() {
   const field = at("find"), list = at("found");
-  const close = () => { list.hidden = true; field.setAttribute("aria-expanded", "false"); field.removeAttribute("aria-activedescendant"); };
+  const close = () => { list.hidden = true; field.setAttribute("aria-expanded", "false");
+    field.removeAttribute("aria-activedescendant"); };
   const take = (entry) => { select([Number(entry.dataset.node)], true); close(); };
   const point = (entry) => {
     for (const it of list.children) it.setAttribute("aria-selected", it === entry);
@@ -109,8 +118,10 @@ function search() {
   };
   field.addEventListener("input", () => {
     const hits = field.value.trim() ? found(field.value.trim()) : [];
-    list.replaceChildren(...hits.map(({ node, text }, k) => make("li", { role: "option", id: "hit" + k, "data-node": node.number, "aria-selected": "false" },
-      make("b", {}, short(node.name, 40)), text ? " " + short(text, 40) : "", make("span", { class: "quiet" }, ` n${node.number}`))));
+    list.replaceChildren(...hits.map(({ node, text }, k) =>
+      make("li", { role: "option", id: "hit" + k, "data-node": node.number, "aria-selected": "false" },
+      make("b", {}, short(node.name, 40)), text ? " " + short(text, 40) : "",
+        make("span", { class: "quiet" }, ` n${node.number}`))));
     list.hidden = !hits.length;
     field.setAttribute("aria-expanded", String(hits.length > 0));
     if (hits.length) point(list.firstChild);
@@ -124,7 +135,8 @@ function search() {
     else return;
     event.preventDefault();
   });
-  list.addEventListener("pointerdown", (event) => { const entry = event.target.closest("li"); if (entry) { event.preventDefault(); take(entry); } });
+  list.addEventListener("pointerdown", (event) => { const entry = event.target.closest("li");
+    if (entry) { event.preventDefault(); take(entry); } });
   field.addEventListener("blur", close);
 }
 
@@ -134,7 +146,8 @@ function theme() {
   try { kept = localStorage.getItem("kaba-theme"); } catch (error) { /* no storage: the browser's own choice */ }
   if (kept) root.dataset.theme = kept;
   at("theme").addEventListener("click", () => {
-    const dark = root.dataset.theme ? root.dataset.theme === "dark" : matchMedia("(prefers-color-scheme: dark)").matches;
+    const dark = root.dataset.theme ? root.dataset.theme === "dark"
+      : matchMedia("(prefers-color-scheme: dark)").matches;
     root.dataset.theme = dark ? "light" : "dark";
     try { localStorage.setItem("kaba-theme", root.dataset.theme); } catch (error) { /* it lasts as long as the page */ }
   });

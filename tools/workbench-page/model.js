@@ -86,7 +86,8 @@ export class Model {
   // What the selected ones need that no other creation does.
   alone(numbers) {
     const mine = new Set([...numbers].flatMap((n) => [...this.above(n)]));
-    const others = [...this.nodes.values()].filter((node) => this.makes(node) && ![...numbers].some((n) => this.isBelow(node.number, n)));
+    const others = [...this.nodes.values()].filter((node) => this.makes(node)
+      && ![...numbers].some((n) => this.isBelow(node.number, n)));
     const theirs = new Set(others.flatMap((node) => [...this.above(node.number)]));
     return [...mine].filter((n) => !theirs.has(n));
   }
@@ -115,7 +116,8 @@ export class Model {
     const members = this.members(node).length;
     const parts = [node.kind + " " + node.name, "number " + node.number];
     if (node.origin) parts.push("from " + node.origin);
-    parts.push(members + (members === 1 ? " member" : " members"), node.rows.length + (node.rows.length === 1 ? " variable" : " variables"));
+    parts.push(members + (members === 1 ? " member" : " members"), node.rows.length
+      + (node.rows.length === 1 ? " variable" : " variables"));
     if (node.above.length) parts.push("below " + node.above.map((n) => this.name(n)).join(" and "));
     return parts.join(", ");
   }

@@ -18,7 +18,8 @@ function begin(event) {
   if (event.button !== 0) return;
   closeMenu();
   const node = event.target.closest(".node"), line = event.target.closest(".member");
-  drag = { x: event.clientX, y: event.clientY, moved: false, node: node && numberOf(node), more: event.shiftKey || event.ctrlKey || event.metaKey };
+  drag = { x: event.clientX, y: event.clientY, moved: false, node: node && numberOf(node), more: event.shiftKey
+    || event.ctrlKey || event.metaKey };
   if (line) drag.columns = line.dataset.columns.split(" ").map(Number);
   drag.item = event.target.closest(".line")?.dataset.item;
   drag.kind = node ? (line ? "member" : "node") : event.shiftKey ? "band" : "pan";
@@ -54,11 +55,14 @@ function band(event) {
 function ghost(event) {
   const it = at("ghost");
   it.hidden = false;
-  it.textContent = drag.kind === "member" ? store.model.columnName(drag.columns[0]) : draggedTypes().map((n) => store.model.name(n)).slice(0, 3).join(", ");
+  it.textContent = drag.kind === "member" ? store.model.columnName(drag.columns[0])
+    : draggedTypes().map((n) => store.model.name(n)).slice(0, 3).join(", ");
   it.style.left = event.clientX + 14 + "px";
   it.style.top = event.clientY + 10 + "px";
   const target = belowPointer(event);
-  for (const other of document.querySelectorAll("#boxes .target")) if (other !== target) other.classList.remove("target");
+  for (const other of document.querySelectorAll("#boxes .target")) {
+    if (other !== target) other.classList.remove("target");
+  }
   if (target && numberOf(target) !== drag.node) target.classList.add("target");
 }
 
@@ -99,7 +103,8 @@ function takeBand(area) {
   if (!area) return;
   const found = [...laid.boxes.keys()].filter((n) => {
     const it = onScreen(n);
-    return it.x < area.x + area.width && it.x + it.width > area.x && it.y < area.y + area.height && it.y + it.height > area.y;
+    return it.x < area.x + area.width && it.x + it.width > area.x && it.y < area.y + area.height && it.y
+      + it.height > area.y;
   });
   select([...store.selected, ...found]);
 }
@@ -120,7 +125,8 @@ function dropMenu(event, dragged, target) {
 
 export function openMenu(x, y, choices) {
   const menu = at("menu");
-  menu.replaceChildren(...choices.map(([text, what]) => button(text, () => { closeMenu(); what(); }, { role: "menuitem" })));
+  menu.replaceChildren(...choices.map(([text, what]) => button(text, () => { closeMenu(); what(); },
+    { role: "menuitem" })));
   menu.hidden = false;
   menu.style.left = Math.min(x, innerWidth - menu.offsetWidth - 8) + "px";
   menu.style.top = Math.min(y, innerHeight - menu.offsetHeight - 8) + "px";
@@ -147,7 +153,8 @@ function menuKeys(event) {
 // A field for a name, over what is named.
 export function nameInPlace(number, columns = null) {
   const element = document.getElementById("n" + number);
-  const onIt = columns && element ? element.querySelector(`.member[data-columns="${columns.join(" ")}"] rect`) : element && element.querySelector(".head, .box");
+  const onIt = columns && element ? element.querySelector(`.member[data-columns="${columns.join(" ")}"] rect`) : element
+    && element.querySelector(".head, .box");
   if (!onIt) return;
   const place = onIt.getBoundingClientRect(), size = at("canvas").getBoundingClientRect();
   const field = document.createElement("input");
@@ -197,5 +204,6 @@ export function listenToPointer() {
     zoom(WHEEL ** -event.deltaY, event.clientX - size.left, event.clientY - size.top);
   }, { passive: false });
   at("menu").addEventListener("keydown", menuKeys);
-  document.addEventListener("pointerdown", (event) => { if (!event.target.closest("#menu")) at("menu").hidden = true; });
+  document.addEventListener("pointerdown", (event) => { if (!event.target.closest("#menu")) at("menu").hidden = true;
+    });
 }

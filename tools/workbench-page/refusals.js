@@ -8,22 +8,26 @@ const MARGIN = 12;
 
 function chips(refusal) {
   const { nodes, row, column } = refusal.where;
-  const found = [...new Set(nodes)].filter((n) => store.model.nodes.has(n)).map((n) => button(store.model.name(n), () => select([n], true), { class: "chip" }));
+  const found = [...new Set(nodes)].filter((n) => store.model.nodes.has(n)).map((n) =>
+    button(store.model.name(n), () => select([n], true), { class: "chip" }));
   if (row !== null) {
     const it = store.program.rows[row];
     found.push(button(`${it.label}, line ${it.line}`, () => emit("show-item", "r" + row), { class: "chip" }));
   }
   if (column !== null) {
     const it = store.program.columns[column];
-    found.push(button(`${it.holder}.${it.name}, line ${it.line}`, () => emit("show-item", "c" + column), { class: "chip" }));
+    found.push(button(`${it.holder}.${it.name}, line ${it.line}`, () => emit("show-item", "c" + column),
+      { class: "chip" }));
   }
   return found;
 }
 
 function mendsOf(refusal) {
   if (refusal.mends === null) return [make("p", { class: "quiet" }, "Trying what would mend it ..")];
-  if (!refusal.mends.length) return [make("p", { class: "quiet" }, "Nothing near this edit is accepted: look at the types that are named here.")];
-  const list = refusal.mends.map((it) => make("li", {}, button(it.title, () => apply(it.edits, it.title), { class: "mend", title: it.edits.join("; ") })));
+  if (!refusal.mends.length) return [make("p", { class: "quiet" },
+    "Nothing near this edit is accepted: look at the types that are named here.")];
+  const list = refusal.mends.map((it) => make("li", {}, button(it.title, () => apply(it.edits, it.title),
+    { class: "mend", title: it.edits.join("; ") })));
   return [make("p", {}, "This would be accepted:"), make("ul", {}, list)];
 }
 
@@ -32,7 +36,8 @@ function show() {
   box.hidden = !refusal;
   if (!refusal) return;
   box.replaceChildren(
-    make("div", { class: "row" }, make("strong", {}, "Refused: " + refusal.title), button("\u00d7", close, { "aria-label": "Close", class: "close" })),
+    make("div", { class: "row" }, make("strong", {}, "Refused: " + refusal.title),
+      button("\u00d7", close, { "aria-label": "Close", class: "close" })),
     make("p", {}, refusal.text),
     make("p", { class: "chips" }, chips(refusal)),
     ...mendsOf(refusal),
@@ -53,8 +58,10 @@ function placeBeside(near, own, size) {
     { x: near.x - own.width - MARGIN, y: near.y },
     { x: near.x, y: near.y + near.height + MARGIN },
     { x: near.x, y: near.y - own.height - MARGIN },
-  ].map(({ x, y }, k) => k < 2 ? { x, y: within(y, own.height, size.height) } : { x: within(x, own.width, size.width), y });
-  return places.find(({ x, y }) => x >= MARGIN && y >= MARGIN && x + own.width <= size.width - MARGIN && y + own.height <= size.height - MARGIN);
+  ].map(({ x, y }, k) => k < 2 ? { x, y: within(y, own.height, size.height) }
+    : { x: within(x, own.width, size.width), y });
+  return places.find(({ x, y }) => x >= MARGIN && y >= MARGIN && x + own.width <= size.width - MARGIN && y
+    + own.height <= size.height - MARGIN);
 }
 
 const within = (from, length, most) => Math.max(MARGIN, Math.min(from, most - length - MARGIN));
@@ -64,7 +71,8 @@ function stand() {
   const refusal = store.refusal, box = at("refusal");
   if (!refusal) return;
   const size = at("canvas").getBoundingClientRect(), own = box.getBoundingClientRect();
-  const near = refusal.where.nodes.map(onScreen).find((it) => it && it.x + it.width > 0 && it.y + it.height > 0 && it.x < size.width && it.y < size.height);
+  const near = refusal.where.nodes.map(onScreen).find((it) => it && it.x + it.width > 0 && it.y + it.height > 0
+    && it.x < size.width && it.y < size.height);
   const place = (near && placeBeside(near, own, size)) || { x: size.width - own.width - MARGIN, y: MARGIN };
   box.style.left = Math.max(MARGIN, place.x) + "px";
   box.style.top = Math.max(MARGIN, place.y) + "px";

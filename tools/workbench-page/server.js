@@ -19,4 +19,5 @@ async function answer(path, options) {
 export const ask = (name) => answer("api/" + name);
 
 export const tell = (name, value) =>
-  answer("api/" + name, { method: "POST", headers: { "Content-Type": "application/json" }, body: JSON.stringify(value) });
+  answer("api/" + name, { method: "POST", headers: { "Content-Type": "application/json" },
+    body: JSON.stringify(value) });

@@ -35,10 +35,12 @@ function build() {
   const view = at("view-source");
   spots = [];
   current = -1;
-  const listing = make("div", { class: "source mono", tabindex: "0", "aria-label": "The source. Arrow keys go along what is marked, Enter selects its type" });
+  const listing = make("div", { class: "source mono", tabindex: "0",
+    "aria-label": "The source. Arrow keys go along what is marked, Enter selects its type" });
   const lines = store.program.source;
   for (let k = 0; k < lines.length; k += CHUNK) {
-    const chunk = make("div", { class: "chunk" }, lines.slice(k, k + CHUNK).map((pieces, j) => lineOf(pieces, k + j + 1)));
+    const chunk = make("div", { class: "chunk" }, lines.slice(k, k
+      + CHUNK).map((pieces, j) => lineOf(pieces, k + j + 1)));
     chunk.style.containIntrinsicSize = `auto ${Math.min(CHUNK, lines.length - k) * 18}px`;
     listing.append(chunk);
   }
@@ -93,7 +95,8 @@ function markAll() {
 function light() {
   let first = null;
   const where = store.refusal?.where;
-  const named = new Set(where ? [where.row !== null && "r" + where.row, where.column !== null && "c" + where.column].filter((it) => it) : []);
+  const named = new Set(where ? [where.row !== null && "r" + where.row, where.column !== null && "c"
+    + where.column].filter((it) => it) : []);
   for (const spot of spots) {
     const items = spot.dataset.items.split(" ");
     const lit = nodesOf(items).some((n) => store.selected.has(n));

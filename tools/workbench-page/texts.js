@@ -19,25 +19,30 @@ function parted(text, other, kind) {
   while (front < most && text[front] === other[front]) front++;
   while (back < most - front && text[text.length - 1 - back] === other[other.length - 1 - back]) back++;
   if ((front + back) * 3 < most) return [text];
-  return [text.slice(0, front), make("mark", {}, text.slice(front, text.length - back)), text.slice(text.length - back)];
+  return [text.slice(0, front), make("mark", {}, text.slice(front, text.length - back)),
+    text.slice(text.length - back)];
 }
 
 function diffRow([kind, i, left, j, right]) {
   const row = make("tr", { class: kind });
-  row.append(make("td", { class: "number" }, i ? String(i) : ""), make("td", { class: "code left" }, parted(left, right, kind)),
-    make("td", { class: "number" }, j ? String(j) : ""), make("td", { class: "code right" }, parted(right, left, kind)));
+  row.append(make("td", { class: "number" }, i ? String(i) : ""),
+    make("td", { class: "code left" }, parted(left, right, kind)),
+    make("td", { class: "number" }, j ? String(j) : ""), make("td", { class: "code right" },
+      parted(right, left, kind)));
   return row;
 }
 
 function formField() {
-  const field = make("select", { "aria-label": "Which text", id: "java-form" }, forms().map((it) => make("option", { value: it, selected: it === chosenForm() }, NAMES[it])));
+  const field = make("select", { "aria-label": "Which text", id: "java-form" },
+    forms().map((it) => make("option", { value: it, selected: it === chosenForm() }, NAMES[it])));
   field.addEventListener("change", () => { form = field.value; showJava(); });
   return field;
 }
 
 function nextChange(table, step) {
   const rows = [...table.querySelectorAll("tr")];
-  const begins = rows.filter((row, k) => !row.classList.contains("same") && (k === 0 || rows[k - 1].classList.contains("same")));
+  const begins = rows.filter((row, k) => !row.classList.contains("same")
+    && (k === 0 || rows[k - 1].classList.contains("same")));
   if (!begins.length) return;
   const now = begins.findIndex((row) => row.classList.contains("here"));
   const next = begins[(now + step + begins.length) % begins.length] || begins[0];
@@ -56,19 +61,26 @@ async function showJava() {
     const answer = await tell("java", { form: chosenForm() });
     if (mine !== turn || answer.superseded) return;
     const bodies = [];
-    for (let k = 0; k < answer.rows.length; k += CHUNK) bodies.push(make("tbody", {}, answer.rows.slice(k, k + CHUNK).map(diffRow)));
-    const table = make("table", { class: "diff mono", id: "diff" }, make("caption", { class: "unseen" }, "The old text on the left, the new one on the right"),
-      make("colgroup", {}, make("col", { class: "count" }), make("col"), make("col", { class: "count" }), make("col")), bodies);
+    for (let k = 0; k < answer.rows.length; k += CHUNK) bodies.push(make("tbody", {},
+      answer.rows.slice(k, k + CHUNK).map(diffRow)));
+    const table = make("table", { class: "diff mono", id: "diff" },
+      make("caption", { class: "unseen" }, "The old text on the left, the new one on the right"),
+      make("colgroup", {}, make("col", { class: "count" }), make("col"), make("col", { class: "count" }), make("col")),
+        bodies);
     const file = answer.form + ".java";
     view.replaceChildren(
-      make("div", { class: "bar" }, make("label", {}, "The new text ", formField()), button("Next difference", () => nextChange(table, 1)),
-        button("The one before", () => nextChange(table, -1)), make("a", { href: "get/" + file, download: "", class: "button", id: "get-java" }, "Download"),
-        answer.form === "patched" ? make("a", { href: "get/patched.diff", download: "", class: "button" }, "As a diff") : null,
+      make("div", { class: "bar" }, make("label", {}, "The new text ", formField()),
+        button("Next difference", () => nextChange(table, 1)),
+        button("The one before", () => nextChange(table, -1)),
+          make("a", { href: "get/" + file, download: "", class: "button", id: "get-java" }, "Download"),
+        answer.form === "patched" ? make("a", { href: "get/patched.diff", download: "", class: "button" }, "As a diff")
+          : null,
         make("span", { class: "quiet" }, `${answer.changed} of ${answer.rows.length} lines differ`)),
       answer.said ? make("p", { class: "quiet note" }, answer.said) : "",
       make("div", { class: "scroll", tabindex: "0", "aria-label": "Old and new text beside each other" }, table));
   } catch (fault) {
-    if (mine === turn) view.replaceChildren(make("div", { class: "bar" }, make("label", {}, "The new text ", formField())), make("p", { class: "fault" }, fault.message));
+    if (mine === turn) view.replaceChildren(make("div", { class: "bar" },
+      make("label", {}, "The new text ", formField())), make("p", { class: "fault" }, fault.message));
   }
 }
 
@@ -85,10 +97,12 @@ export function wordsIn(line) {
   return word === null ? found : [...found, word];
 }
 
-const HOW = { 0: "it came to its end", 10: "it ended in a fault", 11: "the bound on steps stopped it", "-1": "it was stopped" };
+const HOW = { 0: "it came to its end", 10: "it ended in a fault", 11: "the bound on steps stopped it",
+  "-1": "it was stopped" };
 
 function runShown(title, run) {
-  return make("section", {}, make("h3", {}, title), make("p", { class: "quiet" }, HOW[run.status] || `status ${run.status}`, run.error ? `: ${run.error}` : ""),
+  return make("section", {}, make("h3", {}, title), make("p", { class: "quiet" }, HOW[run.status]
+    || `status ${run.status}`, run.error ? `: ${run.error}` : ""),
     make("pre", { class: "mono output", tabindex: "0" }, run.output));
 }
 
@@ -101,15 +115,18 @@ function buildRuns() {
     try {
       const both = await tell("run", { words: wordsIn(given.value), steps: Number(steps.value), form: chosenForm() });
       if (both.superseded) throw new Error("The script changed in the meantime: run both again.");
-      answer.replaceChildren(make("p", { class: both.same ? "good" : "fault" }, both.same ? "Both print the same, and end alike." : "They differ."),
+      answer.replaceChildren(make("p", { class: both.same ? "good" : "fault" }, both.same
+        ? "Both print the same, and end alike." : "They differ."),
         make("div", { class: "two" }, runShown("The old program", both.old), runShown("The new program", both.new)));
     } catch (fault) {
       answer.replaceChildren(make("p", { class: "fault" }, fault.message));
     }
   };
-  for (const field of [given, steps]) field.addEventListener("keydown", (event) => { if (event.key === "Enter") go(); });
+  for (const field of [given, steps]) field.addEventListener("keydown",
+    (event) => { if (event.key === "Enter") go(); });
   at("view-runs").replaceChildren(
-    make("div", { class: "bar" }, make("label", {}, "Words of main ", given), make("label", {}, "Steps at most ", steps), button("Run both", go, { id: "run-both", class: "main" })),
+    make("div", { class: "bar" }, make("label", {}, "Words of main ", given),
+      make("label", {}, "Steps at most ", steps), button("Run both", go, { id: "run-both", class: "main" })),
     answer);
 }
 

@@ -1,18 +1,16 @@
 -- The analysis of a program has one answer, and so have a script, an edit and what is written.
-use Rattle.std.proofs.Common.{◌≡◌, ◌⊎◌, inl, inr, ⊎_elim, ℕ, ◌<◌, ◌≤◌, ◌==◌, Bool, true, false, List, [], ◌∷◌, ◌++◌, length, map, Option, Some, None, Result, Ok, Err, refl, sym, ap, ◌∙◌, subst, arith, codes, if◌then◌else◌}
+use Rattle.std.proofs.Common.{◌≡◌, ◌⊎◌, inl, inr, ⊎_elim, ℕ, ◌≤◌, Bool, true, false, List, [], ◌∷◌, ◌++◌, length, map, Option, Some, None, refl, sym, ap, ◌∙◌, subst, arith, codes}
 use Rattle.std.specs.Str.{encode_utf8_all}
 use Rattle.std.specs.List.{flat_map}
 use Rattle.std.proofs.lemmas.Option.{same_Some}
 use Rattle.kaba_base.proofs.ListLemmas.{map_map}
-use Rattle.kaba_base.specs.declared.NodeId.{NodeId}
 use Rattle.java_print.specs.Layout.{tree_text}
 use Rattle.java_core.specs.declared.Program.{Program}
 use Rattle.java_core.specs.Programs.{program_of}
 use Rattle.fact_model.specs.declared.facts.Facts.{Facts}
-use Rattle.fact_model.specs.declared.sets.PointsTo.{PointsTo}
 use Rattle.fact_model.specs.declared.sets.Table.{Table}
 use Rattle.fact_model.specs.declared.sets.Lattice.{Lattice}
-use Rattle.fact_model.specs.Concepts.{Pair, pair_of, IsLattice, AreMoreThan}
+use Rattle.fact_model.specs.Concepts.{pair_of, IsLattice, AreMoreThan}
 use Rattle.concept_build.specs.Laws.{Told, told}
 use Rattle.concept_build.proofs.Uniqueness.{one_lattice, not_both}
 use Rattle.flow_rules.specs.Facts.{TooMany, too_many}
@@ -23,22 +21,19 @@ use Rattle.hier_model.specs.Hierarchies.{Hierarchy}
 use Rattle.hier_model.specs.Start.{start_of}
 use Rattle.hier_model.specs.declared.edits.Edit.{Edit}
 use Rattle.hier_model.specs.declared.edits.Edit.TheVariants as edit
-use Rattle.hier_edit.specs.declared.ApplyFault.{ApplyFault}
 use Rattle.hier_edit.specs.Applied.{outcome, applied}
 use Rattle.hier_view.specs.Text.{hierarchy_text}
 use Rattle.hier_view.specs.EditText.{nodes_text, edit_text}
-use Rattle.hier_script.specs.Scripts.{kept, refusal, after_edit, after_edits, refusals_of}
+use Rattle.hier_script.specs.Scripts.{kept, refusal, after_edits, refusals_of}
 use Rattle.hier_script.specs.Refusals.{broken_text}
 use Rattle.hier_tree.specs.declared.Conflict.{Conflict}
 use Rattle.hier_tree.specs.Trees.{Try, MakeOne, PutUnder, Step, End, Tree, Stuck, Grows, IsEditOf, try_of}
 use Rattle.hier_tree.proofs.GrowLemmas.{one_tree}
 use Rattle.hier_rules.specs.declared.broken.Broken.{Broken}
 use Rattle.tree_merge.specs.declared.steps.TreeStep.{TreeStep}
-use Rattle.tree_merge.specs.declared.trees.NoTree.{NoTree}
-use Rattle.tree_merge.specs.Logs.{step_of, steps_of, AreEdits}
-use Rattle.hier_log.specs.Lines.{conflict_text, log_line, log_text, no_tree_text}
+use Rattle.tree_merge.specs.Logs.{steps_of, AreEdits}
+use Rattle.hier_log.specs.Lines.{conflict_text, log_text, no_tree_text}
 use Rattle.edit_script.specs.declared.lines.Line.{Line}
-use Rattle.edit_script.specs.Script.{AreEditsOf}
 use Rattle.std.proofs.lemmas.List.Elements.{All-head, All-tail}
 use Rattle.write_model.specs.Written.{java_tree}
 use Rattle.java_write.specs.Written.{IsWrittenText}
@@ -46,12 +41,12 @@ use Rattle.kaba_top.specs.declared.cause_words.Cause.TheVariants as cause
 use Rattle.kaba_top.specs.CauseWords.{cause_text}
 use Rattle.kaba_top.specs.Lines.{Says, Gives, line}
 use Rattle.kaba_top.specs.TextFacts.{shown}
-use Rattle.kaba_top.specs.FactsAnswers.{HasFacts, AnalysisAnswers, TableOf, LatticeOf, IsTooMany, too_many_concepts}
-use Rattle.kaba_top.specs.ScriptAnswers.{HasLattice, IsNotRun, IsRun, ScriptAnswers, bad_script, too_many_edits, edited, refusals}
+use Rattle.kaba_top.specs.FactsAnswers.{AnalysisAnswers, TableOf, LatticeOf, too_many_concepts}
+use Rattle.kaba_top.specs.ScriptAnswers.{HasLattice, ScriptAnswers, bad_script, too_many_edits, edited, refusals}
 use Rattle.kaba_top.specs.ScriptAnswers as script
 use Rattle.kaba_top.specs.EditAnswers.{edit_status, ShowsHierarchy, EditOf}
-use Rattle.kaba_top.specs.RegenAnswers.{IsTreeOf, EndsAtConflict, IsRegenerated, IsWithoutTree, IsRegeneration, RegenOf}
-use Rattle.kaba_top.specs.OneAnswer.{AreOne, AreOneKind}
+use Rattle.kaba_top.specs.RegenAnswers.{IsRegeneration, RegenOf}
+use Rattle.kaba_top.specs.OneAnswer.{AreOneKind}
 use Rattle.kaba_top.proofs.SameSets.{one_points, one_set_rows, one_width, one_table}
 use Rattle.kaba_top.proofs.SameHierarchies.{start_is}
 use Rattle.kaba_top.proofs.SameSteps.{applied_is, grows_on}

@@ -1,5 +1,5 @@
 -- For one list of words and one pair of files there is one answer.
-use Rattle.std.proofs.Common.{◌≡◌, ◌⊎◌, inl, inr, ⊎_elim, ℕ, ◌-◌, ◌<◌, ◌≤◌, Bool, true, false, List, [], ◌∷◌, length, map, Option, Some, None, refl, sym, ap, ◌∙◌, subst, arith}
+use Rattle.std.proofs.Common.{◌≡◌, inl, inr, ℕ, ◌-◌, Bool, true, false, List, [], length, map, Option, Some, None, refl, sym, ap, ◌∙◌, subst, arith}
 use Rattle.std.proofs.lemmas.List.{length-map}
 use Rattle.std.proofs.lemmas.Option.{same_Some}
 use Rattle.kaba_base.specs.Outside.{Files}
@@ -18,16 +18,15 @@ use Rattle.concept_build.specs.Laws.{told}
 use Rattle.kaba_words.specs.Commands.{Cmd, run, table, lattice, edit, regen, make, help, version, usual_concepts}
 use Rattle.kaba_top.specs.declared.make.Counts.{Counts}
 use Rattle.kaba_top.specs.About.{help_text, version_text}
-use Rattle.kaba_top.specs.Lines.{usage, cannot_read, most_bytes, file_too_large}
+use Rattle.kaba_top.specs.Lines.{usage, cannot_read, file_too_large}
 use Rattle.kaba_top.specs.Reading.{TextAnswers}
 use Rattle.kaba_top.specs.RunAnswers.{EndGives, RunAnswers}
 use Rattle.kaba_top.specs.FactsAnswers.{AnalysisAnswers, TableOf, LatticeOf, too_many_concepts}
-use Rattle.kaba_top.specs.ScriptAnswers.{HasLattice}
 use Rattle.kaba_top.specs.EditAnswers.{EditOf}
 use Rattle.kaba_top.specs.RegenAnswers.{RegenOf}
-use Rattle.kaba_top.specs.MakeAnswers.{sample_text, MadeTextAnswers, RunGives, WrittenGives, MadeOf, MakeAnswers, counts_of, made_steps, summary}
-use Rattle.kaba_top.specs.Answers.{FileAnswers, EditAnswers, RegenAnswers, CommandAnswers, Answers}
-use Rattle.kaba_top.specs.OneAnswer.{AreOne, AreOneKind, HasOneAnswer}
+use Rattle.kaba_top.specs.MakeAnswers.{sample_text, MadeTextAnswers, RunGives, WrittenGives, MadeOf, MakeAnswers, counts_of, made_steps}
+use Rattle.kaba_top.specs.Answers.{FileAnswers, EditAnswers, RegenAnswers, CommandAnswers}
+use Rattle.kaba_top.specs.OneAnswer.{AreOneKind, HasOneAnswer}
 use Rattle.kaba_top.proofs.SameSets.{one_table, one_width}
 use Rattle.kaba_top.proofs.OneCommand.{one_command}
 use Rattle.kaba_top.proofs.OneText.{one_text}

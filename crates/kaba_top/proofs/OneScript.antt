@@ -1,9 +1,8 @@
 -- A script has one list of edits, or one first bad line.
-use Rattle.std.proofs.Common.{◌≡◌, ◌⊎◌, inl, inr, ⊎_elim, ℕ, ◌+◌, ◌<◌, ◌≤◌, Bool, true, false, List, [], ◌∷◌, ◌++◌, length, map, Result, Ok, refl, sym, ap, ◌∙◌, subst, arith, codes}
-use Rattle.std.specs.Prelude.{slice_index, All}
-use Rattle.std.specs.List.{filter, slice_split, onto_first}
+use Rattle.std.proofs.Common.{◌≡◌, ◌⊎◌, inl, inr, ⊎_elim, ℕ, ◌+◌, List, [], ◌∷◌, length, map, Ok, refl, sym, ap, ◌∙◌, subst, arith}
+use Rattle.std.specs.Prelude.{All}
+use Rattle.std.specs.List.{filter, onto_first}
 use Rattle.std.specs.Fmt.{decimal}
-use Rattle.std.specs.Str.{encode_utf8_all}
 use Rattle.std.proofs.lemmas.Fmt.{decimal_injective}
 use Rattle.std.proofs.lemmas.List.Splits.{slice_split-cons_no}
 use Rattle.std.proofs.lemmas.List.Elements.{All-head, All-tail}
@@ -17,7 +16,7 @@ use Rattle.hier_model.specs.Hierarchies.{Hierarchy}
 use Rattle.hier_model.specs.Edits.{first_unknown, first_between, merged, unless, changed}
 use Rattle.fact_model.specs.declared.facts.Facts.{Facts}
 use Rattle.edit_script.specs.declared.lines.Line.{Line}
-use Rattle.edit_script.specs.Script.{is_space, is_there, parts_of, words_in, node_word, column_word, words_of, IsId, IsNode, IsSound, Writes, IsComment, IsEditLine, IsBadLine, IsNext, IsNone, AreEditsFrom, AreEditsOf, IsFirstBadFrom, IsFirstBadLine, lines_of}
+use Rattle.edit_script.specs.Script.{is_space, is_there, parts_of, words_in, node_word, column_word, words_of, IsId, IsNode, IsSound, IsComment, IsEditLine, IsBadLine, IsNext, AreEditsFrom, AreEditsOf, IsFirstBadFrom, IsFirstBadLine, lines_of}
 
 heads : {A : Type 0} {x y : A} {xs ys : List A} → x ∷ xs ≡ y ∷ ys → x ≡ y
 heads e = cc e

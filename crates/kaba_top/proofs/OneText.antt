@@ -1,7 +1,6 @@
 -- A text is refused, or it is that of one program; it is refused in one way, but for what may be told of names, of types and of tokens.
-use Rattle.std.proofs.Common.{◌≡◌, ◌⊎◌, inl, inr, ℕ, ◌≤◌, List, Result, Ok, Err, refl, sym, ap, ◌∙◌, subst, arith, codes}
+use Rattle.std.proofs.Common.{◌≡◌, inl, inr, ℕ, ◌≤◌, List, Result, Ok, Err, refl, sym, ap, ◌∙◌, subst, arith, codes}
 use Rattle.java_lex.specs.declared.Token.{Token}
-use Rattle.java_lex.specs.declared.LexFault.{LexFault}
 use Rattle.java_lex.specs.Lexing.{tokens_of}
 use Rattle.java_tree.specs.Syntax.{DeclTree}
 use Rattle.java_tree.specs.Declarations.{IsPlaced, Derives}

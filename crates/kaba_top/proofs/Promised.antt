@@ -16,7 +16,7 @@ use Rattle.hier_model.specs.Edits.{changed}
 use Rattle.hier_model.specs.declared.edits.ChangeFault.{ChangeFault}
 use Rattle.hier_rules.specs.declared.broken.Broken.{Broken}
 use Rattle.hier_rules.specs.First.{first_of_edit}
-use Rattle.hier_edit.specs.Applied.{fault_of, unless_broken, outcome}
+use Rattle.hier_edit.specs.Applied.{unless_broken, outcome}
 use Rattle.hier_script.specs.Scripts.{kept, refusal, after_edits, refusals_of}
 use Rattle.edit_script.specs.declared.lines.Line.{Line}
 use Rattle.edit_script.specs.Script.{AreEditsOf}
@@ -32,11 +32,11 @@ use Rattle.kaba_top.specs.TextPrograms.{IsTypedText}
 use Rattle.kaba_top.specs.Reading.{IsRefusedText, TextAnswers}
 use Rattle.kaba_top.specs.TextFacts.{HasTextFacts}
 use Rattle.kaba_top.specs.FactsAnswers.{HasFacts, AnalysisAnswers, LatticeOf}
-use Rattle.kaba_top.specs.ScriptAnswers.{HasLattice, IsNotRun, IsRun, ScriptAnswers, start_of, edited, refusals}
+use Rattle.kaba_top.specs.ScriptAnswers.{HasLattice, IsRun, ScriptAnswers, start_of, edited, refusals}
 use Rattle.kaba_top.specs.EditAnswers.{EditOf, ShowsHierarchy}
-use Rattle.kaba_top.specs.RegenAnswers.{IsRegenerated, IsRegeneration, RegenOf}
+use Rattle.kaba_top.specs.RegenAnswers.{IsRegeneration, RegenOf}
 use Rattle.kaba_top.specs.Answers.{FileAnswers, EditAnswers, RegenAnswers, CommandAnswers, Replies}
-use Rattle.kaba_top.specs.Promise.{IsAnalysis, ShowsLattice, AreJudged, none, made, breaks, unmade, JudgesEdits, IsRebuilt, TellsEdits, WritesProgram, FindsNoTree, OfFile, Promises, IsPromised}
+use Rattle.kaba_top.specs.Promise.{ShowsLattice, AreJudged, none, made, breaks, unmade, JudgesEdits, IsRebuilt, TellsEdits, WritesProgram, FindsNoTree, OfFile, Promises, IsPromised}
 
 -- what is known of the facts of a program tells which facts they are
 text_facts : (p : Program) (F : Facts) → HasFacts p F → HasTextFacts (program_of p) F
@@ -234,8 +234,8 @@ module _ (status : ℕ) (out err : List ℕ) (z : status ≡ 5) where
   no_done false e = not_five 4 (omega arith) e
 
   no_tree : (bound : ℕ) (bytes script : List ℕ) (p : Program) → IsTypedText bytes (program_of p) → (F : Facts) → HasFacts p F
-      → IsRun bound script F (IsRegeneration p bound F) status out err → FindsNoTree bytes script out
-  no_tree bound bytes script p text F facts a = elim a.answers as (λ _. FindsNoTree bytes script out) [
+      → IsRun bound script F (IsRegeneration p bound F) status out err → FindsNoTree bytes script out err
+  no_tree bound bytes script p text F facts a = elim a.answers as (λ _. FindsNoTree bytes script out err) [
     | inl g ↦ absurd (no_done (length (refusals bound F a.has a.edits) == 0) g.gives.status_is)
     | inr w ↦ record {
       program = p;
@@ -245,22 +245,26 @@ module _ (status : ℕ) (out err : List ℕ) (z : status ≡ 5) where
       told = refusals bound F a.has a.edits;
       judges = judges bound bytes script p F text facts a.has a.edits a.are;
       more = w.more;
+      fault = w.fault;
+      last = w.ends.last;
+      grows = w.ends.grows;
       nothing = w.gives.out_is;
+      tells = w.gives.err_is;
     }
   ]
 
   five_run : (bound : ℕ) (bytes script : List ℕ) (p : Program) → IsTypedText bytes (program_of p) → (F : Facts) → HasFacts p F
-      → RegenOf bound script p F status out err → FindsNoTree bytes script out
+      → RegenOf bound script p F status out err → FindsNoTree bytes script out err
   five_run bound bytes script p text F facts (inl (inl a)) = absurd (not_five 68 (omega arith) a.many.says.status_is)
-  five_run bound bytes script p text F facts (inl (inr a)) = elim a.fault as (λ _. FindsNoTree bytes script out) [
+  five_run bound bytes script p text F facts (inl (inr a)) = elim a.fault as (λ _. FindsNoTree bytes script out err) [
     | inl bad ↦ absurd (not_five 69 (omega arith) bad.says.status_is)
     | inr long ↦ absurd (not_five 67 (omega arith) long.says.status_is)
   ]
   five_run bound bytes script p text F facts (inr a) = no_tree bound bytes script p text F facts a
 
-  in_script : (bound : ℕ) (bytes script : List ℕ) → RegenAnswers bound bytes script status out err → FindsNoTree bytes script out
+  in_script : (bound : ℕ) (bytes script : List ℕ) → RegenAnswers bound bytes script status out err → FindsNoTree bytes script out err
   in_script bound bytes script (inl a) = absurd (five_refused bytes a)
-  in_script bound bytes script (inr a) = elim a.answers as (λ _. FindsNoTree bytes script out) [
+  in_script bound bytes script (inr a) = elim a.answers as (λ _. FindsNoTree bytes script out err) [
     | inl b ↦ absurd (not_five 67 (omega arith) b.says.status_is)
     | inr b ↦ five_run bound bytes script a.program a.is b.facts b.has b.answers
   ]
@@ -272,10 +276,10 @@ module _ (status : ℕ) (out err : List ℕ) (z : status ≡ 5) where
   in_five K P files file f (inr (inr a)) = record { bytes = a.bytes; there = a.there; holds = f a.bytes a.answers }
 
   without_tree : (bound : ℕ) (file script : List ℕ) (first second : Files) → CommandAnswers (regen bound file script) first second status out err
-      → OfFile first file (λ bytes. OfFile second script (λ lines. FindsNoTree bytes lines out))
+      → OfFile first file (λ bytes. OfFile second script (λ lines. FindsNoTree bytes lines out err))
   without_tree bound file script first second a =
-      in_five (λ bytes. FileAnswers (RegenAnswers bound bytes) second script) (λ bytes. OfFile second script (λ lines. FindsNoTree bytes lines out)) first file
-      (λ bytes. in_five (RegenAnswers bound bytes) (λ lines. FindsNoTree bytes lines out) second script (in_script bound bytes)) a
+      in_five (λ bytes. FileAnswers (RegenAnswers bound bytes) second script) (λ bytes. OfFile second script (λ lines. FindsNoTree bytes lines out err)) first file
+      (λ bytes. in_five (RegenAnswers bound bytes) (λ lines. FindsNoTree bytes lines out err) second script (in_script bound bytes)) a
 
 -- what is promised of a command
 command_promised : (c : Cmd) (first second : Files) (status : ℕ) (out err : List ℕ) → CommandAnswers c first second status out err

@@ -1,5 +1,5 @@
 -- A program is typed where it is typed without its tags.
-use Rattle.std.proofs.Common.{◌≡◌, ℕ, zero, suc, Bool, true, false, List, ◌++◌, length, map, Option, Some, None, refl, sym, ap, ap₂, ◌∙◌, subst}
+use Rattle.std.proofs.Common.{◌≡◌, ℕ, Bool, true, false, List, ◌++◌, length, Option, Some, None, refl, sym, ap, ap₂, ◌∙◌, subst}
 use Rattle.std.specs.Prelude.{◌&&◌, ◌||◌, not, if◌then◌else◌, slice_get}
 use Rattle.std.specs.Option.{option_map, option_map_or, option_and_then, is_some}
 use Rattle.std.proofs.lemmas.List.{map-append, length-map}
@@ -11,8 +11,8 @@ use Rattle.java_core.specs.declared.BinOp.{BinOp}
 use Rattle.java_core.specs.declared.BinOp.TheVariants as bin
 use Rattle.java_core.specs.Trees.{Ex, Exs, no_ex, ex_then, number, character, text, truth, null, this, local, static_field, own_field, field, index, call, static_call, super_call, create, create_array, cast, instance_of, unary, binary, Target, to_local, to_static, to_own, to_field, to_element, no_target, St, Sts, Arms, declare, block, assign, act, print, choose, loop, return, break, continue, no_st, st_then, no_other, otherwise, arm}
 use Rattle.java_core.specs.Programs.{Plain, PlainClass, PlainMethod}
-use Rattle.java_core.specs.Classes.{below, nearest, own_declaration, has_slot, nearest_declaration, has_body, is_interface, is_concrete, super_method, slot_of}
-use Rattle.java_core.specs.Types.{Static, a_value, null_value, no_value, Env, env_of, class_type, class_in, class_of, element_of, is_numeric, is_boolean, is_string, is_printable, is_object, is_subtype, is_only, fits, fits_in, are_comparable, Signature, types_of, string_method, signature_of_string, object_signature, call_signature, super_signature, signature_of_slot, signature_of_method, field_type, field_in, value_type, length_or, access_type, or_nothing, result_of, binary_type, static, target_type}
+use Rattle.java_core.specs.Classes.{below, nearest, own_declaration, has_slot, nearest_declaration, has_body, is_interface, is_concrete}
+use Rattle.java_core.specs.Types.{Static, a_value, null_value, no_value, Env, env_of, class_type, class_in, class_of, element_of, is_numeric, is_boolean, is_string, is_printable, is_object, is_only, fits, fits_in, are_comparable, Signature, types_of, string_method, signature_of_string, object_signature, call_signature, super_signature, signature_of_slot, signature_of_method, field_in, value_type, length_or, access_type, or_nothing, result_of, binary_type, static, target_type}
 use Rattle.java_core.specs.Typing.{takes_one, takes_two, are_related, can_cast, Typed, t_number, t_character, t_text, t_truth, t_null, t_this, t_local, t_static_field, t_own_field, t_field, t_index, t_call, t_static_call, t_super_call, t_create, t_create_array, t_cast, t_instance_of, t_unary, t_binary, TypedArgs, t_no_ex, t_ex_then, TypedTarget, t_to_local, t_to_static, t_to_own, t_to_field, t_to_element, TypedTest, t_always, t_test, TypedSt, t_declare, t_declare_as, t_block, t_assign, t_act, t_print_line, t_print, t_choose, t_loop, t_return_nothing, t_return, t_break, t_continue, TypedSts, t_no_st, t_st_then, TypedArms, t_no_other, t_otherwise, t_arm, Offers, HasBodies, is_public_method, HasPublicMethods, IsTypedClass, IsTypedMethod, IsTyped}
 use Rattle.java_core.specs.Untagged.{bare, bare_all, bare_if, bare_target, bare_st, bare_sts, bare_arms, untag_body, untag_local, untag_class, untag_method, untagged}
 use Rattle.java_core.proofs.Positions.{position-map}

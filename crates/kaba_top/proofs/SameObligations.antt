@@ -1,23 +1,20 @@
 -- Facts that are the same, with sets that are the same: the first instance against each obligation is the same.
-use Rattle.std.proofs.Common.{◌≡◌, ℕ, ◌==◌, ◌&&◌, ◌||◌, Bool, false, max, not, List, [], length, Option, None, refl, sym, ap, ◌∙◌}
-use Rattle.std.specs.Prelude.{nat_lt, cond, codes, option_and_then}
+use Rattle.std.proofs.Common.{◌≡◌, ℕ, ◌==◌, ◌&&◌, ◌||◌, max, not, List, length, None, sym, ap, ◌∙◌}
+use Rattle.std.specs.Prelude.{nat_lt, cond, option_and_then}
 use Rattle.std.specs.List.{list_any}
 use Rattle.std.specs.Str.{bytes_eq}
 use Rattle.kaba_base.specs.Words.{is_name}
 use Rattle.kaba_bits.specs.Sets.{bit, row, or_else, first_below, when}
 use Rattle.kaba_order.specs.Orders.{is_le, is_live}
 use Rattle.fact_model.specs.declared.facts.Facts.{Facts}
-use Rattle.fact_model.specs.declared.facts.ClassInfo.{ClassInfo}
-use Rattle.fact_model.specs.declared.facts.CallInfo.{CallInfo}
 use Rattle.fact_model.specs.declared.facts.StoreInfo.{StoreInfo}
 use Rattle.fact_model.specs.declared.facts.TestInfo.{TestInfo}
 use Rattle.fact_model.specs.declared.sets.PointsTo.{PointsTo}
-use Rattle.fact_model.specs.Items.{site_class, row_class, column_class}
+use Rattle.fact_model.specs.Items.{site_class, row_class}
 use Rattle.fact_model.specs.Classes.{is_def, below, finds}
 use Rattle.hier_model.specs.Hierarchies.{Hierarchy, place_of_row, stands_at, is_offered, type_name, member_name, any_below}
 use Rattle.hier_model.specs.Names.{is_field}
 use Rattle.hier_model.specs.Edits.{is_one_slot}
-use Rattle.hier_rules.specs.declared.broken.Broken.{Broken}
 use Rattle.hier_rules.specs.declared.broken.Rule.TheVariants.{B3, B4, B5, B6, B7, B8, B9}
 use Rattle.hier_rules.specs.Asked.{is_pair, is_tie, is_super, is_called, bound_of, slots_of, are_two_slots, is_other_body, is_element, has_array, is_test_at, is_store_at, is_tested, is_stored, meets, places_of}
 use Rattle.hier_rules.specs.Obligations.{differ, row_le, column_le, is_above, unoffered, first_unoffered, first_untied, wrong_body, is_between, wrong_super, first_wrong_super, is_body_at, two_bodies, first_two_bodies, is_class_above, unchained, first_unchained, wrong_need, first_wrong_need, wrong_outcome, first_wrong_outcome, untied, unheld}

@@ -1,6 +1,5 @@
 -- Facts that are the same have the same points-to sets and the same table.
 use Rattle.std.proofs.Common.{◌≡◌, ◌⊎◌, inl, inr, ⊎_elim, ℕ, ◌<◌, Bool, true, List, [], ◌∷◌, length, Contains, Option, Some, None, sym, ap, ◌∙◌, subst}
-use Rattle.std.specs.Prelude.{◌↔◌}
 use Rattle.kaba_bits.specs.Sets.{bit, row, HasWidth}
 use Rattle.kaba_bits.proofs.RowLemmas.{same_rows}
 use Rattle.kaba_base.specs.declared.ColId.{ColId}
@@ -12,7 +11,7 @@ use Rattle.fact_model.specs.declared.facts.CallInfo.{CallInfo}
 use Rattle.fact_model.specs.declared.facts.BodyInfo.{BodyInfo}
 use Rattle.fact_model.specs.declared.sets.PointsTo.{PointsTo}
 use Rattle.fact_model.specs.declared.sets.Table.{Table}
-use Rattle.fact_model.specs.Items.{site_row, site_class, column_class, IsColumn}
+use Rattle.fact_model.specs.Items.{site_class, column_class, IsColumn}
 use Rattle.fact_model.specs.Classes.{finds, IsBelow, IsStrictlyBelow}
 use Rattle.fact_model.specs.Flowing.{Fact, in_point, in_cell, IsCell, Fits, Runs, point_at, Inclusion, by_new, by_flow, by_load, by_store, by_this, by_argument, by_result, by_cast, Holds, IsInRow, by_point, by_cell, AreSets}
 use Rattle.fact_model.specs.Entries.{Entry, Hides, Entails, by_access, by_need, by_declared, by_body, by_super, by_tie, by_site, by_hiding, by_test, by_array, IsEntry, IsTable}

@@ -1,5 +1,5 @@
 -- Facts that are the same: the texts of a table, a lattice and a hierarchy are the same.
-use Rattle.std.proofs.Common.{◌≡◌, ℕ, ◌+◌, ◌==◌, Bool, List, [], ◌∷◌, ◌++◌, length, map, Option, Some, None, refl, sym, ap, ◌∙◌, codes, if◌then◌else◌}
+use Rattle.std.proofs.Common.{◌≡◌, ℕ, ◌+◌, ◌==◌, List, [], ◌∷◌, ◌++◌, length, map, Option, Some, None, refl, sym, ap, ◌∙◌, codes}
 use Rattle.std.specs.Prelude.{slice_get}
 use Rattle.std.specs.Option.{option_map_or}
 use Rattle.std.specs.List.{flat_map}
@@ -24,8 +24,7 @@ use Rattle.lattice_view.specs.Lists.{part_text}
 use Rattle.lattice_view.specs.Table.{rows_text, columns_text, table_text}
 use Rattle.lattice_view.specs.Text.{concept_text, concepts_text, lattice_text}
 use Rattle.lattice_view.specs.Json.{numbers_data, names_data, concept_parts, concept_data, lattice_parts, lattice_json}
-use Rattle.hier_view.specs.Text.{those_below, live_nodes, covers_of, columns_at, rows_at, name_part, column_part, column_parts, name_in, origin_text, kind_text, head_text, node_line, hierarchy_text}
-use Rattle.hier_view.specs.Text as view
+use Rattle.hier_view.specs.Text.{those_below, live_nodes, covers_of, columns_at, name_part, column_part, column_parts, name_in, origin_text, kind_text, head_text, node_line, hierarchy_text}
 use Rattle.flow_rules.specs.Facts.{ClassFacts}
 use Rattle.flow_program.specs.Same.{AreSame}
 use Rattle.kaba_top.proofs.SameFacts.{kind_is, by_class}

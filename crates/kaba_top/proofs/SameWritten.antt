@@ -6,7 +6,7 @@ use Rattle.kaba_base.specs.declared.words.Keyword.TheVariants.{Public, Abstract}
 use Rattle.kaba_bits.specs.Sets as sets
 use Rattle.kaba_order.specs.Orders.{is_le}
 use Rattle.java_tree.specs.declared.Modifier.{Modifier}
-use Rattle.java_tree.specs.Syntax.{DeclTree, MethodTree, ClassTree, InterfaceTree}
+use Rattle.java_tree.specs.Syntax.{MethodTree, ClassTree, InterfaceTree}
 use Rattle.java_tree.specs.Places.{nowhere}
 use Rattle.java_core.specs.Programs.{Plain, PlainSlot}
 use Rattle.fact_model.specs.declared.facts.Facts.{Facts}

@@ -1,5 +1,5 @@
 -- Believed. What Kaba promises of its analysis and of the programs that it writes, without the answers around it.
-use Rattle.std.specs.Prelude.{◌≡◌, ◌⊎◌, ℕ, ◌≤◌, Bool, List, [], ◌∷◌, ◌++◌, length, Option, Some, None, Ok, Err}
+use Rattle.std.specs.Prelude.{◌≡◌, ◌⊎◌, ℕ, ◌≤◌, Bool, List, [], ◌∷◌, ◌++◌, codes, Option, Some, None, Ok, Err}
 use Rattle.kaba_base.specs.Outside.{Files, taken_more}
 use Rattle.java_tree.specs.Syntax.{DeclTree}
 use Rattle.java_lex.specs.declared.Token.{Token}
@@ -28,10 +28,11 @@ use Rattle.hier_edit.specs.Applied.{fault_of}
 use Rattle.hier_edit.specs.declared.ApplyFault.TheVariants.{Breaks}
 use Rattle.hier_view.specs.Text.{hierarchy_text}
 use Rattle.hier_script.specs.Refusals.{refusal_line}
-use Rattle.hier_tree.specs.Trees.{Tree, Grows}
+use Rattle.hier_tree.specs.Trees.{Tree, Stuck, Grows}
 use Rattle.tree_merge.specs.declared.steps.TreeStep.{TreeStep}
+use Rattle.tree_merge.specs.declared.trees.NoTree.{NoTree}
 use Rattle.tree_merge.specs.Logs.{steps_of}
-use Rattle.hier_log.specs.Lines.{log_text}
+use Rattle.hier_log.specs.Lines.{log_text, no_tree_text}
 use Rattle.edit_script.specs.declared.lines.Line.{Line}
 use Rattle.edit_script.specs.Script.{AreEditsOf}
 use Rattle.rebuild_model.specs.Rebuilds.{Rebuilds}
@@ -126,9 +127,9 @@ pub record WritesProgram (bytes script out err : List ℕ) : Type 0 where
   pub rebuilt : IsRebuilt program facts tree out
   pub tells : err ≡ told ++ log_text log
 
--- the hierarchy that the edits leave has no tree, and nothing is written: the program declares an interface, or the edits do more than drop
--- nodes and give names that nothing bears
-pub record FindsNoTree (bytes script out : List ℕ) : Type 0 where
+-- the steps from the hierarchy that the edits leave end at a conflict, which is told behind them, and no program is written: the old one declares
+-- an interface, or the edits do more than drop nodes and give names that nothing bears
+pub record FindsNoTree (bytes script out err : List ℕ) : Type 0 where
   pub program : Program
   pub facts : Facts
   pub sets : PointsTo
@@ -136,7 +137,11 @@ pub record FindsNoTree (bytes script out : List ℕ) : Type 0 where
   pub told : List ℕ
   pub judges : JudgesEdits bytes script program facts sets after told
   pub more : DeclaresNoInterface program → AreDropsAndFreshNames facts sets (start_from facts judges.table judges.lattice) judges.edits → ⊥
+  pub fault : NoTree
+  pub last : Hierarchy
+  pub grows : Grows facts sets after (steps_of fault.log.items) (Stuck last fault.conflict fault.broken)
   pub nothing : out ≡ []
+  pub tells : err ≡ told ++ (log_text fault.log.items ++ (codes "kaba: " ++ (no_tree_text fault ++ 10 ∷ [])))
 
 -- a file's bytes, of which this holds
 pub record OfFile (files : Files) (file : List ℕ) (K : List ℕ → Type 0) : Type 0 where
@@ -151,7 +156,7 @@ Promises (edit bound file script) first second status out err = (status ≡ 0) �
     → OfFile first file (λ bytes. OfFile second script (λ lines. TellsEdits bytes lines out err))
 Promises (regen bound file script) first second status out err =
     ((status ≡ 0) ⊎ (status ≡ 4) → OfFile first file (λ bytes. OfFile second script (λ lines. WritesProgram bytes lines out err)))
-    × (status ≡ 5 → OfFile first file (λ bytes. OfFile second script (λ lines. FindsNoTree bytes lines out)))
+    × (status ≡ 5 → OfFile first file (λ bytes. OfFile second script (λ lines. FindsNoTree bytes lines out err)))
 Promises (run file steps words) first second status out err = Unit {0}
 Promises (table file) first second status out err = Unit {0}
 Promises (make prints number) first second status out err = Unit {0}
