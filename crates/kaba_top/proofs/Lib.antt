@@ -1,6 +1,8 @@
 pub mod Replying
 pub mod Statuses
 pub mod Formed
+pub mod Retyped
+pub mod TakenAgain
 pub mod Texts
 pub mod Runs
 pub mod Analysing
@@ -10,3 +12,17 @@ pub mod Promised
 pub mod Making
 pub mod Stuck
 pub mod Samples
+pub mod SameLists
+pub mod SameFacts
+pub mod SameSets
+pub mod SameHierarchies
+pub mod SameObligations
+pub mod SameSteps
+pub mod SameWritten
+pub mod SameTexts
+pub mod OneCommand
+pub mod OneScript
+pub mod OneText
+pub mod OneAnalysis
+pub mod OneEach
+pub mod Completing

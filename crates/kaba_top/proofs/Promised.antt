@@ -1,11 +1,11 @@
 -- What is promised follows from the answers.
-use Rattle.std.proofs.Common.{◌≡◌, ◌⊎◌, inl, inr, ℕ, Bool, List, [], ◌∷◌, ◌++◌, Option, Some, None, Result, Ok, Err, refl, sym, ap, ◌∙◌, subst, arith}
+use Rattle.std.proofs.Common.{◌≡◌, ◌⊎◌, inl, inr, ℕ, Bool, ◌==◌, true, false, List, [], ◌∷◌, ◌++◌, length, if◌then◌else◌, Option, Some, None, Result, Ok, Err, refl, sym, ap, ◌∙◌, subst, arith}
 use Rattle.kaba_base.specs.Outside.{Files}
 use Rattle.java_tree.specs.Syntax.{DeclTree}
 use Rattle.java_tree.specs.Places.{unplaced}
 use Rattle.java_tree.specs.Formed.{IsGiven}
 use Rattle.java_core.specs.declared.Program.{Program}
-use Rattle.java_core.specs.Programs.{program_of}
+use Rattle.java_core.specs.Programs.{Plain, program_of}
 use Rattle.java_core.specs.Untagged.{untagged}
 use Rattle.name_rules.specs.Resolves.{Resolves}
 use Rattle.name_rules.specs.Causes.{HasNoCondition}
@@ -16,7 +16,7 @@ use Rattle.hier_model.specs.Edits.{changed}
 use Rattle.hier_model.specs.declared.edits.ChangeFault.{ChangeFault}
 use Rattle.hier_rules.specs.declared.broken.Broken.{Broken}
 use Rattle.hier_rules.specs.First.{first_of_edit}
-use Rattle.hier_edit.specs.Applied.{fault_of, unless_broken, outcome}
+use Rattle.hier_edit.specs.Applied.{unless_broken, outcome}
 use Rattle.hier_script.specs.Scripts.{kept, refusal, after_edits, refusals_of}
 use Rattle.edit_script.specs.declared.lines.Line.{Line}
 use Rattle.edit_script.specs.Script.{AreEditsOf}
@@ -27,13 +27,24 @@ use Rattle.write_model.proofs.Nowhere.{without_places}
 use Rattle.name_place_laws.specs.Laws.{HasNoPlaces}
 use Rattle.name_place_laws.proofs.Whole.{has_no_places}
 use Rattle.kaba_top.proofs.ReadsOne.{reads_one}
-use Rattle.kaba_top.specs.Reading.{IsRefusedText, IsTypedText, TextAnswers}
+use Rattle.kaba_top.proofs.TakenAgain.{taken_again}
+use Rattle.kaba_top.specs.TextPrograms.{IsTypedText}
+use Rattle.kaba_top.specs.Reading.{IsRefusedText, TextAnswers}
+use Rattle.kaba_top.specs.TextFacts.{HasTextFacts}
 use Rattle.kaba_top.specs.FactsAnswers.{HasFacts, AnalysisAnswers, LatticeOf}
-use Rattle.kaba_top.specs.ScriptAnswers.{HasLattice, IsNotRun, IsRun, ScriptAnswers, start_of, edited, refusals}
+use Rattle.kaba_top.specs.ScriptAnswers.{HasLattice, IsRun, ScriptAnswers, start_of, edited, refusals}
 use Rattle.kaba_top.specs.EditAnswers.{EditOf, ShowsHierarchy}
-use Rattle.kaba_top.specs.RegenAnswers.{IsRegenerated, IsRegeneration, RegenOf}
+use Rattle.kaba_top.specs.RegenAnswers.{IsRegeneration, RegenOf}
 use Rattle.kaba_top.specs.Answers.{FileAnswers, EditAnswers, RegenAnswers, CommandAnswers, Replies}
-use Rattle.kaba_top.specs.Promise.{IsAnalysis, ShowsLattice, AreJudged, none, made, breaks, unmade, JudgesEdits, IsRebuilt, TellsEdits, WritesProgram, OfFile, IsJudging, Promises, IsPromised}
+use Rattle.kaba_top.specs.Promise.{ShowsLattice, AreJudged, none, made, breaks, unmade, JudgesEdits, IsRebuilt, TellsEdits, WritesProgram, FindsNoTree, OfFile, Promises, IsPromised}
+
+-- what is known of the facts of a program tells which facts they are
+text_facts : (p : Program) (F : Facts) → HasFacts p F → HasTextFacts (program_of p) F
+text_facts p F facts = record { within = facts.within; is = facts.is; names = facts.names }
+
+-- each edit was made, or refused
+abbrev pub IsJudging : ℕ → Type 0
+IsJudging status = (status ≡ 0) ⊎ (status ≡ 4)
 
 -- no other status than 0 and 4
 other : (n status : ℕ) → (n ≡ 0 → ⊥) → (n ≡ 4 → ⊥) → status ≡ n → IsJudging status → ⊥
@@ -56,7 +67,7 @@ module _ (status : ℕ) (out err : List ℕ) (j : IsJudging status) where
   in_file K P files file f (inr (inl a)) = absurd (other 67 status (omega arith) (omega arith) a.says.status_is j)
   in_file K P files file f (inr (inr a)) = record { bytes = a.bytes; there = a.there; holds = f a.bytes a.answers }
 
-  in_text : (K : Program → ℕ → List ℕ → List ℕ → Type 0) (R : Type 0) (bytes : List ℕ) → ((p : Program) → IsTypedText bytes p → K p status out err → R)
+  in_text : (K : Program → ℕ → List ℕ → List ℕ → Type 0) (R : Type 0) (bytes : List ℕ) → ((p : Program) → IsTypedText bytes (program_of p) → K p status out err → R)
       → TextAnswers K bytes status out err → R
   in_text K R bytes f (inl a) = absurd (refused bytes status out err j a)
   in_text K R bytes f (inr a) = f a.program a.is a.answers
@@ -75,7 +86,7 @@ module _ (status : ℕ) (out err : List ℕ) (j : IsJudging status) where
   ]
   in_run bound script F A R f (inr a) = f a
 
-  lattice_shown : (json : Bool) (bound : ℕ) (bytes : List ℕ) (p : Program) → IsTypedText bytes p → (F : Facts) → HasFacts p F
+  lattice_shown : (json : Bool) (bound : ℕ) (bytes : List ℕ) (p : Program) → IsTypedText bytes (program_of p) → (F : Facts) → HasFacts p F
       → LatticeOf json bound F status out err → ShowsLattice json bytes out
   lattice_shown json bound bytes p text F facts a = elim a.answers as (λ _. ShowsLattice json bytes out) [
     | inl many ↦ absurd (other 68 status (omega arith) (omega arith) many.says.status_is j)
@@ -84,7 +95,7 @@ module _ (status : ℕ) (out err : List ℕ) (j : IsJudging status) where
       facts = F;
       table = a.table;
       lattice = shown.lattice;
-      is = record { text = text; facts_are = facts; least = a.is; concepts = shown.is };
+      is = record { text = text; facts_are = text_facts p F facts; least = a.is; concepts = shown.is };
       shown_is = shown.gives.out_is;
     }
   ]
@@ -110,48 +121,53 @@ module _ (F : Facts) (pt : PointsTo) where
   judged (line ∷ lines) H = by_changed H line lines (changed F H line.edit) refl (judged lines)
 
 -- the edits of a run
-judges : (bound : ℕ) (bytes script : List ℕ) (p : Program) (F : Facts) → IsTypedText bytes p → HasFacts p F → (has : HasLattice bound F) (edits : List Line)
+abbrev judges : (bound : ℕ) (bytes script : List ℕ) (p : Program) (F : Facts) → IsTypedText bytes (program_of p) → HasFacts p F → (has : HasLattice bound F) (edits : List Line)
     → AreEditsOf script edits → JudgesEdits bytes script p F has.sets (edited bound F has edits) (refusals bound F has edits)
 judges bound bytes script p F text facts has edits are = record {
   table = has.table;
   lattice = has.lattice;
-  is = record { text = text; facts_are = facts; least = has.is_table; concepts = has.is_lattice };
+  is = record { text = text; facts_are = text_facts p F facts; least = has.is_table; concepts = has.is_lattice };
   sets_are = has.are_sets;
   edits = edits;
   are = are;
   judged = judged F has.sets edits (start_of bound F has);
 }
 
-written_bare : (tree : List DeclTree) (p : Program) → unplaced tree ≡ tree → IsGiven tree → HasNoCondition tree → Resolves tree (program_of p)
-    → untagged (program_of p) ≡ program_of p
+written_bare : (tree : List DeclTree) (P : Plain) → unplaced tree ≡ tree → IsGiven tree → HasNoCondition tree → Resolves tree P → untagged P ≡ P
 unfolding HasNoPlaces
-written_bare tree p = has_no_places tree (program_of p)
+written_bare = has_no_places
 
 rebuilt : (p : Program) (F : Facts) (H : Hierarchy) (text out : List ℕ) → out ≡ text → IsWrittenText p F H text → IsRebuilt p F H out
-rebuilt p F H text out e w = subst (IsRebuilt p F H) (sym e) (record {
-  tree = tree_of_hierarchy p F H;
-  read = w.read;
-  new = w.new;
-  resolves = w.resolves;
-  typed = w.keeps.typed;
-  rebuilds = w.keeps.rebuilds;
-  offers = w.keeps.rows;
-  same = w.keeps.run;
-  one = λ q is. sym (written_bare (tree_of_hierarchy p F H) w.new (without_places (program_of p) F H) (record { bytes = text; read = w.read }) w.none w.resolves)
-      ∙ reads_one text (tree_of_hierarchy p F H) w.new q w.read w.resolves is;
-  same_again = λ q is.
-      let same = same_aside (program_of w.new) (program_of q) (reads_one text (tree_of_hierarchy p F H) w.new q w.read w.resolves is) in
-      record {
-        end = λ words n. w.keeps.run.end words n ∙ ap (λ o. o.end) (same words n);
-        out = λ words n. w.keeps.run.out words n ∙ ap (λ o. o.out) (same words n);
-        left = λ words n. w.keeps.run.left words n ∙ ap (λ o. o.left) (same words n);
-      };
-})
+rebuilt p F H text out e w =
+    let tree = tree_of_hierarchy p F H in
+    let new = program_of w.new in
+    let bare = written_bare tree new (without_places (program_of p) F H) (record { bytes = text; read = w.read }) w.none w.resolves in
+    subst (IsRebuilt p F H) (sym e) (record {
+      tree = tree;
+      tokens = w.read.tokens;
+      lexed = w.read.lexed;
+      derives = w.read.derived;
+      new = w.new;
+      resolves = w.resolves;
+      typed = w.keeps.typed;
+      rebuilds = w.keeps.rebuilds;
+      offers = w.keeps.rows;
+      same = w.keeps.run;
+      taken = λ nested. taken_again text tree new w.read nested w.none w.resolves w.formed w.keeps.typed bare;
+      one = λ again is. sym bare ∙ reads_one text tree new again w.read w.resolves is;
+      same_again = λ again is.
+          let same = same_aside new again (reads_one text tree new again w.read w.resolves is) in
+          record {
+            end = λ words n. w.keeps.run.end words n ∙ ap (λ o. o.end) (same words n);
+            out = λ words n. w.keeps.run.out words n ∙ ap (λ o. o.out) (same words n);
+            left = λ words n. w.keeps.run.left words n ∙ ap (λ o. o.left) (same words n);
+          };
+    })
 
 module _ (status : ℕ) (out err : List ℕ) (j : IsJudging status) where
-  edits_told : (bound : ℕ) (bytes script : List ℕ) (p : Program) → IsTypedText bytes p → (F : Facts) → HasFacts p F
+  edits_told : (bound : ℕ) (bytes script : List ℕ) (p : Program) → IsTypedText bytes (program_of p) → (F : Facts) → HasFacts p F
       → IsRun bound script F (ShowsHierarchy bound F) status out err
-      → TellsEdits bytes script err
+      → TellsEdits bytes script out err
   edits_told bound bytes script p text F facts a =
       let J = judges bound bytes script p F text facts a.has a.edits a.are in
       record {
@@ -161,9 +177,10 @@ module _ (status : ℕ) (out err : List ℕ) (j : IsJudging status) where
         after = edited bound F a.has a.edits;
         judges = subst
             (JudgesEdits bytes script p F a.has.sets (edited bound F a.has a.edits)) (sym a.answers.err_is) J;
+        shows = a.answers.out_is;
       }
 
-  text_written : (bound : ℕ) (bytes script : List ℕ) (p : Program) → IsTypedText bytes p → (F : Facts) → HasFacts p F
+  text_written : (bound : ℕ) (bytes script : List ℕ) (p : Program) → IsTypedText bytes (program_of p) → (F : Facts) → HasFacts p F
       → IsRun bound script F (IsRegeneration p bound F) status out err
       → WritesProgram bytes script out err
   text_written bound bytes script p text F facts a = elim a.answers as (λ _. WritesProgram bytes script out err) [
@@ -184,11 +201,11 @@ module _ (status : ℕ) (out err : List ℕ) (j : IsJudging status) where
     }
   ]
 
-  edit_promised : (bound : ℕ) (bytes script : List ℕ) → EditAnswers bound bytes script status out err → TellsEdits bytes script err
+  edit_promised : (bound : ℕ) (bytes script : List ℕ) → EditAnswers bound bytes script status out err → TellsEdits bytes script out err
   edit_promised bound bytes script a =
-      in_text status out err j (AnalysisAnswers (EditOf bound script)) (TellsEdits bytes script err) bytes
-      (λ p text. in_facts status out err j (EditOf bound script) (TellsEdits bytes script err) p
-      (λ F facts. in_run status out err j bound script F (ShowsHierarchy bound F) (TellsEdits bytes script err) (edits_told bound bytes script p text F facts)))
+      in_text status out err j (AnalysisAnswers (EditOf bound script)) (TellsEdits bytes script out err) bytes
+      (λ p text. in_facts status out err j (EditOf bound script) (TellsEdits bytes script out err) p
+      (λ F facts. in_run status out err j bound script F (ShowsHierarchy bound F) (TellsEdits bytes script out err) (edits_told bound bytes script p text F facts)))
       a
 
   regen_promised : (bound : ℕ) (bytes script : List ℕ) → RegenAnswers bound bytes script status out err → WritesProgram bytes script out err
@@ -198,6 +215,71 @@ module _ (status : ℕ) (out err : List ℕ) (j : IsJudging status) where
       (λ F facts. in_run status out err j bound script F (IsRegeneration p bound F) (WritesProgram bytes script out err)
       (text_written bound bytes script p text F facts)))
       a
+
+-- a status of 5 is that of a conflict alone
+module _ (status : ℕ) (out err : List ℕ) (z : status ≡ 5) where
+  not_five : (n : ℕ) → (n ≡ 5 → ⊥) → status ≡ n → ⊥
+  not_five n apart e = apart (sym e ∙ z)
+
+  five_refused : (bytes : List ℕ) → IsRefusedText bytes status out err → ⊥
+  unfolding IsRefusedText
+  five_refused bytes (inl a) = not_five 65 (omega arith) a.says.status_is
+  five_refused bytes (inr (inl a)) = not_five 65 (omega arith) a.says.status_is
+  five_refused bytes (inr (inr (inl a))) = not_five 65 (omega arith) a.says.status_is
+  five_refused bytes (inr (inr (inr (inl a)))) = not_five 65 (omega arith) a.says.status_is
+  five_refused bytes (inr (inr (inr (inr a)))) = not_five 65 (omega arith) a.says.status_is
+
+  no_done : (none : Bool) → status ≡ (if none then 0 else 4) → ⊥
+  no_done true e = not_five 0 (omega arith) e
+  no_done false e = not_five 4 (omega arith) e
+
+  no_tree : (bound : ℕ) (bytes script : List ℕ) (p : Program) → IsTypedText bytes (program_of p) → (F : Facts) → HasFacts p F
+      → IsRun bound script F (IsRegeneration p bound F) status out err → FindsNoTree bytes script out err
+  no_tree bound bytes script p text F facts a = elim a.answers as (λ _. FindsNoTree bytes script out err) [
+    | inl g ↦ absurd (no_done (length (refusals bound F a.has a.edits) == 0) g.gives.status_is)
+    | inr w ↦ record {
+      program = p;
+      facts = F;
+      sets = a.has.sets;
+      after = edited bound F a.has a.edits;
+      told = refusals bound F a.has a.edits;
+      judges = judges bound bytes script p F text facts a.has a.edits a.are;
+      more = w.more;
+      fault = w.fault;
+      last = w.ends.last;
+      grows = w.ends.grows;
+      nothing = w.gives.out_is;
+      tells = w.gives.err_is;
+    }
+  ]
+
+  five_run : (bound : ℕ) (bytes script : List ℕ) (p : Program) → IsTypedText bytes (program_of p) → (F : Facts) → HasFacts p F
+      → RegenOf bound script p F status out err → FindsNoTree bytes script out err
+  five_run bound bytes script p text F facts (inl (inl a)) = absurd (not_five 68 (omega arith) a.many.says.status_is)
+  five_run bound bytes script p text F facts (inl (inr a)) = elim a.fault as (λ _. FindsNoTree bytes script out err) [
+    | inl bad ↦ absurd (not_five 69 (omega arith) bad.says.status_is)
+    | inr long ↦ absurd (not_five 67 (omega arith) long.says.status_is)
+  ]
+  five_run bound bytes script p text F facts (inr a) = no_tree bound bytes script p text F facts a
+
+  in_script : (bound : ℕ) (bytes script : List ℕ) → RegenAnswers bound bytes script status out err → FindsNoTree bytes script out err
+  in_script bound bytes script (inl a) = absurd (five_refused bytes a)
+  in_script bound bytes script (inr a) = elim a.answers as (λ _. FindsNoTree bytes script out err) [
+    | inl b ↦ absurd (not_five 67 (omega arith) b.says.status_is)
+    | inr b ↦ five_run bound bytes script a.program a.is b.facts b.has b.answers
+  ]
+
+  in_five : (K : List ℕ → ℕ → List ℕ → List ℕ → Type 0) (P : List ℕ → Type 0) (files : Files) (file : List ℕ)
+      → ((bytes : List ℕ) → K bytes status out err → P bytes) → FileAnswers K files file status out err → OfFile files file P
+  in_five K P files file f (inl a) = absurd (not_five 66 (omega arith) a.says.status_is)
+  in_five K P files file f (inr (inl a)) = absurd (not_five 67 (omega arith) a.says.status_is)
+  in_five K P files file f (inr (inr a)) = record { bytes = a.bytes; there = a.there; holds = f a.bytes a.answers }
+
+  without_tree : (bound : ℕ) (file script : List ℕ) (first second : Files) → CommandAnswers (regen bound file script) first second status out err
+      → OfFile first file (λ bytes. OfFile second script (λ lines. FindsNoTree bytes lines out err))
+  without_tree bound file script first second a =
+      in_five (λ bytes. FileAnswers (RegenAnswers bound bytes) second script) (λ bytes. OfFile second script (λ lines. FindsNoTree bytes lines out err)) first file
+      (λ bytes. in_five (RegenAnswers bound bytes) (λ lines. FindsNoTree bytes lines out err) second script (in_script bound bytes)) a
 
 -- what is promised of a command
 command_promised : (c : Cmd) (first second : Files) (status : ℕ) (out err : List ℕ) → CommandAnswers c first second status out err
@@ -210,27 +292,39 @@ command_promised (lattice json bound file) first second status out err a = λ z.
     a
 command_promised (edit bound file script) first second status out err a = λ j.
     in_file status out err j (λ bytes. FileAnswers (EditAnswers bound bytes) second script)
-    (λ bytes. OfFile second script (λ lines. TellsEdits bytes lines err)) first file
-    (λ bytes. in_file status out err j (EditAnswers bound bytes) (λ lines. TellsEdits bytes lines err) second script
+    (λ bytes. OfFile second script (λ lines. TellsEdits bytes lines out err)) first file
+    (λ bytes. in_file status out err j (EditAnswers bound bytes) (λ lines. TellsEdits bytes lines out err) second script
     (edit_promised status out err j bound bytes))
     a
-command_promised (regen bound file script) first second status out err a = λ j.
-    in_file status out err j (λ bytes. FileAnswers (RegenAnswers bound bytes) second script)
-    (λ bytes. OfFile second script (λ lines. WritesProgram bytes lines out err)) first file
-    (λ bytes. in_file status out err j (RegenAnswers bound bytes) (λ lines. WritesProgram bytes lines out err) second script
-    (regen_promised status out err j bound bytes))
-    a
+command_promised (regen bound file script) first second status out err a = (
+  (λ j.
+      in_file status out err j (λ bytes. FileAnswers (RegenAnswers bound bytes) second script)
+      (λ bytes. OfFile second script (λ lines. WritesProgram bytes lines out err)) first file
+      (λ bytes. in_file status out err j (RegenAnswers bound bytes) (λ lines. WritesProgram bytes lines out err) second script
+      (regen_promised status out err j bound bytes))
+      a),
+  (λ z. without_tree status out err z bound file script first second a),
+)
 command_promised (run file steps words) first second status out err a = tt
 command_promised (table file) first second status out err a = tt
 command_promised (make prints number) first second status out err a = tt
 command_promised help first second status out err a = tt
 command_promised version first second status out err a = tt
 
-pub promised : (told : Option Files) (before now : ℕ) (words : List (List ℕ)) (status : ℕ) (out err : List ℕ) → IsJudging status
+-- the statuses of which something is promised
+abbrev IsTold : ℕ → Type 0
+IsTold status = (status ≡ 0) ⊎ ((status ≡ 4) ⊎ (status ≡ 5))
+
+not_told : (n status : ℕ) → (n ≡ 0 → ⊥) → (n ≡ 4 → ⊥) → (n ≡ 5 → ⊥) → status ≡ n → IsTold status → ⊥
+not_told n status no_zero no_four no_five e (inl z) = no_zero (sym e ∙ z)
+not_told n status no_zero no_four no_five e (inr (inl z)) = no_four (sym e ∙ z)
+not_told n status no_zero no_four no_five e (inr (inr z)) = no_five (sym e ∙ z)
+
+pub promised : (told : Option Files) (before now : ℕ) (words : List (List ℕ)) (status : ℕ) (out err : List ℕ) → IsTold status
     → Replies told before now words status out err
     → IsPromised told words status out err
 promised told before now words status out err j (inl a) = elim a.answers as (λ _. IsPromised told words status out err) [
-  | inl usage ↦ absurd (other 64 status (omega arith) (omega arith) usage.says.status_is j)
+  | inl usage ↦ absurd (not_told 64 status (omega arith) (omega arith) (omega arith) usage.says.status_is j)
   | inr c ↦ record {
     command = c.command;
     fits = c.fits;
@@ -241,4 +335,4 @@ promised told before now words status out err j (inl a) = elim a.answers as (λ 
     promise = command_promised c.command a.first a.second status out err c.answers;
   }
 ]
-promised told before now words status out err j (inr u) = absurd (other 66 status (omega arith) (omega arith) u.unread.fault.says.status_is j)
+promised told before now words status out err j (inr u) = absurd (not_told 66 status (omega arith) (omega arith) (omega arith) u.unread.fault.says.status_is j)

@@ -1,11 +1,10 @@
 -- What drops and fresh names make of a start, and that facts without an interface have none.
-use Rattle.std.proofs.Common.{◌≡◌, ℕ, zero, suc, ◌+◌, Bool, true, false, List, [], ◌∷◌, Result, Ok, Err, map, refl, ◌∙◌, ap, slice_get}
+use Rattle.std.proofs.Common.{◌≡◌, ℕ, zero, suc, ◌+◌, Bool, false, List, [], ◌∷◌, Result, Ok, Err, map, refl, ◌∙◌, ap, slice_get}
 use Rattle.std.specs.List.{list_any}
 use Rattle.std.proofs.lemmas.Bool.{or_parts}
 use Rattle.std.specs.Option.{option_map_or}
 use Rattle.java_core.specs.declared.Program.{Program}
 use Rattle.java_core.specs.Programs.{Plain, PlainClass, program_of}
-use Rattle.fact_model.specs.Classes.{is_interface}
 use Rattle.fact_model.specs.declared.facts.Facts.{Facts}
 use Rattle.fact_model.specs.declared.facts.ClassInfo.{ClassInfo}
 use Rattle.fact_model.specs.declared.sets.PointsTo.{PointsTo}
@@ -21,10 +20,9 @@ use Rattle.hier_edit.specs.Applied.{applied}
 use Rattle.edit_script.specs.declared.lines.Line.{Line}
 use Rattle.hier_script.specs.Scripts.{kept, after_edit, after_edits}
 use Rattle.hier_tree.specs.Kept.{HasNoInterface}
-use Rattle.hier_tree.specs.Reached.{IsReached, begun, dropped, type_named, member_named}
-use Rattle.kaba_top.specs.Fresh.{IsDropOrFresh, AreDropsAndFreshNames}
+use Rattle.hier_tree.specs.Reached.{IsReached, dropped, type_named, member_named}
+use Rattle.kaba_top.specs.Fresh.{DeclaresNoInterface, IsDropOrFresh, AreDropsAndFreshNames}
 use Rattle.kaba_top.specs.FactsAnswers.{HasFacts}
-use Rattle.kaba_top.specs.RegenAnswers.{DeclaresNoInterface}
 
 module _ (F : Facts) (pt : PointsTo) (t : Table) (l : Lattice) where
   -- an edit that was accepted or refused

@@ -4,9 +4,10 @@ use Rattle.std.specs.declared.alloc.AllocError.{AllocError}
 use Rattle.kaba_base.specs.Outside.{Files, IsAbsent, IsFile, Rose}
 use Rattle.kaba_top.specs.declared.reply.Reply.{Reply}
 use Rattle.kaba_words.specs.declared.words.Command.{Command}
-use Rattle.kaba_words.specs.Commands.{Cmd, command_of, Fits, FitsNone}
+use Rattle.kaba_words.specs.Commands.{command_of, Fits, FitsNone}
 use Rattle.kaba_top.specs.Lines.{Says, usage, cannot_read, most_bytes, file_too_large}
-use Rattle.kaba_top.specs.Answers.{Agrees, IsMissing, IsTooLarge, FileAnswers, IsFault, Names, CommandAnswers, CommandReplies, Replies}
+use Rattle.kaba_top.specs.Agreement.{Agrees}
+use Rattle.kaba_top.specs.Answers.{IsMissing, IsTooLarge, FileAnswers, IsFault, Names, CommandAnswers, CommandReplies, Replies}
 use Rattle.kaba_top.specs.declared.answer.Shows.{Shows}
 use Rattle.kaba_top.specs.declared.answer.Shows.TheVariants as shows
 use Rattle.kaba_top.specs.Shown.{ShownAnswers, command_showing}

@@ -23,7 +23,8 @@ use Rattle.kaba_top.specs.declared.reply.Reply.{Reply}
 use Rattle.kaba_top.specs.declared.reading.Reading.{Reading}
 use Rattle.kaba_top.specs.declared.reading.Reading.TheVariants as readings
 use Rattle.kaba_top.specs.Lines.{Says}
-use Rattle.kaba_top.specs.Reading.{IsRefusedText, IsTypedText, TextAnswers, IsOfText, IsOfTree, refused, most_nesting, at_token, lex_text, naming_text, typing_text, line_of}
+use Rattle.kaba_top.specs.TextPrograms.{IsTypedText, most_nesting}
+use Rattle.kaba_top.specs.Reading.{IsRefusedText, TextAnswers, IsOfText, IsOfTree, refused, at_token, lex_text, naming_text, typing_text, line_of}
 use Rattle.kaba_top.specs.Readings.{IsReading, IsReadingOfProgram, IsResolved, IsReadingOfTree}
 
 lexed_fault : (fault : LexFault) (bytes : List ℕ) → IsOfText fault → Gives (Err fault) (tokens_of bytes) → tokens_of bytes ≡ Err fault
@@ -116,7 +117,7 @@ read_as bytes tokens tree (Ok reading) h d p t = of_tree bytes tokens tree readi
 
 -- the answers for the bytes of a typed program
 pub answers : (K : Program → ℕ → List ℕ → List ℕ → Type 0) (bytes : List ℕ) (program : Program) (r : Result Reply AllocError)
-    → IsTypedText bytes program → IfOk r (λ reply. K program reply.status reply.out.items reply.err.items)
+    → IsTypedText bytes (program_of program) → IfOk r (λ reply. K program reply.status reply.out.items reply.err.items)
     → IfOk r (λ reply. TextAnswers K bytes reply.status reply.out.items reply.err.items)
 answers K bytes program (Err e) h k = tt
 answers K bytes program (Ok reply) h k = inr (record { program = program; is = h; answers = k })

@@ -1,9 +1,9 @@
 -- Believed. The answers of the program, for the words and the files.
 use Rattle.std.specs.Prelude.{◌≡◌, ◌⊎◌, ℕ, ◌<◌, ◌≤◌, List, [], length, Option, Some, None}
-use Rattle.std.specs.Option.{IsSome}
 use Rattle.kaba_base.specs.Outside.{Files, Rose, taken_more, HoldsPrefix}
 use Rattle.kaba_words.specs.Commands.{Cmd, run, table, lattice, edit, regen, make, help, version, Fits, FitsNone}
 use Rattle.kaba_top.specs.About.{help_text, version_text}
+use Rattle.kaba_top.specs.Agreement.{Agrees}
 use Rattle.kaba_top.specs.Lines.{Says, Gives, usage, cannot_read, most_bytes, file_too_large}
 use Rattle.kaba_top.specs.Reading.{TextAnswers}
 use Rattle.kaba_top.specs.RunAnswers.{RunAnswers}
@@ -79,11 +79,6 @@ pub record IsOfCommand (words : List (List ℕ)) (first second : Files) (status 
 -- the answers of the program for the words and the files; where no file changes meanwhile, first and second are the same
 abbrev pub Answers : List (List ℕ) → Files → Files → ℕ → List ℕ → List ℕ → Type 0
 Answers words first second status out err = IsUsage words status out err ⊎ IsOfCommand words first second status out err
-
--- the files agree with what the shelf tells; where it tells nothing, each name has a file
-abbrev pub Agrees : Option Files → Files → Type 0
-Agrees (Some told) files = files ≡ told
-Agrees None files = (name : List ℕ) → IsSome (files name)
 
 -- an answer of the command for some files that agree with what the shelf tells
 pub record IsAnswered (told : Option Files) (A : Files → Files → ℕ → List ℕ → List ℕ → Type 0) (status : ℕ) (out err : List ℕ) : Type 0 where

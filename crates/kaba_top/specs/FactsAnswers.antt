@@ -1,5 +1,5 @@
 -- Believed. The answers of `table` and `lattice`, for the program of their file.
-use Rattle.std.specs.Prelude.{◌≡◌, ◌⊎◌, ℕ, ◌≤◌, Bool, List, [], ◌++◌, length, codes, Some, if◌then◌else◌}
+use Rattle.std.specs.Prelude.{◌≡◌, ◌⊎◌, ℕ, ◌≤◌, Bool, List, [], ◌++◌, length, codes, Some}
 use Rattle.std.specs.Fmt.{decimal}
 use Rattle.java_core.specs.declared.Program.{Program}
 use Rattle.java_core.specs.Programs.{program_of}
@@ -12,11 +12,10 @@ use Rattle.flow_rules.specs.declared.faults.Counted.{Counted}
 use Rattle.flow_rules.specs.Facts.{too_many}
 use Rattle.flow_program.specs.Known.{AreProgramFacts}
 use Rattle.lattice_view.specs.Table.{table_text}
-use Rattle.lattice_view.specs.Text.{lattice_text}
-use Rattle.lattice_view.specs.Json.{lattice_json}
 use Rattle.kaba_top.specs.declared.cause_words.Cause.TheVariants as cause
 use Rattle.kaba_top.specs.CauseWords.{cause_text}
 use Rattle.kaba_top.specs.Lines.{Says, Gives}
+use Rattle.kaba_top.specs.TextFacts.{shown}
 
 -- the program has no facts, since there is too much of something
 pub record IsOverLimit (program : Program) (status : ℕ) (out err : List ℕ) : Type 0 where
@@ -45,10 +44,6 @@ pub record TableOf (facts : Facts) (status : ℕ) (out err : List ℕ) : Type 0 
   pub table : Table
   pub is : IsTable facts table
   pub gives : Gives 0 (table_text facts table) [] status out err
-
--- the text of the lattice, or its JSON
-abbrev pub shown : Bool → Facts → Lattice → List ℕ
-shown json facts lattice = if json then lattice_json facts lattice else lattice_text lattice
 
 -- the text that says that there are more concepts than are allowed
 abbrev pub too_many_concepts : ℕ → List ℕ

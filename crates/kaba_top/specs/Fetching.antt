@@ -4,7 +4,8 @@ use Rattle.kaba_base.specs.Outside.{Files}
 use Rattle.kaba_top.specs.declared.answer.Fetched.{Fetched}
 use Rattle.kaba_top.specs.declared.answer.Fetched.TheVariants.{Bytes, Refused}
 use Rattle.kaba_top.specs.Lines.{most_bytes}
-use Rattle.kaba_top.specs.Answers.{Agrees, IsMissing, IsTooLarge, IsFault, IsAnswered, FileAnswers}
+use Rattle.kaba_top.specs.Agreement.{Agrees}
+use Rattle.kaba_top.specs.Answers.{IsMissing, IsTooLarge, IsFault, IsAnswered, FileAnswers}
 
 -- some files that agree with what is told have these bytes under the name
 pub record IsThere (told : Option Files) (name bytes : List ℕ) : Type 0 where

@@ -1,5 +1,8 @@
--- Believed. Scripts that only drop nodes and give fresh names.
-use Rattle.std.specs.Prelude.{List, [], ◌∷◌}
+-- Believed. Programs without interfaces, and scripts that only drop nodes and give fresh names: together they always come to a tree.
+use Rattle.std.specs.Prelude.{◌≡◌, List, [], ◌∷◌, false}
+use Rattle.std.specs.List.{list_any}
+use Rattle.java_core.specs.declared.Program.{Program}
+use Rattle.java_core.specs.Programs.{program_of}
 use Rattle.fact_model.specs.declared.facts.Facts.{Facts}
 use Rattle.fact_model.specs.declared.sets.PointsTo.{PointsTo}
 use Rattle.hier_model.specs.Hierarchies.{Hierarchy}
@@ -8,6 +11,10 @@ use Rattle.hier_model.specs.declared.edits.Edit.TheVariants.{Merge, Under, Move,
 use Rattle.edit_script.specs.declared.lines.Line.{Line}
 use Rattle.hier_script.specs.Scripts.{after_edit}
 use Rattle.hier_tree.specs.Reached.{IsFresh}
+
+-- the program declares no interface
+abbrev pub DeclaresNoInterface : Program → Type 0
+DeclaresNoInterface program = list_any (λ k. k.is_interface) (program_of program).classes ≡ false
 
 -- an edit drops a node, or gives a name that no type, no class with static members, and no field or method then bears
 abbrev pub IsDropOrFresh : Facts → Hierarchy → Edit → Type 0

@@ -1,5 +1,8 @@
 pub mod Lines
 pub mod About
+pub mod Agreement
+pub mod TextPrograms
+pub mod TextFacts
 pub mod Reading
 pub mod RunAnswers
 pub mod FactsAnswers
@@ -10,6 +13,7 @@ pub mod Fresh
 pub mod RegenAnswers
 pub mod MakeAnswers
 pub mod Answers
+pub mod OneAnswer
 pub mod Fetching
 pub mod Readings
 pub mod Analyses

@@ -73,7 +73,10 @@ summary counts steps bytes =
 -- a run that came to its end gives the counts; any other gives what `run` gives of it
 abbrev pub RunGives : Counts → meaning.End → ℕ → List ℕ → ℕ → List ℕ → List ℕ → Type 0
 RunGives counts meaning.Ended steps bytes = Gives 0 (summary counts steps (length bytes)) []
-RunGives counts end steps bytes = EndGives end bytes
+RunGives counts (meaning.Faulted kind) steps bytes = EndGives (meaning.Faulted kind) bytes
+RunGives counts meaning.Going steps bytes = EndGives meaning.Going bytes
+RunGives counts meaning.Wrong steps bytes = EndGives meaning.Wrong bytes
+RunGives counts meaning.Escaped steps bytes = EndGives meaning.Escaped bytes
 
 -- what the outcome of the written program's run gives, with the counts of its analysis
 abbrev pub OutcomeGives : Counts → meaning.Outcome → ℕ → List ℕ → List ℕ → Type 0

@@ -1,11 +1,13 @@
--- Believed. What Kaba promises of its analysis and of the programs that it writes, said once more without the answers
--- around it.
-use Rattle.std.specs.Prelude.{◌≡◌, ◌⊎◌, ℕ, ◌≤◌, Bool, List, [], ◌∷◌, ◌++◌, length, Option, Some, None, Ok, Err}
+-- Believed. What Kaba promises of its analysis and of the programs that it writes, without the answers around it.
+use Rattle.std.specs.Prelude.{◌≡◌, ◌⊎◌, ℕ, ◌≤◌, Bool, List, [], ◌∷◌, ◌++◌, codes, Option, Some, None, Ok, Err}
 use Rattle.kaba_base.specs.Outside.{Files, taken_more}
 use Rattle.java_tree.specs.Syntax.{DeclTree}
-use Rattle.java_tree.specs.Formed.{IsReadAs}
+use Rattle.java_lex.specs.declared.Token.{Token}
+use Rattle.java_lex.specs.Lexing.{tokens_of}
+use Rattle.java_tree.specs.Nesting.{nesting_of}
+use Rattle.java_tree.specs.Declarations.{Derives}
 use Rattle.java_core.specs.declared.Program.{Program}
-use Rattle.java_core.specs.Programs.{program_of}
+use Rattle.java_core.specs.Programs.{Plain, program_of}
 use Rattle.java_core.specs.Untagged.{untagged}
 use Rattle.java_core.specs.Typing.{IsTyped}
 use Rattle.name_rules.specs.Resolves.{Resolves}
@@ -24,25 +26,28 @@ use Rattle.hier_rules.specs.declared.broken.Broken.{Broken}
 use Rattle.hier_rules.specs.First.{first_of_edit, first_broken}
 use Rattle.hier_edit.specs.Applied.{fault_of}
 use Rattle.hier_edit.specs.declared.ApplyFault.TheVariants.{Breaks}
+use Rattle.hier_view.specs.Text.{hierarchy_text}
 use Rattle.hier_script.specs.Refusals.{refusal_line}
-use Rattle.hier_tree.specs.Trees.{Tree, Grows}
+use Rattle.hier_tree.specs.Trees.{Tree, Stuck, Grows}
 use Rattle.tree_merge.specs.declared.steps.TreeStep.{TreeStep}
+use Rattle.tree_merge.specs.declared.trees.NoTree.{NoTree}
 use Rattle.tree_merge.specs.Logs.{steps_of}
-use Rattle.hier_log.specs.Lines.{log_text}
+use Rattle.hier_log.specs.Lines.{log_text, no_tree_text}
 use Rattle.edit_script.specs.declared.lines.Line.{Line}
 use Rattle.edit_script.specs.Script.{AreEditsOf}
 use Rattle.rebuild_model.specs.Rebuilds.{Rebuilds}
 use Rattle.rebuild_laws.specs.types.Rows.{OffersRows}
 use Rattle.rebuild_laws.specs.runs.Same.{HasSameRun}
 use Rattle.kaba_words.specs.Commands.{Cmd, run, table, lattice, edit, regen, make, help, version, Fits}
-use Rattle.kaba_top.specs.Reading.{IsTypedText}
-use Rattle.kaba_top.specs.FactsAnswers.{HasFacts, shown}
-use Rattle.kaba_top.specs.Answers.{Agrees}
+use Rattle.kaba_top.specs.TextPrograms.{IsTypedText, most_nesting}
+use Rattle.kaba_top.specs.TextFacts.{HasTextFacts, shown}
+use Rattle.kaba_top.specs.Agreement.{Agrees}
+use Rattle.kaba_top.specs.Fresh.{DeclaresNoInterface, AreDropsAndFreshNames}
 
 -- the facts of the program of a text, the least table closed under the rules, and its concept lattice
 pub record IsAnalysis (bytes : List ℕ) (program : Program) (facts : Facts) (table : Table) (lattice : Lattice) : Type 0 where
-  pub text : IsTypedText bytes program
-  pub facts_are : HasFacts program facts
+  pub text : IsTypedText bytes (program_of program)
+  pub facts_are : HasTextFacts (program_of program) facts
   pub least : IsTable facts table
   pub concepts : IsLatticeOf table lattice
 
@@ -79,28 +84,33 @@ pub record JudgesEdits (bytes script : List ℕ) (program : Program) (facts : Fa
   pub are : AreEditsOf script edits
   pub judged : AreJudged facts sets (start_from facts table lattice) edits after told
 
--- what is written is read as a tree that resolves to a typed program; it rebuilds the old one over the hierarchy, offers each row its
+-- the tokens of what is written derive a tree that resolves to a typed program; it rebuilds the old one over the hierarchy, offers each row its
 -- columns, and has for all words and every bound on the steps the same output, end and steps
 pub record IsRebuilt (program : Program) (facts : Facts) (H : Hierarchy) (text : List ℕ) : Type 0 where
   pub tree : List DeclTree
-  pub read : IsReadAs text tree
+  pub tokens : List Token
+  pub lexed : tokens_of text ≡ Ok tokens
+  pub derives : Derives tokens tree
   pub new : Program
   pub resolves : Resolves tree (program_of new)
   pub typed : IsTyped (program_of new)
   pub rebuilds : Rebuilds (program_of program) facts H (program_of new)
   pub offers : OffersRows (program_of program) facts H (program_of new) rebuilds.places
   pub same : HasSameRun (program_of program) (program_of new)
-  -- whatever program the text is read as, again from a file, is that one, places aside, and has the same run
-  pub one : (again : Program) → IsTypedText text again → program_of new ≡ untagged (program_of again)
-  pub same_again : (again : Program) → IsTypedText text again → HasSameRun (program_of program) (program_of again)
+  -- where the tokens nest as deep as a file's may, and no deeper, the text is that of a typed program, as a file's text has to be
+  pub taken : nesting_of tokens ≤ most_nesting → (again : Plain) × IsTypedText text again
+  -- whatever program the text is read as, again from a file, is the one above, places aside, and has the same run
+  pub one : (again : Plain) → IsTypedText text again → program_of new ≡ untagged again
+  pub same_again : (again : Plain) → IsTypedText text again → HasSameRun (program_of program) again
 
--- the script's edits are judged
-pub record TellsEdits (bytes script err : List ℕ) : Type 0 where
+-- the script's edits are judged, and the hierarchy that they leave is shown
+pub record TellsEdits (bytes script out err : List ℕ) : Type 0 where
   pub program : Program
   pub facts : Facts
   pub sets : PointsTo
   pub after : Hierarchy
   pub judges : JudgesEdits bytes script program facts sets after err
+  pub shows : out ≡ hierarchy_text facts after
 
 -- the text written is that of a program over the tree of the hierarchy that they leave, and the steps to the tree are told behind the refusals
 pub record WritesProgram (bytes script out err : List ℕ) : Type 0 where
@@ -117,23 +127,36 @@ pub record WritesProgram (bytes script out err : List ℕ) : Type 0 where
   pub rebuilt : IsRebuilt program facts tree out
   pub tells : err ≡ told ++ log_text log
 
+-- the steps from the hierarchy that the edits leave end at a conflict, which is told behind them, and no program is written: the old one declares
+-- an interface, or the edits do more than drop nodes and give names that nothing bears
+pub record FindsNoTree (bytes script out err : List ℕ) : Type 0 where
+  pub program : Program
+  pub facts : Facts
+  pub sets : PointsTo
+  pub after : Hierarchy
+  pub told : List ℕ
+  pub judges : JudgesEdits bytes script program facts sets after told
+  pub more : DeclaresNoInterface program → AreDropsAndFreshNames facts sets (start_from facts judges.table judges.lattice) judges.edits → ⊥
+  pub fault : NoTree
+  pub last : Hierarchy
+  pub grows : Grows facts sets after (steps_of fault.log.items) (Stuck last fault.conflict fault.broken)
+  pub nothing : out ≡ []
+  pub tells : err ≡ told ++ (log_text fault.log.items ++ (codes "kaba: " ++ (no_tree_text fault ++ 10 ∷ [])))
+
 -- a file's bytes, of which this holds
 pub record OfFile (files : Files) (file : List ℕ) (K : List ℕ → Type 0) : Type 0 where
   pub bytes : List ℕ
   pub there : files file ≡ Some bytes
   pub holds : K bytes
 
--- an edit was made of each line, or refused
-abbrev pub IsJudging : ℕ → Type 0
-IsJudging status = (status ≡ 0) ⊎ (status ≡ 4)
-
 -- what is promised of each command
 abbrev pub Promises : Cmd → Files → Files → ℕ → List ℕ → List ℕ → Type 0
 Promises (lattice json bound file) first second status out err = status ≡ 0 → OfFile first file (λ bytes. ShowsLattice json bytes out)
-Promises (edit bound file script) first second status out err = IsJudging status
-    → OfFile first file (λ bytes. OfFile second script (λ lines. TellsEdits bytes lines err))
-Promises (regen bound file script) first second status out err = IsJudging status
-    → OfFile first file (λ bytes. OfFile second script (λ lines. WritesProgram bytes lines out err))
+Promises (edit bound file script) first second status out err = (status ≡ 0) ⊎ (status ≡ 4)
+    → OfFile first file (λ bytes. OfFile second script (λ lines. TellsEdits bytes lines out err))
+Promises (regen bound file script) first second status out err =
+    ((status ≡ 0) ⊎ (status ≡ 4) → OfFile first file (λ bytes. OfFile second script (λ lines. WritesProgram bytes lines out err)))
+    × (status ≡ 5 → OfFile first file (λ bytes. OfFile second script (λ lines. FindsNoTree bytes lines out err)))
 Promises (run file steps words) first second status out err = Unit {0}
 Promises (table file) first second status out err = Unit {0}
 Promises (make prints number) first second status out err = Unit {0}

@@ -9,21 +9,19 @@ use Rattle.java_lex.specs.declared.LexFault.TheVariants as lexing
 use Rattle.java_lex.specs.Lexing.{tokens_of}
 use Rattle.java_tree.specs.Nesting as nesting
 use Rattle.java_tree.specs.Syntax.{DeclTree}
-use Rattle.java_tree.specs.Declarations.{IsPlaced, Derives}
+use Rattle.java_tree.specs.Declarations.{Derives}
 use Rattle.java_core.specs.declared.Program.{Program}
 use Rattle.java_core.specs.Programs.{program_of}
-use Rattle.java_core.specs.Formed.{IsFormed}
 use Rattle.java_core.specs.Typing.{IsTyped}
 use Rattle.name_rules.specs.declared.Refusal.{Refusal}
 use Rattle.name_rules.specs.declared.Refusal.TheVariants as naming
 use Rattle.name_rules.specs.Conditions.{ConditionAt}
-use Rattle.name_rules.specs.Causes.{HasNoCondition}
-use Rattle.name_rules.specs.Resolves.{Resolves}
 use Rattle.java_check.specs.declared.Kind.{Kind}
 use Rattle.java_check.specs.Fails.{FailsIn}
 use Rattle.kaba_top.specs.declared.cause_words.Cause.TheVariants as cause
 use Rattle.kaba_top.specs.CauseWords.{cause_text}
 use Rattle.kaba_top.specs.Lines.{Says}
+use Rattle.kaba_top.specs.TextPrograms.{most_nesting, IsParsedAs, HasProgram, IsTypedText}
 
 -- the text of a refusal
 abbrev pub refused : List ℕ → List ℕ
@@ -68,13 +66,23 @@ line_of bytes k tokens = line_at bytes (slice_get tokens k)
 
 -- the fault or the refusal is not want of memory
 abbrev pub IsOfText : LexFault → Type 0
+IsOfText (lexing.BadByte p) = Unit {0}
+IsOfText (lexing.OpenComment p) = Unit {0}
+IsOfText (lexing.OpenString p) = Unit {0}
+IsOfText (lexing.BigLiteral p) = Unit {0}
 IsOfText lexing.Memory = ⊥
-IsOfText f = Unit {0}
 
 -- the refusal of a tree's names is not want of memory
 abbrev pub IsOfTree : Refusal → Type 0
+IsOfTree (naming.Unknown name p) = Unit {0}
+IsOfTree (naming.Twice name p) = Unit {0}
+IsOfTree (naming.Loop name p) = Unit {0}
+IsOfTree (naming.Overload name p) = Unit {0}
+IsOfTree (naming.TwoKinds name p) = Unit {0}
+IsOfTree (naming.PrivateReused name p) = Unit {0}
+IsOfTree naming.NoMain = Unit {0}
+IsOfTree (naming.NotInProfile form p) = Unit {0}
 IsOfTree naming.Memory = ⊥
-IsOfTree r = Unit {0}
 
 -- the text of why a tree's names are refused; empty for want of memory
 abbrev pub naming_text : Refusal → List ℕ
@@ -91,10 +99,6 @@ naming_text naming.Memory = []
 -- the text of the rule of types that a program breaks, and its line
 abbrev pub typing_text : Kind → Place → List ℕ
 typing_text kind p = on_what (codes "IllTyped") (cause_text (cause.Rule kind)) p
-
--- the most entries that the nesting stack may have
-abbrev pub most_nesting : ℕ
-most_nesting = 128
 
 -- the text has no tokens
 pub record IsNoTokens (bytes : List ℕ) (status : ℕ) (out err : List ℕ) : Type 0 where
@@ -120,32 +124,19 @@ pub record IsNoTree (bytes : List ℕ) (status : ℕ) (out err : List ℕ) : Typ
   pub within : token ≤ length tokens
   pub says : Says 65 (refused (at_token (codes "NotAProgram") token (line_of bytes token tokens))) status out err
 
--- the text is read as this tree, and its nesting is within the limit
-pub record IsReadAs (bytes : List ℕ) (tree : List DeclTree) : Type 0 where
-  pub tokens : List Token
-  pub lexed : tokens_of bytes ≡ Ok tokens
-  pub nested : nesting.nesting_of tokens ≤ most_nesting
-  pub placed : IsPlaced tokens tree
-
 -- a condition that refuses names holds of the tree at the place named
 pub record IsUnresolved (bytes : List ℕ) (status : ℕ) (out err : List ℕ) : Type 0 where
   pub tree : List DeclTree
-  pub read : IsReadAs bytes tree
+  pub read : IsParsedAs bytes tree
   pub why : Refusal
   pub condition : ConditionAt tree why
   pub says : Says 65 (refused (naming_text why)) status out err
-
--- the text has this tree, no condition that refuses names holds of it, and it is resolved to this program
-pub record HasProgram (bytes : List ℕ) (tree : List DeclTree) (program : Program) : Type 0 where
-  pub read : IsReadAs bytes tree
-  pub resolves : Resolves tree (program_of program)
-  pub none : HasNoCondition tree
 
 -- the program of the text is not typed: a rule of types fails in it at the place named
 pub record IsUntyped (bytes : List ℕ) (status : ℕ) (out err : List ℕ) : Type 0 where
   pub tree : List DeclTree
   pub program : Program
-  pub has : HasProgram bytes tree program
+  pub has : HasProgram bytes tree (program_of program)
   pub untyped : IsTyped (program_of program) → ⊥
   pub kind : Kind
   pub place : Place
@@ -157,17 +148,10 @@ unfoldable pub IsRefusedText : List ℕ → ℕ → List ℕ → List ℕ → Ty
 IsRefusedText bytes status out err = IsNoTokens bytes status out err
     ⊎ (IsTooDeep bytes status out err ⊎ (IsNoTree bytes status out err ⊎ (IsUnresolved bytes status out err ⊎ IsUntyped bytes status out err)))
 
--- the text is that of this program, which is typed
-pub record IsTypedText (bytes : List ℕ) (program : Program) : Type 0 where
-  pub tree : List DeclTree
-  pub has : HasProgram bytes tree program
-  pub formed : IsFormed (program_of program)
-  pub typed : IsTyped (program_of program)
-
 -- the text is that of a typed program, for which there is this answer
 pub record IsAnsweredText (K : Program → ℕ → List ℕ → List ℕ → Type 0) (bytes : List ℕ) (status : ℕ) (out err : List ℕ) : Type 0 where
   pub program : Program
-  pub is : IsTypedText bytes program
+  pub is : IsTypedText bytes (program_of program)
   pub answers : K program status out err
 
 -- the answers for the bytes of a file, where K are those for its program

@@ -15,12 +15,13 @@ use Rattle.java_check.specs.Fails.{FailsIn}
 use Rattle.kaba_top.specs.declared.reading.Reading.{Reading}
 use Rattle.kaba_top.specs.declared.reading.Reading.TheVariants as readings
 use Rattle.kaba_top.specs.Lines.{Says, most_bytes}
-use Rattle.kaba_top.specs.Reading.{IsRefusedText, IsTypedText, refused, naming_text, typing_text}
+use Rattle.kaba_top.specs.TextPrograms.{IsTypedText}
+use Rattle.kaba_top.specs.Reading.{IsRefusedText, refused, naming_text, typing_text}
 use Rattle.kaba_top.specs.MakeAnswers.{IsLongText}
 
 -- the bytes are those of this typed program, or a reply refuses them
 abbrev pub IsReading : List ℕ → Reading → Type 0
-IsReading bytes (readings.Typed program) = IsTypedText bytes program
+IsReading bytes (readings.Typed program) = IsTypedText bytes (program_of program)
 IsReading bytes (readings.Refused reply) = IsRefusedText bytes reply.status reply.out.items reply.err.items
 
 -- the program is not typed
@@ -67,7 +68,7 @@ IsReadingOfTree tree (readings.Refused reply) = IsUnresolvedTree tree reply.stat
 
 -- the bytes of a text that no file holds are those of this typed program, or a reply refuses them
 abbrev pub IsMadeReading : List ℕ → Reading → Type 0
-IsMadeReading bytes (readings.Typed program) = (length bytes ≤ most_bytes) × IsTypedText bytes program
+IsMadeReading bytes (readings.Typed program) = (length bytes ≤ most_bytes) × IsTypedText bytes (program_of program)
 IsMadeReading bytes (readings.Refused reply) =
     IsLongText bytes reply.status reply.out.items reply.err.items
     ⊎ ((length bytes ≤ most_bytes) × IsRefusedText bytes reply.status reply.out.items reply.err.items)

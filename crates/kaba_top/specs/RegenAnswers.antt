@@ -1,8 +1,6 @@
 -- Believed. The answers of `regen`, for the program of its file and the bytes of its script.
-use Rattle.std.specs.Prelude.{◌≡◌, ◌⊎◌, ℕ, List, [], ◌++◌, false, None}
-use Rattle.std.specs.List.{list_any}
+use Rattle.std.specs.Prelude.{◌≡◌, ◌⊎◌, ℕ, List, [], ◌++◌, None}
 use Rattle.java_core.specs.declared.Program.{Program}
-use Rattle.java_core.specs.Programs.{program_of}
 use Rattle.fact_model.specs.declared.facts.Facts.{Facts}
 use Rattle.fact_model.specs.declared.sets.PointsTo.{PointsTo}
 use Rattle.hier_model.specs.Hierarchies.{Hierarchy}
@@ -17,7 +15,7 @@ use Rattle.java_write.specs.Written.{IsWrittenText}
 use Rattle.kaba_top.specs.Lines.{Gives, line}
 use Rattle.kaba_top.specs.ScriptAnswers.{HasLattice, ScriptAnswers, start_of, edited, refusals}
 use Rattle.kaba_top.specs.EditAnswers.{edit_status}
-use Rattle.kaba_top.specs.Fresh.{AreDropsAndFreshNames}
+use Rattle.kaba_top.specs.Fresh.{DeclaresNoInterface, AreDropsAndFreshNames}
 
 -- the steps from a hierarchy end at one whose class nodes are a tree and that breaks no obligation
 pub record IsTreeOf (facts : Facts) (sets : PointsTo) (from : Hierarchy) (log : List TreeStep) (tree : Hierarchy) : Type 0 where
@@ -30,10 +28,6 @@ pub record EndsAtConflict (facts : Facts) (sets : PointsTo) (from : Hierarchy) (
   pub last : Hierarchy
   pub grows : Grows facts sets from (steps_of fault.log.items) (Stuck last fault.conflict fault.broken)
   pub edits : AreEdits fault.log.items
-
--- the program declares no interface
-abbrev pub DeclaresNoInterface : Program → Type 0
-DeclaresNoInterface program = list_any (λ k. k.is_interface) (program_of program).classes ≡ false
 
 module _ (program : Program) (bound : ℕ) (facts : Facts) (has : HasLattice bound facts) (edits : List Line) (status : ℕ) (out err : List ℕ) where
   -- a tree was found: what is written is the program of its hierarchy, and the log is told after the refused edits

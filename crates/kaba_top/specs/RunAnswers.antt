@@ -13,7 +13,8 @@ abbrev pub EndGives : meaning.End → List ℕ → ℕ → List ℕ → List ℕ
 EndGives meaning.Ended bytes = Gives 0 bytes []
 EndGives (meaning.Faulted kind) bytes = Gives 10 bytes (line (codes "fault " ++ cause_text (cause.Fault kind)))
 EndGives meaning.Going bytes = Gives 11 bytes (line (codes "going"))
-EndGives _ bytes = λ status out err. ⊥
+EndGives meaning.Wrong bytes = λ status out err. ⊥
+EndGives meaning.Escaped bytes = λ status out err. ⊥
 
 -- what the run of the program on the words gives, within the steps
 abbrev pub RunAnswers : ℕ → List (List ℕ) → Program → ℕ → List ℕ → List ℕ → Type 0

@@ -3,7 +3,8 @@
 
 ghost use Rattle.std.specs.Prelude.{◌≡◌, ◌≤◌, IfOk, length};
 ghost use Rattle.kaba_top.specs.Words.{InRange, IsTable, Says, most_bytes, TextAnswers, AnalysisAnswers};
-ghost use Rattle.kaba_top.specs.FactsAnswers.{TableOf, LatticeOf, shown, too_many_concepts};
+ghost use Rattle.kaba_top.specs.TextFacts.{shown};
+ghost use Rattle.kaba_top.specs.FactsAnswers.{TableOf, LatticeOf, too_many_concepts};
 ghost use Rattle.kaba_top.specs.Analyses.{IsAnalysis};
 
 use crate::Tried;

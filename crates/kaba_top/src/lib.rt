@@ -11,6 +11,7 @@ mod analysis;
 mod answer;
 mod cause_words;
 mod edit;
+mod laws;
 mod make;
 mod reading;
 mod regen;
@@ -19,6 +20,7 @@ mod run;
 mod script;
 
 use crate::answer::answer;
+pub use crate::laws::one_answer;
 use crate::reply::deliver;
 use kaba_base::{Shelf, Sink};
 pub use kaba_words::{Command, WordsFault, read_words};
@@ -45,7 +47,7 @@ pub fn kaba<F: Shelf, O: Sink, E: Sink>(
         (O.taken out.old) (O.taken out.new) (E.taken err.old) (E.taken err.new) }
     ensures cut { result ≡ 74 → WasCut (F.files shelf.old) (F.faults shelf.old) (F.faults shelf.new)
         (texts words.now.items) (O.taken out.old) (O.taken out.new) (E.taken err.old) (E.taken err.new) }
-    ensures promise { (result ≡ 0) ⊎ (result ≡ 4) → Kept (F.files shelf.old) (texts words.now.items) result
+    ensures promise { (result ≡ 0) ⊎ ((result ≡ 4) ⊎ (result ≡ 5)) → Kept (F.files shelf.old) (texts words.now.items) result
         (O.taken out.old) (O.taken out.new) (E.taken err.old) (E.taken err.new) }
     ensures memory_out { result ≡ 70 → O.taken out.new ≡ O.taken out.old }
     ensures memory_err { result ≡ 70 → E.taken err.new ≡ E.taken err.old }

@@ -5,8 +5,8 @@ ghost use Rattle.std.specs.Prelude.{◌≡◌, ◌++◌, ℕ, ◌<◌, ◌≤◌
 ghost use Rattle.java_core.specs.declared.Program.{Program};
 ghost use Rattle.kaba_top.specs.Words.{program_of, end_of, HasText, AreProgramFacts, AnalysisAnswers};
 ghost use Rattle.kaba_words.specs.Commands.{most_samples};
-ghost use Rattle.kaba_top.specs.Reading.{IsTypedText};
-ghost use Rattle.kaba_top.specs.RegenAnswers.{DeclaresNoInterface};
+ghost use Rattle.kaba_top.specs.TextPrograms.{IsTypedText};
+ghost use Rattle.kaba_top.specs.Fresh.{DeclaresNoInterface};
 ghost use Rattle.kaba_top.specs.MakeAnswers.{MakeAnswers, MadeOf, MadeTextAnswers, RunGives, SampleAnswers, WrittenGives, count_line, counts_of, sample_text, summary};
 ghost use Rattle.kaba_top.specs.Readings.{IsMadeReading};
 
@@ -185,7 +185,7 @@ fn made_program(alloc: Global, program: &Checked) -> Tried<Reply>
 
 /// The reply of `make` for the text of its sample.
 fn made_sample(alloc: Global, text: &Vec<u8>) -> Tried<Reply>
-    requires classes { (program : Program) → IsTypedText text.now.items program → DeclaresNoInterface program }
+    requires classes { (program : Program) → IsTypedText text.now.items (program_of program) → DeclaresNoInterface program }
     ensures { IfOk result (λ reply. SampleAnswers text.now.items reply.status reply.out.items reply.err.items) }
 {
     match read_made(alloc, text)? {

@@ -1,6 +1,7 @@
 use Rattle.std.proofs.Common.{refl, subst, sym}
+use Rattle.java_core.specs.Programs.{program_of}
 use Rattle.kaba_top.specs.MakeAnswers.{MakeAnswers}
-use Rattle.kaba_top.specs.Reading.{IsTypedText}
+use Rattle.kaba_top.specs.TextPrograms.{IsTypedText}
 use Rattle.kaba_top.proofs.Samples.{sample_classes}
 use Rattle.kaba_top.proofs.make.make_reply.Goals as goal
 
@@ -13,5 +14,5 @@ returns-then-prints c = record {
 pub made_sample-requires : goal.made_sample-requires
 made_sample-requires c = record {
   classes = λ program is.
-      sample_classes c.args.number c.requires.most program (subst (λ bytes. IsTypedText bytes program) c.in_ok-text.ensures is);
+      sample_classes c.args.number c.requires.most program (subst (λ bytes. IsTypedText bytes (program_of program)) c.in_ok-text.ensures is);
 }

@@ -1,0 +1,90 @@
+-- Mirror. The answers of the program are one; and which statuses there are where nothing is refused.
+use Rattle.std.specs.Prelude.{◌≡◌, ◌⊎◌, ℕ, ◌≤◌, List, length, Some}
+use Rattle.kaba_base.specs.Outside.{Files}
+use Rattle.java_core.specs.Programs.{Plain}
+use Rattle.fact_model.specs.declared.facts.Facts.{Facts}
+use Rattle.fact_model.specs.declared.sets.Table.{Table}
+use Rattle.fact_model.specs.Entries.{IsTable}
+use Rattle.fact_model.specs.Concepts.{AreMoreThan}
+use Rattle.flow_rules.specs.Facts.{IsWithin}
+use Rattle.edit_script.specs.Script.{IsFirstBadLine, HasTooManyEdits}
+use Rattle.kaba_words.specs.Commands.{Cmd, run, table, lattice, edit, regen, make, help, version, Fits}
+use Rattle.kaba_top.specs.Lines.{most_bytes}
+use Rattle.kaba_top.specs.TextPrograms.{IsTypedText}
+use Rattle.kaba_top.specs.TextFacts.{HasTextFacts}
+use Rattle.kaba_top.specs.Reading.{IsNoTree, IsUnresolved, IsUntyped}
+use Rattle.kaba_top.specs.Answers.{Answers}
+
+-- two refusals of a text that may differ: at which token it is no program, which condition on names holds, or which rule of types fails
+abbrev pub AreFree : List ℕ → ℕ → List ℕ → List ℕ → ℕ → List ℕ → List ℕ → Type 0
+AreFree bytes s o e t p f =
+    (IsNoTree bytes s o e × IsNoTree bytes t p f)
+    ⊎ ((IsUnresolved bytes s o e × IsUnresolved bytes t p f) ⊎ (IsUntyped bytes s o e × IsUntyped bytes t p f))
+
+-- two answers are one: the status and the bytes for out, and those for err but for such refusals
+pub record AreOne (s : ℕ) (o e : List ℕ) (t : ℕ) (p f : List ℕ) : Type 0 where
+  pub status : s ≡ t
+  pub out : o ≡ p
+  pub err : (e ≡ f) ⊎ ((bytes : List ℕ) × AreFree bytes s o e t p f)
+
+-- an answer of one kind and one of another are one
+abbrev pub AreOneKind : (ℕ → List ℕ → List ℕ → Type 0) → (ℕ → List ℕ → List ℕ → Type 0) → Type 0
+AreOneKind A B = (s t : ℕ) (o p e f : List ℕ) → A s o e → B t p f → AreOne s o e t p f
+
+-- for one list of words and one pair of files there is one answer
+unfoldable pub HasOneAnswer : Type 0
+HasOneAnswer = (words : List (List ℕ)) (first second : Files) → AreOneKind (Answers words first second) (Answers words first second)
+
+-- a file of bytes within the limit, of which this holds
+pub record OfSmallFile (files : Files) (file : List ℕ) (K : List ℕ → Type 0) : Type 0 where
+  pub bytes : List ℕ
+  pub there : files file ≡ Some bytes
+  pub small : length bytes ≤ most_bytes
+  pub holds : K bytes
+
+-- the text of a typed program
+abbrev pub IsTaken : List ℕ → Type 0
+IsTaken bytes = (P : Plain) × IsTypedText bytes P
+
+-- the text of a typed program within the limits
+abbrev pub IsTakenWithin : List ℕ → Type 0
+IsTakenWithin bytes = (P : Plain) × IsTypedText bytes P × IsWithin P
+
+-- its table has no more concepts than are allowed
+abbrev pub HasFewConcepts : ℕ → Plain → Type 0
+HasFewConcepts bound P = (F : Facts) (t : Table) → HasTextFacts P F → IsTable F t → AreMoreThan t.rows.items t.width bound → ⊥
+
+-- the text of such a program with so few concepts
+abbrev pub IsTakenFor : ℕ → List ℕ → Type 0
+IsTakenFor bound bytes = (P : Plain) × IsTypedText bytes P × IsWithin P × HasFewConcepts bound P
+
+-- each line of a script is an edit or says nothing, and there are not too many edits
+abbrev pub IsAcceptedScript : List ℕ → Type 0
+IsAcceptedScript script = ((n : ℕ) → IsFirstBadLine script n → ⊥) × (HasTooManyEdits script → ⊥)
+
+-- nothing is refused of what a command reads
+abbrev pub IsReady : Cmd → Files → Files → Type 0
+IsReady (run file steps words) first second = OfSmallFile first file IsTaken
+IsReady (table file) first second = OfSmallFile first file IsTakenWithin
+IsReady (lattice json bound file) first second = OfSmallFile first file (IsTakenFor bound)
+IsReady (edit bound file script) first second = OfSmallFile first file (IsTakenFor bound) × OfSmallFile second script IsAcceptedScript
+IsReady (regen bound file script) first second = OfSmallFile first file (IsTakenFor bound) × OfSmallFile second script IsAcceptedScript
+IsReady (make prints number) first second = ⊥
+IsReady help first second = Unit {0}
+IsReady version first second = Unit {0}
+
+-- the statuses of a command then: a run ends, at a fault or at its bound; an edit may be refused, and there may be no tree
+abbrev pub IsDoneWith : Cmd → ℕ → Type 0
+IsDoneWith (run file steps words) status = (status ≡ 0) ⊎ ((status ≡ 10) ⊎ (status ≡ 11))
+IsDoneWith (table file) status = status ≡ 0
+IsDoneWith (lattice json bound file) status = status ≡ 0
+IsDoneWith (edit bound file script) status = (status ≡ 0) ⊎ (status ≡ 4)
+IsDoneWith (regen bound file script) status = (status ≡ 0) ⊎ ((status ≡ 4) ⊎ (status ≡ 5))
+IsDoneWith (make prints number) status = Unit {0}
+IsDoneWith help status = status ≡ 0
+IsDoneWith version status = status ≡ 0
+
+-- where the words say a command and nothing is refused of what it reads, the status is one of these
+unfoldable pub IsComplete : Type 0
+IsComplete = (words : List (List ℕ)) (command : Cmd) → Fits words command → (first second : Files) → IsReady command first second
+    → (status : ℕ) (out err : List ℕ) → Answers words first second status out err → IsDoneWith command status
