@@ -112,7 +112,8 @@ without_tree bound script program facts p fault status out err is known stuck h 
       fault = fault;
       ends = subst (λ H. EndsAtConflict facts p.sets H fault) is.is.hierarchy stuck.ends;
       more = λ none modest. stuck.unreached p.table p.lattice
-          (record { range = known.in_range; order = known.in_order; sets = is.are_sets; table = is.is_table; lattice = is.is_lattice }) (no_interface program facts known none)
+          (record { range = known.in_range; order = known.in_order; sets = is.are_sets; table = is.is_table; lattice = is.is_lattice })
+          (no_interface program facts known none)
           (subst (IsReached facts p.sets p.table p.lattice) (sym is.is.hierarchy) (reached facts p.sets p.table p.lattice (start_of bound facts has)
           is.edits modest begun));
       gives = subst (λ lines. Gives 5 [] (lines ++ (log_text fault.log.items ++ line (no_tree_text fault))) status out err) is.is.refusals h;

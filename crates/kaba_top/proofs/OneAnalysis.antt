@@ -190,7 +190,8 @@ module _ {F G : Facts} (same : AreSame F G) (bound : ℕ) (text : List ℕ) (A :
   one_scripted s t o p e f (inl (inl a)) (inr b) =
       absurd (over a.table b.has (one_table same a.table b.has.table a.is b.has.is_table) (one_width same a.table b.has.table a.is b.has.is_table) a.many.more)
   one_scripted s t o p e f (inl (inr a)) (inl (inl b)) =
-      absurd (over_back b.table a.has (one_table same a.has.table b.table a.has.is_table b.is) (one_width same a.has.table b.table a.has.is_table b.is) b.many.more)
+      absurd (over_back b.table a.has (one_table same a.has.table b.table a.has.is_table b.is)
+      (one_width same a.has.table b.table a.has.is_table b.is) b.many.more)
   one_scripted s t o p e f (inl (inr a)) (inl (inr b)) = ⊎_elim
       (λ x. ⊎_elim
       (λ y. said 69 (bad_script x.line) (bad_script y.line) (ap bad_script (one_bad_line text x.line y.line x.first y.first)) s t o p e f x.says y.says)
@@ -204,7 +205,8 @@ module _ {F G : Facts} (same : AreSame F G) (bound : ℕ) (text : List ℕ) (A :
       (λ x. let n = one_count x.many.edits b.edits (one_script text x.many.edits b.edits x.many.are b.are) in absurd (omega (arith, n, x.many.many, b.few)))
       a.fault
   one_scripted s t o p e f (inr a) (inl (inl b)) =
-      absurd (over_back b.table a.has (one_table same a.has.table b.table a.has.is_table b.is) (one_width same a.has.table b.table a.has.is_table b.is) b.many.more)
+      absurd (over_back b.table a.has (one_table same a.has.table b.table a.has.is_table b.is)
+      (one_width same a.has.table b.table a.has.is_table b.is) b.many.more)
   one_scripted s t o p e f (inr a) (inl (inr b)) = ⊎_elim
       (λ y. absurd (no_bad_line text y.line a.edits y.first a.are))
       (λ y. let n = one_count y.many.edits a.edits (one_script text y.many.edits a.edits y.many.are a.are) in absurd (omega (arith, n, y.many.many, a.few)))

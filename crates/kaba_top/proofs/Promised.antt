@@ -67,7 +67,8 @@ module _ (status : ℕ) (out err : List ℕ) (j : IsJudging status) where
   in_file K P files file f (inr (inl a)) = absurd (other 67 status (omega arith) (omega arith) a.says.status_is j)
   in_file K P files file f (inr (inr a)) = record { bytes = a.bytes; there = a.there; holds = f a.bytes a.answers }
 
-  in_text : (K : Program → ℕ → List ℕ → List ℕ → Type 0) (R : Type 0) (bytes : List ℕ) → ((p : Program) → IsTypedText bytes (program_of p) → K p status out err → R)
+  in_text : (K : Program → ℕ → List ℕ → List ℕ → Type 0) (R : Type 0) (bytes : List ℕ) → ((p : Program) → IsTypedText bytes (program_of p)
+      → K p status out err → R)
       → TextAnswers K bytes status out err → R
   in_text K R bytes f (inl a) = absurd (refused bytes status out err j a)
   in_text K R bytes f (inr a) = f a.program a.is a.answers
@@ -121,7 +122,8 @@ module _ (F : Facts) (pt : PointsTo) where
   judged (line ∷ lines) H = by_changed H line lines (changed F H line.edit) refl (judged lines)
 
 -- the edits of a run
-abbrev judges : (bound : ℕ) (bytes script : List ℕ) (p : Program) (F : Facts) → IsTypedText bytes (program_of p) → HasFacts p F → (has : HasLattice bound F) (edits : List Line)
+abbrev judges : (bound : ℕ) (bytes script : List ℕ) (p : Program) (F : Facts) → IsTypedText bytes (program_of p) → HasFacts p F
+    → (has : HasLattice bound F) (edits : List Line)
     → AreEditsOf script edits → JudgesEdits bytes script p F has.sets (edited bound F has edits) (refusals bound F has edits)
 judges bound bytes script p F text facts has edits are = record {
   table = has.table;
@@ -205,7 +207,8 @@ module _ (status : ℕ) (out err : List ℕ) (j : IsJudging status) where
   edit_promised bound bytes script a =
       in_text status out err j (AnalysisAnswers (EditOf bound script)) (TellsEdits bytes script out err) bytes
       (λ p text. in_facts status out err j (EditOf bound script) (TellsEdits bytes script out err) p
-      (λ F facts. in_run status out err j bound script F (ShowsHierarchy bound F) (TellsEdits bytes script out err) (edits_told bound bytes script p text F facts)))
+      (λ F facts. in_run status out err j bound script F (ShowsHierarchy bound F) (TellsEdits bytes script out err)
+      (edits_told bound bytes script p text F facts)))
       a
 
   regen_promised : (bound : ℕ) (bytes script : List ℕ) → RegenAnswers bound bytes script status out err → WritesProgram bytes script out err
@@ -278,7 +281,8 @@ module _ (status : ℕ) (out err : List ℕ) (z : status ≡ 5) where
   without_tree : (bound : ℕ) (file script : List ℕ) (first second : Files) → CommandAnswers (regen bound file script) first second status out err
       → OfFile first file (λ bytes. OfFile second script (λ lines. FindsNoTree bytes lines out err))
   without_tree bound file script first second a =
-      in_five (λ bytes. FileAnswers (RegenAnswers bound bytes) second script) (λ bytes. OfFile second script (λ lines. FindsNoTree bytes lines out err)) first file
+      in_five (λ bytes. FileAnswers (RegenAnswers bound bytes) second script)
+      (λ bytes. OfFile second script (λ lines. FindsNoTree bytes lines out err)) first file
       (λ bytes. in_five (RegenAnswers bound bytes) (λ lines. FindsNoTree bytes lines out err) second script (in_script bound bytes)) a
 
 -- what is promised of a command

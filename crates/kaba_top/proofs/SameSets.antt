@@ -33,7 +33,8 @@ module _ {F G : Facts} (s : AreSame F G) where
   }
 
   fits_on : (column : Option ColId) (n o : ℕ) → Fits F column n o → Fits G column n o
-  fits_on None n o h = subst (λ z. IsBelow G z (site_class G o)) (site_class_is s n) (subst (λ z. IsBelow G (site_class F n) z) (site_class_is s o) (below_on s h))
+  fits_on None n o h = subst (λ z. IsBelow G z (site_class G o)) (site_class_is s n) (subst (λ z. IsBelow G (site_class F n) z)
+      (site_class_is s o) (below_on s h))
   fits_on (Some c) n o h = tt
 
   -- a call and a body of one are seen as a call and a body of the other
@@ -70,7 +71,8 @@ module _ {F G : Facts} (s : AreSame F G) where
   inclusion_on (by_this call o body r) =
       let h = seen call o body r in
       subst (λ (z : PlainCall). Inclusion G (in_point z.receiver o ∷ []) (in_point body.this o)) h.call_is
-      (subst (λ (z : PlainBody). Inclusion G (in_point h.call_there.receiver o ∷ []) (in_point z.this o)) h.body_is (by_this h.call_there o h.body_there h.runs))
+      (subst (λ (z : PlainBody). Inclusion G (in_point h.call_there.receiver o ∷ []) (in_point z.this o)) h.body_is
+      (by_this h.call_there o h.body_there h.runs))
   inclusion_on (by_argument call o body k from to n r a b) =
       let h = seen call o body r in
       subst (λ (z : PlainCall). Inclusion G (in_point z.receiver o ∷ in_point from n ∷ []) (in_point to n)) h.call_is

@@ -10,7 +10,8 @@ returns-in-Err-TooManyConcepts c =
         table = table;
         is = c.in_ok-table.ensures.table;
         many = record {
-          more = (subst (IsFaultOf table.rows.items table.width c.args.task.now.bound) c.in-Err-TooManyConcepts.field-0-is c.in-Err-TooManyConcepts.ensures.cause).1;
+          more = (subst (IsFaultOf table.rows.items table.width c.args.task.now.bound) c.in-Err-TooManyConcepts.field-0-is
+              c.in-Err-TooManyConcepts.ensures.cause).1;
           says = c.in_ok-too_many_concepts-in-Err-TooManyConcepts.ensures;
         };
       });
