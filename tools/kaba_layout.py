@@ -115,6 +115,12 @@ class Pieces:
             for word in mods:
                 self.changes.put(word.at, "")
             return
+        if self.old[placed.owner].kind == "Interface":
+            # A head of an interface is public and abstract without a word.
+            for word in mods:
+                self.changes.put(word.at, "")
+            self.changes.before[first] = "public abstract "
+            return
         rank = self.rank(name, placed.new)
         if rank != rank_of(mods):
             at = next((word.at for word in mods if word.name in WORDS.values()), None)
