@@ -23,6 +23,13 @@ OWN = {
 }
 
 
+def main_of(file):
+    """The class of a file that has a main, with its package; nothing where it has none."""
+    text = file.read_text()
+    package = re.search(r"^package ([\w.]+);", text, re.M)
+    return (f"{package[1]}." if package else "") + file.stem if "void main(String" in text else ""
+
+
 class Everyday:
     """A program of the corpus, what was made of it, and what differs."""
 
@@ -32,7 +39,7 @@ class Everyday:
         self.files = sorted(path.rglob("*.java")) if path.is_dir() else [path]
         for file in self.files:
             shutil.copy(file, self.folder / "old" / file.name)
-        self.main = next((file.stem for file in self.files if "void main(String" in file.read_text()), path.stem)
+        self.main = next(filter(None, map(main_of, self.files)), path.stem)
         self.text, self.left_out = self.folder / "text.java", ""
         self.classes = {}
 

@@ -1,6 +1,6 @@
 package java.lang;
 
-/** Characters up to 127 are known by their kind; another ends the program where its kind is asked. */
+/** Characters up to 255 are known by their kind; another ends the program where its kind is asked. */
 public final class Character implements Comparable<Character> {
     public static final char MAX_VALUE = 65535;
     public static final char MIN_VALUE = 0;
@@ -13,8 +13,8 @@ public final class Character implements Comparable<Character> {
     }
 
     private static char known(char c) {
-        if (c > 127) {
-            throw new UnsupportedOperationException("the kind of a character over 127");
+        if (c > 255) {
+            throw new UnsupportedOperationException("the kind of a character over 255");
         }
         return c;
     }
@@ -26,12 +26,12 @@ public final class Character implements Comparable<Character> {
 
     public static boolean isUpperCase(char c) {
         known(c);
-        return c >= 'A' && c <= 'Z';
+        return c >= 'A' && c <= 'Z' || c >= 192 && c <= 222 && c != 215;
     }
 
     public static boolean isLowerCase(char c) {
         known(c);
-        return c >= 'a' && c <= 'z';
+        return c >= 'a' && c <= 'z' || c >= 223 && c != 247 || c == 170 || c == 181 || c == 186;
     }
 
     public static boolean isLetter(char c) {
@@ -53,11 +53,17 @@ public final class Character implements Comparable<Character> {
 
     public static boolean isSpaceChar(char c) {
         known(c);
-        return c == ' ';
+        return c == ' ' || c == 160;
     }
 
     public static char toUpperCase(char c) {
-        return isLowerCase(c) ? (char) (c - 32) : c;
+        if (!isLowerCase(c) || c == 170 || c == 186 || c == 223) {
+            return c;
+        }
+        if (c == 181) {
+            return 924;
+        }
+        return c == 255 ? (char) 376 : (char) (c - 32);
     }
 
     public static char toLowerCase(char c) {
@@ -68,7 +74,7 @@ public final class Character implements Comparable<Character> {
         int digit = -1;
         if (isDigit(c)) {
             digit = c - '0';
-        } else if (isLetter(c)) {
+        } else if (c < 128 && isLetter(c)) {
             digit = toLowerCase(c) - 'a' + 10;
         }
         return digit < radix ? digit : -1;
@@ -82,6 +88,9 @@ public final class Character implements Comparable<Character> {
     }
 
     public static int getNumericValue(char c) {
+        if (c > 127) {
+            throw new UnsupportedOperationException("the number of a character over 127");
+        }
         return digit(c, 36);
     }
 

@@ -196,7 +196,7 @@ public final class String implements Comparable<String>, CharSequence {
     public String toUpperCase() {
         String text = "";
         for (int k = 0; k < length(); k++) {
-            text = text + Character.toUpperCase(charAt(k));
+            text = text + (charAt(k) == 223 ? "SS" : "" + Character.toUpperCase(charAt(k)));
         }
         return text;
     }
