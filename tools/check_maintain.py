@@ -203,7 +203,7 @@ def check_patches(tests):
 
 
 def check_loop(tests):
-    status, out, err = tests.tool("check-loop", "examples/Points.java", "examples/Shapes.java")
-    holds = status == 0 and "left out: Shapes: " in out and out.endswith("\n1 passed, 0 failed\n")
+    status, out, err = tests.tool("check-loop", "examples/Points.java", "examples/java/Shop.java")
+    holds = status == 0 and "left out: Shop: " in out and out.endswith("\n1 passed, 0 failed\n")
     tests.check("check-loop", holds, out + err)
     tests.one_line("check-loop of no file", 66, tests.tool("check-loop", "missing.java"))

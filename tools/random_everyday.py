@@ -95,7 +95,7 @@ class Everyday:
             lambda: f"list.get(({self.number(less)} & 7) % list.size())",
             lambda: f"Math.max({self.number(less)}, {self.number(less)})",
             lambda: f"switch ({self.number(less)} & 3) {{ case 0 -> {self.number(less)}; case 1, 2 -> {self.number(less)}; default -> {self.number(less)}; }}",
-            lambda: f"(int) (char) {self.number(0)}",
+            lambda: f"(int) (char) (0 + {self.number(0)})",
         ]
         if self.throws:
             forms.append(lambda: f"risky({self.number(less)})")

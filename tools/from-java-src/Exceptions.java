@@ -67,7 +67,8 @@ final class Exceptions {
         ExecutableElement constructor = null;
         for (Element member : copy.element.getEnclosedElements()) {
             if (member instanceof ExecutableElement one && one.getSimpleName().contentEquals("<init>")
-                && one.getParameters().size() == 1) {
+                && one.getParameters().size() == 1
+                && one.getParameters().get(0).asType().toString().equals("java.lang.String")) {
                 constructor = one;
             }
         }
