@@ -164,6 +164,8 @@ def check_plans(tests):
     status, out, err = tests.tool("plan", "examples/Shapes.java", tests.file("a.plan", "keep Cube\n"))
     tests.check("plan of a program with an interface", status == 0 and "type n9 Cube" in out, out + err)
     tests.one_line("plan without words", 64, tests.tool("plan"))
+    status, out, err = tests.tool("plan", "examples/Tasks.java", tests.file("a.plan", "class record: Job.owner\n"))
+    tests.check("plan with a name that javac refuses", (status, out == "", "a.plan: warning: javac" in err) == (0, False, True), err)
 
 
 def check_proposals(tests):
