@@ -44,3 +44,11 @@ def warning_of_method(name, parameters=None, result=None, is_static=False):
     if name == "finalize":
         return "the virtual machine calls a `finalize()` when it collects an object; " + IN_BETWEEN
     return IN_BETWEEN if name == "clone" else None
+
+
+def warning_of_edit(line):
+    """What Java makes of the name that an edit gives to a type or a member, or nothing."""
+    words = line.split()
+    if words[:1] == ["type"]:
+        return warning_of_type(words[-1])
+    return warning_of_method(words[-1]) if words[:1] == ["member"] else None

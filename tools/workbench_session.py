@@ -7,6 +7,7 @@ from pathlib import Path
 import workbench_script as scripts
 import workbench_words as words
 from kaba_hierarchy import nodes_in, refusals_in, tree_in
+from kaba_names import warning_of_edit
 from kaba_scripts import edit_of, fault_of
 from workbench_program import Program
 from workbench_runs import STOPPED, Fault
@@ -139,7 +140,8 @@ class Session:
                 steps, refused, _ = self.tried(edits, title)
                 if refused is None:
                     self.script.put(steps, [])
-                    return {"accepted": True, "state": self.state()}
+                    warning = next(filter(None, map(warning_of_edit, edits)), None)
+                    return {"accepted": True, "warning": warning, "state": self.state()}
                 told = told or words.refusal(refused, edits, self.names())
             return {"accepted": False, "refusal": told, "revision": self.script.revision()}
 

@@ -29,6 +29,7 @@ export function change(choices, title, then = []) {
         setState(answer.state);
         if (then.length) select(then);
         say("done: " + title);
+        if (answer.warning) notice(answer.warning, "warning");
         emit("made", title);
       } else {
         refuse(answer.refusal, choices[0], title);
