@@ -106,7 +106,7 @@ FILLED = f"""# {LONG}
 
 def pages():
     """Each page of the repository: its name, and its text."""
-    for pattern in ("README.md", "docs/*.md", "crates/*/README.md", "tests/README.md"):
+    for pattern in ("README.md", "docs/*.md", "docs/promises/*.md", "crates/*/README.md", "tests/README.md"):
         for path in sorted(HERE.glob(pattern)):
             yield str(path.relative_to(HERE)), path.read_text(encoding="utf-8")
 
@@ -131,7 +131,7 @@ def check_pages(tests):
     texts = dict(pages())
     wrong = [line for name, text in texts.items() for line in wrong_in(name, text)]
     tests.check(f"{len(wrong)} faults in pages", not wrong, "\n".join(wrong))
-    linked = set(LINK.findall(texts["README.md"]))
+    linked = {*LINK.findall(texts["README.md"]), *(f"docs/{link}" for link in LINK.findall(texts["docs/PROMISES.md"]))}
     lost = [name for name in texts if name.startswith("docs/") and name not in linked]
     tests.check("the README has no link to these pages", not lost, "\n".join(lost))
     promises = subprocess.run([sys.executable, "tools/promises", "--check"], cwd=HERE, capture_output=True, text=True)
