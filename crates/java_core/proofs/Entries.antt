@@ -10,9 +10,9 @@ use Rattle.std.proofs.Math.Numerals.{add-one}
 use Rattle.std.proofs.lemmas.List.Elements.{Contains-append_left, Contains-append_right, Contains-append_cases}
 use Rattle.kaba_base.specs.declared.ClassId.{ClassId}
 use Rattle.java_core.specs.Plain.{PlainClass}
-use Rattle.java_core.specs.Classes.{IsSubclass, same_class, through, supers_of, reaches}
+use Rattle.java_core.specs.Classes.{IsSubclass, same_class, through, supers_of, reaches, class_id}
 use Rattle.java_core.proofs.Subclasses.{supers-within}
-use Rattle.java_core.specs.Subtypes.{of_classes, class_id, subtype_rows}
+use Rattle.java_core.specs.Subtypes.{of_classes, subtype_rows}
 use Rattle.java_core.specs.Squares.{square, is_below}
 use Rattle.java_core.specs.Owned.{listed}
 use Rattle.java_core.specs.Subtypes.{supers_in, IsDirect, Entered, AreDirect, IsUnder, itself, under, AreInside, AllExact}

@@ -6,6 +6,10 @@ use Rattle.std.specs.Str.{bytes_eq}
 use Rattle.kaba_base.specs.declared.ClassId.{ClassId}
 use Rattle.java_core.specs.Plain.{Plain, PlainField, PlainMethod}
 
+-- the class of a number, as the code holds it
+abbrev pub class_id : ℕ → ClassId
+class_id k = record { 0 = k }
+
 -- the superclass of a class, and the interfaces that a class or interface names
 abbrev pub parent_of : Plain → ℕ → Option ClassId
 parent_of P a = option_and_then (λ k. k.parent) (slice_get P.classes a)

@@ -1,4 +1,4 @@
--- Believed. Rows of bits: the values of a test of two numbers, and for each type the types at or below it.
+-- Mirror. Rows of bits: the values of a test of two numbers, and for each type the types at or below it.
 use Rattle.std.specs.Prelude.{◌≡◌, ℕ, ◌<◌, ◌⊎◌, ◌&&◌, ◌==◌, Bool, true, false, List, [], ◌∷◌, length, map, Option, Some, None, slice_get, if◌then◌else◌}
 use Rattle.std.specs.List.{range_with_len}
 use Rattle.kaba_bits.specs.Sets.{bit, row}

@@ -1,4 +1,4 @@
--- Believed. Which types are above which: for each type the types at or below it, as rows of bits, and a walk downwards
+-- Mirror. Which types are above which: for each type the types at or below it, as rows of bits, and a walk downwards
 -- that finds them.
 use Rattle.std.specs.Prelude.{◌≡◌, ℕ, ◌+◌, ◌<◌, ◌≤◌, ◌⊎◌, Bool, true, List, [], ◌++◌, length, Contains}
 use Rattle.std.specs.Option.{option_to_list}
@@ -7,13 +7,9 @@ use Rattle.std.specs.declared.alloc.Global.{Global}
 use Rattle.kaba_base.specs.declared.ClassId.{ClassId}
 use Rattle.kaba_bits.specs.Sets.{bit, row, size}
 use Rattle.java_core.specs.Plain.{Plain, PlainClass}
-use Rattle.java_core.specs.Classes.{supers_of, reaches}
+use Rattle.java_core.specs.Classes.{class_id, supers_of, reaches}
 use Rattle.java_core.specs.Owned.{listed}
 use Rattle.java_core.specs.Squares.{square, in_row, is_below, AreRows}
-
--- the class of a number, as the code holds it
-abbrev pub class_id : ℕ → ClassId
-class_id k = record { 0 = k }
 
 -- a program that has these types alone
 abbrev pub of_classes : List PlainClass → Plain

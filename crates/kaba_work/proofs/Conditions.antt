@@ -9,9 +9,8 @@ use Rattle.java_tree.specs.declared.Modifier.{Modifier}
 use Rattle.java_tree.specs.declared.Param.{Param}
 use Rattle.java_tree.specs.Syntax.{DeclTree}
 use Rattle.java_core.specs.Programs.{Plain, PlainClass, PlainMethod}
-use Rattle.java_core.specs.Classes.{supers_of, IsSubclass, same_class, through, IsProperSubclass}
+use Rattle.java_core.specs.Classes.{supers_of, IsSubclass, same_class, through, IsProperSubclass, class_id}
 use Rattle.java_core.specs.Formed.{IsMain}
-use Rattle.java_core.specs.Subtypes.{class_id}
 use Rattle.name_rules.specs.declared.parts.Kind.{Kind}
 use Rattle.name_rules.specs.declared.parts.Kind.TheVariants as kinds
 use Rattle.name_rules.specs.Outline.{FieldAt, MethodAt, is_private, has_word, is_abstract_word, is_known, is_type_name, name_of, mods_of, faces_named, types_in, object, outline}

@@ -8,7 +8,7 @@ use Rattle.java_core.specs.declared.Op.TheVariants as op
 use Rattle.java_core.specs.Trees.{Tag, at_place, Ex, no_ex, number, this, local, field, call, super_call, create, binary, to_field, declare, assign, print, return, Sts, no_st, st_then}
 use Rattle.java_core.specs.Programs.{Plain, PlainLocal, PlainClass, PlainField, PlainMethod, PlainSlot}
 use Rattle.java_core.specs.Types.{plain_type, class_type}
-use Rattle.java_core.specs.Subtypes.{class_id}
+use Rattle.java_core.specs.Classes.{class_id}
 use Rattle.name_rules.specs.Outline.{object}
 use Rattle.kaba_work.specs.Sample.{nowhere, class_name, field_name, extra_name, variable_name, method_name}
 

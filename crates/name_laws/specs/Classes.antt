@@ -22,7 +22,8 @@ use Rattle.name_laws.specs.declared.parts.Flags.{Flags}
 use Rattle.name_laws.specs.Answers.{with, run}
 use Rattle.name_laws.specs.Names.{is_apart, number_of, asked}
 use Rattle.name_laws.specs.Tables.{is_above}
-pub use Rattle.java_core.specs.Subtypes.{of_classes, class_id, subtype_rows}
+pub use Rattle.java_core.specs.Classes.{class_id}
+pub use Rattle.java_core.specs.Subtypes.{of_classes, subtype_rows}
 
 -- Object, as the other declarations know it
 abbrev pub object_known : Known

@@ -12,8 +12,7 @@ use Rattle.java_core.specs.declared.Ty.{Ty}
 use Rattle.java_core.specs.declared.TyBase.{TyBase}
 use Rattle.java_core.specs.declared.TyBase.TheVariants as ty
 use Rattle.java_core.specs.Programs.{Plain, PlainField, PlainMethod}
-use Rattle.java_core.specs.Classes.{IsSubclass, own_field_of, field_of, search_order, first_found}
-use Rattle.java_core.specs.Subtypes.{class_id}
+use Rattle.java_core.specs.Classes.{IsSubclass, own_field_of, field_of, search_order, first_found, class_id}
 use Rattle.name_rules.specs.declared.parts.Bound.{Bound}
 use Rattle.name_rules.specs.Outline.{type_named, is_text_type}
 

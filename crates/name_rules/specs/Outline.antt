@@ -21,7 +21,7 @@ use Rattle.java_core.specs.declared.TyBase.{TyBase}
 use Rattle.java_core.specs.declared.TyBase.TheVariants as ty
 use Rattle.java_core.specs.Trees.{at_place}
 use Rattle.java_core.specs.Programs.{Plain, PlainClass, PlainField, PlainMethod, PlainLocal}
-use Rattle.java_core.specs.Subtypes.{class_id}
+use Rattle.java_core.specs.Classes.{class_id}
 use Rattle.name_rules.specs.declared.parts.Kind.{Kind}
 use Rattle.name_rules.specs.declared.parts.Kind.TheVariants as kinds
 

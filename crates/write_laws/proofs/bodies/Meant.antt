@@ -19,7 +19,7 @@ use Rattle.java_core.specs.declared.Op.TheVariants as op
 use Rattle.java_core.specs.Programs.{Plain}
 use Rattle.java_core.specs.Types.{is_class}
 use Rattle.java_core.specs.Formed.{IsCastType, to_int as is_int, to_char as is_char, to_class as is_of_class}
-use Rattle.java_core.specs.Subtypes.{class_id}
+use Rattle.java_core.specs.Classes.{class_id}
 use Rattle.kaba_order.specs.Orders.{is_live}
 use Rattle.hier_model.specs.Hierarchies.{Hierarchy, type_name}
 use Rattle.name_rules.specs.Outline.{is_text_type}
