@@ -9,3 +9,6 @@ pub mod NeedLemmas
 pub mod ChainLemmas
 pub mod Worked
 pub mod FoundLemmas
+pub mod ClassRowLemmas
+pub mod LeftLemmas
+pub mod AfterLemmas

@@ -1,6 +1,6 @@
 -- Mirror. What the search for unordered class nodes makes.
-use Rattle.std.specs.Prelude.{◌≡◌, ℕ, suc, zero, ◌+◌, ◌<◌, ◌==◌, ◌&&◌, nat_lt, not, cond, length, List, Bool, slice_index_or}
-use Rattle.kaba_bits.specs.Sets.{bit}
+use Rattle.std.specs.Prelude.{◌≡◌, ℕ, suc, zero, ◌+◌, ◌<◌, ◌==◌, ◌&&◌, nat_lt, not, cond, length, List, Bool, true, slice_index_or}
+use Rattle.kaba_bits.specs.Sets.{bit, ListsBelow}
 use Rattle.fact_model.specs.declared.facts.Facts.{Facts}
 use Rattle.hier_model.specs.Hierarchies.{Hierarchy, IsHierarchyOf, is_class_node, any_below}
 use Rattle.hier_rules.specs.declared.chains.ClassNodes.{ClassNodes}
@@ -51,3 +51,12 @@ module _ (F : Facts) (H : Hierarchy) where
   pub record AreLooseNodes (nodes : List Bool) : Type 0 where
     pub width : length nodes ≡ length H.order.live
     pub exact : (n : ℕ) → bit nodes n ≡ (nat_lt n (length H.order.live) && is_loose n)
+
+  -- the set of the class nodes at or above a node, where it is one itself
+  pub record IsClassRow (n : ℕ) (set : List Bool) : Type 0 where
+    pub width : length set ≡ length H.order.live
+    pub exact : (x : ℕ) → bit set x ≡ is_class_above F H n x
+
+  -- a rising list of them
+  abbrev pub ListsClasses : ℕ → List ℕ → Type 0
+  ListsClasses n list = ListsBelow (λ x. is_class_above F H n x ≡ true) (length H.order.live) list

@@ -1,11 +1,11 @@
 //! B9: the class nodes at or above each class node form a chain.
 
-ghost use Rattle.std.specs.Prelude.{◌≡◌, ℕ, ◌+◌, ◌<◌, ◌==◌, ◌&&◌, ◌||◌, true, length, IfOk};
-ghost use Rattle.hier_rules.specs.Words.{bit, first_below, is_le, InRange};
+ghost use Rattle.std.specs.Prelude.{◌≡◌, ℕ, ◌+◌, ◌<◌, ◌==◌, ◌&&◌, ◌||◌, true, length, All, IfOk, OnOk};
+ghost use Rattle.hier_rules.specs.Words.{bit, list_any, first_below, is_le, InRange};
 ghost use Rattle.hier_model.specs.Hierarchies.{IsHierarchyOf, is_class_node, any_below};
 ghost use Rattle.hier_rules.specs.Instances.{of_three};
 ghost use Rattle.hier_rules.specs.Obligations.{is_class_above, unchained, first_unchained};
-ghost use Rattle.hier_rules.specs.Chains.{AreClassNodes, AreNodes, AreCounts, AreLooseNodes, is_over, class_count, is_next, is_loose, is_loose_above};
+ghost use Rattle.hier_rules.specs.Chains.{IsClassRow, ListsClasses, AreClassNodes, AreNodes, AreCounts, AreLooseNodes, is_over, class_count, is_next, is_loose, is_loose_above};
 
 use crate::broken::{Broken, Nodes, Rule};
 use crate::places::{is_le, is_live, node_count};
@@ -100,19 +100,38 @@ fn is_over(nodes: &ClassNodes, n: u32, x: u32) -> bool
     is_class_above(nodes, n, x) && x != n
 }
 
-/// How many class nodes are strictly above a node.
-fn class_count(nodes: &ClassNodes, n: u32) -> u32
+/// The class nodes at or above a class node, 64 nodes at a time. An error comes only for want of memory.
+fn class_row_of(alloc: Global, nodes: &ClassNodes, n: u32) -> Result<BitRow, AllocError>
+    requires nodes { AreNodes nodes.now }
+    requires class { bit nodes.now.classes.now n ≡ true }
+    ensures { IfOk result (IsClassRow nodes.now.facts.now nodes.now.hier.now n) }
+{
+    let mut above = nodes.hier.order().above(NodeId(n)).copy(alloc)?;
+    above.and_into(nodes.classes);
+    Ok(above)
+}
+
+/// The class nodes at or above a node, where it is one itself. An error comes only for want of memory.
+fn class_row(alloc: Global, nodes: &ClassNodes, n: u32) -> Result<BitRow, AllocError>
     requires nodes { AreNodes nodes.now }
     requires node { n < length nodes.now.hier.now.order.live }
-    ensures { result ≡ class_count nodes.now.facts.now nodes.now.hier.now n }
+    ensures { IfOk result (IsClassRow nodes.now.facts.now nodes.now.hier.now n) }
 {
-    let mut count = 0;
-    for x in 0..node_count(nodes.hier) {
-        if is_over(nodes, n, x) {
-            count += 1;
-        }
+    if nodes.classes.has(n) {
+        return class_row_of(alloc, nodes, n);
     }
-    count
+    BitRow::new(alloc, node_count(nodes.hier))
+}
+
+/// How many class nodes are strictly above a node. An error comes only for want of memory.
+fn class_count(alloc: Global, nodes: &ClassNodes, n: u32) -> Result<u32, AllocError>
+    requires nodes { AreNodes nodes.now }
+    requires node { n < length nodes.now.hier.now.order.live }
+    ensures { IfOk result (λ k. k ≡ class_count nodes.now.facts.now nodes.now.hier.now n) }
+{
+    let mut over = class_row(alloc, nodes, n)?;
+    over.remove(n);
+    Ok(over.count())
 }
 
 /// The same for each node. An error comes only for want of memory.
@@ -122,9 +141,20 @@ fn class_counts(alloc: Global, nodes: &ClassNodes) -> Result<Vec<u32>, AllocErro
 {
     let mut counts = Vec::new(alloc);
     for n in 0..node_count(nodes.hier) {
-        counts.push(class_count(nodes, n))?;
+        let count = class_count(alloc, nodes, n)?;
+        counts.push(count)?;
     }
     Ok(counts)
+}
+
+/// The class nodes at or above a node, where it is one itself, in rising order. An error comes only for want of memory.
+fn class_list(alloc: Global, nodes: &ClassNodes, n: u32) -> Result<Vec<u32>, AllocError>
+    requires nodes { AreNodes nodes.now }
+    requires node { n < length nodes.now.hier.now.order.live }
+    ensures { IfOk result (λ v. ListsClasses nodes.now.facts.now nodes.now.hier.now n v.items) }
+{
+    let row = class_row(alloc, nodes, n)?;
+    row.rising(alloc)
 }
 
 /// Whether a number is one less than another.
@@ -145,39 +175,64 @@ fn is_next(nodes: &ClassNodes, counts: &[u32], n: u32, z: u32) -> bool
     is_over(nodes, n, z) && is_one_fewer(counts[z as usize], counts[n as usize])
 }
 
-/// Whether there is one.
-#[tactic(auto, using(hier_model::proofs::AnyLemmas::any_below_found))]
-fn has_next(nodes: &ClassNodes, counts: &[u32], n: u32) -> bool
+/// Whether there is one, by the list of the class nodes at or above the node.
+fn has_next(nodes: &ClassNodes, counts: &[u32], above: &[u32], n: u32) -> bool
     requires nodes { AreNodes nodes.now }
     requires counts { AreCounts nodes.now.facts.now nodes.now.hier.now counts.now }
+    requires above { ListsClasses nodes.now.facts.now nodes.now.hier.now n above.now }
     requires node { n < length nodes.now.hier.now.order.live }
     ensures { result ≡ any_below (length nodes.now.hier.now.order.live) (is_next nodes.now.facts.now nodes.now.hier.now n) }
 {
-    any_below!(z < node_count(nodes.hier); is_next(nodes, counts, n, z))
+    any_next(nodes, counts, above, n)
+}
+
+/// Whether one of a list is so.
+fn any_next(nodes: &ClassNodes, counts: &[u32], above: &[u32], n: u32) -> bool
+    requires nodes { AreNodes nodes.now }
+    requires counts { AreCounts nodes.now.facts.now nodes.now.hier.now counts.now }
+    requires above { All (λ z. z < length nodes.now.hier.now.order.live) above.now }
+    requires node { n < length nodes.now.hier.now.order.live }
+    ensures { result ≡ list_any (is_next nodes.now.facts.now nodes.now.hier.now n) above.now }
+{
+    for z in above {
+        if is_next(nodes, counts, n, *z) {
+            return true;
+        }
+    }
+    false
 }
 
 /// Whether class nodes are above a node, and none of them has one fewer above it.
-fn is_loose(nodes: &ClassNodes, counts: &[u32], n: u32) -> bool
+fn is_loose(nodes: &ClassNodes, counts: &[u32], above: &[u32], n: u32) -> bool
     requires nodes { AreNodes nodes.now }
     requires counts { AreCounts nodes.now.facts.now nodes.now.hier.now counts.now }
+    requires above { ListsClasses nodes.now.facts.now nodes.now.hier.now n above.now }
     requires node { n < length nodes.now.hier.now.order.live }
     ensures { result ≡ is_loose nodes.now.facts.now nodes.now.hier.now n }
 {
-    0 < counts[n as usize] && !has_next(nodes, counts, n)
+    0 < counts[n as usize] && !has_next(nodes, counts, above, n)
 }
 
-/// Adds a node, if it is loose.
-fn add_loose(nodes: &ClassNodes, counts: &[u32], n: u32, loose: &mut BitRow)
+/// Adds a node, if it is loose. An error comes only for want of memory.
+fn add_loose(
+    alloc: Global,
+    nodes: &ClassNodes,
+    counts: &[u32],
+    n: u32,
+    loose: &mut BitRow,
+) -> Result<(), AllocError>
     requires nodes { AreNodes nodes.now }
     requires counts { AreCounts nodes.now.facts.now nodes.now.hier.now counts.now }
     requires node { n < length nodes.now.hier.now.order.live }
     requires width { length loose.old ≡ length nodes.now.hier.now.order.live }
-    ensures width { length loose.new ≡ length loose.old }
-    ensures added { (x : ℕ) → bit loose.new x ≡ (bit loose.old x || ((n == x) && is_loose nodes.now.facts.now nodes.now.hier.now n)) }
+    ensures width { OnOk result (length loose.new ≡ length loose.old) }
+    ensures added { OnOk result ((x : ℕ) → bit loose.new x ≡ (bit loose.old x || ((n == x) && is_loose nodes.now.facts.now nodes.now.hier.now n))) }
 {
-    if is_loose(nodes, counts, n) {
+    let above = class_list(alloc, nodes, n)?;
+    if is_loose(nodes, counts, &above, n) {
         loose.set(n);
     }
+    Ok(())
 }
 
 /// The loose nodes. An error comes only for want of memory.
@@ -188,7 +243,7 @@ fn loose_nodes(alloc: Global, nodes: &ClassNodes) -> Result<BitRow, AllocError>
     let counts = class_counts(alloc, nodes)?;
     let mut loose = BitRow::new(alloc, node_count(nodes.hier))?;
     for n in 0..node_count(nodes.hier) {
-        add_loose(nodes, &counts, n, &mut loose);
+        add_loose(alloc, nodes, &counts, n, &mut loose)?;
     }
     Ok(loose)
 }
@@ -204,19 +259,35 @@ fn is_loose_above(nodes: &ClassNodes, loose: &BitRow, n: u32, m: u32) -> bool
     is_class_above(nodes, n, m) && loose.has(m)
 }
 
-/// Whether there is one.
-#[tactic(auto, using(hier_model::proofs::AnyLemmas::any_below_found))]
-fn has_loose(nodes: &ClassNodes, loose: &BitRow, n: u32) -> bool
+/// Whether there is one, by the list of the class nodes at or above the node.
+fn has_loose(nodes: &ClassNodes, loose: &BitRow, above: &[u32], n: u32) -> bool
     requires nodes { AreNodes nodes.now }
     requires loose { AreLooseNodes nodes.now.facts.now nodes.now.hier.now loose.now }
+    requires above { ListsClasses nodes.now.facts.now nodes.now.hier.now n above.now }
     requires node { n < length nodes.now.hier.now.order.live }
     ensures { result ≡ any_below (length nodes.now.hier.now.order.live) (is_loose_above nodes.now.facts.now nodes.now.hier.now n) }
 {
-    any_below!(m < node_count(nodes.hier); is_loose_above(nodes, loose, n, m))
+    any_loose(nodes, loose, above, n)
 }
 
-/// The first instance against B9. The time is in proportion to the square of the number of nodes. An error comes
-/// only for want of memory.
+/// Whether one of a list is so.
+fn any_loose(nodes: &ClassNodes, loose: &BitRow, above: &[u32], n: u32) -> bool
+    requires nodes { AreNodes nodes.now }
+    requires loose { AreLooseNodes nodes.now.facts.now nodes.now.hier.now loose.now }
+    requires above { All (λ m. m < length nodes.now.hier.now.order.live) above.now }
+    requires node { n < length nodes.now.hier.now.order.live }
+    ensures { result ≡ list_any (is_loose_above nodes.now.facts.now nodes.now.hier.now n) above.now }
+{
+    for m in above {
+        if is_loose_above(nodes, loose, n, *m) {
+            return true;
+        }
+    }
+    false
+}
+
+/// The first instance against B9. The time is in proportion to the square of the number of nodes, 64 of them at a
+/// time, and to the pairs of class nodes that are ordered. An error comes only for want of memory.
 #[tactic(auto, using(kaba_bits::proofs::FirstLemmas::first_below_found))]
 pub fn first_unchained(
     alloc: Global,
@@ -234,21 +305,27 @@ pub fn first_unchained(
         classes: &classes,
     };
     let loose = loose_nodes(alloc, &nodes)?;
-    first_found_below!(n < node_count(hier); first_unchained_above(&nodes, &loose, n))
+    first_found_below!(n < node_count(hier); first_unchained_above(alloc, &nodes, &loose, n)?)
 }
 
 /// The first two class nodes at or above a node that are not ordered: none, where no loose one is at or above it.
-fn first_unchained_above(nodes: &ClassNodes, loose: &BitRow, n: u32) -> Option<Broken>
+fn first_unchained_above(
+    alloc: Global,
+    nodes: &ClassNodes,
+    loose: &BitRow,
+    n: u32,
+) -> Result<Option<Broken>, AllocError>
     requires nodes { AreNodes nodes.now }
     requires loose { AreLooseNodes nodes.now.facts.now nodes.now.hier.now loose.now }
     requires node { n < length nodes.now.hier.now.order.live }
-    ensures { result ≡ first_below (length nodes.now.hier.now.order.live) (λ x. first_below (length nodes.now.hier.now.order.live)
-        (unchained nodes.now.facts.now nodes.now.hier.now n x)) }
+    ensures { IfOk result (λ b. b ≡ first_below (length nodes.now.hier.now.order.live) (λ x. first_below (length nodes.now.hier.now.order.live)
+        (unchained nodes.now.facts.now nodes.now.hier.now n x))) }
 {
-    if !has_loose(nodes, loose, n) {
-        return None;
+    let above = class_list(alloc, nodes, n)?;
+    if !has_loose(nodes, loose, &above, n) {
+        return Ok(None);
     }
-    first_unchained_at(nodes, n)
+    Ok(first_unchained_at(nodes, n))
 }
 
 /// The first two class nodes at or above a node that are not ordered.

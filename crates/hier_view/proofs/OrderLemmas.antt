@@ -1,15 +1,49 @@
--- A node that is not live stands below none, and none below it.
-use Rattle.std.proofs.Common.{◌≡◌, ℕ, Bool, true, false, refl, sym, ◌∙◌}
-use Rattle.std.proofs.lemmas.Bool.{false≢true}
-use Rattle.kaba_order.specs.Orders.{Ordered, is_le, is_live, IsPartialOrder}
-use Rattle.hier_view.specs.Text.{is_lt}
+-- The test of an upper cover, and what it says.
+use Rattle.std.proofs.Common.{◌≡◌, ◌≢◌, ⊎_elim, ℕ, ◌==◌, ◌↔◌, IsTrue, Bool, true, false, ◌&&◌, not, length, refl, sym, ◌∙◌}
+use Rattle.std.proofs.lemmas.Bool.{false≢true, and_from, and_parts, cases_Bool, eq-eqb, ne_eqb, not_from_false}
+use Rattle.kaba_base.proofs.TestLemmas.{same_truth}
+use Rattle.kaba_bits.proofs.SetLemmas.{bit-below}
+use Rattle.kaba_order.specs.Orders.{Ordered, is_le, IsStrictlyBelow, IsCover, IsPartialOrder}
+use Rattle.hier_model.specs.Hierarchies.{any_below}
+use Rattle.hier_model.proofs.AnyLemmas.{any_below_some, any_below_none}
+use Rattle.hier_view.specs.Text.{is_lt, is_between, is_upper_cover}
 
-no_le : (o : Ordered) (a b : ℕ) (le : Bool) → is_le o a b ≡ le → (is_le o a b ≡ true → ⊥) → is_lt o a b ≡ false
-no_le o a b true e none = absurd (none e)
-no_le o a b false e none = rw e refl
+not_true : (x : Bool) → not x ≡ true → x ≡ false
+not_true false h = refl
+not_true true h = absurd (false≢true h)
 
-pub dead_lower : (o : Ordered) (a b : ℕ) → IsPartialOrder o → is_live o a ≡ false → is_lt o a b ≡ false
-dead_lower o a b order dead = no_le o a b (is_le o a b) refl (λ le. false≢true (sym dead ∙ order.lower_lives a b le))
+lt_from : (o : Ordered) (a b : ℕ) → IsStrictlyBelow o a b → is_lt o a b ≡ true
+lt_from o a b h = and_from (is_le o a b) (not (a == b)) h.0 (not_from_false (a == b) (ne_eqb a b h.1))
 
-pub dead_upper : (o : Ordered) (a b : ℕ) → IsPartialOrder o → is_live o b ≡ false → is_lt o a b ≡ false
-dead_upper o a b order dead = no_le o a b (is_le o a b) refl (λ le. false≢true (sym dead ∙ order.upper_lives a b le))
+lt_is : (o : Ordered) (a b : ℕ) → is_lt o a b ≡ true → IsStrictlyBelow o a b
+lt_is o a b h =
+    let p = and_parts (is_le o a b) (not (a == b)) h in
+    (p.0, λ e. false≢true (sym (not_true (a == b) p.1) ∙ eq-eqb a b e))
+
+module _ (o : Ordered) (a b : ℕ) (order : IsPartialOrder o) where
+  cover_is : is_upper_cover o a b ≡ true → IsCover o a b
+  cover_is h =
+      let p = and_parts (is_lt o a b) (not (any_below (length o.live) (is_between o a b))) h in
+      record {
+        above = lt_is o a b p.0;
+        none = λ k up down.
+            let no = any_below_none (is_between o a b) (length o.live) k (not_true (any_below (length o.live) (is_between o a b)) p.1)
+            (bit-below o.live k (order.upper_lives a k up.0)) in
+            false≢true (sym no ∙ and_from (is_lt o a k) (is_lt o k b) (lt_from o a k up) (lt_from o k b down));
+      }
+
+  none_between : IsCover o a b → any_below (length o.live) (is_between o a b) ≡ true → ⊥
+  none_between cover h =
+      let k = any_below_some (is_between o a b) (length o.live) h in
+      let p = and_parts (is_lt o a k.0) (is_lt o k.0 b) k.2 in
+      cover.none k.0 (lt_is o a k.0 p.0) (lt_is o k.0 b p.1)
+
+  cover_from : IsCover o a b → is_upper_cover o a b ≡ true
+  cover_from cover =
+      and_from (is_lt o a b) (not (any_below (length o.live) (is_between o a b))) (lt_from o a b cover.above)
+      (⊎_elim (λ h. absurd (none_between cover h)) (λ h. not_from_false (any_below (length o.live) (is_between o a b)) h)
+      (cases_Bool (any_below (length o.live) (is_between o a b))))
+
+  -- an answer that tells an upper cover is the test
+  pub cover_test : (t : Bool) → (IsTrue t ↔ IsCover o a b) → t ≡ is_upper_cover o a b
+  cover_test t e = same_truth t (is_upper_cover o a b) (λ h. cover_from (e.0 h)) (λ h. e.1 (cover_is h))

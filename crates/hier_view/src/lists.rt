@@ -1,14 +1,16 @@
 //! The nodes of a hierarchy, and what stands at each.
 
 ghost use Rattle.std.specs.Prelude.{◌≡◌, ◌<◌, true, length, IfOk, All};
+ghost use Rattle.kaba_order.specs.Beyond.{IsBeyond};
 ghost use Rattle.kaba_order.specs.Orders.{is_live, IsPartialOrder};
 ghost use Rattle.fact_model.specs.InRange.{InRange};
-ghost use Rattle.hier_model.specs.Hierarchies.{IsHierarchyOf, any_below, is_at, stands_at, place_of_row};
-ghost use Rattle.hier_view.specs.Text.{those_below, is_lt, is_between, is_upper_cover, live_nodes, covers_of, columns_at, rows_at};
+ghost use Rattle.hier_model.specs.Hierarchies.{IsHierarchyOf, is_at, stands_at, place_of_row};
+ghost use Rattle.hier_view.specs.Text.{those_below, is_upper_cover, live_nodes, covers_of, columns_at, rows_at};
 
 use fact_model::Facts;
 use hier_model::Hier;
 use kaba_base::{ColId, NodeId, RowId};
+use kaba_bits::BitRow;
 use kaba_order::Order;
 use std::alloc::{AllocError, Global};
 
@@ -27,52 +29,29 @@ pub fn live_nodes(alloc: Global, hier: &Hier) -> Result<Vec<u32>, AllocError>
     Ok(nodes)
 }
 
-/// Whether a node stands strictly below another.
-#[tactic(auto, using(crate::proofs::OrderLemmas::dead_lower, crate::proofs::OrderLemmas::dead_upper))]
-fn is_lt(order: &Order, a: u32, b: u32) -> bool
-    requires { IsPartialOrder order.now }
-    ensures { result ≡ is_lt order.now a b }
+/// Whether a node is an upper cover of another, by the nodes that are none since another lies between.
+fn is_upper_cover(order: &Order, beyond: &BitRow, a: u32, b: u32) -> bool
+    requires order { IsPartialOrder order.now }
+    requires lower { is_live order.now a ≡ true }
+    requires upper { b < length order.now.live }
+    requires width { length beyond.now ≡ length order.now.live }
+    requires beyond { IsBeyond order.now a (length order.now.live) beyond.now }
+    ensures { result ≡ is_upper_cover order.now a b }
 {
-    if !order.is_live(NodeId(a)) {
-        return false;
-    }
-    if !order.is_live(NodeId(b)) {
-        return false;
-    }
-    order.le(NodeId(a), NodeId(b)) && a != b
-}
-
-/// Whether a node stands strictly between two.
-fn is_between(order: &Order, a: u32, b: u32, k: u32) -> bool
-    requires { IsPartialOrder order.now }
-    ensures { result ≡ is_between order.now a b k }
-{
-    is_lt(order, a, k) && is_lt(order, k, b)
-}
-
-/// Whether some node stands strictly between two.
-#[tactic(auto, using(hier_model::proofs::AnyLemmas::any_below_found))]
-fn has_between(order: &Order, a: u32, b: u32) -> bool
-    requires { IsPartialOrder order.now }
-    ensures { result ≡ any_below (length order.now.live) (is_between order.now a b) }
-{
-    for k in 0..order.count() {
-        if is_between(order, a, b, k) {
-            return true;
-        }
-    }
-    false
+    order.is_cover(beyond, NodeId(a), NodeId(b))
 }
 
 /// The upper covers of a node.
 pub fn covers(alloc: Global, hier: &Hier, n: NodeId) -> Result<Vec<u32>, AllocError>
-    requires { IsPartialOrder hier.now.order }
+    requires order { IsPartialOrder hier.now.order }
+    requires node { is_live hier.now.order n.0 ≡ true }
     ensures { IfOk result (λ v. v.items ≡ covers_of hier.now n.0) }
 {
     let order = hier.order();
+    let beyond = order.beyond(alloc, n)?;
     let mut above = Vec::new(alloc);
     for b in 0..order.count() {
-        if is_lt(order, n.0, b) && !has_between(order, n.0, b) {
+        if is_upper_cover(order, &beyond, n.0, b) {
             above.push(b)?;
         }
     }

@@ -3,3 +3,4 @@ pub mod MergeSteps
 pub mod MergeLemmas
 pub mod StepLemmas
 pub mod UniqueLemmas
+pub mod BeyondLemmas

@@ -1,8 +1,9 @@
 //! Finite partial orders on numbered nodes, closed at each step.
 #![tactic(auto)]
 
-ghost use Rattle.std.specs.Prelude.{◌≡◌, ℕ, ◌<◌, ◌↔◌, ◌&&◌, ◌==◌, true, length, IsTrue, IfOk, OnOk, OnErr, MatchOption, All};
+ghost use Rattle.std.specs.Prelude.{◌≡◌, ℕ, ◌+◌, ◌<◌, ◌↔◌, ◌&&◌, ◌||◌, ◌==◌, not, true, length, IsTrue, IfOk, OnOk, OnErr, MatchOption, All};
 ghost use Rattle.kaba_bits.specs.Sets.{bit, row, HasWidth, ListsBelow};
+ghost use Rattle.kaba_order.specs.Beyond.{IsBeyond};
 ghost use Rattle.kaba_order.specs.Orders.{Ordered, IsPartialOrder, is_le, is_live, IsStrictlyBelow, IsCover, numbers, IsLeastWith, IsUnder, IsDropped, IsBetween, IsFirstBetween, IsLeastOf, IsLeastMerged, IsMerged};
 
 use kaba_base::NodeId;
@@ -96,19 +97,56 @@ impl Order {
         row.has(b.0)
     }
 
+    /// The nodes at or above a live node.
+    pub fn above(&self, n: NodeId) -> &BitRow
+        requires { is_live self.now n.0 ≡ true }
+        ensures { result.now ≡ row self.now.le n.0 }
+    {
+        &self.le[n.0 as usize]
+    }
+
     /// The upper covers of a live node, in rising order: the nodes strictly above it with none strictly
-    /// between. An error comes only for want of memory.
+    /// between. An error comes only for want of memory. The time is in proportion to the number of nodes times
+    /// a 64th of those above.
     pub fn covers(&self, alloc: Global, n: NodeId) -> Result<Vec<NodeId>, AllocError>
         requires { is_live self.now n.0 ≡ true }
         ensures { IfOk result (λ v. ListsBelow (IsCover self.now n.0) (length self.now.live) (numbers v.items)) }
     {
+        let beyond = self.beyond(alloc, n)?;
         let mut above = Vec::new(alloc);
         for b in 0..self.count() {
-            if self.is_cover(n, NodeId(b)) {
+            if self.is_cover(&beyond, n, NodeId(b)) {
                 above.push(NodeId(b))?;
             }
         }
         Ok(above)
+    }
+
+    /// The nodes strictly above some node that is strictly above this one: those that are no upper covers of it. An
+    /// error comes only for want of memory.
+    #[tactic(auto, using(crate::proofs::BeyondLemmas::none_beyond))]
+    pub fn beyond(&self, alloc: Global, n: NodeId) -> Result<BitRow, AllocError>
+        requires { is_live self.now n.0 ≡ true }
+        ensures width { IfOk result (λ r. length r ≡ length self.now.live) }
+        ensures nodes { IfOk result (λ r. IsBeyond self.now n.0 (length self.now.live) r) }
+    {
+        let mut beyond = BitRow::new(alloc, self.count())?;
+        for k in 0..self.live.width() {
+            self.add_beyond(n, NodeId(k), &mut beyond);
+        }
+        Ok(beyond)
+    }
+
+    /// Whether `b` is an upper cover of `n`: strictly above it, and not above one that is, by `beyond`.
+    pub fn is_cover(&self, beyond: &BitRow, n: NodeId, b: NodeId) -> bool
+        requires n { is_live self.now n.0 ≡ true }
+        requires b { b.0 < length self.now.live }
+        requires width { length beyond.now ≡ length self.now.live }
+        requires beyond { IsBeyond self.now n.0 (length self.now.live) beyond.now }
+        ensures { IsTrue result ↔ IsCover self.now n.0 b.0 }
+    {
+        let _ = &self.live;
+        self.is_strictly_below(n, b) && !beyond.has(b.0)
     }
 
     /// Makes one node, the least of a list, of all its nodes, and closes the order; the list is not empty
@@ -165,31 +203,34 @@ impl Order {
         a != b && row.has(b.0)
     }
 
-    /// Whether `k` is strictly between `a` and `b`.
-    fn is_between(&self, a: NodeId, k: NodeId, b: NodeId) -> bool
-        requires a { a.0 < length self.now.live }
+    /// Adds the nodes strictly above one to a set.
+    fn add_above(&self, k: NodeId, set: &mut BitRow)
         requires k { k.0 < length self.now.live }
-        requires b { b.0 < length self.now.live }
-        ensures { IsTrue result ↔ (IsStrictlyBelow self.now a.0 k.0 × IsStrictlyBelow self.now k.0 b.0) }
+        requires width { length set.old ≡ length self.now.live }
+        ensures width { length set.new ≡ length set.old }
+        ensures bits { (b : ℕ) → bit set.new b ≡ (bit set.old b || (is_le self.now k.0 b && not (k.0 == b))) }
     {
-        self.is_strictly_below(a, k) && self.is_strictly_below(k, b)
+        let had = set.has(k.0);
+        set.or_into(&self.le[k.0 as usize]);
+        if !had {
+            set.remove(k.0);
+        }
     }
 
-    /// Whether `b` is an upper cover of `n`.
-    fn is_cover(&self, n: NodeId, b: NodeId) -> bool
+    /// Adds the nodes strictly above one to those that are beyond a node, if that one is strictly above the node.
+    #[tactic(auto, using(crate::proofs::BeyondLemmas::skip_if, crate::proofs::BeyondLemmas::more_if))]
+    fn add_beyond(&self, n: NodeId, k: NodeId, beyond: &mut BitRow)
         requires n { n.0 < length self.now.live }
-        requires b { b.0 < length self.now.live }
-        ensures { IsTrue result ↔ IsCover self.now n.0 b.0 }
+        requires k { k.0 < length self.now.live }
+        requires width { length beyond.old ≡ length self.now.live }
+        requires before { IsBeyond self.now n.0 k.0 beyond.old }
+        ensures width { length beyond.new ≡ length beyond.old }
+        ensures after { IsBeyond self.now n.0 (k.0 + 1) beyond.new }
     {
-        if !self.is_strictly_below(n, b) {
-            return false;
+        if !self.is_strictly_below(n, k) {
+            return;
         }
-        for k in 0..self.live.width() {
-            if self.is_between(n, NodeId(k), b) {
-                return false;
-            }
-        }
-        true
+        self.add_above(k, beyond);
     }
 
     /// The same as `merge_set`, over a slice.
