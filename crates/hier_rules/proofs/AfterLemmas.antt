@@ -14,7 +14,8 @@ use Rattle.fact_model.specs.Items.{site_row}
 use Rattle.fact_model.specs.declared.facts.Facts.{Facts}
 use Rattle.fact_model.specs.declared.sets.PointsTo.{PointsTo}
 use Rattle.hier_model.specs.Hierarchies.{Hierarchy, node, place_of_column, place_of_row, is_at, stands_at, is_above, is_offered, IsHierarchyOf}
-use Rattle.hier_model.specs.Edits.{under_order, merged_order, least_of, first_between, first_unknown, merged_node, merged, unless, changed}
+use Rattle.hier_model.specs.Edits.{under_order, merged_order, least_of, first_between, first_unknown, merged_node, merged, NamesSome, unless, changed}
+use Rattle.hier_model.specs.declared.edits.Edit.{Edit}
 use Rattle.hier_model.specs.declared.edits.Edit.TheVariants as edit
 use Rattle.hier_model.specs.declared.edits.ChangeFault.{ChangeFault}
 use Rattle.hier_model.specs.declared.edits.ChangeFault.TheVariants.{UnknownNode, Cycle}
@@ -27,6 +28,7 @@ use Rattle.hier_rules.specs.Instances.{of_both, of_row}
 use Rattle.hier_rules.specs.Obligations.{row_le, place_of_site, unoffered, first_unoffered, untied, unheld, first_untied}
 use Rattle.hier_rules.specs.Names.{first_unwritable, first_taken_type, first_taken_field, first_confused, first_misnamed}
 use Rattle.hier_rules.specs.First.{first_changed_run, first_of_edit, MeetsEdit}
+use Rattle.hier_rules.specs.Joins.{joins}
 use Rattle.hier_rules.proofs.FoundLemmas.{none_both}
 use Rattle.hier_rules.proofs.LeftLemmas.{AreNamesLeft, unwritable_left, taken_left, field_left}
 
@@ -221,3 +223,13 @@ module _ (F : Facts) (pt : PointsTo) (H New : Hierarchy) (fits : IsHierarchyOf F
       let a = unless_ok (first_unknown H.order (n ∷ q ∷ [])) UnknownNode (cond test (Err (Cycle n)) (Ok made)) New e in
       subst (λ (h : Hierarchy). first_of_edit F pt h ≡ or_else (first_changed_run F pt h) (first_confused F h)) (if_ok test (Cycle n) made New a.1)
       (asked_after F pt H made (under_joined H fits.sized.order n.0 q.0) fits meets)
+
+  -- after an edit that joins nodes
+  pub after_join : (e : Edit) → NamesSome e → joins e ≡ true → changed F H e ≡ Ok New
+      → first_of_edit F pt New ≡ or_else (first_changed_run F pt New) (first_confused F New)
+  after_join (edit.Merge set) some j e = after_merge set.items some e
+  after_join (edit.Under n q) some j e = after_under n q e
+  after_join (edit.Move c n) some j e = absurd (false≢true j)
+  after_join (edit.TypeName n name) some j e = absurd (false≢true j)
+  after_join (edit.MemberName c name) some j e = absurd (false≢true j)
+  after_join (edit.Drop n) some j e = absurd (false≢true j)
