@@ -1,20 +1,22 @@
 -- The class nodes at or above a node, as a set and as a list.
-use Rattle.std.proofs.Common.{◌≡◌, ◌≢◌, ℕ, suc, zero, ◌+◌, ◌<◌, ◌&&◌, eqb, not, cond, Bool, true, false, List, [], ◌∷◌, length, refl, sym, ap, ◌∙◌, subst, arith, ⊎_elim}
+use Rattle.std.proofs.Common.{◌≡◌, ◌≢◌, ℕ, suc, zero, ◌+◌, ◌<◌, ◌&&◌, eqb, ◌==◌, not, cond, Bool, true, false, List, [], ◌∷◌, length, Option, Some, None, IsTrue, ◌↔◌, refl, sym, ap, ◌∙◌, subst, arith, ⊎_elim}
 use Rattle.std.specs.List.{list_any}
 use Rattle.std.specs.Prelude.{slice_set}
-use Rattle.std.proofs.lemmas.Bool.{and_parts, cases_eq, eq-eqb, ne_eqb, false≢true}
+use Rattle.std.proofs.lemmas.Bool.{and_parts, and_from, or_cases, or_left, or_right, cases_eq, eqb-true, eq-eqb, ne_eqb, false≢true}
 use Rattle.std.proofs.lemmas.List.{length-set, get_or-set_same, get_or-set_other, get_or_default}
 use Rattle.std.proofs.lemmas.List.Folds.{Any-from_list_any, list_any_at}
 use Rattle.kaba_base.proofs.TestLemmas.{same_truth}
-use Rattle.kaba_bits.specs.Sets.{bit, row, size, IsEmpty, ListsBelow}
+use Rattle.kaba_bits.specs.Sets.{bit, row, size, IsEmpty, Meet, ListsBelow}
 use Rattle.kaba_bits.proofs.ListLemmas.{ListsBelow-same}
 use Rattle.kaba_order.specs.Orders.{is_le, IsPartialOrder}
 use Rattle.fact_model.specs.declared.facts.Facts.{Facts}
-use Rattle.hier_model.specs.Hierarchies.{Hierarchy, is_class_node, any_below}
+use Rattle.fact_model.specs.Items.{site_at, site_row, column_kind}
+use Rattle.kaba_base.specs.declared.NodeId.{NodeId}
+use Rattle.hier_model.specs.Hierarchies.{Hierarchy, place_of_column, place_of_row, stands_at, is_at, is_above, is_offered, is_of_class, has_class_member, has_object, is_class_node, any_below}
 use Rattle.hier_model.proofs.AnyLemmas.{any_below_some, any_below_has}
 use Rattle.hier_rules.proofs.NameLemmas.{class_within}
 use Rattle.hier_rules.specs.Obligations.{is_class_above}
-use Rattle.hier_rules.specs.Chains.{count_below, is_over, class_count, is_next, is_loose, is_loose_above, AreClassNodes, IsClassRow, ListsClasses}
+use Rattle.hier_rules.specs.Chains.{count_below, is_over, class_count, is_next, is_loose, is_loose_above, AreClassNodes, IsClassRow, ListsClasses, is_member_at, is_object_at, AreClassPlaces}
 
 -- ---- how many numbers a set has
 count_shift : (m : ℕ) (p : ℕ → Bool) → count_below (suc m) p ≡ cond (p 0) 1 0 + count_below m (λ k. p (suc k))
@@ -128,3 +130,54 @@ module _ (F : Facts) (H : Hierarchy) (n : ℕ) where
 
   pub loose_above : (m : ℕ) → is_loose_above F H n m ≡ true → is_class_above F H n m ≡ true
   loose_above m h = (and_parts (is_class_above F H n m) (is_loose F H m) h).0
+
+-- a node is a class node exactly where one at or above it is such a place
+module _ (F : Facts) (H : Hierarchy) (places : List Bool) (are : AreClassPlaces F H places) (n : ℕ) where
+  at_place : (c : ℕ) (o : Option NodeId) → place_of_column H c ≡ o → (p : ℕ) → is_at p o ≡ true → is_le H.order n p ≡ true → is_above H.order n o ≡ true
+  at_place c None e p h le = absurd (false≢true h)
+  at_place c (Some q) e p h le = subst (λ x. is_le H.order n x ≡ true) (sym (eqb-true q.0 p h)) le
+
+  place_of : (o : Option NodeId) → is_above H.order n o ≡ true → (p : ℕ) × (is_le H.order n p ≡ true) × (is_at p o ≡ true)
+  place_of None h = absurd (false≢true h)
+  place_of (Some q) h = (q.0, h, eq-eqb q.0 q.0 refl)
+
+  class_from : Meet (row H.order.le n) places → is_class_node F H n ≡ true
+  class_from m =
+      ⊎_elim
+      (λ a.
+      let c = any_below_some (is_member_at F H m.0) (length F.columns.items) a in
+      let h = and_parts (is_of_class (column_kind F c.0)) (stands_at H m.0 c.0) c.2 in
+      or_left (has_class_member F H n) (has_object F H n)
+      (any_below_has (λ c. is_of_class (column_kind F c) && is_offered H n c) (length F.columns.items) c.0 c.1
+      (and_from (is_of_class (column_kind F c.0)) (is_offered H n c.0) h.0 (at_place c.0 (place_of_column H c.0) refl m.0 h.1 m.1))))
+      (λ b.
+      let s = any_below_some (is_object_at F H m.0) (length F.sites.items) b in
+      let h = and_parts ((site_at F s.0).dim == 0) (place_of_row H (site_row F s.0) == m.0) s.2 in
+      or_right (has_class_member F H n) (has_object F H n)
+      (any_below_has (λ s. ((site_at F s).dim == 0) && is_le H.order n (place_of_row H (site_row F s))) (length F.sites.items) s.0 s.1
+      (and_from ((site_at F s.0).dim == 0) (is_le H.order n (place_of_row H (site_row F s.0))) h.0
+      (subst (λ x. is_le H.order n x ≡ true) (sym (eqb-true (place_of_row H (site_row F s.0)) m.0 h.1)) m.1))))
+      (or_cases (any_below (length F.columns.items) (is_member_at F H m.0)) (any_below (length F.sites.items) (is_object_at F H m.0))
+      (sym (are.exact m.0) ∙ m.2))
+
+  class_meets : is_class_node F H n ≡ true → Meet (row H.order.le n) places
+  class_meets h =
+      ⊎_elim
+      (λ a.
+      let c = any_below_some (λ c. is_of_class (column_kind F c) && is_offered H n c) (length F.columns.items) a in
+      let k = and_parts (is_of_class (column_kind F c.0)) (is_offered H n c.0) c.2 in
+      let p = place_of (place_of_column H c.0) k.1 in
+      (p.0, p.1, are.exact p.0 ∙ or_left (any_below (length F.columns.items) (is_member_at F H p.0)) (any_below (length F.sites.items) (is_object_at F H p.0))
+      (any_below_has (is_member_at F H p.0) (length F.columns.items) c.0 c.1
+      (and_from (is_of_class (column_kind F c.0)) (stands_at H p.0 c.0) k.0 p.2))))
+      (λ b.
+      let s = any_below_some (λ s. ((site_at F s).dim == 0) && is_le H.order n (place_of_row H (site_row F s))) (length F.sites.items) b in
+      let k = and_parts ((site_at F s.0).dim == 0) (is_le H.order n (place_of_row H (site_row F s.0))) s.2 in
+      let p = place_of_row H (site_row F s.0) in
+      (p, k.1, are.exact p ∙ or_right (any_below (length F.columns.items) (is_member_at F H p)) (any_below (length F.sites.items) (is_object_at F H p))
+      (any_below_has (is_object_at F H p) (length F.sites.items) s.0 s.1
+      (and_from ((site_at F s.0).dim == 0) (place_of_row H (site_row F s.0) == p) k.0 (eq-eqb p p refl)))))
+      (or_cases (has_class_member F H n) (has_object F H n) h)
+
+  pub class_by_places : (t : Bool) → (IsTrue t ↔ Meet (row H.order.le n) places) → t ≡ is_class_node F H n
+  class_by_places t e = same_truth t (is_class_node F H n) (λ h. class_from (e.0 h)) (λ h. e.1 (class_meets h))

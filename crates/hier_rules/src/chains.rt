@@ -1,17 +1,18 @@
 //! B9: the class nodes at or above each class node form a chain.
 
-ghost use Rattle.std.specs.Prelude.{◌≡◌, ℕ, ◌+◌, ◌<◌, ◌==◌, ◌&&◌, ◌||◌, true, length, All, IfOk, OnOk};
-ghost use Rattle.hier_rules.specs.Words.{bit, list_any, first_below, is_le, InRange};
-ghost use Rattle.hier_model.specs.Hierarchies.{IsHierarchyOf, is_class_node, any_below};
+ghost use Rattle.std.specs.Prelude.{◌≡◌, ℕ, ◌+◌, ◌<◌, ◌==◌, ◌&&◌, ◌||◌, true, length, All, IfOk, IfSome, OnOk};
+ghost use Rattle.hier_rules.specs.Words.{bit, list_any, first_below, is_le, is_live, InRange};
+ghost use Rattle.fact_model.specs.Items.{column_kind};
+ghost use Rattle.hier_model.specs.Hierarchies.{IsHierarchyOf, is_of_class, is_at, is_class_node, any_below};
 ghost use Rattle.hier_rules.specs.Instances.{of_three};
 ghost use Rattle.hier_rules.specs.Obligations.{is_class_above, unchained, first_unchained};
-ghost use Rattle.hier_rules.specs.Chains.{IsClassRow, ListsClasses, AreClassNodes, AreNodes, AreCounts, AreLooseNodes, is_over, class_count, is_next, is_loose, is_loose_above};
+ghost use Rattle.hier_rules.specs.Chains.{is_member_at, is_object_at, AreClassPlaces, IsClassRow, ListsClasses, AreClassNodes, AreNodes, AreCounts, AreLooseNodes, is_over, class_count, is_next, is_loose, is_loose_above};
 
 use crate::broken::{Broken, Nodes, Rule};
 use crate::places::{is_le, is_live, node_count};
-use fact_model::Facts;
-use hier_model::Hier;
-use kaba_base::NodeId;
+use fact_model::{ColKind, Facts};
+use hier_model::{Hier, column_at, site_at};
+use kaba_base::{ColId, NodeId, SiteId};
 use kaba_bits::BitRow;
 use std::alloc::{AllocError, Global};
 
@@ -45,24 +46,125 @@ fn class_le(nodes: &ClassNodes, a: u32, b: u32) -> bool
     is_le(nodes.hier, a, b)
 }
 
-/// Whether a node is a class node.
-fn is_class(facts: &Facts, hier: &Hier, n: u32) -> bool
+/// Whether only a class can have a column.
+fn is_of_class(facts: &Facts, c: u32) -> bool
+    requires { c < length facts.now.columns.items }
+    ensures { result ≡ is_of_class (column_kind facts.now c) }
+{
+    matches!(column_at(facts, ColId(c)).kind, ColKind::Fld | ColKind::Def)
+}
+
+/// Adds a place to a set of nodes, if it counts.
+fn add_place(hier: &Hier, place: Option<NodeId>, counts: bool, places: &mut BitRow)
+    requires live { IfSome place (λ q. is_live hier.now.order q.0 ≡ true) }
+    requires width { length places.old ≡ length hier.now.order.live }
+    ensures width { length places.new ≡ length places.old }
+    ensures added { (p : ℕ) → bit places.new p ≡ (bit places.old p || (counts && is_at p place)) }
+{
+    match place {
+        Some(q) => {
+            if counts {
+                places.set(q.0);
+            }
+        }
+        None => {}
+    }
+}
+
+/// Adds the node where a column stands, if only a class can have it.
+fn add_member(facts: &Facts, hier: &Hier, c: u32, places: &mut BitRow)
     requires facts { InRange facts.now }
     requires hier { IsHierarchyOf facts.now hier.now }
+    requires column { c < length facts.now.columns.items }
+    requires width { length places.old ≡ length hier.now.order.live }
+    ensures width { length places.new ≡ length places.old }
+    ensures added { (p : ℕ) → bit places.new p ≡ (bit places.old p || is_member_at facts.now hier.now p c) }
+{
+    add_place(hier, hier.place_of_column(ColId(c)), is_of_class(facts, c), places);
+}
+
+/// Adds the nodes where columns stand that only a class can have.
+fn add_members(facts: &Facts, hier: &Hier, places: &mut BitRow)
+    requires facts { InRange facts.now }
+    requires hier { IsHierarchyOf facts.now hier.now }
+    requires width { length places.old ≡ length hier.now.order.live }
+    ensures width { length places.new ≡ length places.old }
+    ensures added { (p : ℕ) → bit places.new p ≡ (bit places.old p || any_below (length facts.now.columns.items) (is_member_at facts.now hier.now p)) }
+{
+    for c in 0..facts.columns.len() as u32 {
+        add_member(facts, hier, c, places);
+    }
+}
+
+/// Adds the node of a site, if it creates an object.
+fn add_object(facts: &Facts, hier: &Hier, s: u32, places: &mut BitRow)
+    requires facts { InRange facts.now }
+    requires hier { IsHierarchyOf facts.now hier.now }
+    requires site { s < length facts.now.sites.items }
+    requires width { length places.old ≡ length hier.now.order.live }
+    ensures width { length places.new ≡ length places.old }
+    ensures added { (p : ℕ) → bit places.new p ≡ (bit places.old p || is_object_at facts.now hier.now p s) }
+{
+    let site = site_at(facts, SiteId(s));
+    add_place(hier, Some(hier.place_of_row(site.row)), site.dim == 0, places);
+}
+
+/// Adds the nodes of the sites that create objects.
+fn add_objects(facts: &Facts, hier: &Hier, places: &mut BitRow)
+    requires facts { InRange facts.now }
+    requires hier { IsHierarchyOf facts.now hier.now }
+    requires width { length places.old ≡ length hier.now.order.live }
+    ensures width { length places.new ≡ length places.old }
+    ensures added { (p : ℕ) → bit places.new p ≡ (bit places.old p || any_below (length facts.now.sites.items) (is_object_at facts.now hier.now p)) }
+{
+    for s in 0..facts.sites.len() as u32 {
+        add_object(facts, hier, s, places);
+    }
+}
+
+/// The nodes where something stands that only a class can have. An error comes only for want of memory.
+fn class_places(alloc: Global, facts: &Facts, hier: &Hier) -> Result<BitRow, AllocError>
+    requires facts { InRange facts.now }
+    requires hier { IsHierarchyOf facts.now hier.now }
+    ensures { IfOk result (λ v. AreClassPlaces facts.now hier.now v) }
+{
+    let mut places = BitRow::new(alloc, node_count(hier))?;
+    add_members(facts, hier, &mut places);
+    add_objects(facts, hier, &mut places);
+    Ok(places)
+}
+
+/// Whether a live node is at or below one of some places.
+fn is_at_or_below(facts: &Facts, hier: &Hier, places: &BitRow, n: u32) -> bool
+    requires facts { InRange facts.now }
+    requires hier { IsHierarchyOf facts.now hier.now }
+    requires places { AreClassPlaces facts.now hier.now places.now }
+    requires node { is_live hier.now.order n ≡ true }
     ensures { result ≡ is_class_node facts.now hier.now n }
 {
-    is_live(hier, n) && hier.is_class_node(facts, NodeId(n))
+    hier.order().above(NodeId(n)).meets(places)
+}
+
+/// Whether a node is a class node.
+fn is_class(facts: &Facts, hier: &Hier, places: &BitRow, n: u32) -> bool
+    requires facts { InRange facts.now }
+    requires hier { IsHierarchyOf facts.now hier.now }
+    requires places { AreClassPlaces facts.now hier.now places.now }
+    ensures { result ≡ is_class_node facts.now hier.now n }
+{
+    is_live(hier, n) && is_at_or_below(facts, hier, places, n)
 }
 
 /// Adds a node, if it is a class node.
-fn add_class(facts: &Facts, hier: &Hier, n: u32, classes: &mut BitRow)
+fn add_class(facts: &Facts, hier: &Hier, places: &BitRow, n: u32, classes: &mut BitRow)
     requires facts { InRange facts.now }
     requires hier { IsHierarchyOf facts.now hier.now }
+    requires places { AreClassPlaces facts.now hier.now places.now }
     requires node { n < length classes.old }
     ensures width { length classes.new ≡ length classes.old }
     ensures added { (x : ℕ) → bit classes.new x ≡ (bit classes.old x || ((n == x) && is_class_node facts.now hier.now n)) }
 {
-    if is_class(facts, hier, n) {
+    if is_class(facts, hier, places, n) {
         classes.set(n);
     }
 }
@@ -73,9 +175,10 @@ fn class_nodes(alloc: Global, facts: &Facts, hier: &Hier) -> Result<BitRow, Allo
     requires hier { IsHierarchyOf facts.now hier.now }
     ensures { IfOk result (λ v. AreClassNodes facts.now hier.now v) }
 {
+    let places = class_places(alloc, facts, hier)?;
     let mut classes = BitRow::new(alloc, node_count(hier))?;
     for n in 0..node_count(hier) {
-        add_class(facts, hier, n, &mut classes);
+        add_class(facts, hier, &places, n, &mut classes);
     }
     Ok(classes)
 }
