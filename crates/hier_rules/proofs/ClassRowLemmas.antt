@@ -3,7 +3,7 @@ use Rattle.std.proofs.Common.{◌≡◌, ◌≢◌, ℕ, suc, zero, ◌+◌, ◌
 use Rattle.std.specs.List.{list_any}
 use Rattle.std.specs.Prelude.{slice_set}
 use Rattle.std.proofs.lemmas.Bool.{and_parts, and_from, or_cases, or_left, or_right, cases_eq, eqb-true, eq-eqb, ne_eqb, false≢true}
-use Rattle.std.proofs.lemmas.List.{length-set, get_or-set_same, get_or-set_other, get_or_default}
+use Rattle.std.proofs.lemmas.List.{length-set, get_or-set_same, get_or-set_other}
 use Rattle.std.proofs.lemmas.List.Folds.{Any-from_list_any, list_any_at}
 use Rattle.kaba_base.proofs.TestLemmas.{same_truth}
 use Rattle.kaba_bits.specs.Sets.{bit, row, size, IsEmpty, Meet, ListsBelow}
@@ -50,7 +50,7 @@ pub any_listed : (p : ℕ → Bool) (Q : ℕ → Type 0) (n : ℕ) (xs : List �
 any_listed p Q n xs l only =
     same_truth (list_any p xs) (any_below n p)
     (λ h. let a = Any-from_list_any p xs h in
-    any_below_has p n a.1 ((l.each a.1).0 (a.0, a.2, get_or_default xs a.0 a.1 a.1 a.2 ∙ a.3)).0 a.4)
+    any_below_has p n a.1 ((l.each a.1).0 (a.0, a.2, a.3)).0 a.4)
     (λ h. let k = any_below_some p n h in
     let c = (l.each k.0).1 (k.1, only k.0 k.2) in
     list_any_at p xs c.0 k.0 c.1 (subst (λ y. p y ≡ true) (sym c.2) k.2))

@@ -1,6 +1,6 @@
 //! B9: the class nodes at or above each class node form a chain.
 
-ghost use Rattle.std.specs.Prelude.{◌≡◌, ℕ, ◌+◌, ◌<◌, ◌==◌, ◌&&◌, ◌||◌, true, length, All, IfOk, IfSome, OnOk};
+ghost use Rattle.std.specs.Prelude.{◌≡◌, ℕ, ◌+◌, ◌<◌, ◌==◌, ◌&&◌, ◌||◌, true, false, length, All, IfOk, IfSome, OnOk};
 ghost use Rattle.hier_rules.specs.Words.{bit, list_any, first_below, is_le, is_live, InRange};
 ghost use Rattle.fact_model.specs.Items.{column_kind};
 ghost use Rattle.hier_model.specs.Hierarchies.{IsHierarchyOf, is_of_class, is_at, is_class_node, any_below};
@@ -9,7 +9,7 @@ ghost use Rattle.hier_rules.specs.Obligations.{is_class_above, unchained, first_
 ghost use Rattle.hier_rules.specs.Chains.{is_member_at, is_object_at, AreClassPlaces, IsClassRow, ListsClasses, AreClassNodes, AreNodes, AreCounts, AreLooseNodes, is_over, class_count, is_next, is_loose, is_loose_above};
 
 use crate::broken::{Broken, Nodes, Rule};
-use crate::places::{is_le, is_live, node_count};
+use crate::places::{above, is_le, is_live, node_count};
 use fact_model::{ColKind, Facts};
 use hier_model::{Hier, column_at, site_at};
 use kaba_base::{ColId, NodeId, SiteId};
@@ -142,7 +142,7 @@ fn is_at_or_below(facts: &Facts, hier: &Hier, places: &BitRow, n: u32) -> bool
     requires node { is_live hier.now.order n ≡ true }
     ensures { result ≡ is_class_node facts.now hier.now n }
 {
-    hier.order().above(NodeId(n)).meets(places)
+    above(hier, n).meets(places)
 }
 
 /// Whether a node is a class node.
@@ -209,9 +209,19 @@ fn class_row_of(alloc: Global, nodes: &ClassNodes, n: u32) -> Result<BitRow, All
     requires class { bit nodes.now.classes.now n ≡ true }
     ensures { IfOk result (IsClassRow nodes.now.facts.now nodes.now.hier.now n) }
 {
-    let mut above = nodes.hier.order().above(NodeId(n)).copy(alloc)?;
-    above.and_into(nodes.classes);
-    Ok(above)
+    let mut row = above(nodes.hier, n).copy(alloc)?;
+    row.and_into(nodes.classes);
+    Ok(row)
+}
+
+/// The empty set, for a node that is no class node. An error comes only for want of memory.
+fn no_class_row(alloc: Global, nodes: &ClassNodes, n: u32) -> Result<BitRow, AllocError>
+    requires nodes { AreNodes nodes.now }
+    requires class { bit nodes.now.classes.now n ≡ false }
+    ensures { IfOk result (IsClassRow nodes.now.facts.now nodes.now.hier.now n) }
+{
+    let row = BitRow::new(alloc, node_count(nodes.hier))?;
+    Ok(row)
 }
 
 /// The class nodes at or above a node, where it is one itself. An error comes only for want of memory.
@@ -223,7 +233,7 @@ fn class_row(alloc: Global, nodes: &ClassNodes, n: u32) -> Result<BitRow, AllocE
     if nodes.classes.has(n) {
         return class_row_of(alloc, nodes, n);
     }
-    BitRow::new(alloc, node_count(nodes.hier))
+    no_class_row(alloc, nodes, n)
 }
 
 /// How many class nodes are strictly above a node. An error comes only for want of memory.
@@ -257,7 +267,8 @@ fn class_list(alloc: Global, nodes: &ClassNodes, n: u32) -> Result<Vec<u32>, All
     ensures { IfOk result (λ v. ListsClasses nodes.now.facts.now nodes.now.hier.now n v.items) }
 {
     let row = class_row(alloc, nodes, n)?;
-    row.rising(alloc)
+    let list = row.rising(alloc)?;
+    Ok(list)
 }
 
 /// Whether a number is one less than another.

@@ -49,9 +49,25 @@ pub fn covers(alloc: Global, hier: &Hier, n: NodeId) -> Result<Vec<u32>, AllocEr
 {
     let order = hier.order();
     let beyond = order.beyond(alloc, n)?;
+    covers_by(alloc, order, &beyond, n)
+}
+
+/// The same, by the nodes that are none since another lies between.
+fn covers_by(
+    alloc: Global,
+    order: &Order,
+    beyond: &BitRow,
+    n: NodeId,
+) -> Result<Vec<u32>, AllocError>
+    requires order { IsPartialOrder order.now }
+    requires node { is_live order.now n.0 ≡ true }
+    requires width { length beyond.now ≡ length order.now.live }
+    requires beyond { IsBeyond order.now n.0 (length order.now.live) beyond.now }
+    ensures { IfOk result (λ v. v.items ≡ those_below (length order.now.live) (is_upper_cover order.now n.0)) }
+{
     let mut above = Vec::new(alloc);
     for b in 0..order.count() {
-        if is_upper_cover(order, &beyond, n.0, b) {
+        if is_upper_cover(order, beyond, n.0, b) {
             above.push(b)?;
         }
     }
