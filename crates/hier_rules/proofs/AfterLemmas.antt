@@ -104,10 +104,10 @@ module _ (F : Facts) (pt : PointsTo) (H New : Hierarchy) (J : IsJoined H New) wh
             → (k : ℕ) × (k < length H.order.live) × (stands_at H k c ≡ true)
         at None e k = absurd (false≢true k)
         at (Some p) e k = (
-            p.0,
-            bit-below H.order.live p.0 (fits.placed.columns c p e),
-            ap (is_at p.0) e ∙ eq-eqb p.0 p.0 refl,
-          )
+          p.0,
+          bit-below H.order.live p.0 (fits.placed.columns c p e),
+          ap (is_at p.0) e ∙ eq-eqb p.0 p.0 refl,
+        )
 
     left : AreNamesLeft H New
     left = record { count = J.count; live = J.live; types = J.types; members = J.members; stands = stood }

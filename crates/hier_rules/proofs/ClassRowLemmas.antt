@@ -166,17 +166,23 @@ module _ (F : Facts) (H : Hierarchy) (places : List Bool) (are : AreClassPlaces 
       (λ a.
       let c = any_below_some (λ c. is_of_class (column_kind F c) && is_offered H n c) (length F.columns.items) a in
       let k = and_parts (is_of_class (column_kind F c.0)) (is_offered H n c.0) c.2 in
-      let p = place_of (place_of_column H c.0) k.1 in
-      (p.0, p.1, are.exact p.0 ∙ or_left (any_below (length F.columns.items) (is_member_at F H p.0)) (any_below (length F.sites.items) (is_object_at F H p.0))
-      (any_below_has (is_member_at F H p.0) (length F.columns.items) c.0 c.1
-      (and_from (is_of_class (column_kind F c.0)) (stands_at H p.0 c.0) k.0 p.2))))
+      let p = place_of (place_of_column H c.0) k.1 in (
+        p.0,
+        p.1,
+        are.exact p.0 ∙ or_left (any_below (length F.columns.items) (is_member_at F H p.0)) (any_below (length F.sites.items) (is_object_at F H p.0))
+            (any_below_has (is_member_at F H p.0) (length F.columns.items) c.0 c.1
+            (and_from (is_of_class (column_kind F c.0)) (stands_at H p.0 c.0) k.0 p.2)),
+      ))
       (λ b.
       let s = any_below_some (λ s. ((site_at F s).dim == 0) && is_le H.order n (place_of_row H (site_row F s))) (length F.sites.items) b in
       let k = and_parts ((site_at F s.0).dim == 0) (is_le H.order n (place_of_row H (site_row F s.0))) s.2 in
-      let p = place_of_row H (site_row F s.0) in
-      (p, k.1, are.exact p ∙ or_right (any_below (length F.columns.items) (is_member_at F H p)) (any_below (length F.sites.items) (is_object_at F H p))
-      (any_below_has (is_object_at F H p) (length F.sites.items) s.0 s.1
-      (and_from ((site_at F s.0).dim == 0) (place_of_row H (site_row F s.0) == p) k.0 (eq-eqb p p refl)))))
+      let p = place_of_row H (site_row F s.0) in (
+        p,
+        k.1,
+        are.exact p ∙ or_right (any_below (length F.columns.items) (is_member_at F H p)) (any_below (length F.sites.items) (is_object_at F H p))
+            (any_below_has (is_object_at F H p) (length F.sites.items) s.0 s.1
+            (and_from ((site_at F s.0).dim == 0) (place_of_row H (site_row F s.0) == p) k.0 (eq-eqb p p refl))),
+      ))
       (or_cases (has_class_member F H n) (has_object F H n) h)
 
   pub class_by_places : (t : Bool) → (IsTrue t ↔ Meet (row H.order.le n) places) → t ≡ is_class_node F H n

@@ -80,7 +80,12 @@ fn add_member(facts: &Facts, hier: &Hier, c: u32, places: &mut BitRow)
     ensures width { length places.new ≡ length places.old }
     ensures added { (p : ℕ) → bit places.new p ≡ (bit places.old p || is_member_at facts.now hier.now p c) }
 {
-    add_place(hier, hier.place_of_column(ColId(c)), is_of_class(facts, c), places);
+    add_place(
+        hier,
+        hier.place_of_column(ColId(c)),
+        is_of_class(facts, c),
+        places,
+    );
 }
 
 /// Adds the nodes where columns stand that only a class can have.
@@ -106,7 +111,12 @@ fn add_object(facts: &Facts, hier: &Hier, s: u32, places: &mut BitRow)
     ensures added { (p : ℕ) → bit places.new p ≡ (bit places.old p || is_object_at facts.now hier.now p s) }
 {
     let site = site_at(facts, SiteId(s));
-    add_place(hier, Some(hier.place_of_row(site.row)), site.dim == 0, places);
+    add_place(
+        hier,
+        Some(hier.place_of_row(site.row)),
+        site.dim == 0,
+        places,
+    );
 }
 
 /// Adds the nodes of the sites that create objects.

@@ -94,6 +94,6 @@ cover_lacks o n m b set is cover h = let x = (is.exact b).0 h in cover.none x.at
 pub tells_cover : (o : Ordered) (n b : ℕ) (set : List Bool) (has : Bool) → IsPartialOrder o → IsBeyond o n (length o.live) set
     → IsStrictlyBelow o n b → has ≡ bit set b → IsTrue (not has) ↔ IsCover o n b
 tells_cover o n b set has order is above e = (
-    λ h. cover_from o n b set order is above (sym e ∙ not_true has h),
-    λ cover. not_from has (λ h. cover_lacks o n (length o.live) b set is cover (sym e ∙ h)),
-  )
+  λ h. cover_from o n b set order is above (sym e ∙ not_true has h),
+  λ cover. not_from has (λ h. cover_lacks o n (length o.live) b set is cover (sym e ∙ h)),
+)
