@@ -1,6 +1,5 @@
 pub mod Replying
 pub mod Statuses
-pub mod Formed
 pub mod Retyped
 pub mod TakenAgain
 pub mod Texts

@@ -19,7 +19,7 @@ use Rattle.kaba_top.specs.Lines.{Says, line}
 use Rattle.kaba_top.specs.TextPrograms.{most_nesting, IsParsedAs, HasProgram, IsTypedText}
 use Rattle.kaba_top.specs.Reading.{refused, lex_text, at_token, line_of, IsRefusedText, TextAnswers}
 use Rattle.kaba_top.specs.OneAnswer.{AreFree, AreOne, AreOneKind}
-use Rattle.kaba_top.proofs.Formed.{read_formed}
+use Rattle.write_laws.proofs.given.Read.{read_formed}
 
 ok_same : {A B : Type 0} {a b : A} → ◌≡◌ {A = Result A B} (Ok a) (Ok b) → a ≡ b
 ok_same e = cc e

@@ -12,7 +12,7 @@ use Rattle.name_rules.specs.Resolves.{Resolves}
 use Rattle.name_place_laws.specs.Laws.{HasProgramAside}
 use Rattle.name_place_laws.proofs.Whole.{has_program_aside}
 use Rattle.kaba_top.specs.TextPrograms.{most_nesting, IsTypedText}
-use Rattle.kaba_top.proofs.Formed.{read_formed, read_given}
+use Rattle.write_laws.proofs.given.Read.{read_formed, read_given}
 use Rattle.kaba_top.proofs.Retyped.{typed_tagged}
 
 -- the tree with its places has the program, places aside; it is formed and typed as that is

@@ -1,4 +1,5 @@
 pub mod Unplaced
+pub mod Read
 pub mod Letters
 pub mod Given
 pub mod Names

@@ -2,7 +2,7 @@ use Rattle.std.proofs.Common.{arith, subst}
 use Rattle.java_lex.proofs.Few.{few-tokens}
 use Rattle.java_tree.specs.Syntax.{tree_of}
 use Rattle.java_parse.specs.Faults.{IsCause}
-use Rattle.kaba_top.proofs.Formed.{read_formed}
+use Rattle.write_laws.proofs.given.Read.{read_formed}
 use Rattle.kaba_top.proofs.Texts.{no_tokens, too_deep, no_tree, read_as}
 use Rattle.kaba_top.proofs.reading.read_program.Goals as goal
 
