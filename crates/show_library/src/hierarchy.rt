@@ -50,6 +50,10 @@ pub fn add_hierarchy(alloc: Global, text: &mut String, facts: &Facts) -> Result<
     for n in 0..hier.order().count() {
         add_offered(alloc, text, &hier, n)?;
     }
-    let asked = Asked { facts, pt: &pt, hier: &hier };
+    let asked = Asked {
+        facts,
+        pt: &pt,
+        hier: &hier,
+    };
     add_broken(text, first_broken(alloc, &asked)?)
 }

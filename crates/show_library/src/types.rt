@@ -34,7 +34,10 @@ pub fn add_types(alloc: Global, text: &mut String, program: &Program) -> Result<
         for class in 0..4u32 {
             let base = TyBase::Class(ClassId(class));
             text.push(' ')?;
-            add_type(text, value_type(program, Static::Value(Ty { base, dim: 0 }), &name))?;
+            add_type(
+                text,
+                value_type(program, Static::Value(Ty { base, dim: 0 }), &name),
+            )?;
         }
         text.push(' ')?;
         add_type(text, value_type(program, Static::Null, &name))?;
