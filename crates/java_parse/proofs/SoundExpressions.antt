@@ -42,7 +42,7 @@ post_of (by_new a) = new_object a
 post_of (by_array d) = d
 post_of (by_other d) = d
 
-open_post : {z : End} {ts rest : List Token} {e : Expression} → is_array z ≡ false → Ended z ts rest e → IsPost true ts rest e
+pub open_post : {z : End} {ts rest : List Token} {e : Expression} → is_array z ≡ false → Ended z ts rest e → IsPost true ts rest e
 open_post h by_name = name
 open_post h (by_target d) = target_post d
 open_post h (by_call d) = call_post d
@@ -50,7 +50,7 @@ open_post h (by_new a) = new_object a
 open_post h (by_array d) = cc
 open_post h (by_other d) = d
 
-loosen : {l k : ℕ} {ts rest : List Token} {e : Expression} → l ≤ k → IsExpr k ts rest e → IsExpr l ts rest e
+pub loosen : {l k : ℕ} {ts rest : List Token} {e : Expression} → l ≤ k → IsExpr k ts rest e → IsExpr l ts rest e
 loosen {l = l} {k = k} h (binary {m = m} a b x y) = binary a (omega (arith, h, b)) x y
 loosen {l = l} {k = k} h (instance_of a x) = instance_of (omega (arith, h, a)) x
 loosen h (operand d) = operand d

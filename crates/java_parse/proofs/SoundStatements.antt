@@ -22,10 +22,10 @@ use Rattle.java_parse.specs.ReadStatements.{init_step, local_step, value_step, a
 never : {P : Type 0} → false ≡ true → P
 never h = absurd (let g : ⊥ = cc in g)
 
-starts_at : (ts : List Token) {s : Start} → start ts ≡ s → Starts s ts
+pub starts_at : (ts : List Token) {s : Start} → start ts ≡ s → Starts s ts
 starts_at ts h = subst (λ s. Starts s ts) h (start_is ts)
 
-target_of : {z : End} {ts rest : List Token} {e : Expression} → Ended z ts rest e → is_target z ≡ true → IsTarget ts rest e
+pub target_of : {z : End} {ts rest : List Token} {e : Expression} → Ended z ts rest e → is_target z ≡ true → IsTarget ts rest e
 target_of by_name h = to_name
 target_of (by_target d) h = d
 target_of (by_call d) h = cc
@@ -42,7 +42,7 @@ named_as h (by_new a) = cc
 named_as h (by_array d) = cc
 named_as h (by_other d) = cc
 
-compound_act : {z : End} {ss ts rest : List Token} {e v : Expression} {w : Mark × Place × List Token} {x : List ℕ × Place} →
+pub compound_act : {z : End} {ss ts rest : List Token} {e v : Expression} {w : Mark × Place × List Token} {x : List ℕ × Place} →
     (n : Mark) × (ts ≡ mark n w.1 ∷ w.2) × (compound n ≡ Some w.0) → named z e ≡ Some x → Ended z ss ts e → IsExpr 1 w.2 rest v →
     IsAct ss rest (AssignOf (NameRef x.0 x.1) (BinaryOf w.0 (NameRef x.0 x.1) v w.1) w.1)
 compound_act {rest = rest} {v = v} {w = w} {x = x} f g h d =
@@ -112,7 +112,7 @@ act_no_choice : {ts rest : List Token} {s : Statement} → IsAct ts rest s → i
 act_no_choice (assign t e) = refl
 act_no_choice _ = refl
 
-no_choice : {o : Bool} {ts rest : List Token} {s : Statement} → IsStmt o ts rest s → after_key keys.If ts ≡ None → is_choice s ≡ false
+pub no_choice : {o : Bool} {ts rest : List Token} {s : Statement} → IsStmt o ts rest s → after_key keys.If ts ≡ None → is_choice s ≡ false
 no_choice (acting d) h = act_no_choice d
 no_choice (choice d) h = cc
 no_choice _ h = refl
@@ -128,7 +128,7 @@ end_good {e = e} {s = s} a n t d =
       closed = λ _. n;
     })
 
-shut_at : {ts vs : List Token} {s : Statement} {w : Place × List Token} → vs ≡ key keys.Else w.0 ∷ w.1 → Stmted ts s vs
+pub shut_at : {ts vs : List Token} {s : Statement} {w : Place × List Token} → vs ≡ key keys.Else w.0 ∷ w.1 → Stmted ts s vs
     → IsStmt false ts (key keys.Else w.0 ∷ w.1) s
 shut_at {ts = ts} {s = s} e d = shut (subst (λ vs. d.flag ≡ true → after_key keys.Else vs ≡ None) e d.closed) (subst (λ vs. IsStmt d.flag ts vs s) e d.fact)
 
