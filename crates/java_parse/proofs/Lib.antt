@@ -19,4 +19,5 @@ pub mod Deep
 pub mod Finals
 pub mod Printing
 pub mod Parsed
+pub mod Exact
 pub mod Fixed
