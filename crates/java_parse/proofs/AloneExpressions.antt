@@ -107,4 +107,3 @@ mutual
   more_args_alone (next_arg d0 d1) =
       let s0 = expr_alone d0 in let s1 = more_args_alone d1 in
       record { cut = on (join s0.cut s1.cut); again = λ tail. next_arg (s0.again (s1.cut.put tail)) (s1.again tail) }
-

@@ -158,4 +158,3 @@ mutual
             (s1.again (_ ∷ _ ∷ s2.cut.put tail))
             (s2.again tail);
       }
-

@@ -143,39 +143,54 @@ pub base_is : (ts : List Token) (w : TypeBase × Place × List Token) → base_n
 base_is [] w h = cc
 base_is (t ∷ ts) w h = base_kind t.kind t.place ts w h
 
--- a cast of which the bracket and the type stand at the front
-abbrev pub IsOpened : List Token → TypeName × Place × List Token → Type 0
-IsOpened ts w = (q : Place) (vs rest : List Token) (e : Expression) → w.2 ≡ mark marks.CloseRound q ∷ vs → IsPrefixed vs rest e
-    → IsPrefixed ts rest (CastOf w.0 e w.1)
+-- a round bracket and `int` or `char` at the front: the type, the place of the bracket and what follows the type
+pub data Opened : List Token → TypeName × Place × List Token → Type 0 where
+  opened_int : {p q : Place} {us : List Token} →
+      Opened (mark marks.OpenRound p ∷ key keys.Int q ∷ us) (record { base = bases.Int; dim = 0; place = q }, p, us)
+  opened_char : {p q : Place} {us : List Token} →
+      Opened (mark marks.OpenRound p ∷ key keys.Char q ∷ us) (record { base = bases.Char; dim = 0; place = q }, p, us)
+
+pub opened_cast : {ts vs rest : List Token} {w : TypeName × Place × List Token} {q : Place} {e : Expression} → Opened ts w
+    → w.2 ≡ mark marks.CloseRound q ∷ vs → IsPrefixed vs rest e → IsPrefixed ts rest (CastOf w.0 e w.1)
+opened_cast opened_int g d = rw g (cast_int d)
+opened_cast opened_char g d = rw g (cast_char d)
 
 opened_key : (k : Keyword) (q p : Place) (us : List Token) (w : TypeName × Place × List Token) → opens_by (kinds.Key k) q p us ≡ Some w
-    → IsOpened (mark marks.OpenRound p ∷ key k q ∷ us) w
+    → Opened (mark marks.OpenRound p ∷ key k q ∷ us) w
 opened_key keys.Int q p us w h =
     let f : (record { base = bases.Int; dim = 0; place = q }, p, us) ≡ w = cc in
-    subst (λ w. IsOpened (mark marks.OpenRound p ∷ key keys.Int q ∷ us) w) f (λ r vs rest e g d. rw g (cast_int d))
+    subst (λ w. Opened (mark marks.OpenRound p ∷ key keys.Int q ∷ us) w) f opened_int
 opened_key keys.Char q p us w h =
     let f : (record { base = bases.Char; dim = 0; place = q }, p, us) ≡ w = cc in
-    subst (λ w. IsOpened (mark marks.OpenRound p ∷ key keys.Char q ∷ us) w) f (λ r vs rest e g d. rw g (cast_char d))
+    subst (λ w. Opened (mark marks.OpenRound p ∷ key keys.Char q ∷ us) w) f opened_char
 opened_key _ q p us w h = cc
 
 opened_kind : (k : TokenKind) (q p : Place) (us : List Token) (w : TypeName × Place × List Token) → opens_by k q p us ≡ Some w
-    → IsOpened (mark marks.OpenRound p ∷ token k q ∷ us) w
+    → Opened (mark marks.OpenRound p ∷ token k q ∷ us) w
 opened_kind (kinds.Key k) q p us w h = opened_key k q p us w h
 opened_kind _ q p us w h = cc
 
-opened_behind : (p : Place) (us : List Token) (w : TypeName × Place × List Token) → opens_behind p us ≡ Some w → IsOpened (mark marks.OpenRound p ∷ us) w
+opened_behind : (p : Place) (us : List Token) (w : TypeName × Place × List Token) → opens_behind p us ≡ Some w → Opened (mark marks.OpenRound p ∷ us) w
 opened_behind p [] w h = cc
 opened_behind p (t ∷ us) w h = opened_kind t.kind t.place p us w h
 
-pub opens_is : (ts : List Token) (w : TypeName × Place × List Token) → opens_cast ts ≡ Some w → IsOpened ts w
+pub opens_is : (ts : List Token) (w : TypeName × Place × List Token) → opens_cast ts ≡ Some w → Opened ts w
 opens_is ts w h = option_cases (after marks.OpenRound ts)
     (λ no. let g = rw (no, opens_cast) at h in cc)
     (λ a yes. let g = rw (yes, opens_cast) at h in
-    subst (λ (ts : List Token). IsOpened ts w) (sym (after_is marks.OpenRound ts a yes)) (opened_behind a.0 a.1 w g))
+    subst (λ (ts : List Token). Opened ts w) (sym (after_is marks.OpenRound ts a yes)) (opened_behind a.0 a.1 w g))
 
-pub cast_is : (ts : List Token) (w : TypeName × Place × List Token) → cast_next ts ≡ Some w → (rest : List Token) (e : Expression)
-    → IsPrefixed w.2 rest e → IsPrefixed ts rest (CastOf w.0 e w.1)
-cast_is ts w h rest e d = option_cases (after marks.OpenRound ts)
+-- a name in round brackets at the front, and behind it a token that makes it a cast
+pub data Cast : List Token → TypeName × Place × List Token → Type 0 where
+  cast_of : {n : List ℕ} {p q r : Place} {us : List Token} → casts us ≡ true →
+      Cast (mark marks.OpenRound p ∷ word n q ∷ mark marks.CloseRound r ∷ us) (record { base = bases.Named n; dim = 0; place = q }, p, us)
+
+pub named_cast : {ts rest : List Token} {w : TypeName × Place × List Token} {e : Expression} → Cast ts w → IsPrefixed w.2 rest e
+    → IsPrefixed ts rest (CastOf w.0 e w.1)
+named_cast (cast_of h) d = cast_named h d
+
+pub cast_is : (ts : List Token) (w : TypeName × Place × List Token) → cast_next ts ≡ Some w → Cast ts w
+cast_is ts w h = option_cases (after marks.OpenRound ts)
     (λ no. let g = rw (no, cast_next) at h in cc)
     (λ a yes. let g = rw (yes, cast_next) at h in
     let ea = after_is marks.OpenRound ts a yes in
@@ -188,10 +203,9 @@ cast_is ts w h rest e d = option_cases (after marks.OpenRound ts)
     (λ c yes2. let g2 = rw yes2 at g1 in
     let ec = after_is marks.CloseRound b.2 c yes2 in
     let f = chosen (casts c.1) (record { base = bases.Named b.0; dim = 0; place = b.1 }, a.0, c.1) w g2 in
-    subst (λ (ts : List Token). IsPrefixed ts rest (CastOf w.0 e w.1)) (sym (ea
+    subst (λ (ts : List Token). Cast ts w) (sym (ea
     ∙ ap (λ (us : List Token). mark marks.OpenRound a.0 ∷ us) (eb ∙ ap (λ (us : List Token). word b.0 b.1 ∷ us) ec)))
-    (subst (λ (w : TypeName × Place × List Token). IsPrefixed w.2 rest e
-    → IsPrefixed (mark marks.OpenRound a.0 ∷ word b.0 b.1 ∷ mark marks.CloseRound c.0 ∷ c.1) rest (CastOf w.0 e w.1)) f.1 (cast_named f.0) d))))
+    (subst (λ (w : TypeName × Place × List Token). Cast (mark marks.OpenRound a.0 ∷ word b.0 b.1 ∷ mark marks.CloseRound c.0 ∷ c.1) w) f.1 (cast_of f.0)))))
 
 lit : {k : TokenKind} {p : Place} {ts : List Token} {e : Expression} (w : Expression × List Token) → IsPost true (token k p ∷ ts) ts e
     → Some (e, ts) ≡ Some w → IsPost true (token k p ∷ ts) w.1 w.0

@@ -20,4 +20,13 @@ pub mod Finals
 pub mod Printing
 pub mod Parsed
 pub mod Exact
+pub mod Cuts
+pub mod AloneExpressions
+pub mod AloneStatements
+pub mod AloneDeclarations
+pub mod Stuck
+pub mod StuckExpressions
+pub mod StuckStatements
+pub mod StuckDeclarations
+pub mod Begun
 pub mod Fixed

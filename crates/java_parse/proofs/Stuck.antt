@@ -1,7 +1,6 @@
 -- Where reading a part stops, the tokens taken of it can be completed.
-use Rattle.std.proofs.Common.{◌≡◌, ℕ, pos, List, [], ◌∷◌, Bool, true, false, Option, Ok, Err, refl, codes}
+use Rattle.std.proofs.Common.{ℕ, pos, List, ◌∷◌, Bool, true, false, Option, Ok, Err, codes}
 use Rattle.kaba_base.specs.declared.Place.{Place}
-use Rattle.kaba_base.specs.declared.words.Keyword.{Keyword}
 use Rattle.kaba_base.specs.declared.words.Keyword.TheVariants as keys
 use Rattle.java_lex.specs.declared.Token.{Token}
 use Rattle.java_lex.specs.declared.TokenKind.TheVariants as kinds
@@ -20,7 +19,7 @@ use Rattle.java_parse.specs.Want.{Want, NExpr, NMore, NPrefixed, NPost, NAtom, N
 use Rattle.java_parse.specs.Reading.{Left, NoMemory, Outcome, body, Runs, give, fail, short, ask, ask_fails}
 use Rattle.java_parse.proofs.Post.{Ended, Tested, Headed, Post}
 use Rattle.java_parse.proofs.Runs.{reads}
-use Rattle.java_parse.proofs.Cuts.{Cut, here, join}
+use Rattle.java_parse.proofs.Cuts.{Cut, join}
 use Rattle.java_parse.proofs.Sound.{sound}
 
 -- some part of its kind stands from these tokens up to the rest; with what stands before it, where it goes on from that
@@ -42,7 +41,7 @@ Done NInit ts rest = (v : Option Expression) × IsInit ts rest v
 Done NLocal ts rest = (s : Statement) × IsLocal ts rest s
 Done NValue ts rest = (v : Option Expression) × IsValue ts rest v
 Done NAct ts rest = (s : Statement) × IsAct ts rest s
-Done (NActRest ss e z) ts rest = (us : List Token) → Ended z us ts e → (s : Statement) × IsAct us rest s
+Done (NActRest w p e z) ts rest = (us : List Token) → Ended z us ts e → (s : Statement) × IsAct us rest s
 Done NTested ts rest = (e : Expression) × Tested ts e rest
 Done NItem ts rest = (s : Statement) × IsItem ts rest s
 Done (NItems ss) ts rest = (more : Statements) × IsItems ts rest more
@@ -115,9 +114,6 @@ zero ts = token (kinds.Int (pos 0)) nowhere ∷ ts
 
 abbrev pub x_word : List Token → List Token
 x_word ts = word (codes "x") nowhere ∷ ts
-
-abbrev pub int_key : List Token → List Token
-int_key ts = key keys.Int nowhere ∷ ts
 
 abbrev pub semi : List Token → List Token
 semi ts = mark marks.Semi nowhere ∷ ts

@@ -1,5 +1,5 @@
 -- Where reading a declaration stops, it can be completed.
-use Rattle.std.proofs.Common.{refl, ◌≡◌, ℕ, List, [], ◌∷◌, Option, Some, None}
+use Rattle.std.proofs.Common.{ℕ, List, [], ◌∷◌, Option}
 use Rattle.kaba_base.specs.declared.Place.{Place}
 use Rattle.kaba_base.specs.declared.words.Keyword.{Keyword}
 use Rattle.kaba_base.specs.declared.words.Keyword.TheVariants as keys
@@ -10,15 +10,13 @@ use Rattle.java_tree.specs.declared.Modifier.{Modifier}
 use Rattle.java_tree.specs.declared.TypeName.{TypeName}
 use Rattle.java_tree.specs.declared.Param.{Param}
 use Rattle.java_tree.specs.Syntax.{HeadTree, MemberTree, DeclTree}
-use Rattle.java_tree.specs.Expressions.{a_type}
-use Rattle.java_tree.specs.Declarations.{IsMods, no_mods, last_id, next_id, no_parent, a_parent, no_list, a_list, a_param, last_param, next_param, no_params, some_params, IsResult, no_result, a_result, a_head, no_body, a_body, IsMember, a_field, a_method, no_members, next_member, no_heads, next_head, a_class, an_interface, no_decls, next_decl}
+use Rattle.java_tree.specs.Declarations.{last_id, next_id, no_parent, a_parent, no_list, a_list, a_param, last_param, next_param, no_params, some_params, a_result, a_head, no_body, a_body, a_method, no_members, next_member, no_heads, next_head, a_class, an_interface, no_decls, next_decl}
 use Rattle.java_parse.specs.Want.{NMods, NIds, NParent, NList, NParam, NParams, NMoreParams, NResult, NHead, NBody, NMember, NMethod, NMembers, NHeads, NClass, NInterface, NDecl, NDecls}
-use Rattle.java_parse.specs.Front.{after, after_key, word_next, modifier_next, final_of, at_end}
-use Rattle.java_parse.proofs.Fronts.{option_cases, bool_cases, after_is, after_key_is, word_is, final_is, modifier_is}
-use Rattle.java_parse.proofs.Post.{Post}
+use Rattle.java_parse.specs.Front.{after, after_key, word_next, modifier_next, at_end}
+use Rattle.java_parse.proofs.Fronts.{option_cases, bool_cases, after_is, after_key_is, word_is, final_is}
 use Rattle.java_parse.specs.ReadDeclarations.{mods_step, ids_step, parent_step, list_step, param_step, params_step, more_params_step, result_type_step, head_step, body_step, member_step, method_step, members_step, heads_step, class_step, interface_step, decl_step, decls_step}
 use Rattle.java_parse.proofs.SoundDeclarations.{all_of}
-use Rattle.java_parse.proofs.Cuts.{Cut, here, led, join, Alone}
+use Rattle.java_parse.proofs.Cuts.{here, led, join}
 use Rattle.java_parse.proofs.AloneExpressions.{type_alone}
 use Rattle.java_parse.proofs.AloneStatements.{final_alone}
 use Rattle.java_parse.proofs.AloneDeclarations.{mods_alone, parent_alone, list_alone, param_alone, params_alone, result_alone, head_alone, member_alone, decl_alone}
@@ -59,8 +57,8 @@ pub param_stuck : (ts : List Token) → Unfinished (param_step ts) (Stuck NParam
 param_stuck ts = let f = final_alone (final_is ts) in (
   λ rest s. carry f.cut x_word s (λ us tail d. (_, a_param (f.again us) d.1)),
   λ v0 r0 d0. let t = type_alone d0 in option_cases (word_next r0)
-  (λ n1. rw n1 (stops (join f.cut t.cut) x_word (λ tail. (_, a_param (f.again (t.cut.put (x_word tail))) (t.again (x_word tail))))))
-  (λ w1 y1. rw y1 tt),
+      (λ n1. rw n1 (stops (join f.cut t.cut) x_word (λ tail. (_, a_param (f.again (t.cut.put (x_word tail))) (t.again (x_word tail))))))
+      (λ w1 y1. rw y1 tt),
 )
 
 pub params_stuck : (ts : List Token) → Unfinished (params_step ts) (Stuck NParams ts)
@@ -102,15 +100,15 @@ head_stuck ts = (
   λ v0 r0 d0. let m = mods_alone (all_of d0) in (
     λ rest s. carry m.cut empty_params s (λ us tail d. (_, a_head (m.again us) d.1 no_params)),
     λ v1 r1 d1. let t = result_alone d1 in option_cases (word_next r1)
-    (λ n2. rw n2 (stops (join m.cut t.cut) empty_params (λ tail. (_, a_head (m.again _) (t.again (empty_params tail)) no_params))))
-    (λ w2 y2. let e2 = word_is r1 w2 y2 in rw y2 (option_cases (after marks.OpenRound w2.2)
-    (λ n3. rw n3 (stops (join m.cut (join t.cut (led e2 here))) (λ tail. open_round (close_round tail))
+        (λ n2. rw n2 (stops (join m.cut t.cut) empty_params (λ tail. (_, a_head (m.again _) (t.again (empty_params tail)) no_params))))
+        (λ w2 y2. let e2 = word_is r1 w2 y2 in rw y2 (option_cases (after marks.OpenRound w2.2)
+        (λ n3. rw n3 (stops (join m.cut (join t.cut (led e2 here))) (λ tail. open_round (close_round tail))
         (λ tail. (_, a_head (m.again _) (t.again (_ ∷ open_round (close_round tail))) no_params))))
-    (λ w3 y3. let e3 = after_is marks.OpenRound w2.2 w3 y3 in rw y3 (
-      λ rest s. carry (join m.cut (join t.cut (led e2 (led e3 here)))) same s
-          (λ us tail d. (_, a_head (m.again _) (t.again (_ ∷ _ ∷ us)) d.1)),
-      λ v4 r4 d4. tt,
-    )))),
+        (λ w3 y3. let e3 = after_is marks.OpenRound w2.2 w3 y3 in rw y3 (
+          λ rest s. carry (join m.cut (join t.cut (led e2 (led e3 here)))) same s
+              (λ us tail d. (_, a_head (m.again _) (t.again (_ ∷ _ ∷ us)) d.1)),
+          λ v4 r4 d4. tt,
+        )))),
   ),
 )
 
@@ -134,22 +132,22 @@ member_stuck ts = (
   λ v0 r0 d0. let m = mods_alone (all_of d0) in (
     λ rest s. carry m.cut (λ tail. x_word (empty_method tail)) s (λ us tail d. (_, a_method (a_head (m.again us) d.1 no_params) no_body)),
     λ v1 r1 d1. let t = result_alone d1 in option_cases (word_next r1)
-    (λ n2. rw n2 (stops (join m.cut t.cut) (λ tail. x_word (empty_method tail))
+        (λ n2. rw n2 (stops (join m.cut t.cut) (λ tail. x_word (empty_method tail))
         (λ tail. (_, a_method (a_head (m.again _) (t.again (x_word (empty_method tail))) no_params) no_body))))
-    (λ w2 y2. let e2 = word_is r1 w2 y2 in
-    let short : Stuck NMember ts w2.2 = stops (join m.cut (join t.cut (led e2 here))) empty_method
+        (λ w2 y2. let e2 = word_is r1 w2 y2 in
+        let short : Stuck NMember ts w2.2 = stops (join m.cut (join t.cut (led e2 here))) empty_method
         (λ tail. (_, a_method (a_head (m.again _) (t.again (_ ∷ empty_method tail)) no_params) no_body)) in
-    rw y2 (option_cases (after marks.OpenRound w2.2)
-    (λ n3. rw n3 (option_cases (v1)
-    (λ n4. rw n4 short)
-    (λ w4 y4. rw y4 (option_cases (after marks.Semi w2.2)
-    (λ n5. rw n5 short)
-    (λ w5 y5. rw y5 tt)))))
-    (λ w3 y3. let e3 = after_is marks.OpenRound w2.2 w3 y3 in rw y3 (
-      λ rest s. carry (join m.cut (join t.cut (led e2 (led e3 here)))) same s
-          (λ us tail d. d _ _ _ (m.again _) (t.again (_ ∷ _ ∷ us))),
-      λ v r d. tt,
-    )))),
+        rw y2 (option_cases (after marks.OpenRound w2.2)
+        (λ n3. rw n3 (option_cases (v1)
+        (λ n4. rw n4 short)
+        (λ w4 y4. rw y4 (option_cases (after marks.Semi w2.2)
+        (λ n5. rw n5 short)
+        (λ w5 y5. rw y5 tt)))))
+        (λ w3 y3. let e3 = after_is marks.OpenRound w2.2 w3 y3 in rw y3 (
+          λ rest s. carry (join m.cut (join t.cut (led e2 (led e3 here)))) same s
+              (λ us tail d. d _ _ _ (m.again _) (t.again (_ ∷ _ ∷ us))),
+          λ v r d. tt,
+        )))),
   ),
 )
 
@@ -179,11 +177,11 @@ heads_stuck hs ts = option_cases (after marks.CloseBrace ts)
     (λ n0. rw (n0, heads_step) (
       λ rest s. carry here (λ tail. semi (close_brace tail)) s (λ us tail d. (_, next_head d.1 no_heads)),
       λ v1 r1 d1. let k = head_alone d1 in option_cases (after marks.Semi r1)
-      (λ n2. rw n2 (stops k.cut (λ tail. semi (close_brace tail)) (λ tail. (_, next_head (k.again _) no_heads))))
-      (λ w2 y2. let e2 = after_is marks.Semi r1 w2 y2 in rw y2 (
-        λ rest s. carry (join k.cut (led e2 here)) same s (λ us tail d. (_, next_head (k.again (_ ∷ us)) d.1)),
-        λ v r d. tt,
-      )),
+          (λ n2. rw n2 (stops k.cut (λ tail. semi (close_brace tail)) (λ tail. (_, next_head (k.again _) no_heads))))
+          (λ w2 y2. let e2 = after_is marks.Semi r1 w2 y2 in rw y2 (
+            λ rest s. carry (join k.cut (led e2 here)) same s (λ us tail d. (_, next_head (k.again (_ ∷ us)) d.1)),
+            λ v r d. tt,
+          )),
     ))
     (λ w0 y0. rw (y0, heads_step) tt)
 
@@ -199,12 +197,12 @@ class_stuck ms ts = option_cases (word_next ts)
       λ v1 r1 d1. let a = parent_alone d1 in (
         λ rest s. carry (led e0 a.cut) braces s (λ us tail d vs q m. (_, a_class m (a.again us) d.1 no_members)),
         λ v2 r2 d2. let b = list_alone d2 in option_cases (after marks.OpenBrace r2)
-        (λ n3. rw n3 (stops (led e0 (join a.cut b.cut)) braces (λ tail us q m. (_, a_class m (a.again _) (b.again (braces tail)) no_members))))
-        (λ w3 y3. let e3 = after_is marks.OpenBrace r2 w3 y3 in rw y3 (
-          λ rest s. carry (led e0 (join a.cut (join b.cut (led e3 here)))) same s
-              (λ us tail d vs q m. (_, a_class m (a.again _) (b.again (_ ∷ us)) d.1)),
-          λ v4 r4 d4. tt,
-        )),
+            (λ n3. rw n3 (stops (led e0 (join a.cut b.cut)) braces (λ tail us q m. (_, a_class m (a.again _) (b.again (braces tail)) no_members))))
+            (λ w3 y3. let e3 = after_is marks.OpenBrace r2 w3 y3 in rw y3 (
+              λ rest s. carry (led e0 (join a.cut (join b.cut (led e3 here)))) same s
+                  (λ us tail d vs q m. (_, a_class m (a.again _) (b.again (_ ∷ us)) d.1)),
+              λ v4 r4 d4. tt,
+            )),
       ),
     ))
 
@@ -214,27 +212,27 @@ interface_stuck ms ts = option_cases (word_next ts)
     (λ w0 y0. let e0 = word_is ts w0 y0 in rw (y0, interface_step) (
       λ rest s. carry (led e0 here) braces s (λ us tail d vs q m. (_, an_interface m d.1 no_heads)),
       λ v1 r1 d1. let a = list_alone d1 in option_cases (after marks.OpenBrace r1)
-      (λ n2. rw n2 (stops (led e0 a.cut) braces (λ tail us q m. (_, an_interface m (a.again (braces tail)) no_heads))))
-      (λ w2 y2. let e2 = after_is marks.OpenBrace r1 w2 y2 in rw y2 (
-        λ rest s. carry (led e0 (join a.cut (led e2 here))) same s (λ us tail d vs q m. (_, an_interface m (a.again (_ ∷ us)) d.1)),
-        λ v3 r3 d3. tt,
-      )),
+          (λ n2. rw n2 (stops (led e0 a.cut) braces (λ tail us q m. (_, an_interface m (a.again (braces tail)) no_heads))))
+          (λ w2 y2. let e2 = after_is marks.OpenBrace r1 w2 y2 in rw y2 (
+            λ rest s. carry (led e0 (join a.cut (led e2 here))) same s (λ us tail d vs q m. (_, an_interface m (a.again (_ ∷ us)) d.1)),
+            λ v3 r3 d3. tt,
+          )),
     ))
 
 pub decl_stuck : (ts : List Token) → Unfinished (decl_step ts) (Stuck NDecl ts)
 decl_stuck ts = (
   λ rest s. never_stuck s,
   λ v0 r0 d0. let m = mods_alone (all_of d0) in option_cases (after_key keys.Class r0)
-  (λ n1. rw n1 (option_cases (after_key keys.Interface r0)
-  (λ n2. rw n2 (stops m.cut (λ tail. class_key (x_word (braces tail))) (λ tail. (_, a_class (m.again _) no_parent no_list no_members))))
-  (λ w2 y2. let e2 = after_key_is keys.Interface r0 w2 y2 in rw y2 (
-    λ rest s. carry (join m.cut (led e2 here)) same s (λ us tail d. d _ _ (m.again (_ ∷ us))),
-    λ v r d. tt,
-  ))))
-  (λ w1 y1. let e1 = after_key_is keys.Class r0 w1 y1 in rw y1 (
-    λ rest s. carry (join m.cut (led e1 here)) same s (λ us tail d. d _ _ (m.again (_ ∷ us))),
-    λ v r d. tt,
-  )),
+      (λ n1. rw n1 (option_cases (after_key keys.Interface r0)
+      (λ n2. rw n2 (stops m.cut (λ tail. class_key (x_word (braces tail))) (λ tail. (_, a_class (m.again _) no_parent no_list no_members))))
+      (λ w2 y2. let e2 = after_key_is keys.Interface r0 w2 y2 in rw y2 (
+        λ rest s. carry (join m.cut (led e2 here)) same s (λ us tail d. d _ _ (m.again (_ ∷ us))),
+        λ v r d. tt,
+      ))))
+      (λ w1 y1. let e1 = after_key_is keys.Class r0 w1 y1 in rw y1 (
+        λ rest s. carry (join m.cut (led e1 here)) same s (λ us tail d. d _ _ (m.again (_ ∷ us))),
+        λ v r d. tt,
+      )),
 )
 
 pub decls_stuck : (ds : List DeclTree) (ts : List Token) → Unfinished (decls_step ds ts) (Stuck (NDecls ds) ts)
