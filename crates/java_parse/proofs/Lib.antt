@@ -29,4 +29,15 @@ pub mod StuckExpressions
 pub mod StuckStatements
 pub mod StuckDeclarations
 pub mod Begun
+pub mod Leaves
+pub mod Looks
+pub mod Plans
+pub mod ExpressionPlans
+pub mod StatementPlans
+pub mod DeclarationPlans
+pub mod PartLeaves
+pub mod Local
+pub mod Past
+pub mod LocalParts
+pub mod Stops
 pub mod Fixed
