@@ -213,13 +213,15 @@ cast_word n tp p q us rest alone h = option_cases (after marks.CloseRound us)
     let g : casts c.1 ≡ false = subst (λ (r : List Token). casts r ≡ false) f h in
     rw yes (rw g refl))
 
-cast_kind : (k : TokenKind) (tp p q : Place) (us rest : List Token) → ((n : List ℕ) (r c : Place) (vs : List Token) → token k tp ∷ us ≡ word n r ∷ mark marks.CloseRound c ∷ vs → mark marks.CloseRound q ∷ rest
+cast_kind : (k : TokenKind) (tp p q : Place) (us rest : List Token) → ((n : List ℕ) (r c : Place) (vs : List Token)
+    → token k tp ∷ us ≡ word n r ∷ mark marks.CloseRound c ∷ vs → mark marks.CloseRound q ∷ rest
     ≡ mark marks.CloseRound c ∷ vs) → casts rest ≡ false →
     cast_by p (word_by k tp us) ≡ None
 cast_kind (kinds.Word n) tp p q us rest alone g = cast_word n tp p q us rest (λ c vs e. alone n tp c vs (ap (λ r. word n tp ∷ r) e)) g
 cast_kind _ tp p q us rest alone g = refl
 
-cast_none : (p q : Place) (us rest : List Token) → ((n : List ℕ) (r c : Place) (vs : List Token) → us ≡ word n r ∷ mark marks.CloseRound c ∷ vs → mark marks.CloseRound q ∷ rest
+cast_none : (p q : Place) (us rest : List Token) → ((n : List ℕ) (r c : Place) (vs : List Token) → us ≡ word n r ∷ mark marks.CloseRound c ∷ vs
+    → mark marks.CloseRound q ∷ rest
     ≡ mark marks.CloseRound c ∷ vs) → casts rest ≡ false →
     cast_next (mark marks.OpenRound p ∷ us) ≡ None
 cast_none p q [] rest alone g = refl

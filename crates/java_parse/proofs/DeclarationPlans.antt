@@ -21,8 +21,8 @@ mods_plan ms = Looking a_modifier (λ w1. Asking (NMods (ms ++ w1 ∷ [])) Givin
 abbrev pub ids_plan : List Id → Plan (List Id)
 ids_plan is = Looking a_word
     (λ w1. Looking (a_mark marks.Comma)
-        (λ w2. Asking (NIds (is ++ record { name = w1.0; place = w1.1 } ∷ [])) Giving)
-        (Giving (is ++ record { name = w1.0; place = w1.1 } ∷ [])))
+    (λ w2. Asking (NIds (is ++ record { name = w1.0; place = w1.1 } ∷ [])) Giving)
+    (Giving (is ++ record { name = w1.0; place = w1.1 } ∷ [])))
     Stopping
 
 -- `extends` and a name, or nothing
@@ -57,8 +57,8 @@ result_type_plan = Looking (a_key keys.Void) (λ w1. Giving None) (Asking NType 
 abbrev pub head_plan : Plan HeadTree
 head_plan = Asking (NMods []) (λ x1. Asking NResult (λ x3. Looking a_word
     (λ w5. Looking (a_mark marks.OpenRound)
-        (λ w6. Asking NParams (λ x7. Giving (record { mods = x1; type = x3; name = w5.0; params = x7; place = w5.1 })))
-        Stopping)
+    (λ w6. Asking NParams (λ x7. Giving (record { mods = x1; type = x3; name = w5.0; params = x7; place = w5.1 })))
+    Stopping)
     Stopping))
 
 -- a `;`, or statements in braces
@@ -71,8 +71,8 @@ body_plan = Looking (a_mark marks.Semi)
 abbrev pub member_plan : Plan MemberTree
 member_plan = Asking (NMods []) (λ x1. Asking NResult (λ x3. Looking a_word
     (λ w5. Looking (a_mark marks.OpenRound)
-        (λ w6. Asking (NMethod x1 x3 w5.0 w5.1) Giving)
-        (Choosing x3 (λ w7. Looking (a_mark marks.Semi) (λ w8. Giving (FieldTree x1 w7 w5.0 w5.1)) Stopping) Stopping))
+    (λ w6. Asking (NMethod x1 x3 w5.0 w5.1) Giving)
+    (Choosing x3 (λ w7. Looking (a_mark marks.Semi) (λ w8. Giving (FieldTree x1 w7 w5.0 w5.1)) Stopping) Stopping))
     Stopping))
 
 -- the rest of a method, of which all before its parameters has been read
@@ -95,16 +95,16 @@ heads_plan hs = Looking (a_mark marks.CloseBrace)
 abbrev pub class_plan : List Modifier → Plan DeclTree
 class_plan ms = Looking a_word
     (λ w1. Asking NParent (λ x2. Asking (NList keys.Implements) (λ x4. Looking (a_mark marks.OpenBrace)
-        (λ w6. Asking (NMembers []) (λ x7. Giving (ClassTree ms w1.0 x2 x4 x7 w1.1)))
-        Stopping)))
+    (λ w6. Asking (NMembers []) (λ x7. Giving (ClassTree ms w1.0 x2 x4 x7 w1.1)))
+    Stopping)))
     Stopping
 
 -- the rest of an interface behind `interface`: its name, what it extends, its heads
 abbrev pub interface_plan : List Modifier → Plan DeclTree
 interface_plan ms = Looking a_word
     (λ w1. Asking (NList keys.Extends) (λ x2. Looking (a_mark marks.OpenBrace)
-        (λ w4. Asking (NHeads []) (λ x5. Giving (InterfaceTree ms w1.0 x2 x5 w1.1)))
-        Stopping))
+    (λ w4. Asking (NHeads []) (λ x5. Giving (InterfaceTree ms w1.0 x2 x5 w1.1)))
+    Stopping))
     Stopping
 
 -- a class or an interface: modifiers, its keyword and its rest

@@ -13,7 +13,8 @@ fewer_begin xs ys b = (ys ++ b.0, b.1, subst (λ (ts : List Token). Derives ts b
 
 pub shorter_begin : (ts : List Token) (j k : ℕ) → j ≤ k → Begins (take k ts) → Begins (take j ts)
 shorter_begin ts j k le b =
-    let e : take k ts ≡ take j ts ++ drop j (take k ts) = sym (take-append-drop j (take k ts)) ∙ ap (λ (xs : List Token). xs ++ drop j (take k ts)) (take-take j k ts le) in
+    let e : take k ts ≡ take j ts ++ drop j (take k ts) = sym (take-append-drop j (take k ts)) ∙ ap (λ (xs : List Token). xs ++ drop j (take k ts))
+    (take-take j k ts le) in
     fewer_begin (take j ts) (drop j (take k ts)) (subst Begins e b)
 
 not_before : (ts : List Token) (j k : ℕ) → IsExact ts j → IsExact ts k → j < k → ⊥

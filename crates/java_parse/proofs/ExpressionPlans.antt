@@ -24,10 +24,10 @@ abbrev pub more_plan : ℕ → ℕ → Expression → Plan Expression
 more_plan l c e = Looking (an_operator l c)
     (λ w1. Asking (NExpr (suc (level w1.0))) (λ x2. Asking (NMore l (level w1.0) (BinaryOf w1.0 e x2 w1.1)) Giving))
     (Looking (an_instance l c)
-        (λ w4. Looking a_word
-            (λ w5. Asking (NMore l 7 (InstanceOfClass e (record { name = w5.0; place = w5.1 }) w4)) Giving)
-            Stopping)
-        (Giving e))
+    (λ w4. Looking a_word
+    (λ w5. Asking (NMore l 7 (InstanceOfClass e (record { name = w5.0; place = w5.1 }) w4)) Giving)
+    Stopping)
+    (Giving e))
 
 -- an atom and the postfixes behind it, with how the expression ends
 abbrev pub post_plan : Plan (Expression × End)
@@ -38,39 +38,39 @@ abbrev pub atom_plan : Plan (Expression × End)
 atom_plan = Looking a_literal
     (λ w1. Giving (w1, ends.Other))
     (Looking a_word
-        (λ w2. Looking (a_mark marks.OpenRound)
-            (λ w3. Asking NArgs (λ x4. Giving (CallOf w2.0 x4 w2.1, ends.Call)))
-            (Giving (NameRef w2.0 w2.1, ends.Name)))
-        (Looking (a_mark marks.OpenRound)
-            (λ w6. Asking (NExpr 1) (λ x7. Looking (a_mark marks.CloseRound) (λ w9. Giving (x7, ends.Other)) Stopping))
-            (Looking (a_key keys.New)
-                (λ w10. Asking (NNew w10) Giving)
-                (Looking (a_key keys.Super) (λ w11. Asking NSuper Giving) Stopping))))
+    (λ w2. Looking (a_mark marks.OpenRound)
+    (λ w3. Asking NArgs (λ x4. Giving (CallOf w2.0 x4 w2.1, ends.Call)))
+    (Giving (NameRef w2.0 w2.1, ends.Name)))
+    (Looking (a_mark marks.OpenRound)
+    (λ w6. Asking (NExpr 1) (λ x7. Looking (a_mark marks.CloseRound) (λ w9. Giving (x7, ends.Other)) Stopping))
+    (Looking (a_key keys.New)
+    (λ w10. Asking (NNew w10) Giving)
+    (Looking (a_key keys.Super) (λ w11. Asking NSuper Giving) Stopping))))
 
 -- the rest of a call behind `super`: a dot, a name and arguments
 abbrev pub super_plan : Plan (Expression × End)
 super_plan = Looking (a_mark marks.Dot)
     (λ w1. Looking a_word
-        (λ w2. Looking (a_mark marks.OpenRound)
-            (λ w3. Asking NArgs (λ x4. Giving (SuperCallOf w2.0 x4 w2.1, ends.Call)))
-            Stopping)
-        Stopping)
+    (λ w2. Looking (a_mark marks.OpenRound)
+    (λ w3. Asking NArgs (λ x4. Giving (SuperCallOf w2.0 x4 w2.1, ends.Call)))
+    Stopping)
+    Stopping)
     Stopping
 
 -- the rest of a `new`, which stands at p: a name and arguments, or a type and a size
 abbrev pub new_plan : Place → Plan (Expression × End)
 new_plan p = Looking a_word
     (λ w1. Looking (a_mark marks.OpenRound)
-        (λ w2. Asking NArgs (λ x3. Giving (NewOf (record { name = w1.0; place = w1.1 }) x3 p, ends.New)))
-        (Asking (NSized p (bases.Named w1.0) w1.1) Giving))
+    (λ w2. Asking NArgs (λ x3. Giving (NewOf (record { name = w1.0; place = w1.1 }) x3 p, ends.New)))
+    (Asking (NSized p (bases.Named w1.0) w1.1) Giving))
     (Looking a_base (λ w5. Asking (NSized p w5.0 w5.1) Giving) Stopping)
 
 -- the rest of a new array of the base b: its size in brackets, and the empty pairs behind it
 abbrev pub sized_plan : Place → TypeBase → Place → Plan (Expression × End)
 sized_plan p b q = Looking (a_mark marks.OpenSquare)
     (λ w1. Asking (NExpr 1) (λ x2. Looking (a_mark marks.CloseSquare)
-        (λ w4. Asking (NDims 1) (λ x5. Giving (NewArrayOf (record { base = b; dim = x5; place = q }) x2 p, ends.Array)))
-        Stopping))
+    (λ w4. Asking (NDims 1) (λ x5. Giving (NewArrayOf (record { base = b; dim = x5; place = q }) x2 p, ends.Array)))
+    Stopping))
     Stopping
 
 -- pairs of empty brackets, counted on from d
@@ -87,13 +87,13 @@ type_plan = Looking a_base (λ w1. Asking (NDims 0) (λ x2. Giving (record { bas
 abbrev pub tail_plan : Expression → End → Plan (Expression × End)
 tail_plan e z = Looking (a_mark marks.Dot)
     (λ w1. Looking a_word
-        (λ w2. Looking (a_mark marks.OpenRound)
-            (λ w3. Asking NArgs (λ x4. Asking (NTail (CallOn e w2.0 x4 w2.1) ends.Call) Giving))
-            (Asking (NTail (FieldOf e w2.0 w2.1) ends.Target) Giving))
-        Stopping)
+    (λ w2. Looking (a_mark marks.OpenRound)
+    (λ w3. Asking NArgs (λ x4. Asking (NTail (CallOn e w2.0 x4 w2.1) ends.Call) Giving))
+    (Asking (NTail (FieldOf e w2.0 w2.1) ends.Target) Giving))
+    Stopping)
     (Looking (an_index z)
-        (λ w6. Asking (NExpr 1) (λ x7. Looking (a_mark marks.CloseSquare) (λ w9. Asking (NTail (IndexOf e x7 w6) ends.Target) Giving) Stopping))
-        (Giving (e, z)))
+    (λ w6. Asking (NExpr 1) (λ x7. Looking (a_mark marks.CloseSquare) (λ w9. Asking (NTail (IndexOf e x7 w6) ends.Target) Giving) Stopping))
+    (Giving (e, z)))
 
 -- the arguments behind the opening bracket, and the closing one
 abbrev pub args_plan : Plan Expressions
@@ -106,8 +106,8 @@ abbrev pub more_args_plan : Expressions → Plan Expressions
 more_args_plan es = Looking (a_mark marks.CloseRound)
     (λ w1. Giving es)
     (Looking (a_mark marks.Comma)
-        (λ w2. Asking (NExpr 1) (λ x3. Asking (NMoreArgs (expr_snoc es x3)) Giving))
-        Stopping)
+    (λ w2. Asking (NExpr 1) (λ x3. Asking (NMoreArgs (expr_snoc es x3)) Giving))
+    Stopping)
 
 -- behind a minus: 2147483648, or what the minus stands before
 abbrev pub minus_plan : Place → Plan Expression

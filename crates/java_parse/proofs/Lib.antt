@@ -40,4 +40,5 @@ pub mod Local
 pub mod Past
 pub mod LocalParts
 pub mod Stops
+pub mod ExactPlace
 pub mod Fixed

@@ -163,10 +163,12 @@ module _ (t : Token) (us vs : List Token) where
       (λ n r s. local_square NFirst a_first n r s us) (λ n r s. act_square NFirst a_first n r s us) same (decides same))
 
   cast_alike : (p : Place) {xs ys : List Token} → Same t us vs xs ys → Casting t us vs p xs ys → Alike t us vs NPrefixed (cast_or p xs) (cast_or p ys)
-  cast_alike p {xs = xs} {ys = ys} same (neither h k) = both_lack t us vs NPrefixed (λ w. steps (casted_plan w.0 w.1) w.2) (λ w. steps (casted_plan w.0 w.1) w.2)
+  cast_alike p {xs = xs} {ys = ys} same (neither h k) = both_lack t us vs NPrefixed (λ w. steps (casted_plan w.0 w.1) w.2)
+      (λ w. steps (casted_plan w.0 w.1) w.2)
       (steps bare_plan (mark marks.OpenRound p ∷ xs)) (steps bare_plan (mark marks.OpenRound p ∷ ys)) h k
       (alike t us vs NPrefixed bare_plan (on (mark marks.OpenRound p) same))
-  cast_alike p {xs = xs} {ys = ys} same (both c h k s) = both_pass t us vs NPrefixed (λ w. steps (casted_plan w.0 w.1) w.2) (λ w. steps (casted_plan w.0 w.1) w.2)
+  cast_alike p {xs = xs} {ys = ys} same (both c h k s) = both_pass t us vs NPrefixed (λ w. steps (casted_plan w.0 w.1) w.2)
+      (λ w. steps (casted_plan w.0 w.1) w.2)
       (steps bare_plan (mark marks.OpenRound p ∷ xs)) (steps bare_plan (mark marks.OpenRound p ∷ ys)) h k (alike t us vs NPrefixed (casted_plan c p) s)
   cast_alike p same (behind_word n q e) = past (subst (λ xs. IsPast NPrefixed (suc (length us)) (cast_or p xs)) (sym e) (word_past p n q us))
   cast_alike p same (behind_round n q c e) = past (subst (λ xs. IsPast NPrefixed (suc (length us)) (cast_or p xs)) (sym e) (named_past p n q c us))

@@ -90,7 +90,12 @@ mark_tests m _ p = misses (λ xs. refl)
 
 abbrev pub a_mark : Mark → Look
 a_mark m = record {
-  whole = Place × List Token; found = Place; find = after m; value = one_of; rest = behind_one; at_end = refl;
+  whole = Place × List Token;
+  found = Place;
+  find = after m;
+  value = one_of;
+  rest = behind_one;
+  at_end = refl;
   tests = λ x. mark_tests m x.kind x.place;
 }
 
@@ -100,7 +105,12 @@ key_tests m _ p = misses (λ xs. refl)
 
 abbrev pub a_key : Keyword → Look
 a_key m = record {
-  whole = Place × List Token; found = Place; find = after_key m; value = one_of; rest = behind_one; at_end = refl;
+  whole = Place × List Token;
+  found = Place;
+  find = after_key m;
+  value = one_of;
+  rest = behind_one;
+  at_end = refl;
   tests = λ x. key_tests m x.kind x.place;
 }
 
@@ -110,7 +120,12 @@ word_tests _ p = misses (λ xs. refl)
 
 abbrev pub a_word : Look
 a_word = record {
-  whole = List ℕ × Place × List Token; found = List ℕ × Place; find = word_next; value = two_of; rest = behind_two; at_end = refl;
+  whole = List ℕ × Place × List Token;
+  found = List ℕ × Place;
+  find = word_next;
+  value = two_of;
+  rest = behind_two;
+  at_end = refl;
   tests = λ x. word_tests x.kind x.place;
 }
 
@@ -121,13 +136,22 @@ operator_tests l c _ p = misses (λ xs. refl)
 
 abbrev pub an_operator : ℕ → ℕ → Look
 an_operator l c = record {
-  whole = Mark × Place × List Token; found = Mark × Place; find = operator l c; value = two_of; rest = behind_two; at_end = refl;
+  whole = Mark × Place × List Token;
+  found = Mark × Place;
+  find = operator l c;
+  value = two_of;
+  rest = behind_two;
+  at_end = refl;
   tests = λ x. operator_tests l c x.kind x.place;
 }
 
 abbrev pub an_instance : ℕ → ℕ → Look
 an_instance l c = record {
-  whole = Place × List Token; found = Place; find = instance_next l c; value = one_of; rest = behind_one;
+  whole = Place × List Token;
+  found = Place;
+  find = instance_next l c;
+  value = one_of;
+  rest = behind_one;
   at_end = guarded_end (nat_le l 7 && nat_le 7 c);
   tests = λ x. guarded (nat_le l 7 && nat_le 7 c) (key_tests keys.InstanceOf x.kind x.place);
 }
@@ -139,7 +163,12 @@ least_tests q _ p = misses (λ xs. refl)
 -- 2147483648 behind a minus
 abbrev pub a_least : Place → Look
 a_least q = record {
-  whole = Place × List Token; found = Place; find = least_by q; value = one_of; rest = behind_one; at_end = refl;
+  whole = Place × List Token;
+  found = Place;
+  find = least_by q;
+  value = one_of;
+  rest = behind_one;
+  at_end = refl;
   tests = λ x. least_tests q x.kind x.place;
 }
 
@@ -149,7 +178,12 @@ sign_tests _ p = misses (λ xs. refl)
 
 abbrev pub a_sign : Look
 a_sign = record {
-  whole = Mark × Place × List Token; found = Mark × Place; find = sign_next; value = two_of; rest = behind_two; at_end = refl;
+  whole = Mark × Place × List Token;
+  found = Mark × Place;
+  find = sign_next;
+  value = two_of;
+  rest = behind_two;
+  at_end = refl;
   tests = λ x. sign_tests x.kind x.place;
 }
 
@@ -165,7 +199,12 @@ opens_tests p _ q = misses (λ xs. refl)
 -- `int` or `char` behind a round bracket
 abbrev pub an_opened : Place → Look
 an_opened p = record {
-  whole = TypeName × Place × List Token; found = TypeName × Place; find = opens_behind p; value = two_of; rest = behind_two; at_end = refl;
+  whole = TypeName × Place × List Token;
+  found = TypeName × Place;
+  find = opens_behind p;
+  value = two_of;
+  rest = behind_two;
+  at_end = refl;
   tests = λ x. opens_tests p x.kind x.place;
 }
 
@@ -182,7 +221,12 @@ base_tests _ p = misses (λ xs. refl)
 
 abbrev pub a_base : Look
 a_base = record {
-  whole = TypeBase × Place × List Token; found = TypeBase × Place; find = base_next; value = two_of; rest = behind_two; at_end = refl;
+  whole = TypeBase × Place × List Token;
+  found = TypeBase × Place;
+  find = base_next;
+  value = two_of;
+  rest = behind_two;
+  at_end = refl;
   tests = λ x. base_tests x.kind x.place;
 }
 
@@ -202,13 +246,23 @@ literal_tests _ p = misses (λ xs. refl)
 
 abbrev pub a_literal : Look
 a_literal = record {
-  whole = Expression × List Token; found = Expression; find = literal_next; value = one_of; rest = behind_one; at_end = refl;
+  whole = Expression × List Token;
+  found = Expression;
+  find = literal_next;
+  value = one_of;
+  rest = behind_one;
+  at_end = refl;
   tests = λ x. literal_tests x.kind x.place;
 }
 
 abbrev pub an_index : End → Look
 an_index z = record {
-  whole = Place × List Token; found = Place; find = index_next z; value = one_of; rest = behind_one; at_end = guarded_end (is_array z);
+  whole = Place × List Token;
+  found = Place;
+  find = index_next z;
+  value = one_of;
+  rest = behind_one;
+  at_end = guarded_end (is_array z);
   tests = λ x. barred (is_array z) (mark_tests marks.OpenSquare x.kind x.place);
 }
 
@@ -218,13 +272,23 @@ stands_tests f _ p = misses (λ xs. refl)
 
 abbrev pub a_step : Look
 a_step = record {
-  whole = Mark × Place × List Token; found = Mark × Place; find = stepping_next; value = two_of; rest = behind_two; at_end = refl;
+  whole = Mark × Place × List Token;
+  found = Mark × Place;
+  find = stepping_next;
+  value = two_of;
+  rest = behind_two;
+  at_end = refl;
   tests = λ x. stands_tests stepping x.kind x.place;
 }
 
 abbrev pub a_compound : Look
 a_compound = record {
-  whole = Mark × Place × List Token; found = Mark × Place; find = compound_next; value = two_of; rest = behind_two; at_end = refl;
+  whole = Mark × Place × List Token;
+  found = Mark × Place;
+  find = compound_next;
+  value = two_of;
+  rest = behind_two;
+  at_end = refl;
   tests = λ x. stands_tests compound x.kind x.place;
 }
 
@@ -235,6 +299,11 @@ modifier_tests _ p = misses (λ xs. refl)
 
 abbrev pub a_modifier : Look
 a_modifier = record {
-  whole = Modifier × List Token; found = Modifier; find = modifier_next; value = one_of; rest = behind_one; at_end = refl;
+  whole = Modifier × List Token;
+  found = Modifier;
+  find = modifier_next;
+  value = one_of;
+  rest = behind_one;
+  at_end = refl;
   tests = λ x. modifier_tests x.kind x.place;
 }

@@ -117,7 +117,8 @@ post_square n q r xs = ask_known NPost NAtom (word n q ∷ mark marks.OpenSquare
     (past_by (NTail (NameRef n q) ends.Name) (length xs) (leaves (Asking (NExpr 1) (λ x. Looking (a_mark marks.CloseSquare)
     (λ w. Asking (NTail (IndexOf (NameRef n q) x r) ends.Target) Giving) Stopping)) (length xs) xs (omega arith))))
 
-act_past : (n : List ℕ) (q : Place) (xs : List Token) (b : ℕ) → IsPast NPost (suc b) (body NPost (word n q ∷ xs)) → IsPast NAct (suc b) (body NAct (word n q ∷ xs))
+act_past : (n : List ℕ) (q : Place) (xs : List Token) (b : ℕ) → IsPast NPost (suc b) (body NPost (word n q ∷ xs))
+    → IsPast NAct (suc b) (body NAct (word n q ∷ xs))
 act_past n q xs b p = ask_past NAct NPost (word n q ∷ xs) (λ x. Asking (NActRest true q x.0 x.1) Giving) b p
 
 stmt_past : (n : List ℕ) (q : Place) (xs : List Token) (b : ℕ) → IsPast NPost (suc b) (body NPost (word n q ∷ xs))

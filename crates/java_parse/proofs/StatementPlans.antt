@@ -43,10 +43,10 @@ items_plan ss = Looking (a_mark marks.CloseBrace) (λ w1. Giving ss) (Asking NIt
 abbrev pub for_head_plan : Plan (OptionalStatement × Option Expression × OptionalStatement)
 for_head_plan = Looking (a_mark marks.OpenRound)
     (λ w1. Asking NFirst (λ x2. Looking (a_mark marks.Semi)
-        (λ w4. Asking NValue (λ x5. Looking (a_mark marks.Semi)
-            (λ w7. Asking NStep (λ x8. Looking (a_mark marks.CloseRound) (λ w10. Giving (x2, x5, x8)) Stopping))
-            Stopping))
-        Stopping))
+    (λ w4. Asking NValue (λ x5. Looking (a_mark marks.Semi)
+    (λ w7. Asking NStep (λ x8. Looking (a_mark marks.CloseRound) (λ w10. Giving (x2, x5, x8)) Stopping))
+    Stopping))
+    Stopping))
     Stopping
 
 -- how a `for` steps: an act, or nothing where the closing bracket is next
@@ -57,8 +57,8 @@ step_plan = Peeking (a_mark marks.CloseRound) (Giving absent) (Asking NAct (λ x
 abbrev pub branches_plan : Arms → Plan (Arms × Else)
 branches_plan a = Asking NTested (λ x1. Asking NStmt (λ x3. Looking (a_key keys.Else)
     (λ w5. Looking (a_key keys.If)
-        (λ w6. Asking (NBranches (arm_snoc a x1 (as_body x3))) Giving)
-        (Asking NStmt (λ x7. Giving (arm_snoc a x1 (as_body x3), otherwise (as_body x7)))))
+    (λ w6. Asking (NBranches (arm_snoc a x1 (as_body x3))) Giving)
+    (Asking NStmt (λ x7. Giving (arm_snoc a x1 (as_body x3), otherwise (as_body x7)))))
     (Giving (arm_snoc a x1 (as_body x3), no_else))))
 
 -- the rest of an act behind the expression that it begins with
@@ -66,10 +66,10 @@ abbrev pub act_rest_plan : Bool → Place → Expression → End → Plan Statem
 act_rest_plan w p e z = Allowing (a_mark marks.Assign) (is_target z)
     (λ q. Asking (NExpr 1) (λ x. Giving (AssignOf e x q)))
     (Guarding a_compound (named z e)
-        (λ m n. Asking (NExpr 1) (λ x. Giving (AssignOf (NameRef n.0 n.1) (BinaryOf m.0 (NameRef n.0 n.1) x m.1) m.1)))
-        (Guarding a_step (named z e)
-            (λ m n. Giving (stepped m.0 n.0 n.1 m.1))
-            (Testing (is_call z) (Giving (done w p e)) Stopping)))
+    (λ m n. Asking (NExpr 1) (λ x. Giving (AssignOf (NameRef n.0 n.1) (BinaryOf m.0 (NameRef n.0 n.1) x m.1) m.1)))
+    (Guarding a_step (named z e)
+    (λ m n. Giving (stepped m.0 n.0 n.1 m.1))
+    (Testing (is_call z) (Giving (done w p e)) Stopping)))
 
 -- the two ways of an item
 abbrev pub up_to_semi : Statement → Plan Statement

@@ -201,7 +201,8 @@ for_head_stuck ts = option_cases (after marks.OpenRound ts)
       λ v1 r1 d1. let a = first_alone d1 in option_cases (after marks.Semi r1)
           (λ n2. rw n2 (stops (led e0 a.cut) (λ tail. semi (semi (close_round tail))) (λ tail. (_, _, _, headed (a.again _) no_value no_step))))
           (λ w2 y2. let e2 = after_is marks.Semi r1 w2 y2 in rw y2 (
-            λ rest s. carry (led e0 (join a.cut (led e2 here))) (λ tail. semi (close_round tail)) s (λ us tail d. (_, _, _, headed (a.again (_ ∷ us)) d.1 no_step)),
+            λ rest s. carry (led e0 (join a.cut (led e2 here))) (λ tail. semi (close_round tail)) s
+                (λ us tail d. (_, _, _, headed (a.again (_ ∷ us)) d.1 no_step)),
             λ v3 r3 d3. let b = value_alone d3 in option_cases (after marks.Semi r3)
                 (λ n4. rw n4 (stops (led e0 (join a.cut (led e2 b.cut))) (λ tail. semi (close_round tail))
                 (λ tail. (_, _, _, headed (a.again _) (b.again (semi (close_round tail))) no_step))))
