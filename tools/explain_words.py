@@ -104,7 +104,7 @@ def behind_number(text, here):
 
 
 class Spot:
-    """The token at which reading stopped, and what stands round it."""
+    """The first token that cannot stand where it does, and what stands round it."""
 
     def __init__(self, source, k):
         self.source, self.tokens, self.k = source, source.tokens, k

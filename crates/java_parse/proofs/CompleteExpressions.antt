@@ -18,7 +18,7 @@ use Rattle.java_parse.specs.declared.End.{End}
 use Rattle.java_parse.specs.declared.End.TheVariants as ends
 use Rattle.java_parse.specs.Want.{NExpr, NMore, NPrefixed, NPost, NAtom, NNew, NSized, NDims, NType, NTail, NArgs, NMoreArgs}
 use Rattle.java_tree.specs.Expressions.{IsBase, named_base, IsDims, no_dims, one_dim, IsType, a_type, IsExpr, binary, instance_of, operand, IsPrefixed, signed, least, cast_named, cast_int, cast_char, bare, IsPost, field, call_on, index, name, call, super_call, round, new_object, new_array, IsArgs, no_args, some_args, IsMoreArgs, last_arg, next_arg, int_base, boolean_base, char_base, int_literal, char_literal, string_literal, true_literal, false_literal, null_literal, this_word}
-use Rattle.java_parse.specs.Front.{after, word_next, operator, instance_next, cast_next, base_next, literal_next, index_next, is_array, expr_snoc, after_key_by, operator_by, cast_by, cast_end, base_by}
+use Rattle.java_parse.specs.Front.{after, word_next, operator, instance_next, opens_cast, opens_by, cast_next, base_next, literal_next, index_next, is_array, expr_snoc, after_key_by, operator_by, cast_by, cast_end, word_by}
 use Rattle.java_parse.proofs.Fronts.{option_cases, after_is}
 use Rattle.java_parse.proofs.Begins.{begins_post, begins, no_round, post_begins, prefixed_begins, expr_begins, signed_not_least, sign_here, post_none}
 use Rattle.std.proofs.lemmas.Bool.{le-leb, lt-leb}
@@ -182,15 +182,30 @@ alone_expr (binary {m = m} po le a b) h = let z : level m ≡ 0 = ap next_level 
 alone_expr (instance_of le a) h = no_round_next (alone_expr a h) refl
 alone_expr (operand d) h = alone_prefixed d h
 
-cast_key : (k : Keyword) (tp p : Place) (us : List Token) → begins_post (kinds.Key k) ≡ true → cast_by p (base_by (kinds.Key k) tp us) ≡ None
-cast_key keys.Int tp p us h = cc
-cast_key keys.Boolean tp p us h = cc
-cast_key keys.Char tp p us h = cc
-cast_key _ tp p us h = refl
+opens_key : (k : Keyword) (q p : Place) (us : List Token) → begins_post (kinds.Key k) ≡ true → opens_by (kinds.Key k) q p us ≡ None
+opens_key keys.Int q p us h = cc
+opens_key keys.Char q p us h = cc
+opens_key _ q p us h = refl
+
+opens_kind : (k : TokenKind) (q p : Place) (us : List Token) → begins k ≡ true → opens_by k q p us ≡ None
+opens_kind (kinds.Key k) q p us h = opens_key k q p us h
+opens_kind _ q p us h = refl
+
+opens_none : (p : Place) (us : List Token) → next_is begins us ≡ true → opens_cast (mark marks.OpenRound p ∷ us) ≡ None
+opens_none p [] h = refl
+opens_none p (t ∷ us) h = opens_kind t.kind t.place p us h
+
+-- an expression without operators opens no cast
+post_no_opens : {b : Bool} {ts rest : List Token} {e : Expression} → IsPost b ts rest e → opens_cast ts ≡ None
+post_no_opens (field d) = post_no_opens d
+post_no_opens (call_on d a) = post_no_opens d
+post_no_opens (index d i) = post_no_opens d
+post_no_opens (round {p = p} {ts = ts} d) = opens_none p ts (expr_begins d)
+post_no_opens _ = refl
 
 cast_word : (n : List ℕ) (tp p q : Place) (us rest : List Token) → ((c : Place) (vs : List Token) → us ≡ mark marks.CloseRound c ∷ vs
     → mark marks.CloseRound q ∷ rest ≡ mark marks.CloseRound c ∷ vs) → casts rest ≡ false →
-    cast_end (bases.Named n) tp p (after marks.CloseRound us) ≡ None
+    cast_end n tp p (after marks.CloseRound us) ≡ None
 cast_word n tp p q us rest alone h = option_cases (after marks.CloseRound us)
     (λ no. rw no refl)
     (λ c yes.
@@ -198,27 +213,25 @@ cast_word n tp p q us rest alone h = option_cases (after marks.CloseRound us)
     let g : casts c.1 ≡ false = subst (λ (r : List Token). casts r ≡ false) f h in
     rw yes (rw g refl))
 
-cast_kind : (k : TokenKind) (tp p q : Place) (us rest : List Token) → begins k ≡ true →
-    ((n : List ℕ) (r c : Place) (vs : List Token) → token k tp ∷ us ≡ word n r ∷ mark marks.CloseRound c ∷ vs → mark marks.CloseRound q ∷ rest
+cast_kind : (k : TokenKind) (tp p q : Place) (us rest : List Token) → ((n : List ℕ) (r c : Place) (vs : List Token)
+    → token k tp ∷ us ≡ word n r ∷ mark marks.CloseRound c ∷ vs → mark marks.CloseRound q ∷ rest
     ≡ mark marks.CloseRound c ∷ vs) → casts rest ≡ false →
-    cast_by p (base_by k tp us) ≡ None
-cast_kind (kinds.Word n) tp p q us rest h alone g = cast_word n tp p q us rest (λ c vs e. alone n tp c vs (ap (λ r. word n tp ∷ r) e)) g
-cast_kind (kinds.Key k) tp p q us rest h alone g = cast_key k tp p us h
-cast_kind (kinds.Mark m) tp p q us rest h alone g = refl
-cast_kind _ tp p q us rest h alone g = refl
+    cast_by p (word_by k tp us) ≡ None
+cast_kind (kinds.Word n) tp p q us rest alone g = cast_word n tp p q us rest (λ c vs e. alone n tp c vs (ap (λ r. word n tp ∷ r) e)) g
+cast_kind _ tp p q us rest alone g = refl
 
-cast_none : (p q : Place) (us rest : List Token) → next_is begins us ≡ true →
-    ((n : List ℕ) (r c : Place) (vs : List Token) → us ≡ word n r ∷ mark marks.CloseRound c ∷ vs → mark marks.CloseRound q ∷ rest
+cast_none : (p q : Place) (us rest : List Token) → ((n : List ℕ) (r c : Place) (vs : List Token) → us ≡ word n r ∷ mark marks.CloseRound c ∷ vs
+    → mark marks.CloseRound q ∷ rest
     ≡ mark marks.CloseRound c ∷ vs) → casts rest ≡ false →
     cast_next (mark marks.OpenRound p ∷ us) ≡ None
-cast_none p q [] rest h alone g = refl
-cast_none p q (t ∷ us) rest h alone g = cast_kind t.kind t.place p q us rest h alone g
+cast_none p q [] rest alone g = refl
+cast_none p q (t ∷ us) rest alone g = cast_kind t.kind t.place p q us rest alone g
 
 post_no_cast : {b : Bool} {ts rest : List Token} {e : Expression} → IsPost b ts rest e → casts rest ≡ false → cast_next ts ≡ None
 post_no_cast (field d) h = post_no_cast d refl
 post_no_cast (call_on d a) h = post_no_cast d refl
 post_no_cast (index d i) h = post_no_cast d refl
-post_no_cast (round {p = p} {q = q} {ts = ts} {rest = rest} d) h = cast_none p q ts rest (expr_begins d) (λ n r c vs e. alone_expr d e) h
+post_no_cast (round {p = p} {q = q} {ts = ts} {rest = rest} d) h = cast_none p q ts rest (λ n r c vs e. alone_expr d e) h
 post_no_cast _ h = refl
 
 index_here : (z : End) (p : Place) (us : List Token) → is_array z ≡ false → index_next z (mark marks.OpenSquare p ∷ us) ≡ Some (p, us)
@@ -303,13 +316,13 @@ mutual
   prefixed_reads (signed {m = m} {p = p} {ts = ts} h d) s = x.prefixed_signed (signed_not_least m p ts (prefixed_begins d)) (sign_here m p ts h)
       (prefixed_reads d s)
   prefixed_reads least s = x.prefixed_least refl
-  prefixed_reads (cast_named h d) s = x.prefixed_cast refl refl (rw h refl) (prefixed_reads d s)
-  prefixed_reads (cast_int d) s = x.prefixed_cast refl refl refl (prefixed_reads d s)
-  prefixed_reads (cast_char d) s = x.prefixed_cast refl refl refl (prefixed_reads d s)
+  prefixed_reads (cast_named h d) s = x.prefixed_cast refl refl refl (rw h refl) (prefixed_reads d s)
+  prefixed_reads (cast_int d) s = x.prefixed_base refl refl refl refl (prefixed_reads d s)
+  prefixed_reads (cast_char d) s = x.prefixed_base refl refl refl refl (prefixed_reads d s)
   prefixed_reads (bare {ts = ts} {rest = rest} {e = e} d) s =
       let f = post_none ts (post_begins d) in
       let r = post_reads d s.round (λ h. s.square) in
-      x.prefixed_bare f.0 f.1 (post_no_cast d s.cast) (r.goes (Ok ((e, r.end_), rest)) (x.tail_ends s.dot (index_none r.end_ rest s.square)))
+      x.prefixed_bare f.0 f.1 (post_no_opens d) (post_no_cast d s.cast) (r.goes (Ok ((e, r.end_), rest)) (x.tail_ends s.dot (index_none r.end_ rest s.square)))
 
   pub post_reads : {b : Bool} {ts rest : List Token} {e : Expression} → IsPost b ts rest e → after marks.OpenRound rest ≡ None
       → (b ≡ false → after marks.OpenSquare rest ≡ None) → PostRead b ts rest e

@@ -11,15 +11,15 @@ use Rattle.java_lex.specs.declared.Mark.TheVariants as marks
 use Rattle.java_lex.specs.Lexing.{token}
 use Rattle.java_tree.specs.declared.TypeName.{TypeName}
 use Rattle.java_tree.specs.Syntax.{Expression, NameRef, Statement, LocalOf, Statements, no_statements, Arms, no_arms, Else, OptionalStatement}
-use Rattle.java_tree.specs.Tokens.{mark, key, word, compound, stepping}
-use Rattle.java_tree.specs.Statements.{as_body}
+use Rattle.java_tree.specs.Tokens.{mark, key, word, compound, stepping, first_place}
+use Rattle.java_tree.specs.Statements.{as_body, is_word}
 use Rattle.java_parse.specs.declared.End.{End}
 use Rattle.java_parse.specs.declared.End.TheVariants as ends
 use Rattle.java_parse.specs.Want.{NPost, NType, NTail, NInit, NLocal, NValue, NAct, NTested, NItem, NItems, NStmt, NForHead, NFirst, NStep, NBranches}
 use Rattle.java_parse.specs.Front.{after, after_key, word_next, index_next, stmt_snoc, arm_snoc, final_of, stepping_next, compound_next, is_target, is_call, done, starts_local, start, SOther}
 use Rattle.java_tree.specs.Expressions.{named_base, IsDims, no_dims, one_dim, IsType, a_type, IsExpr, IsPost, field, call_on, index, name}
 use Rattle.java_tree.specs.Statements.{is_choice, IsValue, no_value, a_value, IsInit, no_init, an_init, IsLocal, a_local, IsTarget, to_name, to_field, to_index, IsCall, plain_call, call_upon, call_above, IsAct, assign, assign_by, step_after, step_before, do_call, print, do_new, IsFirst, no_first, first_local, first_act, IsStep, no_step, a_step, IsItem, local_item, stmt_item, IsItems, no_items, next_item, IsStmt, block, empty, acting, choice, while_loop, for_loop, return_word, break_word, continue_word, IsArms, last_arm, else_arm, more_arms}
-use Rattle.java_parse.proofs.Fronts.{Starts, start_is}
+use Rattle.java_parse.proofs.Fronts.{Starts, start_is, done_is}
 use Rattle.java_tree.specs.Nesting.{next_is}
 use Rattle.java_parse.specs.Front.{index_next, follows_word}
 use Rattle.java_tree.specs.Expressions.{int_base, boolean_base, char_base}
@@ -151,7 +151,7 @@ named_reads : {n : List ℕ} {p : Place} {rest : List Token} → Ends rest → R
 named_reads s = x.post_steps (x.atom_name refl refl s.round) (ends_here s)
 
 done_reads : {ts rest : List Token} {e : Expression} {s : Statement} → Ended is_call ts rest e → stepping_next ts ≡ None → ActEnds rest
-    → done ts e ≡ s → Reads NAct ts (Ok (s, rest))
+    → done (next_is is_word ts) (first_place ts) e ≡ s → Reads NAct ts (Ok (s, rest))
 done_reads {ts = ts} {rest = rest} r h n q =
     subst (λ (s : Statement). Reads NAct ts (Ok (s, rest))) q (y.act_post h r.reads (y.act_rest_call n.assign_ n.compound_ n.stepping_ r.kind))
 
@@ -170,8 +170,9 @@ act_reads (step_after {m = m} {o = o} {q = q} {rest = rest} h) n =
     y.act_post refl (named_reads f.0.ends_) (y.act_rest_after f.0.assign_ g k refl)
 act_reads (step_before {n = w} {m = m} {o = o} {p = p} {q = q} {rest = rest} h) n =
     let f : stepping_next (mark m q ∷ word w p ∷ rest) ≡ Some (o, q, word w p ∷ rest) = rw h refl in y.act_before f refl
-act_reads (do_call {e = e} {ts = ts} c h) n = done_reads (call_reads c n.stops.ends_) ((post_none ts (call_begins c)).2) n (rw (h, done) refl)
-act_reads (print {ts = ts} c h) n = done_reads (call_reads c n.stops.ends_) ((post_none ts (call_begins c)).2) n (rw (h, done) refl)
+act_reads (do_call {e = e} {ts = ts} c h) n = done_reads (call_reads c n.stops.ends_) ((post_none ts (call_begins c)).2) n (done_is ts e None h)
+act_reads (print {e = e} {l = l} {v = v} {ts = ts} c h) n = done_reads (call_reads c n.stops.ends_) ((post_none ts (call_begins c)).2) n
+    (done_is ts e (Some (l, v)) h)
 act_reads (do_new a) n = done_reads
     (record {
       how = ends.New;

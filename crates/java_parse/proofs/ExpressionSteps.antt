@@ -13,7 +13,7 @@ use Rattle.java_tree.specs.Tokens.{level}
 use Rattle.java_parse.specs.declared.End.{End}
 use Rattle.java_parse.specs.declared.End.TheVariants as ends
 use Rattle.java_parse.specs.Want.{NExpr, NMore, NPrefixed, NPost, NAtom, NSuper, NNew, NSized, NDims, NType, NTail, NArgs, NMoreArgs}
-use Rattle.java_parse.specs.Front.{after, after_key, word_next, operator, instance_next, least_next, sign_next, cast_next, base_next, literal_next, index_next, expr_snoc}
+use Rattle.java_parse.specs.Front.{after, after_key, word_next, operator, instance_next, least_next, sign_next, opens_cast, cast_next, base_next, literal_next, index_next, expr_snoc}
 use Rattle.java_parse.proofs.Runs.{reads, run, found, missed}
 use Rattle.java_parse.specs.Reading.{Fault, Left, Outcome, give, fail, ask, ask_fails, Reads}
 use Rattle.java_parse.specs.ReadExpressions.{more_step, prefixed_step, atom_step, super_step, new_step, sized_step, dims_step, type_step, tail_step, args_step, more_args_step}
@@ -70,21 +70,36 @@ pub prefixed_signed : {ts : List Token} {m : Mark} {p : Place} {us : List Token}
     → sign_next ts ≡ Some (m, p, us) → Reads NPrefixed us (Ok (e, vs)) → Reads NPrefixed ts (Ok (UnaryOf m e p, vs))
 prefixed_signed h0 h1 a2 = reads (rw (h0, prefixed_step, h1) (ask (run a2) give))
 
+pub prefixed_base_fails : {ts : List Token} {t : TypeName} {p : Place} {us : List Token} {zq : Place} {vs : List Token} {fl : Fault}
+    → least_next ts ≡ None → sign_next ts ≡ None → opens_cast ts ≡ Some (t, p, us) → after marks.CloseRound us ≡ Some (zq, vs)
+    → Reads NPrefixed vs (Err fl) → Reads NPrefixed ts (Err fl)
+prefixed_base_fails h0 h1 h2 h3 a4 = reads (rw (h0, prefixed_step, h1, h2, h3) (ask_fails (run a4)))
+
+pub prefixed_base : {ts : List Token} {t : TypeName} {p : Place} {us : List Token} {zq : Place} {vs : List Token} {e : Expression} {ws : List Token}
+    → least_next ts ≡ None → sign_next ts ≡ None → opens_cast ts ≡ Some (t, p, us) → after marks.CloseRound us ≡ Some (zq, vs)
+    → Reads NPrefixed vs (Ok (e, ws)) → Reads NPrefixed ts (Ok (CastOf t e p, ws))
+prefixed_base h0 h1 h2 h3 a4 = reads (rw (h0, prefixed_step, h1, h2, h3) (ask (run a4) give))
+
+pub prefixed_open : {ts : List Token} {t : TypeName} {p : Place} {us : List Token} → least_next ts ≡ None → sign_next ts ≡ None
+    → opens_cast ts ≡ Some (t, p, us) → after marks.CloseRound us ≡ None → Reads NPrefixed ts (Err (Left us))
+prefixed_open h0 h1 h2 h3 = reads (rw (h0, prefixed_step, h1, h2, h3) fail)
+
 pub prefixed_cast_fails : {ts : List Token} {t : TypeName} {p : Place} {us : List Token} {fl : Fault} → least_next ts ≡ None → sign_next ts ≡ None
-    → cast_next ts ≡ Some (t, p, us) → Reads NPrefixed us (Err fl) → Reads NPrefixed ts (Err fl)
-prefixed_cast_fails h0 h1 h2 a3 = reads (rw (h0, prefixed_step, h1, h2) (ask_fails (run a3)))
+    → opens_cast ts ≡ None → cast_next ts ≡ Some (t, p, us) → Reads NPrefixed us (Err fl) → Reads NPrefixed ts (Err fl)
+prefixed_cast_fails h0 h1 h2 h3 a4 = reads (rw (h0, prefixed_step, h1, h2, h3) (ask_fails (run a4)))
 
 pub prefixed_cast : {ts : List Token} {t : TypeName} {p : Place} {us : List Token} {e : Expression} {vs : List Token} → least_next ts ≡ None
-    → sign_next ts ≡ None → cast_next ts ≡ Some (t, p, us) → Reads NPrefixed us (Ok (e, vs)) → Reads NPrefixed ts (Ok (CastOf t e p, vs))
-prefixed_cast h0 h1 h2 a3 = reads (rw (h0, prefixed_step, h1, h2) (ask (run a3) give))
+    → sign_next ts ≡ None → opens_cast ts ≡ None → cast_next ts ≡ Some (t, p, us) → Reads NPrefixed us (Ok (e, vs))
+    → Reads NPrefixed ts (Ok (CastOf t e p, vs))
+prefixed_cast h0 h1 h2 h3 a4 = reads (rw (h0, prefixed_step, h1, h2, h3) (ask (run a4) give))
 
-pub prefixed_bare_fails : {ts : List Token} {fl : Fault} → least_next ts ≡ None → sign_next ts ≡ None → cast_next ts ≡ None → Reads NPost ts (Err fl)
-    → Reads NPrefixed ts (Err fl)
-prefixed_bare_fails h0 h1 h2 a3 = reads (rw (h0, prefixed_step, h1, h2) (ask_fails (run a3)))
+pub prefixed_bare_fails : {ts : List Token} {fl : Fault} → least_next ts ≡ None → sign_next ts ≡ None → opens_cast ts ≡ None → cast_next ts ≡ None
+    → Reads NPost ts (Err fl) → Reads NPrefixed ts (Err fl)
+prefixed_bare_fails h0 h1 h2 h3 a4 = reads (rw (h0, prefixed_step, h1, h2, h3) (ask_fails (run a4)))
 
-pub prefixed_bare : {ts : List Token} {e : Expression} {z : End} {vs : List Token} → least_next ts ≡ None → sign_next ts ≡ None → cast_next ts ≡ None
-    → Reads NPost ts (Ok ((e, z), vs)) → Reads NPrefixed ts (Ok (e, vs))
-prefixed_bare h0 h1 h2 a3 = reads (rw (h0, prefixed_step, h1, h2) (ask (run a3) give))
+pub prefixed_bare : {ts : List Token} {e : Expression} {z : End} {vs : List Token} → least_next ts ≡ None → sign_next ts ≡ None
+    → opens_cast ts ≡ None → cast_next ts ≡ None → Reads NPost ts (Ok ((e, z), vs)) → Reads NPrefixed ts (Ok (e, vs))
+prefixed_bare h0 h1 h2 h3 a4 = reads (rw (h0, prefixed_step, h1, h2, h3) (ask (run a4) give))
 
 pub post_steps_fails : {ts : List Token} {fl : Fault} → Reads NAtom ts (Err fl) → Reads NPost ts (Err fl)
 post_steps_fails a0 = reads (ask_fails (run a0))
@@ -310,6 +325,9 @@ pub ruleset expression_steps = (
   prefixed_least,
   prefixed_signed_fails,
   prefixed_signed,
+  prefixed_base_fails,
+  prefixed_base,
+  prefixed_open,
   prefixed_cast_fails,
   prefixed_cast,
   prefixed_bare_fails,

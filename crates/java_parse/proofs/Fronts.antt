@@ -12,13 +12,15 @@ use Rattle.java_lex.specs.declared.Mark.{Mark}
 use Rattle.java_lex.specs.declared.Mark.TheVariants as marks
 use Rattle.java_tree.specs.declared.Modifier.{Modifier}
 use Rattle.java_tree.specs.declared.TypeBase.{TypeBase}
+use Rattle.java_tree.specs.declared.TypeBase.TheVariants as bases
 use Rattle.java_tree.specs.declared.TypeName.{TypeName}
 use Rattle.java_tree.specs.Syntax.{Expression, CastOf}
-use Rattle.java_tree.specs.Tokens.{mark, key, word, level, is_sign, is_modifier}
+use Rattle.java_tree.specs.Tokens.{mark, key, word, level, is_sign, is_modifier, casts, first_place}
+use Rattle.java_tree.specs.Nesting.{next_is}
 use Rattle.java_tree.specs.Expressions.{IsBase, int_base, boolean_base, char_base, named_base, IsPrefixed, cast_named, cast_int, cast_char, IsPost, int_literal, char_literal, string_literal, true_literal, false_literal, null_literal, this_word}
-use Rattle.java_tree.specs.Statements.{IsFinal, not_final, is_final}
+use Rattle.java_tree.specs.Statements.{is_word, printed, printed_by, IsFinal, not_final, is_final}
 use Rattle.java_parse.specs.declared.End.{End}
-use Rattle.java_parse.specs.Front.{after, after_by, after_key, after_key_by, word_next, word_by, operator, operator_by, instance_next, least_next, least_by, least_kind, sign_next, sign_by, cast_next, may_cast, base_next, base_by, literal_next, literal_by, index_next, is_array, final_of, stands_next, stands_by, operator_of, Start, SBlock, SEmpty, SIf, SWhile, SFor, SReturn, SBreak, SContinue, SOther, start, start_by, modifier_next, modifier_by}
+use Rattle.java_parse.specs.Front.{after, after_by, after_key, after_key_by, word_next, word_by, operator, operator_by, instance_next, least_next, least_by, least_kind, sign_next, sign_by, opens_cast, opens_by, opens_behind, cast_next, base_next, base_by, literal_next, literal_by, index_next, is_array, final_of, stands_next, stands_by, operator_of, Start, SBlock, SEmpty, SIf, SWhile, SFor, SReturn, SBreak, SContinue, SOther, start, start_by, modifier_next, modifier_by, done, done_by}
 use denote.Enum.Bare.{sameb, same_true}
 use Rattle.java_lex.specs.contracts.Mark.{the_type as mark_type}
 use Rattle.java_lex.specs.Lexing.{token}
@@ -141,32 +143,69 @@ pub base_is : (ts : List Token) (w : TypeBase × Place × List Token) → base_n
 base_is [] w h = cc
 base_is (t ∷ ts) w h = base_kind t.kind t.place ts w h
 
-cast_made : (p q r : Place) (ts us rest : List Token) (b : TypeBase) (e : Expression) → IsBase us (mark marks.CloseRound r ∷ ts) b q
-    → may_cast b ts ≡ true → IsPrefixed ts rest e →
-    IsPrefixed (mark marks.OpenRound p ∷ us) rest (CastOf (record { base = b; dim = 0; place = q }) e p)
-cast_made p q r ts us rest b e int_base h d = cast_int d
-cast_made p q r ts us rest b e boolean_base h d = cc
-cast_made p q r ts us rest b e char_base h d = cast_char d
-cast_made p q r ts us rest b e named_base h d = cast_named h d
+-- a round bracket and `int` or `char` at the front: the type, the place of the bracket and what follows the type
+pub data Opened : List Token → TypeName × Place × List Token → Type 0 where
+  opened_int : {p q : Place} {us : List Token} →
+      Opened (mark marks.OpenRound p ∷ key keys.Int q ∷ us) (record { base = bases.Int; dim = 0; place = q }, p, us)
+  opened_char : {p q : Place} {us : List Token} →
+      Opened (mark marks.OpenRound p ∷ key keys.Char q ∷ us) (record { base = bases.Char; dim = 0; place = q }, p, us)
 
-pub cast_is : (ts : List Token) (w : TypeName × Place × List Token) → cast_next ts ≡ Some w → (rest : List Token) (e : Expression)
-    → IsPrefixed w.2 rest e → IsPrefixed ts rest (CastOf w.0 e w.1)
-cast_is ts w h rest e d = option_cases (after marks.OpenRound ts)
+pub opened_cast : {ts vs rest : List Token} {w : TypeName × Place × List Token} {q : Place} {e : Expression} → Opened ts w
+    → w.2 ≡ mark marks.CloseRound q ∷ vs → IsPrefixed vs rest e → IsPrefixed ts rest (CastOf w.0 e w.1)
+opened_cast opened_int g d = rw g (cast_int d)
+opened_cast opened_char g d = rw g (cast_char d)
+
+opened_key : (k : Keyword) (q p : Place) (us : List Token) (w : TypeName × Place × List Token) → opens_by (kinds.Key k) q p us ≡ Some w
+    → Opened (mark marks.OpenRound p ∷ key k q ∷ us) w
+opened_key keys.Int q p us w h =
+    let f : (record { base = bases.Int; dim = 0; place = q }, p, us) ≡ w = cc in
+    subst (λ w. Opened (mark marks.OpenRound p ∷ key keys.Int q ∷ us) w) f opened_int
+opened_key keys.Char q p us w h =
+    let f : (record { base = bases.Char; dim = 0; place = q }, p, us) ≡ w = cc in
+    subst (λ w. Opened (mark marks.OpenRound p ∷ key keys.Char q ∷ us) w) f opened_char
+opened_key _ q p us w h = cc
+
+opened_kind : (k : TokenKind) (q p : Place) (us : List Token) (w : TypeName × Place × List Token) → opens_by k q p us ≡ Some w
+    → Opened (mark marks.OpenRound p ∷ token k q ∷ us) w
+opened_kind (kinds.Key k) q p us w h = opened_key k q p us w h
+opened_kind _ q p us w h = cc
+
+opened_behind : (p : Place) (us : List Token) (w : TypeName × Place × List Token) → opens_behind p us ≡ Some w → Opened (mark marks.OpenRound p ∷ us) w
+opened_behind p [] w h = cc
+opened_behind p (t ∷ us) w h = opened_kind t.kind t.place p us w h
+
+pub opens_is : (ts : List Token) (w : TypeName × Place × List Token) → opens_cast ts ≡ Some w → Opened ts w
+opens_is ts w h = option_cases (after marks.OpenRound ts)
+    (λ no. let g = rw (no, opens_cast) at h in cc)
+    (λ a yes. let g = rw (yes, opens_cast) at h in
+    subst (λ (ts : List Token). Opened ts w) (sym (after_is marks.OpenRound ts a yes)) (opened_behind a.0 a.1 w g))
+
+-- a name in round brackets at the front, and behind it a token that makes it a cast
+pub data Cast : List Token → TypeName × Place × List Token → Type 0 where
+  cast_of : {n : List ℕ} {p q r : Place} {us : List Token} → casts us ≡ true →
+      Cast (mark marks.OpenRound p ∷ word n q ∷ mark marks.CloseRound r ∷ us) (record { base = bases.Named n; dim = 0; place = q }, p, us)
+
+pub named_cast : {ts rest : List Token} {w : TypeName × Place × List Token} {e : Expression} → Cast ts w → IsPrefixed w.2 rest e
+    → IsPrefixed ts rest (CastOf w.0 e w.1)
+named_cast (cast_of h) d = cast_named h d
+
+pub cast_is : (ts : List Token) (w : TypeName × Place × List Token) → cast_next ts ≡ Some w → Cast ts w
+cast_is ts w h = option_cases (after marks.OpenRound ts)
     (λ no. let g = rw (no, cast_next) at h in cc)
     (λ a yes. let g = rw (yes, cast_next) at h in
     let ea = after_is marks.OpenRound ts a yes in
-    option_cases (base_next a.1)
+    option_cases (word_next a.1)
     (λ no1. let g1 = rw no1 at g in cc)
     (λ b yes1. let g1 = rw yes1 at g in
-    let db = base_is a.1 b yes1 in
+    let eb = word_is a.1 b yes1 in
     option_cases (after marks.CloseRound b.2)
     (λ no2. let g2 = rw no2 at g1 in cc)
     (λ c yes2. let g2 = rw yes2 at g1 in
     let ec = after_is marks.CloseRound b.2 c yes2 in
-    let f = chosen (may_cast b.0 c.1) (record { base = b.0; dim = 0; place = b.1 }, a.0, c.1) w g2 in
-    subst (λ (ts : List Token). IsPrefixed ts rest (CastOf w.0 e w.1)) (sym ea)
-    (subst (λ (w : TypeName × Place × List Token). IsPrefixed w.2 rest e → IsPrefixed (mark marks.OpenRound a.0 ∷ a.1) rest (CastOf w.0 e w.1)) f.1
-    (cast_made a.0 b.1 c.0 c.1 a.1 rest b.0 e (subst (λ (us : List Token). IsBase a.1 us b.0 b.1) ec db) f.0) d))))
+    let f = chosen (casts c.1) (record { base = bases.Named b.0; dim = 0; place = b.1 }, a.0, c.1) w g2 in
+    subst (λ (ts : List Token). Cast ts w) (sym (ea
+    ∙ ap (λ (us : List Token). mark marks.OpenRound a.0 ∷ us) (eb ∙ ap (λ (us : List Token). word b.0 b.1 ∷ us) ec)))
+    (subst (λ (w : TypeName × Place × List Token). Cast (mark marks.OpenRound a.0 ∷ word b.0 b.1 ∷ mark marks.CloseRound c.0 ∷ c.1) w) f.1 (cast_of f.0)))))
 
 lit : {k : TokenKind} {p : Place} {ts : List Token} {e : Expression} (w : Expression × List Token) → IsPost true (token k p ∷ ts) ts e
     → Some (e, ts) ≡ Some w → IsPost true (token k p ∷ ts) w.1 w.0
@@ -197,6 +236,15 @@ index_by false o w h = (refl, h)
 
 pub index_is : (z : End) (ts : List Token) (w : Place × List Token) → index_next z ts ≡ Some w → (ts ≡ mark marks.OpenSquare w.0 ∷ w.1) × (is_array z ≡ false)
 index_is z ts w h = let g = index_by (is_array z) (after marks.OpenSquare ts) w h in (after_is marks.OpenSquare ts w g.1, g.0)
+
+printed_is : (ts : List Token) (e : Expression) → printed ts e ≡ (if next_is is_word ts then printed_by e else None)
+printed_is [] e = refl
+printed_is (t ∷ ts) e = refl
+
+-- a call as a statement, by what its tokens print
+pub done_is : (ts : List Token) (e : Expression) (o : Option (Bool × Option Expression)) → printed ts e ≡ o
+    → done (next_is is_word ts) (first_place ts) e ≡ done_by (first_place ts) e o
+done_is ts e o h = ap (done_by (first_place ts) e) (sym (printed_is ts e) ∙ h)
 
 pub final_is : (ts : List Token) → IsFinal ts (final_of ts).1 (final_of ts).0
 final_is ts = option_cases (after_key keys.Final ts)

@@ -14,7 +14,9 @@ use Rattle.java_parse.specs.Reading.{Reads, Left}
 use Rattle.java_parse.proofs.Sound.{program_sound}
 use Rattle.java_parse.proofs.Small.{program_small}
 use Rattle.java_parse.proofs.Deep.{shallow_nested, deep_nested, one_deep}
+use Rattle.java_parse.specs.Beginnings.{IsExact}
 use Rattle.java_parse.proofs.CompleteDeclarations.{none_derived}
+use Rattle.java_parse.proofs.ExactPlace.{exact, rest_fits}
 
 -- a tree that was read
 pub record Accepted (ts : List Token) (ds : List DeclTree) : Type 0 where
@@ -35,17 +37,21 @@ accepted ts us rest ds e r all = subst (λ (ts : List Token). Accepted ts ds) e 
 })
 
 -- tokens that no tree derives
-pub record Refused (ts : List Token) : Type 0 where
+pub record Refused (ts rest : List Token) : Type 0 where
   pub nested : nesting_of ts ≤ 128
   pub not_deep : (k : ℕ) → IsTooDeep ts k → ⊥
   pub none : (tree : List DeclTree) → Derives ts tree → ⊥
+  pub fits : length rest ≤ length ts
+  pub exact : (k : ℕ) → k + length rest ≡ length ts → IsExact ts k
 
 pub refused : (ts us rest : List Token) → us ≡ ts → Reads (NDecls []) us (Err (Left rest))
-    → ((k : ℕ) → k < length us → length (stack_after [] us (k + 1)) ≤ 128) → Refused ts
-refused ts us rest e r all = subst (λ (ts : List Token). Refused ts) e (record {
+    → ((k : ℕ) → k < length us → length (stack_after [] us (k + 1)) ≤ 128) → Refused ts rest
+refused ts us rest e r all = subst (λ (ts : List Token). Refused ts rest) e (record {
   nested = shallow_nested us all;
   not_deep = λ k d. let h = shallow_nested us all in absurd (omega (arith, h, deep_nested us k d));
   none = λ tree d. none_derived us rest tree r d;
+  fits = rest_fits us rest r;
+  exact = λ k h. exact us rest k r h;
 })
 
 -- tokens that go too deep

@@ -5,14 +5,15 @@ use Rattle.kaba_base.specs.declared.words.Keyword.TheVariants as keys
 use Rattle.java_lex.specs.declared.Token.{Token}
 use Rattle.java_lex.specs.declared.Mark.TheVariants as marks
 use Rattle.java_tree.specs.Syntax.{Expression, NameRef, NewOf, Expressions, Statement, Statements, Arms, Else, OptionalStatement, DeclTree}
-use Rattle.java_tree.specs.Tokens.{mark, key, word}
+use Rattle.java_tree.specs.Tokens.{mark, key, word, first_place}
+use Rattle.java_tree.specs.Nesting.{next_is}
 use Rattle.java_tree.proofs.Appended.{append_exprs, append_stmts, append_arms}
 use Rattle.java_parse.specs.declared.End.{End}
 use Rattle.java_parse.specs.declared.End.TheVariants as ends
 use Rattle.java_parse.specs.Want.{Want, NExpr, NMore, NPrefixed, NPost, NAtom, NSuper, NNew, NSized, NDims, NType, NTail, NArgs, NMoreArgs, NInit, NLocal, NValue, NAct, NActRest, NTested, NItem, NItems, NStmt, NForHead, NFirst, NStep, NBranches, NMods, NIds, NParent, NList, NParam, NParams, NMoreParams, NResult, NHead, NBody, NMember, NMethod, NMembers, NHeads, NClass, NInterface, NDecl, NDecls, Val}
 use Rattle.java_parse.specs.Front.{after_key}
 use Rattle.java_tree.specs.Expressions.{IsBase, IsDims, IsType, IsExpr, IsPrefixed, IsPost, IsArgs, IsMoreArgs}
-use Rattle.java_tree.specs.Statements.{IsValue, IsInit, IsLocal, IsTarget, IsCall, IsAct, IsFirst, IsStep, IsItem, IsItems, IsStmt, IsArms}
+use Rattle.java_tree.specs.Statements.{is_word, IsValue, IsInit, IsLocal, IsTarget, IsCall, IsAct, IsFirst, IsStep, IsItem, IsItems, IsStmt, IsArms}
 use Rattle.java_tree.specs.Declarations.{IsMods, IsIds, IsParent, IsList, IsParam, IsMoreParams, IsParams, IsResult, IsHead, IsBody, IsMember, IsMembers, IsHeads, IsDecl, IsPlaced}
 
 -- an expression without operators, by how it ends
@@ -99,7 +100,7 @@ Post NInit ts v rest = IsInit ts rest v
 Post NLocal ts s rest = IsLocal ts rest s
 Post NValue ts v rest = IsValue ts rest v
 Post NAct ts s rest = IsAct ts rest s
-Post (NActRest ss e z) ts s rest = Ended z ss ts e → IsAct ss rest s
+Post (NActRest w p e z) ts s rest = (us : List Token) → next_is is_word us ≡ w → first_place us ≡ p → Ended z us ts e → IsAct us rest s
 Post NTested ts e rest = Tested ts e rest
 Post NItem ts s rest = IsItem ts rest s
 Post (NItems ss) ts x rest = Itemed ss ts x rest

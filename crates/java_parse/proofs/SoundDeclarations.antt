@@ -23,7 +23,7 @@ use Rattle.java_parse.proofs.SoundStatements.{items_all}
 
 module _ {A : Type 0} {Are : List Token → List Token → List A → Type 0} {ts rest : List Token} where
   -- all, where none stand before
-  all_of : {xs : List A} → Longer Are [] ts xs rest → Are ts rest xs
+  pub all_of : {xs : List A} → Longer Are [] ts xs rest → Are ts rest xs
   all_of d = subst (λ (xs : List A). Are ts rest xs) (sym d.is) d.are
 
   none_more : (before : List A) → Are ts rest [] → Longer Are before ts before rest

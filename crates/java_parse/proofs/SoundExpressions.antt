@@ -12,10 +12,10 @@ use Rattle.java_tree.proofs.Appended.{append_exprs, exprs_end}
 use Rattle.java_parse.specs.declared.End.{End}
 use Rattle.java_parse.specs.declared.End.TheVariants as ends
 use Rattle.java_parse.specs.Want.{NExpr, NMore, NPrefixed, NPost, NAtom, NSuper, NNew, NSized, NDims, NType, NTail, NArgs, NMoreArgs}
-use Rattle.java_parse.specs.Front.{after, after_key, word_next, operator, instance_next, least_next, sign_next, cast_next, base_next, literal_next, index_next, is_array, expr_snoc}
+use Rattle.java_parse.specs.Front.{after, after_key, word_next, operator, instance_next, least_next, sign_next, opens_cast, cast_next, base_next, literal_next, index_next, is_array, expr_snoc}
 use Rattle.java_tree.specs.Expressions.{IsBase, named_base, IsDims, no_dims, one_dim, a_type, IsExpr, binary, instance_of, operand, signed, least, bare, IsPost, field, call_on, index, name, call, super_call, round, new_object, new_array, IsArgs, no_args, some_args, last_arg, next_arg}
 use Rattle.java_tree.specs.Statements.{IsTarget, to_name, to_field, to_index, IsCall, plain_call, call_upon, call_above}
-use Rattle.java_parse.proofs.Fronts.{option_cases, after_is, after_key_is, word_is, operator_is, instance_is, least_is, sign_is, cast_is, base_is, literal_is, index_is}
+use Rattle.java_parse.proofs.Fronts.{option_cases, after_is, after_key_is, word_is, operator_is, instance_is, least_is, sign_is, opens_is, opened_cast, cast_is, named_cast, base_is, literal_is, index_is}
 use Rattle.java_parse.proofs.Post.{Ended, by_name, by_target, by_call, by_new, by_array, by_other, Counted, MoreArgs, Post}
 use Rattle.java_parse.proofs.Runs.{Good}
 use Rattle.java_parse.specs.ReadExpressions.{expr_step, more_step, prefixed_step, post_step, atom_step, super_step, new_step, sized_step, dims_step, type_step, tail_step, args_step, more_args_step}
@@ -42,7 +42,7 @@ post_of (by_new a) = new_object a
 post_of (by_array d) = d
 post_of (by_other d) = d
 
-open_post : {z : End} {ts rest : List Token} {e : Expression} → is_array z ≡ false → Ended z ts rest e → IsPost true ts rest e
+pub open_post : {z : End} {ts rest : List Token} {e : Expression} → is_array z ≡ false → Ended z ts rest e → IsPost true ts rest e
 open_post h by_name = name
 open_post h (by_target d) = target_post d
 open_post h (by_call d) = call_post d
@@ -50,7 +50,7 @@ open_post h (by_new a) = new_object a
 open_post h (by_array d) = cc
 open_post h (by_other d) = d
 
-loosen : {l k : ℕ} {ts rest : List Token} {e : Expression} → l ≤ k → IsExpr k ts rest e → IsExpr l ts rest e
+pub loosen : {l k : ℕ} {ts rest : List Token} {e : Expression} → l ≤ k → IsExpr k ts rest e → IsExpr l ts rest e
 loosen {l = l} {k = k} h (binary {m = m} a b x y) = binary a (omega (arith, h, b)) x y
 loosen {l = l} {k = k} h (instance_of a x) = instance_of (omega (arith, h, a)) x
 loosen h (operand d) = operand d
@@ -104,9 +104,13 @@ more_good l c e ts = option_cases (operator l c ts)
 pub prefixed_good : (ts : List Token) → Good Post (prefixed_step ts) (Post NPrefixed ts)
 prefixed_good ts = option_cases (least_next ts)
     (λ n0. rw (n0, prefixed_step) (option_cases (sign_next ts)
-    (λ n1. rw n1 (option_cases (cast_next ts)
-    (λ n2. rw n2 (λ v3 r3 d3. (bare (post_of d3))))
-    (λ w2 y2. let e2 = cast_is ts w2 y2 in rw y2 (λ v3 r3 d3. (e2 _ _ d3)))))
+    (λ n1. rw n1 (option_cases (opens_cast ts)
+    (λ n2. rw n2 (option_cases (cast_next ts)
+    (λ n3. rw n3 (λ v4 r4 d4. (bare (post_of d4))))
+    (λ w3 y3. let e3 = cast_is ts w3 y3 in rw y3 (λ v4 r4 d4. (named_cast e3 d4)))))
+    (λ w2 y2. let e2 = opens_is ts w2 y2 in rw y2 (option_cases (after marks.CloseRound w2.2)
+    (λ n3. rw n3 tt)
+    (λ w3 y3. let e3 = after_is marks.CloseRound w2.2 w3 y3 in rw y3 (λ v4 r4 d4. (opened_cast e2 e3 d4)))))))
     (λ w1 y1. let e1 = sign_is ts w1 y1 in rw y1 (λ v2 r2 d2. (rw e1.0 (signed e1.1 d2))))))
     (λ w0 y0. let e0 = least_is ts w0 y0 in rw (y0, prefixed_step) (rw e0.1 least))
 

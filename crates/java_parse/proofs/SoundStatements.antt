@@ -6,15 +6,16 @@ use Rattle.java_lex.specs.declared.Token.{Token}
 use Rattle.java_lex.specs.declared.Mark.{Mark}
 use Rattle.java_lex.specs.declared.Mark.TheVariants as marks
 use Rattle.java_tree.specs.Syntax.{Expression, NameRef, BinaryOf, Statement, BlockOf, AssignOf, IfOf, WhileOf, ForOf, Statements, no_statements, and_then, Arms, no_arms, and_arm, Else, no_else, otherwise, OptionalStatement}
-use Rattle.java_tree.specs.Tokens.{mark, key, word, compound, stepping}
-use Rattle.java_tree.specs.Statements.{as_body, printed}
+use Rattle.java_tree.specs.Tokens.{mark, key, word, compound, stepping, first_place}
+use Rattle.java_tree.specs.Nesting.{next_is}
+use Rattle.java_tree.specs.Statements.{as_body, is_word, printed}
 use Rattle.java_tree.proofs.Appended.{append_stmts, append_arms, stmts_end, arms_end}
 use Rattle.java_parse.specs.declared.End.{End}
 use Rattle.java_parse.specs.Want.{NInit, NLocal, NValue, NAct, NActRest, NTested, NItem, NItems, NStmt, NForHead, NFirst, NStep, NBranches}
 use Rattle.java_parse.specs.Front.{after, after_key, word_next, stmt_snoc, arm_snoc, stepping_next, compound_next, named, is_target, is_call, stepped, done, starts_local, Start, start}
 use Rattle.java_tree.specs.Expressions.{IsExpr}
-use Rattle.java_tree.specs.Statements.{is_choice, printed, no_value, a_value, no_init, an_init, a_local, IsTarget, to_name, IsCall, IsAct, assign, assign_by, step_after, step_before, do_call, print, do_new, no_first, first_local, first_act, no_step, a_step, local_item, stmt_item, IsItems, no_items, next_item, IsStmt, block, empty, acting, choice, while_loop, for_loop, return_word, break_word, continue_word, IsArms, last_arm, else_arm, more_arms}
-use Rattle.java_parse.proofs.Fronts.{option_cases, bool_cases, after_is, after_key_is, word_is, final_is, stands_is, start_cases, Starts, start_is}
+use Rattle.java_tree.specs.Statements.{is_choice, no_value, a_value, no_init, an_init, a_local, IsTarget, to_name, IsCall, IsAct, assign, assign_by, step_after, step_before, do_call, print, do_new, no_first, first_local, first_act, no_step, a_step, local_item, stmt_item, IsItems, no_items, next_item, IsStmt, block, empty, acting, choice, while_loop, for_loop, return_word, break_word, continue_word, IsArms, last_arm, else_arm, more_arms}
+use Rattle.java_parse.proofs.Fronts.{option_cases, bool_cases, after_is, after_key_is, word_is, final_is, stands_is, done_is, start_cases, Starts, start_is}
 use Rattle.java_parse.proofs.Post.{Ended, by_name, by_target, by_call, by_new, by_array, by_other, Tested, Itemed, Stmted, Headed, headed, Branched, Post}
 use Rattle.java_parse.proofs.Runs.{Good}
 use Rattle.java_parse.specs.ReadStatements.{init_step, local_step, value_step, act_step, act_rest_step, tested_step, item_step, items_step, stmt_step, for_head_step, first_step, step_step, branches_step}
@@ -22,10 +23,10 @@ use Rattle.java_parse.specs.ReadStatements.{init_step, local_step, value_step, a
 never : {P : Type 0} → false ≡ true → P
 never h = absurd (let g : ⊥ = cc in g)
 
-starts_at : (ts : List Token) {s : Start} → start ts ≡ s → Starts s ts
+pub starts_at : (ts : List Token) {s : Start} → start ts ≡ s → Starts s ts
 starts_at ts h = subst (λ s. Starts s ts) h (start_is ts)
 
-target_of : {z : End} {ts rest : List Token} {e : Expression} → Ended z ts rest e → is_target z ≡ true → IsTarget ts rest e
+pub target_of : {z : End} {ts rest : List Token} {e : Expression} → Ended z ts rest e → is_target z ≡ true → IsTarget ts rest e
 target_of by_name h = to_name
 target_of (by_target d) h = d
 target_of (by_call d) h = cc
@@ -42,7 +43,7 @@ named_as h (by_new a) = cc
 named_as h (by_array d) = cc
 named_as h (by_other d) = cc
 
-compound_act : {z : End} {ss ts rest : List Token} {e v : Expression} {w : Mark × Place × List Token} {x : List ℕ × Place} →
+pub compound_act : {z : End} {ss ts rest : List Token} {e v : Expression} {w : Mark × Place × List Token} {x : List ℕ × Place} →
     (n : Mark) × (ts ≡ mark n w.1 ∷ w.2) × (compound n ≡ Some w.0) → named z e ≡ Some x → Ended z ss ts e → IsExpr 1 w.2 rest v →
     IsAct ss rest (AssignOf (NameRef x.0 x.1) (BinaryOf w.0 (NameRef x.0 x.1) v w.1) w.1)
 compound_act {rest = rest} {v = v} {w = w} {x = x} f g h d =
@@ -59,10 +60,13 @@ before_act : {ts : List Token} {w : Mark × Place × List Token} {x : List ℕ �
 before_act {w = w} {x = x} f g =
     subst (λ (ss : List Token). IsAct ss x.2 (stepped w.0 x.0 x.1 w.1)) (sym (f.1 ∙ ap (λ r. mark f.0 w.1 ∷ r) g)) (step_before f.2)
 
-call_done : {ss ts : List Token} {e : Expression} → IsCall ss ts e → IsAct ss ts (done ss e)
-call_done {ss = ss} {e = e} c = option_cases (printed ss e) (λ no. rw (no, done) (do_call c no)) (λ x yes. rw (yes, done) (print c yes))
+call_done : {ss ts : List Token} {e : Expression} → IsCall ss ts e → IsAct ss ts (done (next_is is_word ss) (first_place ss) e)
+call_done {ss = ss} {ts = ts} {e = e} c = option_cases (printed ss e)
+    (λ no. subst (λ (s : Statement). IsAct ss ts s) (sym (done_is ss e None no)) (do_call c no))
+    (λ x yes. subst (λ (s : Statement). IsAct ss ts s) (sym (done_is ss e (Some x) yes)) (print c yes))
 
-call_act : {z : End} {ss ts : List Token} {e : Expression} → Ended z ss ts e → is_call z ≡ true → IsAct ss ts (done ss e)
+call_act : {z : End} {ss ts : List Token} {e : Expression} → Ended z ss ts e → is_call z ≡ true
+    → IsAct ss ts (done (next_is is_word ss) (first_place ss) e)
 call_act by_name h = cc
 call_act (by_target d) h = cc
 call_act (by_call d) h = call_done d
@@ -112,7 +116,7 @@ act_no_choice : {ts rest : List Token} {s : Statement} → IsAct ts rest s → i
 act_no_choice (assign t e) = refl
 act_no_choice _ = refl
 
-no_choice : {o : Bool} {ts rest : List Token} {s : Statement} → IsStmt o ts rest s → after_key keys.If ts ≡ None → is_choice s ≡ false
+pub no_choice : {o : Bool} {ts rest : List Token} {s : Statement} → IsStmt o ts rest s → after_key keys.If ts ≡ None → is_choice s ≡ false
 no_choice (acting d) h = act_no_choice d
 no_choice (choice d) h = cc
 no_choice _ h = refl
@@ -128,7 +132,7 @@ end_good {e = e} {s = s} a n t d =
       closed = λ _. n;
     })
 
-shut_at : {ts vs : List Token} {s : Statement} {w : Place × List Token} → vs ≡ key keys.Else w.0 ∷ w.1 → Stmted ts s vs
+pub shut_at : {ts vs : List Token} {s : Statement} {w : Place × List Token} → vs ≡ key keys.Else w.0 ∷ w.1 → Stmted ts s vs
     → IsStmt false ts (key keys.Else w.0 ∷ w.1) s
 shut_at {ts = ts} {s = s} e d = shut (subst (λ vs. d.flag ≡ true → after_key keys.Else vs ≡ None) e d.closed) (subst (λ vs. IsStmt d.flag ts vs s) e d.fact)
 
@@ -176,26 +180,27 @@ value_good ts = option_cases (after marks.Semi ts)
 
 pub act_good : (ts : List Token) → Good Post (act_step ts) (Post NAct ts)
 act_good ts = option_cases (stepping_next ts)
-    (λ n0. rw (n0, act_step) (λ v1 r1 d1. (λ v r d. d d1)))
+    (λ n0. rw (n0, act_step) (λ v1 r1 d1. (λ v r d. d ts refl refl d1)))
     (λ w0 y0. let e0 = stands_is stepping ts w0 y0 in rw (y0, act_step) (option_cases (word_next w0.2)
     (λ n1. rw n1 tt)
     (λ w1 y1. let e1 = word_is w0.2 w1 y1 in rw y1 (before_act e0 e1))))
 
-pub act_rest_good : (ss : List Token) (e : Expression) (z : End) (ts : List Token) → Good Post (act_rest_step ss e z ts) (Post (NActRest ss e z) ts)
-act_rest_good ss e z ts = option_cases (after marks.Assign ts)
+pub act_rest_good : (w : Bool) (p : Place) (e : Expression) (z : End) (ts : List Token) → Good Post (act_rest_step w p e z ts)
+    (Post (NActRest w p e z) ts)
+act_rest_good w p e z ts = option_cases (after marks.Assign ts)
     (λ n0. rw (n0, act_rest_step) (option_cases (compound_next ts)
     (λ n1. rw n1 (option_cases (stepping_next ts)
     (λ n2. rw n2 (bool_cases (is_call z)
-    (λ y3. rw y3 (λ h. call_act h y3))
+    (λ y3. rw y3 (λ us f g h. let c = call_act h y3 in rw (f, g) at c))
     (λ y3. rw y3 tt)))
     (λ w2 y2. let e2 = stands_is stepping ts w2 y2 in rw y2 (option_cases (named z e)
     (λ n3. rw n3 tt)
-    (λ w3 y3. rw y3 (λ h. after_act e2 y3 h))))))
+    (λ w3 y3. rw y3 (λ us f g h. after_act e2 y3 h))))))
     (λ w1 y1. let e1 = stands_is compound ts w1 y1 in rw y1 (option_cases (named z e)
     (λ n2. rw n2 tt)
-    (λ w2 y2. rw y2 (λ v3 r3 d3. (λ h. compound_act e1 y2 h d3)))))))
+    (λ w2 y2. rw y2 (λ v3 r3 d3. (λ us f g h. compound_act e1 y2 h d3)))))))
     (λ w0 y0. let e0 = after_is marks.Assign ts w0 y0 in rw (y0, act_rest_step) (bool_cases (is_target z)
-    (λ y1. rw y1 (λ v2 r2 d2. (λ h. assign (rw e0 at (target_of h y1)) d2)))
+    (λ y1. rw y1 (λ v2 r2 d2. (λ us f g h. assign (rw e0 at (target_of h y1)) d2)))
     (λ y1. rw y1 tt)))
 
 pub tested_good : (ts : List Token) → Good Post (tested_step ts) (Post NTested ts)

@@ -1,5 +1,5 @@
 -- How reading steps: one rule for each path.
-use Rattle.std.proofs.Common.{◌≡◌, refl, ℕ, List, Option, Some, None, Ok, Err, true, false}
+use Rattle.std.proofs.Common.{◌≡◌, refl, ℕ, List, Option, Some, None, Ok, Err, Bool, true, false}
 use Rattle.kaba_base.specs.declared.Place.{Place}
 use Rattle.kaba_base.specs.declared.words.Keyword.TheVariants as keys
 use Rattle.java_lex.specs.declared.Token.{Token}
@@ -7,7 +7,9 @@ use Rattle.java_lex.specs.declared.Mark.{Mark}
 use Rattle.java_lex.specs.declared.Mark.TheVariants as marks
 use Rattle.java_tree.specs.declared.TypeName.{TypeName}
 use Rattle.java_tree.specs.Syntax.{Expression, NameRef, BinaryOf, Statement, LocalOf, BlockOf, AssignOf, IfOf, WhileOf, ForOf, ReturnOf, BreakOf, ContinueOf, Statements, no_statements, Arms, no_arms, Else, no_else, otherwise, OptionalStatement, absent, present}
-use Rattle.java_tree.specs.Statements.{as_body}
+use Rattle.java_tree.specs.Tokens.{first_place}
+use Rattle.java_tree.specs.Statements.{as_body, is_word}
+use Rattle.java_tree.specs.Nesting.{next_is}
 use Rattle.java_parse.specs.declared.End.{End}
 use Rattle.java_parse.specs.Want.{NExpr, NPost, NType, NInit, NLocal, NValue, NAct, NActRest, NTested, NItem, NItems, NStmt, NForHead, NFirst, NStep, NBranches, Want, Val, Give, Fail}
 use Rattle.java_parse.specs.Front.{after, after_key, word_next, stmt_snoc, arm_snoc, final_of, stepping_next, compound_next, named, is_target, is_call, stepped, done, starts_local, start, SBlock, SEmpty, SIf, SWhile, SFor, SReturn, SBreak, SContinue, SOther}
@@ -77,53 +79,53 @@ pub act_post_fails : {ts : List Token} {fl : Fault} → stepping_next ts ≡ Non
 act_post_fails h0 a1 = reads (rw (h0, act_step) (ask_fails (run a1)))
 
 pub act_post : {ts : List Token} {e : Expression} {z : End} {us : List Token} {o : Outcome Statement} → stepping_next ts ≡ None
-    → Reads NPost ts (Ok ((e, z), us)) → Reads (NActRest ts e z) us o → Reads NAct ts o
+    → Reads NPost ts (Ok ((e, z), us)) → Reads (NActRest (next_is is_word ts) (first_place ts) e z) us o → Reads NAct ts o
 act_post {o = Ok given} h0 a1 a2 = reads (rw (h0, act_step) (ask (run a1) (ask (run a2) give)))
 act_post {o = Err fault} h0 a1 a2 = reads (rw (h0, act_step) (ask (run a1) (ask_fails (run a2))))
 
-pub act_rest_assign_fails : {ss : List Token} {e : Expression} {z : End} {ts : List Token} {p : Place} {us : List Token} {fl : Fault}
-    → after marks.Assign ts ≡ Some (p, us) → is_target z ≡ true → Reads (NExpr 1) us (Err fl) → Reads (NActRest ss e z) ts (Err fl)
+pub act_rest_assign_fails : {w : Bool} {r : Place} {e : Expression} {z : End} {ts : List Token} {p : Place} {us : List Token} {fl : Fault}
+    → after marks.Assign ts ≡ Some (p, us) → is_target z ≡ true → Reads (NExpr 1) us (Err fl) → Reads (NActRest w r e z) ts (Err fl)
 act_rest_assign_fails h0 h1 a2 = reads (rw (h0, act_rest_step, h1) (ask_fails (run a2)))
 
-pub act_rest_assign : {ss : List Token} {e : Expression} {z : End} {ts : List Token} {p : Place} {us : List Token} {v : Expression} {vs : List Token}
+pub act_rest_assign : {w : Bool} {r : Place} {e : Expression} {z : End} {ts : List Token} {p : Place} {us : List Token} {v : Expression} {vs : List Token}
     → after marks.Assign ts ≡ Some (p, us) → is_target z ≡ true → Reads (NExpr 1) us (Ok (v, vs))
-    → Reads (NActRest ss e z) ts (Ok (AssignOf e v p, vs))
+    → Reads (NActRest w r e z) ts (Ok (AssignOf e v p, vs))
 act_rest_assign h0 h1 a2 = reads (rw (h0, act_rest_step, h1) (ask (run a2) give))
 
-pub act_rest_no_target : {ss : List Token} {e : Expression} {z : End} {ts : List Token} {p : Place} {us : List Token}
-    → after marks.Assign ts ≡ Some (p, us) → is_target z ≡ false → Reads (NActRest ss e z) ts (Err (Left ts))
+pub act_rest_no_target : {w : Bool} {r : Place} {e : Expression} {z : End} {ts : List Token} {p : Place} {us : List Token}
+    → after marks.Assign ts ≡ Some (p, us) → is_target z ≡ false → Reads (NActRest w r e z) ts (Err (Left ts))
 act_rest_no_target h0 h1 = reads (rw (h0, act_rest_step, h1) fail)
 
-pub act_rest_compound_fails : {ss : List Token} {e : Expression} {z : End} {ts : List Token} {j : Mark} {q : Place} {us : List Token} {n : List ℕ}
+pub act_rest_compound_fails : {w : Bool} {r : Place} {e : Expression} {z : End} {ts : List Token} {j : Mark} {q : Place} {us : List Token} {n : List ℕ}
     {p : Place} {fl : Fault} → after marks.Assign ts ≡ None → compound_next ts ≡ Some (j, q, us) → named z e ≡ Some (n, p)
-    → Reads (NExpr 1) us (Err fl) → Reads (NActRest ss e z) ts (Err fl)
+    → Reads (NExpr 1) us (Err fl) → Reads (NActRest w r e z) ts (Err fl)
 act_rest_compound_fails h0 h1 h2 a3 = reads (rw (h0, act_rest_step, h1, h2) (ask_fails (run a3)))
 
-pub act_rest_compound : {ss : List Token} {e : Expression} {z : End} {ts : List Token} {j : Mark} {q : Place} {us : List Token} {n : List ℕ}
+pub act_rest_compound : {w : Bool} {r : Place} {e : Expression} {z : End} {ts : List Token} {j : Mark} {q : Place} {us : List Token} {n : List ℕ}
     {p : Place} {v : Expression} {vs : List Token} → after marks.Assign ts ≡ None → compound_next ts ≡ Some (j, q, us) → named z e ≡ Some (n, p)
-    → Reads (NExpr 1) us (Ok (v, vs)) → Reads (NActRest ss e z) ts (Ok (AssignOf (NameRef n p) (BinaryOf j (NameRef n p) v q) q, vs))
+    → Reads (NExpr 1) us (Ok (v, vs)) → Reads (NActRest w r e z) ts (Ok (AssignOf (NameRef n p) (BinaryOf j (NameRef n p) v q) q, vs))
 act_rest_compound h0 h1 h2 a3 = reads (rw (h0, act_rest_step, h1, h2) (ask (run a3) give))
 
-pub act_rest_compound_none : {ss : List Token} {e : Expression} {z : End} {ts : List Token} {j : Mark} {q : Place} {us : List Token}
-    → after marks.Assign ts ≡ None → compound_next ts ≡ Some (j, q, us) → named z e ≡ None → Reads (NActRest ss e z) ts (Err (Left ts))
+pub act_rest_compound_none : {w : Bool} {r : Place} {e : Expression} {z : End} {ts : List Token} {j : Mark} {q : Place} {us : List Token}
+    → after marks.Assign ts ≡ None → compound_next ts ≡ Some (j, q, us) → named z e ≡ None → Reads (NActRest w r e z) ts (Err (Left ts))
 act_rest_compound_none h0 h1 h2 = reads (rw (h0, act_rest_step, h1, h2) fail)
 
-pub act_rest_after : {ss : List Token} {e : Expression} {z : End} {ts : List Token} {j : Mark} {q : Place} {us : List Token} {n : List ℕ} {p : Place}
+pub act_rest_after : {w : Bool} {r : Place} {e : Expression} {z : End} {ts : List Token} {j : Mark} {q : Place} {us : List Token} {n : List ℕ} {p : Place}
     → after marks.Assign ts ≡ None → compound_next ts ≡ None → stepping_next ts ≡ Some (j, q, us) → named z e ≡ Some (n, p)
-    → Reads (NActRest ss e z) ts (Ok (stepped j n p q, us))
+    → Reads (NActRest w r e z) ts (Ok (stepped j n p q, us))
 act_rest_after h0 h1 h2 h3 = reads (rw (h0, act_rest_step, h1, h2, h3) give)
 
-pub act_rest_after_none : {ss : List Token} {e : Expression} {z : End} {ts : List Token} {j : Mark} {q : Place} {us : List Token}
+pub act_rest_after_none : {w : Bool} {r : Place} {e : Expression} {z : End} {ts : List Token} {j : Mark} {q : Place} {us : List Token}
     → after marks.Assign ts ≡ None → compound_next ts ≡ None → stepping_next ts ≡ Some (j, q, us) → named z e ≡ None
-    → Reads (NActRest ss e z) ts (Err (Left ts))
+    → Reads (NActRest w r e z) ts (Err (Left ts))
 act_rest_after_none h0 h1 h2 h3 = reads (rw (h0, act_rest_step, h1, h2, h3) fail)
 
-pub act_rest_call : {ss : List Token} {e : Expression} {z : End} {ts : List Token} → after marks.Assign ts ≡ None → compound_next ts ≡ None
-    → stepping_next ts ≡ None → is_call z ≡ true → Reads (NActRest ss e z) ts (Ok (done ss e, ts))
+pub act_rest_call : {w : Bool} {r : Place} {e : Expression} {z : End} {ts : List Token} → after marks.Assign ts ≡ None → compound_next ts ≡ None
+    → stepping_next ts ≡ None → is_call z ≡ true → Reads (NActRest w r e z) ts (Ok (done w r e, ts))
 act_rest_call h0 h1 h2 h3 = reads (rw (h0, act_rest_step, h1, h2, h3) give)
 
-pub act_rest_none : {ss : List Token} {e : Expression} {z : End} {ts : List Token} → after marks.Assign ts ≡ None → compound_next ts ≡ None
-    → stepping_next ts ≡ None → is_call z ≡ false → Reads (NActRest ss e z) ts (Err (Left ts))
+pub act_rest_none : {w : Bool} {r : Place} {e : Expression} {z : End} {ts : List Token} → after marks.Assign ts ≡ None → compound_next ts ≡ None
+    → stepping_next ts ≡ None → is_call z ≡ false → Reads (NActRest w r e z) ts (Err (Left ts))
 act_rest_none h0 h1 h2 h3 = reads (rw (h0, act_rest_step, h1, h2, h3) fail)
 
 pub tested_is_fails : {ts : List Token} {p : Place} {us : List Token} {fl : Fault} → after marks.OpenRound ts ≡ Some (p, us)

@@ -1,15 +1,15 @@
 -- Mirror. What each fault of the parser says of the tokens.
-use Rattle.std.specs.Prelude.{◌≡◌, ℕ, ◌≤◌, List, length}
+use Rattle.std.specs.Prelude.{◌≡◌, ℕ, ◌≤◌, List}
 use Rattle.java_lex.specs.declared.Token.{Token}
-use Rattle.java_tree.specs.Syntax.{DeclTree}
-use Rattle.java_tree.specs.Declarations.{Derives}
 use Rattle.java_tree.specs.Nesting.{nesting_of, IsTooDeep}
+use Rattle.java_parse.specs.Beginnings.{IsExact}
 use Rattle.java_parse.specs.declared.ParseFault.{ParseFault}
 use Rattle.java_parse.specs.declared.ParseFault.TheVariants as faults
 
--- why it comes: no tree derives the tokens, which are not nested too deep; or this token is the first that goes too deep
+-- why it comes: the tokens are not nested too deep, and this is the first that cannot stand where it does; or this token is
+-- the first that goes too deep
 abbrev pub IsCause : List Token → ParseFault → Type 0
-IsCause ts (faults.NotAProgram k) = (nesting_of ts ≤ 128) × (k ≤ length ts) × ((tree : List DeclTree) → Derives ts tree → ⊥)
+IsCause ts (faults.NotAProgram k) = (nesting_of ts ≤ 128) × IsExact ts k
 IsCause ts (faults.TooDeep k) = IsTooDeep ts k
 IsCause ts faults.Memory = Unit {0}
 

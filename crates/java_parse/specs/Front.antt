@@ -13,8 +13,8 @@ use Rattle.java_tree.specs.declared.TypeBase.{TypeBase}
 use Rattle.java_tree.specs.declared.TypeBase.TheVariants as bases
 use Rattle.java_tree.specs.declared.TypeName.{TypeName}
 use Rattle.java_tree.specs.Syntax.{Expression, IntLit, CharLit, StrLit, BoolLit, NullLit, ThisRef, NameRef, BinaryOf, Expressions, no_more, and_more, Statement, AssignOf, DoOf, PrintOf, Statements, no_statements, and_then, Arms, no_arms, and_arm}
-use Rattle.java_tree.specs.Tokens.{level, is_sign, compound, stepping, is_modifier, casts, first_place}
-use Rattle.java_tree.specs.Statements.{printed}
+use Rattle.java_tree.specs.Tokens.{level, is_sign, compound, stepping, is_modifier, casts}
+use Rattle.java_tree.specs.Statements.{printed_by}
 use Rattle.java_parse.specs.declared.End.{End}
 use Rattle.java_parse.specs.declared.End.TheVariants as ends
 use denote.Enum.Bare.{sameb}
@@ -102,26 +102,34 @@ abbrev pub base_next : List Token → Option (TypeBase × Place × List Token)
 base_next [] = None
 base_next (t ∷ ts) = base_by t.kind t.place ts
 
--- which types may stand in the round brackets of a cast, by what follows the bracket
-abbrev pub may_cast : TypeBase → List Token → Bool
-may_cast bases.Int ts = true
-may_cast bases.Char ts = true
-may_cast bases.Boolean ts = false
-may_cast (bases.Named n) ts = casts ts
+-- a keyword at q that opens a cast behind the bracket at p: the type, the place of the bracket and the rest
+abbrev pub opens_by : TokenKind → Place → Place → List Token → Option (TypeName × Place × List Token)
+opens_by (kinds.Key keys.Int) q p ts = Some (record { base = bases.Int; dim = 0; place = q }, p, ts)
+opens_by (kinds.Key keys.Char) q p ts = Some (record { base = bases.Char; dim = 0; place = q }, p, ts)
+opens_by _ q p ts = None
 
--- a cast to a type, once its closing bracket was looked for: the type, the place p of the opening one, the rest
-abbrev pub cast_end : TypeBase → Place → Place → Option (Place × List Token) → Option (TypeName × Place × List Token)
-cast_end b q p None = None
-cast_end b q p (Some c) = if may_cast b c.1 then Some (record { base = b; dim = 0; place = q }, p, c.1) else None
+-- the same of the tokens behind the bracket at p
+abbrev pub opens_behind : Place → List Token → Option (TypeName × Place × List Token)
+opens_behind p [] = None
+opens_behind p (t ∷ ts) = opens_by t.kind t.place p ts
 
--- a cast behind its opening bracket at p, once a type was looked for there
-abbrev pub cast_by : Place → Option (TypeBase × Place × List Token) → Option (TypeName × Place × List Token)
+-- a round bracket and `int` or `char`, which open a cast: the type, the place of the bracket and what follows the type
+abbrev pub opens_cast : List Token → Option (TypeName × Place × List Token)
+opens_cast ts = elim (after marks.OpenRound ts) [ None ↦ None | Some a ↦ opens_behind a.0 a.1 ]
+
+-- a cast to a name, once its closing bracket was looked for: the type, the place p of the opening one, the rest
+abbrev pub cast_end : List ℕ → Place → Place → Option (Place × List Token) → Option (TypeName × Place × List Token)
+cast_end n q p None = None
+cast_end n q p (Some c) = if casts c.1 then Some (record { base = bases.Named n; dim = 0; place = q }, p, c.1) else None
+
+-- a cast behind its opening bracket at p, once a name was looked for there
+abbrev pub cast_by : Place → Option (List ℕ × Place × List Token) → Option (TypeName × Place × List Token)
 cast_by p None = None
 cast_by p (Some b) = cast_end b.0 b.1 p (after marks.CloseRound b.2)
 
--- a type in round brackets that casts what follows: the type, the place of the bracket and the rest
+-- a name in round brackets that casts what follows: the type, the place of the bracket and the rest
 abbrev pub cast_next : List Token → Option (TypeName × Place × List Token)
-cast_next ts = elim (after marks.OpenRound ts) [ None ↦ None | Some a ↦ cast_by a.0 (base_next a.1) ]
+cast_next ts = elim (after marks.OpenRound ts) [ None ↦ None | Some a ↦ cast_by a.0 (word_next a.1) ]
 
 -- a literal or `this`
 abbrev pub literal_by : TokenKind → Place → List Token → Option (Expression × List Token)
@@ -216,9 +224,9 @@ abbrev pub done_by : Place → Expression → Option (Bool × Option Expression)
 done_by p e None = DoOf e p
 done_by p e (Some x) = PrintOf x.0 x.1 p
 
--- a call as a statement: what it prints where its tokens say so, or else a `Do`
-abbrev pub done : List Token → Expression → Statement
-done ts e = done_by (first_place ts) e (printed ts e)
+-- a call as a statement, whose first token stands at p and is a name or not: what it prints, or else a `Do`
+abbrev pub done : Bool → Place → Expression → Statement
+done w p e = done_by p e (if w then printed_by e else None)
 
 -- whether a token is `]`
 abbrev pub is_close : TokenKind → Bool

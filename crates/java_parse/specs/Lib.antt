@@ -7,5 +7,6 @@ pub mod Reading
 pub mod Seen
 pub mod Prints
 pub mod Stacks
+pub mod Beginnings
 pub mod Faults
 pub mod OneAnswer

@@ -18,11 +18,11 @@ abbrev pub IsAnswer : List Token → Result (List DeclTree) ParseFault → Type 
 IsAnswer tokens (Ok tree) = IsPlaced tokens tree × (nesting_of tokens ≤ 128)
 IsAnswer tokens (Err fault) = IsCause tokens fault
 
--- the same fault, the number of NotAProgram aside, or memory was short
+-- the same fault, or memory was short
 abbrev pub AreOneFault : ParseFault → ParseFault → Type 0
 AreOneFault faults.Memory g = Unit {0}
 AreOneFault f faults.Memory = Unit {0}
-AreOneFault (faults.NotAProgram j) (faults.NotAProgram k) = Unit {0}
+AreOneFault (faults.NotAProgram j) (faults.NotAProgram k) = j ≡ k
 AreOneFault (faults.TooDeep j) (faults.TooDeep k) = j ≡ k
 AreOneFault f g = ⊥
 

@@ -12,7 +12,7 @@ use Rattle.java_tree.specs.Tokens.{level}
 use Rattle.java_parse.specs.declared.End.{End}
 use Rattle.java_parse.specs.declared.End.TheVariants as ends
 use Rattle.java_parse.specs.Want.{NExpr, NMore, NPrefixed, NPost, NAtom, NSuper, NNew, NSized, NDims, NTail, NArgs, NMoreArgs, Step, Give, Fail, Ask}
-use Rattle.java_parse.specs.Front.{after, after_key, word_next, operator, instance_next, least_next, sign_next, cast_next, base_next, literal_next, index_next, expr_snoc}
+use Rattle.java_parse.specs.Front.{after, after_key, word_next, operator, instance_next, least_next, sign_next, opens_cast, cast_next, base_next, literal_next, index_next, expr_snoc}
 
 -- an expression of at least the level l: a first operand, and operators with theirs behind it
 abbrev pub expr_step : ℕ → List Token → Step Expression
@@ -37,9 +37,15 @@ prefixed_step ts = elim (least_next ts) [
   | Some w1 ↦ Give (IntLit (negsuc 2147483647) w1.0) w1.1
   | None ↦ elim (sign_next ts) [
     | Some w2 ↦ Ask NPrefixed w2.2 (λ x3 r4. Give (UnaryOf w2.0 x3 w2.1) r4)
-    | None ↦ elim (cast_next ts) [
-      | Some w5 ↦ Ask NPrefixed w5.2 (λ x6 r7. Give (CastOf w5.0 x6 w5.1) r7)
-      | None ↦ Ask NPost ts (λ x8 r9. Give x8.0 r9)
+    | None ↦ elim (opens_cast ts) [
+      | Some w5 ↦ elim (after marks.CloseRound w5.2) [
+        | Some w6 ↦ Ask NPrefixed w6.1 (λ x7 r8. Give (CastOf w5.0 x7 w5.1) r8)
+        | None ↦ Fail w5.2
+      ]
+      | None ↦ elim (cast_next ts) [
+        | Some w9 ↦ Ask NPrefixed w9.2 (λ x10 r11. Give (CastOf w9.0 x10 w9.1) r11)
+        | None ↦ Ask NPost ts (λ x12 r13. Give x12.0 r13)
+      ]
     ]
   ]
 ]

@@ -1,10 +1,13 @@
 -- Mirror. How statements are read from the left, with one token of look-ahead.
-use Rattle.std.specs.Prelude.{List, Option, Some, None, true, false}
+use Rattle.std.specs.Prelude.{List, Option, Some, None, Bool, true, false}
+use Rattle.kaba_base.specs.declared.Place.{Place}
 use Rattle.kaba_base.specs.declared.words.Keyword.TheVariants as keys
 use Rattle.java_lex.specs.declared.Token.{Token}
 use Rattle.java_lex.specs.declared.Mark.TheVariants as marks
 use Rattle.java_tree.specs.Syntax.{Expression, NameRef, BinaryOf, Statement, LocalOf, BlockOf, AssignOf, IfOf, WhileOf, ForOf, ReturnOf, BreakOf, ContinueOf, Statements, no_statements, Arms, no_arms, Else, no_else, otherwise, OptionalStatement, absent, present}
-use Rattle.java_tree.specs.Statements.{as_body}
+use Rattle.java_tree.specs.Tokens.{first_place}
+use Rattle.java_tree.specs.Statements.{as_body, is_word}
+use Rattle.java_tree.specs.Nesting.{next_is}
 use Rattle.java_parse.specs.declared.End.{End}
 use Rattle.java_parse.specs.Want.{NExpr, NPost, NType, NInit, NLocal, NValue, NAct, NActRest, NTested, NItem, NItems, NStmt, NForHead, NFirst, NStep, NBranches, Step, Give, Fail, Ask}
 use Rattle.java_parse.specs.Front.{after, after_key, word_next, stmt_snoc, arm_snoc, final_of, stepping_next, compound_next, named, is_target, is_call, stepped, done, starts_local, start, SBlock, SEmpty, SIf, SWhile, SFor, SReturn, SBreak, SContinue, SOther}
@@ -37,12 +40,12 @@ act_step ts = elim (stepping_next ts) [
     | Some w2 ↦ Give (stepped w1.0 w2.0 w2.1 w1.1) w2.2
     | None ↦ Fail w1.2
   ]
-  | None ↦ Ask NPost ts (λ x3 r4. Ask (NActRest ts x3.0 x3.1) r4 Give)
+  | None ↦ Ask NPost ts (λ x3 r4. Ask (NActRest (next_is is_word ts) (first_place ts) x3.0 x3.1) r4 Give)
 ]
 
--- the rest of such a statement with the tokens ss, of which the expression e has been read
-abbrev pub act_rest_step : List Token → Expression → End → List Token → Step Statement
-act_rest_step ss e z ts = elim (after marks.Assign ts) [
+-- the rest of such a statement, of which the expression e has been read, with its first token at p, a name or not
+abbrev pub act_rest_step : Bool → Place → Expression → End → List Token → Step Statement
+act_rest_step w p e z ts = elim (after marks.Assign ts) [
   | Some w1 ↦ elim (is_target z) [
     | true ↦ Ask (NExpr 1) w1.1 (λ x2 r3. Give (AssignOf e x2 w1.0) r3)
     | false ↦ Fail ts
@@ -58,7 +61,7 @@ act_rest_step ss e z ts = elim (after marks.Assign ts) [
         | None ↦ Fail ts
       ]
       | None ↦ elim (is_call z) [
-        | true ↦ Give (done ss e) ts
+        | true ↦ Give (done w p e) ts
         | false ↦ Fail ts
       ]
     ]

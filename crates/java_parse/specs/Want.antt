@@ -1,7 +1,7 @@
 -- Mirror. What the reader reads, and a reading as plain data: it gives a tree and the rest, or fails at a rest, or asks
 -- for a
 -- part and goes on with it.
-use Rattle.std.specs.Prelude.{ℕ, List, Option}
+use Rattle.std.specs.Prelude.{ℕ, List, Option, Bool}
 use Rattle.kaba_base.specs.declared.Place.{Place}
 use Rattle.kaba_base.specs.declared.words.Keyword.{Keyword}
 use Rattle.java_lex.specs.declared.Token.{Token}
@@ -32,7 +32,7 @@ pub data Want : Type 0 where
   NLocal : Want
   NValue : Want
   NAct : Want
-  NActRest : List Token → Expression → End → Want
+  NActRest : Bool → Place → Expression → End → Want
   NTested : Want
   NItem : Want
   NItems : Statements → Want
@@ -79,7 +79,7 @@ Val NInit = Option Expression
 Val NLocal = Statement
 Val NValue = Option Expression
 Val NAct = Statement
-Val (NActRest ss e z) = Statement
+Val (NActRest w p e z) = Statement
 Val NTested = Expression
 Val NItem = Statement
 Val (NItems ss) = Statements

@@ -152,7 +152,7 @@ fn place_of(tokens: &[Token]) -> Place
 
 /// The statement that a call is; `start` are the tokens from its first on.
 pub fn finished(start: &[Token], call: Expr) -> Stmt
-    ensures value { stmt_of result ≡ done start.now (expr_of call) }
+    ensures value { stmt_of result ≡ done (next_is is_word start.now) (first_place start.now) (expr_of call) }
 {
     let place = place_of(start);
     if begins_word(start) {

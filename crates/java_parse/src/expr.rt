@@ -12,8 +12,8 @@ ghost use Rattle.java_parse.specs.Reading.{Reads};
 ghost use Rattle.java_parse.specs.Seen.{base_seen, seen, seen_post};
 
 use crate::front::{
-    base_at, cast_at, index_at, instance_at, key_at, least_at, literal_at, mark_at, operator_at,
-    sign_at, word_at,
+    base_at, cast_at, cast_opened_at, index_at, instance_at, key_at, least_at, literal_at, mark_at,
+    operator_at, sign_at, word_at,
 };
 use crate::parts::{
     Base, base_of, call_of, call_on_of, cast_of, field_of, instance_of_named, literal_of, name_of,
@@ -118,6 +118,12 @@ fn prefixed(alloc: Global, tokens: &[Token]) -> Result<(Expr, &[Token]), Stop<'_
     if let Some((mark, place, rest)) = sign_at(tokens) {
         let (value, rest) = prefixed(alloc, rest)?;
         let whole = unary(alloc, mark, value, place)?;
+        return Ok((whole, rest));
+    }
+    if let Some((base, at, place, behind)) = cast_opened_at(tokens) {
+        found!((_, rest) = mark_at(Mark::CloseRound, behind), behind);
+        let (value, rest) = prefixed(alloc, rest)?;
+        let whole = cast_of(alloc, base, at, value, place)?;
         return Ok((whole, rest));
     }
     if let Some((base, at, place, rest)) = cast_at(tokens) {

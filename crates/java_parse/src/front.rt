@@ -7,8 +7,8 @@ ghost use Rattle.std.specs.Borrow.{Bor};
 ghost use Rattle.java_lex.specs.declared.Token.{Token};
 ghost use Rattle.java_lex.specs.declared.Mark.{Mark};
 ghost use Rattle.java_tree.specs.Tokens.{casts};
-ghost use Rattle.java_parse.specs.Front.{may_cast, after, after_key, word_next, operator, instance_next, least_next, sign_next, cast_next, base_next, literal_next, index_next, final_of, modifier_next};
-ghost use Rattle.java_parse.specs.Seen.{base_seen, seen_at, seen_two, seen_word, seen_one, seen_base, seen_cast, seen_literal};
+ghost use Rattle.java_parse.specs.Front.{after, after_key, word_next, operator, instance_next, least_next, sign_next, opens_cast, cast_next, base_next, literal_next, index_next, final_of, modifier_next};
+ghost use Rattle.java_parse.specs.Seen.{seen_at, seen_two, seen_word, seen_one, seen_base, seen_cast, seen_literal};
 
 use crate::End;
 use crate::parts::{Base, Literal};
@@ -155,27 +155,34 @@ pub fn makes_cast(tokens: &[Token]) -> bool
     false
 }
 
-// Whether this type in round brackets may cast what follows.
-fn casts_to(base: &Base<'_>, tokens: &[Token]) -> bool
-    ensures value { result ≡ may_cast (base_seen base.now) tokens.now }
+/// A round bracket and `int` or `char` behind it, which open a cast: the type, its place, that of the
+/// bracket, and what follows the type.
+pub fn cast_opened_at(tokens: &[Token]) -> Option<(Base<'_>, Place, Place, &[Token])>
+    ensures value { option_map seen_cast result ≡ opens_cast tokens.now }
+    ensures shorter { IfSome result (λ x. length x.3.now < length tokens.now) }
 {
-    match base {
-        Base::Int | Base::Char => true,
-        Base::Boolean => false,
-        Base::Named(_) => makes_cast(tokens),
+    let (open, inner) = mark_at(Mark::OpenRound, tokens)?;
+    if let [first, rest @ ..] = inner {
+        let place = first.place;
+        return match first.kind {
+            TokenKind::Key(Keyword::Int) => Some((Base::Int, place, open, rest)),
+            TokenKind::Key(Keyword::Char) => Some((Base::Char, place, open, rest)),
+            _ => None,
+        };
     }
+    None
 }
 
-/// A type in round brackets that casts what follows it: the type, its place and that of the bracket.
+/// A name in round brackets that casts what follows it: the type, its place and that of the bracket.
 pub fn cast_at(tokens: &[Token]) -> Option<(Base<'_>, Place, Place, &[Token])>
     ensures value { option_map seen_cast result ≡ cast_next tokens.now }
     ensures shorter { IfSome result (λ x. length x.3.now < length tokens.now) }
 {
     let (open, inner) = mark_at(Mark::OpenRound, tokens)?;
-    let (base, place, behind) = base_at(inner)?;
+    let (found, place, behind) = word_at(inner)?;
     let (_, rest) = mark_at(Mark::CloseRound, behind)?;
-    if casts_to(&base, rest) {
-        return Some((base, place, open, rest));
+    if makes_cast(rest) {
+        return Some((Base::Named(found), place, open, rest));
     }
     None
 }

@@ -151,7 +151,8 @@ impl<'a, T: Drop> From<AllocFailed<T>> for Stop<'a> {
 /// Why a list of tokens has no tree.
 #[derive(Clone, Copy, Debug, PartialEq, Eq, Error)]
 pub enum ParseFault {
-    /// The tokens are no program of the grammar. The number is one from 0 to their count.
+    /// The tokens are no program of the grammar. The token of this number, counted from 0, is the first that cannot stand
+    /// where it does, whatever follows; the number is the count of the tokens where each can.
     #[error("not a program")]
     NotAProgram(u32),
     /// After this token, counted from 0, the nesting stack first holds more than 128 entries.
@@ -166,7 +167,8 @@ pub enum ParseFault {
 /// the subset's part).
 ///
 /// `TooDeep(k)` comes exactly where the nesting stack holds more than 128 entries after token `k`,
-/// `k` the least; otherwise `NotAProgram` exactly where no tree derives the tokens. Only `Memory`
+/// `k` the least; otherwise `NotAProgram(k)` exactly where no tree derives the tokens, `k` the least
+/// number such that the tokens 0 to `k` begin no program, or the count of the tokens. Only `Memory`
 /// may come at any time.
 pub fn parse(alloc: Global, tokens: &Vec<Token>) -> Result<Tree, ParseFault>
     requires room { length tokens.now.items < 4294967295 }
@@ -196,7 +198,7 @@ pub fn parse(alloc: Global, tokens: &Vec<Token>) -> Result<Tree, ParseFault>
 
 /// The contract of `parse` has one result. A list of tokens has at most one tree, places aside. Two
 /// answers that meet the clauses `found`, `nested` and `refused` are the same tree with the same
-/// places or the same fault, want of memory and the number of `NotAProgram` aside.
+/// places or the same fault, want of memory aside.
 pub fn one_tree()
     ensures tree { OneTree }
     ensures answer { OneAnswer }

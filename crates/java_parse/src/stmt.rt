@@ -8,6 +8,9 @@ ghost use Rattle.java_lex.specs.declared.Token.{Token};
 ghost use Rattle.java_lex.specs.declared.Mark.TheVariants as marks;
 ghost use Rattle.java_tree.specs.declared.Stmt.{Stmt};
 ghost use Rattle.java_tree.specs.Syntax.{expr_of, stmt_of, stmts, value_of, step_seen, no_statements, no_arms};
+ghost use Rattle.java_tree.specs.Nesting.{next_is};
+ghost use Rattle.java_tree.specs.Statements.{is_word};
+ghost use Rattle.java_tree.specs.Tokens.{first_place};
 ghost use Rattle.java_parse.specs.Front.{done, stepped};
 ghost use Rattle.java_parse.specs.Want.{NInit, NLocal, NValue, NAct, NActRest, NTested, NItem, NItems, NStmt, NForHead, NFirst, NStep, NBranches};
 ghost use Rattle.java_parse.specs.Reading.{Reads};
@@ -109,7 +112,7 @@ fn act_rest<'a>(
     tokens: &'a [Token],
 ) -> Result<(Stmt, &'a [Token]), Stop<'a>>
     requires room { length tokens.now < 2 ^ 32 }
-    ensures reads { Reads (NActRest start.now (expr_of first) end) tokens.now (seen stmt_of result) }
+    ensures reads { Reads (NActRest (next_is is_word start.now) (first_place start.now) (expr_of first) end) tokens.now (seen stmt_of result) }
     ensures shorter { IfOk result (λ x. length x.1.now ≤ length tokens.now) }
 {
     if let Some((place, inner)) = mark_at(Mark::Assign, tokens) {

@@ -1,4 +1,4 @@
--- A text is refused, or it is that of one program; it is refused in one way, but for what may be told of names, of types and of tokens.
+-- A text is refused, or it is that of one program; it is refused in one way, but for what may be told of names and of types.
 use Rattle.std.proofs.Common.{◌≡◌, inl, inr, ℕ, ◌≤◌, List, Result, Ok, Err, refl, sym, ap, ◌∙◌, subst, arith, codes}
 use Rattle.java_lex.specs.declared.Token.{Token}
 use Rattle.java_lex.specs.Lexing.{tokens_of}
@@ -6,7 +6,9 @@ use Rattle.java_tree.specs.Syntax.{DeclTree}
 use Rattle.java_tree.specs.Declarations.{IsPlaced, Derives}
 use Rattle.java_tree.specs.Nesting.{IsTooDeep, nesting_of}
 use Rattle.java_parse.proofs.CompleteDeclarations.{one_placed}
+use Rattle.java_parse.specs.Beginnings.{IsExact}
 use Rattle.java_parse.proofs.Deep.{deep_nested, one_deep}
+use Rattle.java_parse.proofs.Exact.{exact_once}
 use Rattle.java_core.specs.declared.Program.{Program}
 use Rattle.java_core.specs.Programs.{Plain, program_of}
 use Rattle.java_core.specs.Typing.{IsTyped}
@@ -67,7 +69,7 @@ module _ (bytes : List ℕ) where
   unfolding IsRefusedText
   not_both s o e P (inl a) t = ok_no_err (sym t.has.read.lexed ∙ a.lexed)
   not_both s o e P (inr (inl a)) t = too_deep a.tokens a.token a.lexed a.deep t.has.read.tokens t.has.read.lexed t.has.read.nested
-  not_both s o e P (inr (inr (inl a))) t = no_tree a.tokens a.lexed a.none t.tree t.has.read
+  not_both s o e P (inr (inr (inl a))) t = no_tree a.tokens a.lexed a.exact.none t.tree t.has.read
   not_both s o e P (inr (inr (inr (inl a)))) t = no_names a.tree t.tree a.why a.read a.condition t.has.read t.has.none
   not_both s o e P (inr (inr (inr (inr a)))) t = a.untyped (subst IsTyped (one_resolved t.tree a.tree P (program_of a.program) t.has a.has) t.typed)
 
@@ -105,22 +107,27 @@ module _ (bytes : List ℕ) where
       absurd (too_deep a.tokens a.token a.lexed a.deep b.has.read.tokens b.has.read.lexed b.has.read.nested)
   one_refusal s t o p e f (inr (inr (inl a))) (inl b) = absurd (ok_no_err (sym a.lexed ∙ b.lexed))
   one_refusal s t o p e f (inr (inr (inl a))) (inr (inl b)) = absurd (too_deep b.tokens b.token b.lexed b.deep a.tokens a.lexed a.nested)
-  one_refusal s t o p e f (inr (inr (inl a))) (inr (inr (inl b))) = free s t o p e f _ _ a.says b.says (inl (a, b))
-  one_refusal s t o p e f (inr (inr (inl a))) (inr (inr (inr (inl b)))) = absurd (no_tree a.tokens a.lexed a.none b.tree b.read)
-  one_refusal s t o p e f (inr (inr (inl a))) (inr (inr (inr (inr b)))) = absurd (no_tree a.tokens a.lexed a.none b.tree b.has.read)
+  one_refusal s t o p e f (inr (inr (inl a))) (inr (inr (inl b))) =
+      let ts = ok_same (sym a.lexed ∙ b.lexed) in
+      let k = exact_once b.tokens a.token b.token (subst (λ z. IsExact z a.token) ts a.exact) b.exact in
+      said 65 (refused (at_token (codes "NotAProgram") a.token (line_of bytes a.token a.tokens)))
+      (refused (at_token (codes "NotAProgram") b.token (line_of bytes b.token b.tokens)))
+      (λ i. refused (at_token (codes "NotAProgram") (k i) (line_of bytes (k i) (ts i)))) s t o p e f a.says b.says
+  one_refusal s t o p e f (inr (inr (inl a))) (inr (inr (inr (inl b)))) = absurd (no_tree a.tokens a.lexed a.exact.none b.tree b.read)
+  one_refusal s t o p e f (inr (inr (inl a))) (inr (inr (inr (inr b)))) = absurd (no_tree a.tokens a.lexed a.exact.none b.tree b.has.read)
   one_refusal s t o p e f (inr (inr (inr (inl a)))) (inl b) = absurd (ok_no_err (sym a.read.lexed ∙ b.lexed))
   one_refusal s t o p e f (inr (inr (inr (inl a)))) (inr (inl b)) = absurd (too_deep b.tokens b.token b.lexed b.deep a.read.tokens a.read.lexed a.read.nested)
-  one_refusal s t o p e f (inr (inr (inr (inl a)))) (inr (inr (inl b))) = absurd (no_tree b.tokens b.lexed b.none a.tree a.read)
-  one_refusal s t o p e f (inr (inr (inr (inl a)))) (inr (inr (inr (inl b)))) = free s t o p e f _ _ a.says b.says (inr (inl (a, b)))
+  one_refusal s t o p e f (inr (inr (inr (inl a)))) (inr (inr (inl b))) = absurd (no_tree b.tokens b.lexed b.exact.none a.tree a.read)
+  one_refusal s t o p e f (inr (inr (inr (inl a)))) (inr (inr (inr (inl b)))) = free s t o p e f _ _ a.says b.says (inl (a, b))
   one_refusal s t o p e f (inr (inr (inr (inl a)))) (inr (inr (inr (inr b)))) =
       absurd (no_names a.tree b.tree a.why a.read a.condition b.has.read b.has.none)
   one_refusal s t o p e f (inr (inr (inr (inr a)))) (inl b) = absurd (ok_no_err (sym a.has.read.lexed ∙ b.lexed))
   one_refusal s t o p e f (inr (inr (inr (inr a)))) (inr (inl b)) =
       absurd (too_deep b.tokens b.token b.lexed b.deep a.has.read.tokens a.has.read.lexed a.has.read.nested)
-  one_refusal s t o p e f (inr (inr (inr (inr a)))) (inr (inr (inl b))) = absurd (no_tree b.tokens b.lexed b.none a.tree a.has.read)
+  one_refusal s t o p e f (inr (inr (inr (inr a)))) (inr (inr (inl b))) = absurd (no_tree b.tokens b.lexed b.exact.none a.tree a.has.read)
   one_refusal s t o p e f (inr (inr (inr (inr a)))) (inr (inr (inr (inl b)))) =
       absurd (no_names b.tree a.tree b.why b.read b.condition a.has.read a.has.none)
-  one_refusal s t o p e f (inr (inr (inr (inr a)))) (inr (inr (inr (inr b)))) = free s t o p e f _ _ a.says b.says (inr (inr (a, b)))
+  one_refusal s t o p e f (inr (inr (inr (inr a)))) (inr (inr (inr (inr b)))) = free s t o p e f _ _ a.says b.says (inr (a, b))
 
 -- the answers for a text, where the answers for its program are one
 pub one_text : (K L : Program → ℕ → List ℕ → List ℕ → Type 0) → ((p q : Program) → program_of p ≡ program_of q → AreOneKind (K p) (L q)) → (bytes : List ℕ)

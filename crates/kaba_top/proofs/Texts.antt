@@ -8,7 +8,8 @@ use Rattle.java_lex.specs.declared.LexFault.TheVariants as lexing
 use Rattle.java_lex.specs.Lexing.{tokens_of, Gives}
 use Rattle.java_tree.specs.Nesting as nesting
 use Rattle.java_tree.specs.Syntax.{DeclTree}
-use Rattle.java_tree.specs.Declarations.{IsPlaced, Derives}
+use Rattle.java_tree.specs.Declarations.{IsPlaced}
+use Rattle.java_parse.specs.Beginnings.{IsExact}
 use Rattle.java_core.specs.declared.Program.{Program}
 use Rattle.java_core.specs.Programs.{program_of}
 use Rattle.java_core.specs.Typing.{IsTyped}
@@ -48,11 +49,11 @@ unfolding IsRefusedText
 too_deep bytes tokens k reply h d s = inr (inl (record { tokens = tokens; lexed = h; token = k; deep = d; says = s }))
 
 pub no_tree : (bytes : List ℕ) (tokens : List Token) (k : ℕ) (reply : Reply) → tokens_of bytes ≡ Ok tokens
-    → (nesting.nesting_of tokens ≤ most_nesting) × (k ≤ length tokens) × ((tree : List DeclTree) → Derives tokens tree → ⊥)
+    → (nesting.nesting_of tokens ≤ most_nesting) × IsExact tokens k
     → Says 65 (refused (at_token (codes "NotAProgram") k (line_of bytes k tokens))) reply.status reply.out.items reply.err.items
     → IsReading bytes (readings.Refused reply)
 unfolding IsRefusedText
-no_tree bytes tokens k reply h w s = inr (inr (inl (record { tokens = tokens; lexed = h; nested = w.0; none = w.2; token = k; within = w.1; says = s })))
+no_tree bytes tokens k reply h w s = inr (inr (inl (record { tokens = tokens; lexed = h; nested = w.0; token = k; exact = w.1; says = s })))
 
 -- a program that is not typed
 pub ill_typed : (program : Program) (kind : Kind) (place : Place) (reply : Reply) → IsRefused (program_of program) (IllTyped kind place)

@@ -12,14 +12,13 @@ use Rattle.kaba_words.specs.Commands.{Cmd, run, table, lattice, edit, regen, mak
 use Rattle.kaba_top.specs.Lines.{most_bytes}
 use Rattle.kaba_top.specs.TextPrograms.{IsTypedText}
 use Rattle.kaba_top.specs.TextFacts.{HasTextFacts}
-use Rattle.kaba_top.specs.Reading.{IsNoTree, IsUnresolved, IsUntyped}
+use Rattle.kaba_top.specs.Reading.{IsUnresolved, IsUntyped}
 use Rattle.kaba_top.specs.Answers.{Answers}
 
--- two refusals of a text that may differ: at which token it is no program, which condition on names holds, or which rule of types fails
+-- two refusals of a text that may differ: which condition on names holds, or which rule of types fails
 abbrev pub AreFree : List ℕ → ℕ → List ℕ → List ℕ → ℕ → List ℕ → List ℕ → Type 0
 AreFree bytes s o e t p f =
-    (IsNoTree bytes s o e × IsNoTree bytes t p f)
-    ⊎ ((IsUnresolved bytes s o e × IsUnresolved bytes t p f) ⊎ (IsUntyped bytes s o e × IsUntyped bytes t p f))
+    (IsUnresolved bytes s o e × IsUnresolved bytes t p f) ⊎ (IsUntyped bytes s o e × IsUntyped bytes t p f)
 
 -- two answers are one: the status and the bytes for out, and those for err but for such refusals
 pub record AreOne (s : ℕ) (o e : List ℕ) (t : ℕ) (p f : List ℕ) : Type 0 where

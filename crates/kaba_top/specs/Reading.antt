@@ -9,7 +9,7 @@ use Rattle.java_lex.specs.declared.LexFault.TheVariants as lexing
 use Rattle.java_lex.specs.Lexing.{tokens_of}
 use Rattle.java_tree.specs.Nesting as nesting
 use Rattle.java_tree.specs.Syntax.{DeclTree}
-use Rattle.java_tree.specs.Declarations.{Derives}
+use Rattle.java_parse.specs.Beginnings.{IsExact}
 use Rattle.java_core.specs.declared.Program.{Program}
 use Rattle.java_core.specs.Programs.{program_of}
 use Rattle.java_core.specs.Typing.{IsTyped}
@@ -114,14 +114,13 @@ pub record IsTooDeep (bytes : List ℕ) (status : ℕ) (out err : List ℕ) : Ty
   pub deep : nesting.IsTooDeep tokens token
   pub says : Says 65 (refused (at_token (codes "TooDeep") token (line_of bytes token tokens))) status out err
 
--- the tokens derive no tree
+-- the tokens derive no tree; this is the first that cannot stand where it does, or their count
 pub record IsNoTree (bytes : List ℕ) (status : ℕ) (out err : List ℕ) : Type 0 where
   pub tokens : List Token
   pub lexed : tokens_of bytes ≡ Ok tokens
   pub nested : nesting.nesting_of tokens ≤ most_nesting
-  pub none : (tree : List DeclTree) → Derives tokens tree → ⊥
   pub token : ℕ
-  pub within : token ≤ length tokens
+  pub exact : IsExact tokens token
   pub says : Says 65 (refused (at_token (codes "NotAProgram") token (line_of bytes token tokens))) status out err
 
 -- a condition that refuses names holds of the tree at the place named

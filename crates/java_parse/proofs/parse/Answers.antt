@@ -30,7 +30,7 @@ returns-in-Err-At-clause-refused c =
     let r = refused _ _ _ c.as_slice-all.ensures.value (subst (λ (s : Stop). Reads (NDecls []) c.as_slice-all.result.now (Err (fault_of s)))
     c.in-Err-At.field-0-is c.in-Err-At.ensures.reads) (c.in-Ok.ensures.shallow c.in_default-deep.is) in
     let g = ap length c.as_slice-all.ensures.value in
-    (r.nested, omega (arith, g, c.saturating_sub.ensures), r.none)
+    (r.nested, r.exact _ (let fits = r.fits in omega (arith, g, fits, c.saturating_sub.ensures)))
 
 pub returns-in-Err-At-clause-deep : goal.returns-in-Err-At-clause-deep
 returns-in-Err-At-clause-deep c =
