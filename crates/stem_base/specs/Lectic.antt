@@ -39,6 +39,10 @@ pub record IsTry (w : ℕ) (A : List Bool) (base : List Sides) (i : ℕ) (S : Li
 abbrev pub AddsNoneBelow : List Bool → ℕ → List Bool → Type 0
 AddsNoneBelow A i S = (k : ℕ) → k < i → bit S k ≡ true → bit A k ≡ true
 
+-- it does
+abbrev pub AddsBelow : List Bool → ℕ → List Bool → Type 0
+AddsBelow A i S = (k : ℕ) × (k < i) × (bit S k ≡ true) × (bit A k ≡ false)
+
 -- each set closed under the base with those has a number below i that A lacks
 abbrev pub FailsAt : ℕ → List Bool → List Sides → ℕ → Type 0
 FailsAt w A base i = (Y : List Bool) → length Y ≡ w → HasStart A i Y → IsClosedUnder base Y → (k : ℕ) × (k < i) × (bit Y k ≡ true) × (bit A k ≡ false)

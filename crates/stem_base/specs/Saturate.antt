@@ -1,5 +1,5 @@
 -- Mirror. Closing a set under implications that are kept as rows.
-use Rattle.std.specs.Prelude.{◌≡◌, ℕ, ◌<◌, Bool, true, false, List, length, slice_index_or, All}
+use Rattle.std.specs.Prelude.{◌≡◌, ℕ, ◌<◌, ◌≤◌, Bool, true, false, List, length, slice_index_or, All}
 use Rattle.std.specs.Bool.{MatchBool}
 use Rattle.kaba_bits.specs.Sets.{bit, size, IsSubset}
 use Rattle.stem_base.specs.Base.{Sides, sides_of, all_sides, Respects, IsClosedUnder}
@@ -27,6 +27,14 @@ pub record IsSaturated (base : List Sides) (old new : List Bool) : Type 0 where
   pub holds : IsSubset old new
   pub closed : IsClosedUnder base new
   pub least : IsWithinClosed (IsClosedUnder base) old new
+
+-- a round over the implications from the place n on
+pub record IsRoundDown (base : List Sides) (n : ℕ) (old new : List Bool) (grew : Bool) : Type 0 where
+  pub width : length new ≡ length old
+  pub holds : IsSubset old new
+  pub least : IsWithinClosed (IsClosedUnder base) old new
+  pub step : MatchBool grew (size old < size new) (new ≡ old)
+  pub closed : grew ≡ false → (k : ℕ) (d : Sides) → n ≤ k → k < length base → Respects old (slice_index_or base k d)
 
 -- a round over the first n implications
 pub record IsRound (base : List Sides) (n : ℕ) (old new : List Bool) (grew : Bool) : Type 0 where

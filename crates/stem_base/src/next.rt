@@ -7,29 +7,26 @@ ghost use Rattle.stem_base.specs.Base.{IsClosedUnder, all_sides};
 ghost use Rattle.stem_base.specs.Lectic.{IsStartBelow, IsTry, AddsNoneBelow, FailsAt, FailFrom, IsStepTo};
 ghost use Rattle.stem_base.specs.Saturate.{IsWide};
 
-use crate::implications::{Implication, saturate};
+use crate::implications::{Implication, closes_within};
 use kaba_bits::BitRow;
 
-/// Makes `x` the least closed set with the numbers of `a` below `i`, which are in `start`, and with `i`. Answers whether it
-/// adds no number below `i`.
+/// Makes `x` the least closed set with the numbers of `a` below `i`, which are in `start`, and with `i`, and answers
+/// whether that adds no number below `i`. Where it adds one, `x` is some part of it.
 fn tried(base: &Vec<Implication>, a: &BitRow, start: &BitRow, i: u32, x: &mut BitRow) -> bool
     requires width { length x.old ≡ length a.now }
     requires sides { All (IsWide (length a.now)) base.now.items }
     requires start { IsStartBelow a.now i start.now }
     requires i { i < length a.now }
     requires lacks { bit a.now i ≡ false }
-    ensures made { IsTry (length a.now) a.now (all_sides base.now.items) i x.new }
+    ensures width { length x.new ≡ length a.now }
+    ensures made { OnTrue result (IsTry (length a.now) a.now (all_sides base.now.items) i x.new) }
     ensures pass { OnTrue result (AddsNoneBelow a.now i x.new) }
     ensures fails { OnFalse result (FailsAt (length a.now) a.now (all_sides base.now.items) i) }
 {
     x.clear();
     x.or_into(start);
     x.set(i);
-    saturate(base, x);
-    match x.next_beyond(a, 0) {
-        Some(k) => k == i,
-        None => false,
-    }
+    closes_within(base, a, i, x)
 }
 
 /// Makes `x` the next set after `a`, if there is one. `start` is `a` before and spoilt after.

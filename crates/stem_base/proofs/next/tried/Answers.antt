@@ -1,28 +1,23 @@
 use Rattle.std.proofs.Common.{◌∙◌}
 use Rattle.stem_base.specs.Base.{all_sides}
-use Rattle.stem_base.proofs.NextLemmas.{IsTried, is_made, does_pass, does_fail}
+use Rattle.stem_base.proofs.NextLemmas.{begun, on_true, on_false, seed_adds_none, is_made, does_fail}
 use Rattle.stem_base.proofs.next.tried.Goals as goal
 
-tried_as : (c : goal.In-Some) → IsTried c.args.a.now c.args.start.now (all_sides c.args.base.now.items) c.args.i c.saturate.new.set
-tried_as c = record {
-  empty = c.clear.new.self;
-  joined = c.or_into.new.self;
-  none = c.clear.ensures.empty;
-  width = c.or_into.ensures.width ∙ c.clear.ensures.width ∙ c.requires.width;
-  join = c.or_into.ensures.join;
-  starts = c.requires.start;
-  below = c.requires.i;
-  lacks = c.requires.lacks;
-  sat = rw c.set.ensures.after at c.saturate.ensures;
-}
+pub closes_within-requires-clause-start : goal.closes_within-requires-clause-start
+closes_within-requires-clause-start c = seed_adds_none c.args.a.now c.args.start.now c.args.i c.set.new.self
+    (begun c.args.a.now c.args.start.now c.args.i c.clear.new.self c.or_into.new.self c.set.new.self c.clear.ensures.empty
+    (c.clear.ensures.width ∙ c.requires.width) c.or_into.ensures.width c.or_into.ensures.join c.requires.start c.requires.i c.set.ensures.after)
 
-pub returns-in-Some-clause-made : goal.returns-in-Some-clause-made
-returns-in-Some-clause-made c = is_made c.args.a.now c.args.start.now (all_sides c.args.base.now.items) c.args.i c.saturate.new.set (tried_as c)
+pub returns-clause-made : goal.returns-clause-made
+returns-clause-made c = on_true c.closes_within.result (is_made c.args.a.now c.args.start.now c.args.i c.set.new.self
+    (begun c.args.a.now c.args.start.now c.args.i c.clear.new.self c.or_into.new.self c.set.new.self c.clear.ensures.empty
+    (c.clear.ensures.width ∙ c.requires.width) c.or_into.ensures.width c.or_into.ensures.join c.requires.start c.requires.i c.set.ensures.after)
+    (all_sides c.args.base.now.items) c.closes_within.new.set c.closes_within.ensures.width c.closes_within.ensures.holds c.closes_within.ensures.least)
+    c.closes_within.ensures.closed
 
-pub returns-in-Some-clause-pass : goal.returns-in-Some-clause-pass
-returns-in-Some-clause-pass c =
-    does_pass c.args.a.now c.args.start.now (all_sides c.args.base.now.items) c.args.i c.saturate.new.set (tried_as c) c.in-Some.k c.in-Some.ensures
-
-pub returns-in-Some-clause-fails : goal.returns-in-Some-clause-fails
-returns-in-Some-clause-fails c =
-    does_fail c.args.a.now c.args.start.now (all_sides c.args.base.now.items) c.args.i c.saturate.new.set (tried_as c) c.in-Some.k c.in-Some.ensures
+pub returns-clause-fails : goal.returns-clause-fails
+returns-clause-fails c = on_false c.closes_within.result (does_fail c.args.a.now c.args.start.now c.args.i c.set.new.self
+    (begun c.args.a.now c.args.start.now c.args.i c.clear.new.self c.or_into.new.self c.set.new.self c.clear.ensures.empty
+    (c.clear.ensures.width ∙ c.requires.width) c.or_into.ensures.width c.or_into.ensures.join c.requires.start c.requires.i c.set.ensures.after)
+    (all_sides c.args.base.now.items) c.closes_within.new.set c.closes_within.ensures.width c.closes_within.ensures.holds c.closes_within.ensures.least)
+    c.closes_within.ensures.past
