@@ -4,7 +4,7 @@ use Rattle.std.specs.Str.{bytes_eq}
 use Rattle.std.proofs.lemmas.Bool.{false≢true}
 use Rattle.std.proofs.lemmas.Slice.Eq.{bytes_eq-Decides}
 use Rattle.std.proofs.lemmas.Fmt.{decimal_injective}
-use Rattle.kaba_words.specs.Commands.{Cmd, run, table, lattice, edit, regen, make, help, version, FitsRun, FitsLattice, NoEdit, NoMake, FitsNone, Fits, TakesFlag, TakesBound, BoundAfter, IsNumber, most_concepts, most_samples}
+use Rattle.kaba_words.specs.Commands.{Cmd, run, table, lattice, base, edit, regen, make, help, version, FitsRun, FitsLattice, NoEdit, NoMake, FitsNone, Fits, TakesFlag, TakesBound, BoundAfter, IsNumber, most_concepts, most_samples}
 
 -- two words that differ
 apart : (a b : List ℕ) → bytes_eq a b ≡ false → a ≡ b → ⊥
@@ -15,6 +15,7 @@ abbrev pub name_of : Cmd → List ℕ
 name_of (run file steps after) = codes "run"
 name_of (table file) = codes "table"
 name_of (lattice json bound file) = codes "lattice"
+name_of (base file) = codes "base"
 name_of (edit bound file script) = codes "edit"
 name_of (regen bound file script) = codes "regen"
 name_of (make prints n) = codes "make"
@@ -40,6 +41,10 @@ pub none_of_lattice : {name : List ℕ} {more : List (List ℕ)} → name ≡ co
     → FitsLattice more json bound file → ⊥) → FitsNone (name ∷ more)
 none_of_lattice e none (lattice json bound file) h = none json bound file h.1
 none_of_lattice {name} {more} e none command h = other name (codes "lattice") more command e refl h
+
+pub none_of_base : {name : List ℕ} {more : List (List ℕ)} → name ≡ codes "base" → ((file : List ℕ) → more ≡ file ∷ [] → ⊥) → FitsNone (name ∷ more)
+none_of_base e none (base file) h = none file h.1
+none_of_base {name} {more} e none command h = other name (codes "base") more command e refl h
 
 pub none_of_edit : {name : List ℕ} {more : List (List ℕ)} → name ≡ codes "edit" → NoEdit more → FitsNone (name ∷ more)
 none_of_edit e none (edit bound file script) h = none bound file script h.1

@@ -12,6 +12,7 @@ pub data Cmd : Type 0 where
   run : (file : List ℕ) (steps : ℕ) (words : List (List ℕ)) → Cmd
   table : (file : List ℕ) → Cmd
   lattice : (json : Bool) (bound : ℕ) (file : List ℕ) → Cmd
+  base : (file : List ℕ) → Cmd
   edit : (bound : ℕ) (file script : List ℕ) → Cmd
   regen : (bound : ℕ) (file script : List ℕ) → Cmd
   make : (prints : Bool) (number : ℕ) → Cmd
@@ -27,6 +28,7 @@ abbrev pub command_of : Command → Cmd
 command_of (commands.Run file steps words) = run (string_bytes file) steps (texts words.items)
 command_of (commands.Table file) = table (string_bytes file)
 command_of (commands.Lattice json bound file) = lattice json bound (string_bytes file)
+command_of (commands.Base file) = base (string_bytes file)
 command_of (commands.Edit bound file script) = edit bound (string_bytes file) (string_bytes script)
 command_of (commands.Regen bound file script) = regen bound (string_bytes file) (string_bytes script)
 command_of (commands.Make prints number) = make prints number
@@ -119,6 +121,7 @@ abbrev pub FitsArguments : List ℕ → List (List ℕ) → Cmd → Type 0
 FitsArguments name words (run file steps more) = (name ≡ codes "run") × FitsRun words file steps more
 FitsArguments name words (table file) = (name ≡ codes "table") × (words ≡ file ∷ [])
 FitsArguments name words (lattice json bound file) = (name ≡ codes "lattice") × FitsLattice words json bound file
+FitsArguments name words (base file) = (name ≡ codes "base") × (words ≡ file ∷ [])
 FitsArguments name words (edit bound file script) = (name ≡ codes "edit") × FitsEdit words bound file script
 FitsArguments name words (regen bound file script) = (name ≡ codes "regen") × FitsEdit words bound file script
 FitsArguments name words (make prints n) = (name ≡ codes "make") × FitsMake words prints n

@@ -17,6 +17,8 @@ pub enum Command {
     Table(String),
     /// `lattice [-j] [-c N] FILE`: its lattice, as JSON or not, of at most N concepts.
     Lattice(bool, u32, String),
+    /// `base FILE`: the least base of implications of the table of the file's program.
+    Base(String),
     /// `edit [-c N] FILE SCRIPT`: the hierarchy of the file's program after the edits of the script.
     Edit(u32, String, String),
     /// `regen [-c N] FILE SCRIPT`: the program that is written of that hierarchy, once its classes are a tree.
@@ -182,6 +184,17 @@ fn read_table(alloc: Global, mut arguments: Arguments<'_>) -> Result<Command, Wo
     Ok(Command::Table(made!(String::from_str(alloc, file))))
 }
 
+/// The command `base`, of which the words after its name are left.
+fn read_base(alloc: Global, mut arguments: Arguments<'_>) -> Result<Command, WordsFault>
+    ensures command { IfOk result (λ command. Fits (codes "base" ∷ texts arguments.entry.words.now) (command_of command)) }
+    ensures usage { result ≡ Err WordsFault.Usage → (file : List ℕ) → texts arguments.entry.words.now ≡ file ∷ [] → ⊥ }
+{
+    let Some(file) = arguments.last() else {
+        return Err(WordsFault::Usage);
+    };
+    Ok(Command::Base(made!(String::from_str(alloc, file))))
+}
+
 /// The number after `-c`.
 fn read_count(alloc: Global, arguments: &mut Arguments<'_>) -> Result<u32, WordsFault>
     ensures bound { IfOk result (λ n. BoundAfter true (texts arguments.old.words.now) n (texts arguments.new.words.now)) }
@@ -278,6 +291,7 @@ fn read_named(alloc: Global, name: &str, arguments: Arguments<'_>) -> Result<Com
         "run" => read_run(alloc, arguments),
         "table" => read_table(alloc, arguments),
         "lattice" => read_lattice(alloc, arguments),
+        "base" => read_base(alloc, arguments),
         "edit" => read_edit(alloc, false, arguments),
         "regen" => read_edit(alloc, true, arguments),
         "make" => read_make(alloc, arguments),

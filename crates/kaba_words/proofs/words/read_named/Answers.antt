@@ -1,4 +1,4 @@
-use Rattle.kaba_words.proofs.Patterns.{none_of_run, none_of_table, none_of_lattice, none_of_edit, none_of_regen, none_of_make}
+use Rattle.kaba_words.proofs.Patterns.{none_of_run, none_of_table, none_of_lattice, none_of_base, none_of_edit, none_of_regen, none_of_make}
 use Rattle.kaba_words.proofs.words.read_named.Goals as goal
 
 pub returns-in-run-clause-usage : goal.returns-in-run-clause-usage
@@ -9,6 +9,9 @@ returns-in-table-clause-usage c = λ h. none_of_table c.in-table.is (c.read_tabl
 
 pub returns-in-lattice-clause-usage : goal.returns-in-lattice-clause-usage
 returns-in-lattice-clause-usage c = λ h. none_of_lattice c.in-lattice.is (c.read_lattice.ensures.usage h)
+
+pub returns-in-base-clause-usage : goal.returns-in-base-clause-usage
+returns-in-base-clause-usage c = λ h. none_of_base c.in-base.is (c.read_base.ensures.usage h)
 
 pub returns-in-edit-clause-usage : goal.returns-in-edit-clause-usage
 returns-in-edit-clause-usage c = λ h. none_of_edit c.in-edit.is (c.read_edit.ensures.usage h)

@@ -1,0 +1,16 @@
+mod SetLemmas
+mod Pseudo
+mod TableLemmas
+mod Least
+mod Laws
+mod OrderLemmas
+mod SaturateLemmas
+mod Worked
+mod WorkedLemmas
+mod NextLemmas
+mod FoundLemmas
+mod StemLemmas
+mod RisingOrder
+mod SortLemmas
+mod BaseLemmas
+mod Uniqueness
