@@ -1,16 +1,16 @@
 -- What is found on the way through all kept sets of a table.
-use Rattle.std.proofs.Common.{◌≡◌, ◌≢◌, ◌⊎◌, inl, inr, ⊎_elim, ℕ, suc, zero, ◌+◌, ◌<◌, ◌≤◌, Bool, true, false, cond, List, [], ◌∷◌, ◌++◌, length, get_or, All, AllPairs, Contains, refl, sym, ap, ◌∙◌, subst, arith}
+use Rattle.std.proofs.Common.{◌≡◌, ◌≢◌, inl, inr, ⊎_elim, ℕ, suc, zero, ◌+◌, ◌<◌, Bool, true, false, cond, List, [], ◌∷◌, ◌++◌, length, get_or, Contains, refl, sym, ap, ◌∙◌, subst, arith}
 use Rattle.std.proofs.lemmas.Bool.{cases_lt, false≢true}
 use Rattle.std.proofs.lemmas.List.Elements.{All-push, Contains-append_left, Contains-push}
 use Rattle.std.proofs.lemmas.List.Quantifiers.{all_pairs_push}
-use Rattle.kaba_bits.specs.Sets.{bit, size, IsSubset, IsEmpty}
+use Rattle.kaba_bits.specs.Sets.{bit, IsSubset, IsEmpty}
 use Rattle.kaba_bits.proofs.SetLemmas.{empty-size, subset-both}
 use Rattle.stem_base.specs.Base.{Sides, common, IsPseudo}
-use Rattle.stem_base.specs.Lectic.{Precedes, IsUpTo, IsKeptSet, AreUpTo, FailFrom, IsStepTo}
+use Rattle.stem_base.specs.Lectic.{Precedes, IsUpTo, IsKeptSet, FailFrom, IsStepTo}
 use Rattle.stem_base.specs.Found.{AreBefore, AreNoted, AreStemsFound, power_of_two, lectic_rank}
 use Rattle.stem_base.proofs.TableLemmas.{common_wide, common_holds, common_grows}
 use Rattle.stem_base.proofs.Pseudo.{from_said}
-use Rattle.stem_base.proofs.OrderLemmas.{three, never_both, apart_from, pseudo_kept, none_after, next_before, next_is_kept, next_is_least}
+use Rattle.stem_base.proofs.OrderLemmas.{three, never_both, pseudo_kept, none_after, next_before, next_is_kept, next_is_least}
 
 trans : (A B C : List Bool) → Precedes A B → Precedes B C → Precedes A C
 trans A B C a b = ⊎_elim
@@ -50,6 +50,7 @@ lectic_rank-before (x ∷ A) (y ∷ B) l b = by (λ c. lectic_rank-before A B (o
   where
     same : length A ≡ length B
     same = omega (arith, l)
+
     by : (Precedes A B → lectic_rank A < lectic_rank B) → (n : ℕ) → b.at ≡ n → lectic_rank (x ∷ A) < lectic_rank (y ∷ B)
     by go zero e =
         let f : x ≡ false = subst (λ k. bit (x ∷ A) k ≡ false) e b.lacks in
@@ -100,7 +101,7 @@ module _ (T : List (List Bool)) (w : ℕ) where
     pub noted_push : AreBefore w (common T w) A base → (IsSubset (common T w A) A → ⊥) → AreNoted w (common T w) A (base ++ (A, common T w A) ∷ [])
     noted_push b more =
         let p : IsPseudo w (common T w) A = from_said w (common T w) wide holds grows A kept.len
-            (λ e. more (subst (λ (X : List Bool). IsSubset X A) e (λ i h. h))) (λ Q q sub lt. kept.stems Q q sub lt) in
+        (λ e. more (subst (λ (X : List Bool). IsSubset X A) e (λ i h. h))) (λ Q q sub lt. kept.stems Q q sub lt) in
         record {
           upto = record {
             each = All-push (λ r. IsPseudo w (common T w) r.0 × (r.1 ≡ common T w r.0) × IsUpTo r.0 A) base (A, common T w A)
@@ -144,8 +145,8 @@ module _ (T : List (List Bool)) (w : ℕ) where
           rising = n.rising;
           complete = λ P p b. ⊎_elim (λ e. n.upto.complete P p (inl e)) (λ o. ⊎_elim (λ c. n.upto.complete P p (inr c))
               (λ c. absurd (⊎_elim
-                (λ same. false≢true (sym b.lacks ∙ subst (λ (X : List Bool). bit X b.at ≡ true) same b.has))
-                (λ d. never_both P S b d)
-                (next_is_least w (common T w) wide holds grows A kept.len base n.upto S x P (pseudo_kept w (common T w) wide holds grows P p) c))) o)
+              (λ same. false≢true (sym b.lacks ∙ subst (λ (X : List Bool). bit X b.at ≡ true) same b.has))
+              (λ d. never_both P S b d)
+              (next_is_least w (common T w) wide holds grows A kept.len base n.upto S x P (pseudo_kept w (common T w) wide holds grows P p) c))) o)
               (three P A (p.0 ∙ sym kept.len));
         }

@@ -1,16 +1,14 @@
 -- No list of implications with the two properties is shorter than the base.
-use Rattle.std.proofs.Common.{◌≡◌, ◌≢◌, ◌⊎◌, inl, inr, ⊎_elim, ℕ, suc, zero, ◌<◌, ◌≤◌, ◌↔◌, Bool, true, false, not, ◌&&◌, if◌then◌else◌, eqb, List, [], ◌∷◌, length, map, get_or, All, AllPairs, Contains, refl, sym, ap, ◌∙◌, subst, arith}
-use Rattle.std.specs.Bool.{Decides}
-use Rattle.std.specs.List.{list_any, IsDistinct}
-use Rattle.std.proofs.lemmas.Bool.{cases_Bool, false≢true, true≢false, and_parts, eqb-true, or_cases}
+use Rattle.std.proofs.Common.{◌≡◌, ◌≢◌, ◌⊎◌, inl, inr, ⊎_elim, ℕ, suc, zero, ◌<◌, ◌≤◌, Bool, true, false, not, ◌&&◌, if◌then◌else◌, eqb, List, [], ◌∷◌, length, map, get_or, All, AllPairs, refl, sym, ap, ◌∙◌, subst, arith}
+use Rattle.std.specs.List.{list_any}
+use Rattle.std.proofs.lemmas.Bool.{cases_Bool, false≢true, and_parts, eqb-true}
 use Rattle.std.proofs.lemmas.Bool.Decides.{Decides-eqb}
-use Rattle.std.proofs.lemmas.List.{length-map, get_or_default}
-use Rattle.std.proofs.lemmas.List.Elements.{All-contains}
+use Rattle.std.proofs.lemmas.List.{length-map}
 use Rattle.std.proofs.lemmas.Map.Steps.{length-le_from_distinct_below}
 use Rattle.std.proofs.lemmas.Map.Made.{IsDistinct-from_AllPairs}
 use Rattle.std.proofs.lemmas.Map.Views.{Contains-from_any}
-use Rattle.kaba_bits.specs.Sets.{bit, size, IsSubset}
-use Rattle.stem_base.specs.Base.{Sides, Respects, IsClosedUnder, is_subset, IsPseudo, IsStemBase}
+use Rattle.kaba_bits.specs.Sets.{IsSubset}
+use Rattle.stem_base.specs.Base.{Sides, IsClosedUnder, is_subset, IsPseudo}
 use Rattle.stem_base.proofs.SetLemmas.{subset_is, is_subset_from}
 use Rattle.stem_base.proofs.Pseudo.{apart}
 
@@ -70,7 +68,6 @@ module _ (w : ℕ) (cl : List Bool → List Bool)
     (grows : (X Y : List Bool) → IsSubset X Y → IsSubset (cl X) (cl Y))
     (L : List Sides) (sound : All (λ r. IsSubset r.1 (cl r.0)) L)
     (closed : (X : List Bool) → length X ≡ w → IsClosedUnder L X → X ≡ cl X) where
-
   breaks_some : (P : List Bool) → IsPseudo w cl P → IsBroken P L
   breaks_some P p = ⊎_elim (λ b. b) (λ a. absurd (p.1 (closed P p.0 (λ k d lt. respected P (get_or L k d) (a k d lt))))) (found P L)
 
@@ -106,9 +103,9 @@ module _ (w : ℕ) (cl : List Bool → List Bool)
   shortest base all differ =
       let len = length-map base (λ r. find r.0 L) in
       let distinct = IsDistinct-from_AllPairs Decides-eqb (places base) (λ i j d ij jlt.
-          let jb : j < length base = omega (arith, jlt, len) in
-          let ib : i < length base = omega (arith, ij, jb) in
-          let ne = apart_places (get_or base i none).0 (get_or base j none).0 (all i none ib) (all j none jb) (differ i j none ij jb) in
-          λ e. ne (sym (place_at base i d ib) ∙ (e ∙ place_at base j d jb))) in
+      let jb : j < length base = omega (arith, jlt, len) in
+      let ib : i < length base = omega (arith, ij, jb) in
+      let ne = apart_places (get_or base i none).0 (get_or base j none).0 (all i none ib) (all j none jb) (differ i j none ij jb) in
+      λ e. ne (sym (place_at base i d ib) ∙ (e ∙ place_at base j d jb))) in
       let le = length-le_from_distinct_below (places base) (length L) distinct (within base all) in
       omega (arith, le, len)

@@ -1,11 +1,11 @@
 -- The lectically next set that is closed or pseudo-closed.
-use Rattle.std.proofs.Common.{◌≡◌, ◌≢◌, ◌⊎◌, inl, inr, ⊎_elim, ℕ, suc, zero, ◌<◌, ◌≤◌, Bool, true, false, List, [], ◌∷◌, length, get_or, All, Contains, refl, sym, ap, ◌∙◌, subst, arith}
-use Rattle.std.proofs.lemmas.Bool.{cases_Bool, false≢true, cases_lt, cases_eq}
-use Rattle.kaba_bits.specs.Sets.{bit, size, IsSubset}
-use Rattle.kaba_bits.proofs.SetLemmas.{bit-below, size-subset, subset-same, same_bits}
+use Rattle.std.proofs.Common.{◌≡◌, ◌≢◌, ◌⊎◌, inl, inr, ⊎_elim, ℕ, suc, zero, ◌<◌, ◌≤◌, Bool, true, false, List, [], ◌∷◌, length, get_or, refl, sym, ap, ◌∙◌, subst, arith}
+use Rattle.std.proofs.lemmas.Bool.{cases_Bool, false≢true, cases_lt}
+use Rattle.kaba_bits.specs.Sets.{bit, IsSubset}
+use Rattle.kaba_bits.proofs.SetLemmas.{bit-below, size-subset}
 use Rattle.stem_base.specs.Base.{Sides, Respects, IsClosedUnder, IsPseudo}
 use Rattle.stem_base.specs.Lectic.{Precedes, IsUpTo, IsKeptSet, AreUpTo, HasStart, IsTry, AddsNoneBelow, FailsAt, FailFrom, IsStepTo}
-use Rattle.stem_base.proofs.Pseudo.{same_or_less, inner, closed_if}
+use Rattle.stem_base.proofs.Pseudo.{same_or_less, inner}
 
 -- ---- the order
 more : (x : Bool) (A B : List Bool) → Precedes A B → Precedes (x ∷ A) (x ∷ B)
@@ -54,7 +54,6 @@ module _ (w : ℕ) (cl : List Bool → List Bool)
     (wide : (X : List Bool) → length X ≡ w → length (cl X) ≡ w)
     (holds : (X : List Bool) → length X ≡ w → IsSubset X (cl X))
     (grows : (X Y : List Bool) → IsSubset X Y → IsSubset (cl X) (cl Y)) where
-
   pub pseudo_kept : (P : List Bool) → IsPseudo w cl P → IsKeptSet w cl P
   pseudo_kept P p = record { len = p.0; stems = λ Q q sub lt. inner w cl wide holds grows P Q p q sub lt }
 
@@ -77,7 +76,6 @@ module _ (w : ℕ) (cl : List Bool → List Bool)
 
     module _ (i : ℕ) (S : List Bool) (t : IsTry w A base i S) (pass : AddsNoneBelow A i S) (notA : bit A i ≡ false)
         (none : FailFrom w A base (suc i)) where
-
       pub comes_after : Precedes A S
       comes_after = record {
         at = i;
@@ -104,18 +102,18 @@ module _ (w : ℕ) (cl : List Bool → List Bool)
         len = t.len;
         stems = λ Q q sub lt.
             let in_base : IsUpTo Q A → IsSubset (cl Q) S = λ u.
-                let c = up.complete Q q u in
-                let d = t.closed c.0 (Q, cl Q) c.1 in
-                let e : Respects S (Q, cl Q) = subst (λ (r : Sides). Respects S r) c.2 d in e sub in
+            let c = up.complete Q q u in
+            let d = t.closed c.0 (Q, cl Q) c.1 in
+            let e : Respects S (Q, cl Q) = subst (λ (r : Sides). Respects S r) c.2 d in e sub in
             ⊎_elim (λ e. in_base (inl e))
             (λ o. ⊎_elim (λ b. in_base (inr b))
             (λ b.
-              let k = pseudo_kept Q q in
-              ⊎_elim
-              (λ less. absurd (false≢true (sym b.lacks ∙ pass b.at less (sub b.at b.has))))
-              (λ ge. let e : b.at ≡ i = omega (arith, ge, not_above Q k b) in absurd (
-                  let le = size-subset S Q (holds_try Q k b e) in omega (arith, le, lt)))
-              (cases_lt b.at i))
+            let k = pseudo_kept Q q in
+            ⊎_elim
+            (λ less. absurd (false≢true (sym b.lacks ∙ pass b.at less (sub b.at b.has))))
+            (λ ge. let e : b.at ≡ i = omega (arith, ge, not_above Q k b) in absurd (
+            let le = size-subset S Q (holds_try Q k b e) in omega (arith, le, lt)))
+            (cases_lt b.at i))
             o)
             (three Q A (q.0 ∙ sym lenA));
       }

@@ -1,10 +1,10 @@
 -- Pseudo-closed sets of a closure operator, and the three laws over any such operator.
-use Rattle.std.proofs.Common.{◌≡◌, ◌≢◌, ◌⊎◌, inl, inr, ⊎_elim, ℕ, suc, zero, ◌+◌, ◌<◌, ◌≤◌, ◌↔◌, Bool, true, false, List, [], ◌∷◌, length, get_or, All, Contains, refl, sym, ap, ◌∙◌, subst, arith}
-use Rattle.std.proofs.lemmas.Bool.{cases_Bool, false≢true, cases_lt}
-use Rattle.kaba_bits.specs.Sets.{bit, size, IsSubset}
+use Rattle.std.proofs.Common.{◌≡◌, ◌≢◌, ◌⊎◌, inl, inr, ⊎_elim, ℕ, suc, zero, ◌<◌, ◌≤◌, Bool, List, length, sym, ap, ◌∙◌, subst, arith}
+use Rattle.std.proofs.lemmas.Bool.{cases_lt}
+use Rattle.kaba_bits.specs.Sets.{size, IsSubset}
 use Rattle.kaba_bits.proofs.SetLemmas.{size-le-length, size-subset, subset-same, subset-both}
 use Rattle.stem_base.proofs.SetLemmas.{length-in_both, in_both-left, in_both-right, in_both-most}
-use Rattle.stem_base.specs.Base.{in_both, Sides, Respects, IsClosedUnder, IsPseudoIn, IsPseudo, IsStemBase}
+use Rattle.stem_base.specs.Base.{in_both, Sides, IsPseudoIn, IsPseudo}
 
 -- two sets of one width, the first within the second, are one or the first is smaller
 pub same_or_less : (a b : List Bool) → length a ≡ length b → IsSubset a b → (a ≡ b) ⊎ (size a < size b)
@@ -14,7 +14,6 @@ module _ (w : ℕ) (cl : List Bool → List Bool)
     (wide : (X : List Bool) → length X ≡ w → length (cl X) ≡ w)
     (holds : (X : List Bool) → length X ≡ w → IsSubset X (cl X))
     (grows : (X Y : List Bool) → IsSubset X Y → IsSubset (cl X) (cl Y)) where
-
   -- more steps tell the same
   stable : (k m n : ℕ) (P : List Bool) → size P < k → size P < m → size P < n → IsPseudoIn m w cl P → IsPseudoIn n w cl P
   stable zero m n P a b c h = absurd (omega (arith, a))
@@ -51,17 +50,17 @@ module _ (w : ℕ) (cl : List Bool → List Bool)
       let lenM : length M ≡ w = length-in_both P Q ∙ p.0 in
       let same = p.0 ∙ sym q.0 in
       let within : (A B : List Bool) → IsPseudo w cl A → IsPseudo w cl B → IsSubset A B → A ≢ B → IsSubset r.0 A → IsSubset r.1 B =
-          λ A B a b sub other inA. ⊎_elim (λ e. absurd (other e))
-          (λ lt i h. inner B A b a sub lt i (grows r.0 A inA i (true_there i h)))
-          (same_or_less A B (a.0 ∙ sym b.0) sub) in
+      λ A B a b sub other inA. ⊎_elim (λ e. absurd (other e))
+      (λ lt i h. inner B A b a sub lt i (grows r.0 A inA i (true_there i h)))
+      (same_or_less A B (a.0 ∙ sym b.0) sub) in
       ⊎_elim
       (λ e. notQ (within P Q p q (subst (λ (X : List Bool). IsSubset X Q) e (in_both-right P Q)) ne inP))
       (λ ltP. ⊎_elim
       (λ e. notP (within Q P q p (subst (λ (X : List Bool). IsSubset X P) e (in_both-left P Q)) (λ f. ne (sym f)) inQ))
       (λ ltQ.
       let closed : M ≡ cl M = closed_if M lenM (λ R s sub. in_both-most P Q (cl R)
-          (inner P R p s (λ i h. in_both-left P Q i (sub i h)) (omega (arith, ltP, size-subset R M sub)))
-          (inner Q R q s (λ i h. in_both-right P Q i (sub i h)) (omega (arith, ltQ, size-subset R M sub)))) in
+      (inner P R p s (λ i h. in_both-left P Q i (sub i h)) (omega (arith, ltP, size-subset R M sub)))
+      (inner Q R q s (λ i h. in_both-right P Q i (sub i h)) (omega (arith, ltQ, size-subset R M sub)))) in
       notP (λ i h. in_both-left P Q i (subst (λ (X : List Bool). IsSubset (cl M) X) (sym closed) (λ i h. h) i (grows r.0 M (in_both-most P Q r.0 inP inQ) i (true_there i h)))))
       (same_or_less M Q (lenM ∙ sym q.0) (in_both-right P Q)))
       (same_or_less M P (lenM ∙ sym p.0) (in_both-left P Q))

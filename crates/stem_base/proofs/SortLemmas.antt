@@ -1,10 +1,10 @@
 -- Implications in lectic order, turned round and sorted by size, stand in the order of the base.
-use Rattle.std.proofs.Common.{◌≡◌, ◌≢◌, ⊎_elim, ℕ, ◌+◌, ◌-◌, ◌<◌, ◌≤◌, Bool, true, false, eqb, List, length, map, get_or, All, AllPairs, refl, sym, ap, ◌∙◌, subst, arith, Ordering}
+use Rattle.std.proofs.Common.{◌≡◌, ◌≢◌, ⊎_elim, ℕ, ◌+◌, ◌-◌, ◌<◌, ◌≤◌, false, eqb, List, length, map, get_or, All, AllPairs, refl, sym, ap, ◌∙◌, subst, arith, Ordering}
 use Rattle.std.specs.declared.cmp.Ordering.TheVariants.{Less, Equal, Greater}
 use Rattle.std.specs.Ordering.{nat_cmp, ordering_then, ordering_reverse, is_lt}
 use Rattle.std.specs.Cmp.{nat_cmp_is}
 use Rattle.std.specs.Cmp.Lexicographic.{slice_cmp}
-use Rattle.std.specs.List.Sorted.{IsSortedBy, IsSortedByKey, IsStableByKey, IsPermutation, IsNonDecreasingBy}
+use Rattle.std.specs.List.Sorted.{IsSortedBy, IsSortedByKey, IsStableByKey, IsPermutation}
 use Rattle.std.specs.List.{ReversedBelow}
 use Rattle.std.specs.FinSet.{nat_cmp-IsAntisymmetric, slice_cmp-IsAntisymmetric}
 use Rattle.std.proofs.lemmas.Bool.{cases_lt, cases_Bool, true≢false, false≢true, eq-eqb, eqb-true}
@@ -106,8 +106,8 @@ module _ (w : ℕ) where
         ⊎_elim
         (λ same. absurd (differ k (k + 1) d (omega arith) lt same))
         (λ o. ⊎_elim
-          (λ before. absurd (let r = lectic_rank-before a.left b.left (la ∙ sym lb) before in let q = lectic_rank-lt b.left in let t = ap power_of_two lb in omega (arith, r, q, t, m)))
-          (λ before. by_rising (sides_of a) (sides_of b) e (rising_less a.left b.left (la ∙ sym lb) e before)) o)
+        (λ before. absurd (let r = lectic_rank-before a.left b.left (la ∙ sym lb) before in let q = lectic_rank-lt b.left in let t = ap power_of_two lb in omega (arith, r, q, t, m)))
+        (λ before. by_rising (sides_of a) (sides_of b) e (rising_less a.left b.left (la ∙ sym lb) e before)) o)
         (three a.left b.left (la ∙ sym lb)))
         (cases_lt (size a.left) (size b.left))
 
@@ -120,10 +120,10 @@ module _ (w : ℕ) where
         let b = get_or zs j x in
         let lt = λ (x y : Implication). is_lt (implication_cmp (sides_of x) (sides_of y)) in
         let up : IsSortedBy lt zs = λ k e low kl.
-            ap is_lt (implication_cmp-total.antisymm (sides_of (get_or zs (k + 1) e)) (sides_of (get_or zs k e)) ∙ ap ordering_reverse (near k e kl)) in
+        ap is_lt (implication_cmp-total.antisymm (sides_of (get_or zs (k + 1) e)) (sides_of (get_or zs k e)) ∙ ap ordering_reverse (near k e kl)) in
         let far = sorted_far lt (ranks_by implication_cmp-total sides_of) zs up i j x (omega (arith, ij)) jz in
         let less = turned (sides_of a) (sides_of b) (implication_cmp (sides_of b) (sides_of a)) refl far
-            (λ e. differ i j x ij jz (sym (same_left (sides_of b) (sides_of a) (wide j x jz ∙ sym (wide i x (omega (arith, ij, jz)))) e))) in
+        (λ e. differ i j x ij jz (sym (same_left (sides_of b) (sides_of a) (wide j x jz ∙ sym (wide i x (omega (arith, ij, jz)))) e))) in
         let pa : get_or (all_sides zs) i d ≡ sides_of a = get_or-map sides_of zs i x d (omega (arith, ij, jz)) in
         let pb : get_or (all_sides zs) j d ≡ sides_of b = get_or-map sides_of zs j x d jz in
         subst (λ (r : Sides). implication_cmp r (get_or (all_sides zs) j d) ≡ Less) (sym pa) (subst (λ (r : Sides). implication_cmp (sides_of a) r ≡ Less) (sym pb) less)
@@ -138,14 +138,14 @@ unfolding lectic_ranks
 differ_still w xs zs up wide p i j d ij jlt e =
     let f = λ (x : Implication). lectic_rank x.left in
     let apart : AllPairs (λ m n. m ≢ n) (lectic_ranks xs) = λ k l m kl lt.
-        let len = length-map xs f in
-        let ll : l < length xs = omega (arith, lt, len) in
-        let r = lectic_rank-before (get_or xs k d).left (get_or xs l d).left (wide k d (omega (arith, kl, ll)) ∙ sym (wide l d ll)) (up k l d kl ll) in
-        let a = get_or-map f xs k d m (omega (arith, kl, ll)) in
-        let b = get_or-map f xs l d m ll in
-        λ same. absurd (omega (arith, r, a, b, same)) in
+    let len = length-map xs f in
+    let ll : l < length xs = omega (arith, lt, len) in
+    let r = lectic_rank-before (get_or xs k d).left (get_or xs l d).left (wide k d (omega (arith, kl, ll)) ∙ sym (wide l d ll)) (up k l d kl ll) in
+    let a = get_or-map f xs k d m (omega (arith, kl, ll)) in
+    let b = get_or-map f xs l d m ll in
+    λ same. absurd (omega (arith, r, a, b, same)) in
     let still = AllPairs-from_IsDistinct Decides-eqb (lectic_ranks zs) (IsDistinct-IsPermutation eqb flips (lectic_ranks xs) (lectic_ranks zs) (IsPermutation-map f xs zs p)
-        (IsDistinct-from_AllPairs Decides-eqb (lectic_ranks xs) apart)) in
+    (IsDistinct-from_AllPairs Decides-eqb (lectic_ranks xs) apart)) in
     let len = length-map zs f in
     still i j 0 ij (omega (arith, jlt, len)) (get_or-map f zs i d 0 (omega (arith, ij, jlt)) ∙ (ap lectic_rank e ∙ sym (get_or-map f zs j d 0 jlt)))
 
@@ -157,10 +157,10 @@ sort_ends xs ys zs up widths back p q sorted stable =
     let len = length-map xs sides_of in
     let at = λ (k : ℕ) (d : Implication) (lt : k < length xs). get_or-map sides_of xs k d (sides_of d) lt in
     let wide : All (λ (x : Implication). length x.left ≡ w) xs = λ k d lt.
-        subst (λ (r : Sides). length r.0 ≡ w) (at k d lt) (widths.1 k (sides_of d) (omega (arith, lt, len))) in
+    subst (λ (r : Sides). length r.0 ≡ w) (at k d lt) (widths.1 k (sides_of d) (omega (arith, lt, len))) in
     let before : AllPairs (λ (x y : Implication). Precedes x.left y.left) xs = λ i j d ij lt.
-        subst (λ (r : Sides). Precedes r.0 (get_or xs j d).left) (at i d (omega (arith, ij, lt)))
-        (subst (λ (r : Sides). Precedes (get_or (all_sides xs) i (sides_of d)).0 r.0) (at j d lt) (up i j (sides_of d) ij (omega (arith, lt, len)))) in
+    subst (λ (r : Sides). Precedes r.0 (get_or xs j d).left) (at i d (omega (arith, ij, lt)))
+    (subst (λ (r : Sides). Precedes (get_or (all_sides xs) i (sides_of d)).0 r.0) (at j d lt) (up i j (sides_of d) ij (omega (arith, lt, len)))) in
     let all = IsPermutation-trans xs ys zs p q in
     let falls = turned_round w xs ys before wide back (length_permutation xs ys p) in
     in_order w ys zs falls stable sorted (All-permutation (λ (x : Implication). length x.left ≡ w) xs zs all wide) (differ_still w xs zs before wide all)

@@ -1,9 +1,9 @@
 -- A list that the test tells is the base; and the base of the worked table, by computing.
-use Rattle.std.proofs.Common.{◌≡◌, ◌≢◌, ◌⊎◌, inl, inr, ⊎_elim, ℕ, suc, zero, ◌<◌, ◌≤◌, Bool, true, false, ◌&&◌, ◌||◌, not, nat_lt, List, [], ◌∷◌, length, get_or, All, AllPairs, Contains, refl, sym, ap, ◌∙◌, subst, arith}
+use Rattle.std.proofs.Common.{◌≡◌, ⊎_elim, ℕ, suc, zero, ◌<◌, Bool, true, false, ◌&&◌, ◌||◌, not, nat_lt, List, [], ◌∷◌, length, Contains, refl, sym, ap, ◌∙◌, subst, arith}
 use Rattle.std.proofs.lemmas.Bool.{cases_Bool, false≢true, and_parts, or_cases, or_left, or_right, ltb-true, lt-ltb}
 use Rattle.std.specs.List.{AllByRecursion}
 use Rattle.std.proofs.lemmas.List.Elements.{All-contains, All-from_recursion}
-use Rattle.kaba_bits.specs.Sets.{bit, size, IsSubset}
+use Rattle.kaba_bits.specs.Sets.{size, IsSubset}
 use Rattle.kaba_bits.proofs.SetLemmas.{subset-both}
 use Rattle.stem_base.specs.Base.{Sides, is_subset, common, IsPseudo}
 use Rattle.stem_base.proofs.Worked.{same_set, is_listed, holds_lesser, is_stem_by, same_truth, each_set, tells_base, table, table_base}
@@ -96,18 +96,18 @@ module _ (T : List (List Bool)) (w : ℕ) where
     both zero P lt l = absurd (omega (arith, lt))
     both (suc n) P lt l = (
       λ h.
-        let t = and_parts (not (same_set P (common T w P))) (holds_lesser base P) (sym (said P l) ∙ h) in
-        from_said w (common T w) (λ X len. common_wide T w X) (λ X len. common_holds T w X len) (λ X Y s. common_grows T w X Y s) P l
-        (λ e. false≢true (sym (ap not (same_set_from P)) ∙ subst (λ (X : List Bool). not (same_set P X) ≡ true) (sym e) t.0))
-        (λ Q q sub less. lesser_has base P Q fits q.0 t.1 ((both n Q (omega (arith, less, lt)) q.0).1 q) sub less),
+          let t = and_parts (not (same_set P (common T w P))) (holds_lesser base P) (sym (said P l) ∙ h) in
+          from_said w (common T w) (λ X len. common_wide T w X) (λ X len. common_holds T w X len) (λ X Y s. common_grows T w X Y s) P l
+          (λ e. false≢true (sym (ap not (same_set_from P)) ∙ subst (λ (X : List Bool). not (same_set P X) ≡ true) (sym e) t.0))
+          (λ Q q sub less. lesser_has base P Q fits q.0 t.1 ((both n Q (omega (arith, less, lt)) q.0).1 q) sub less),
       λ p.
-        let holds = lesser_from base P fits (λ r c sub less.
-            let f = fit_of r c in
-            let q = (both n r.0 (omega (arith, less, lt)) f.0).0 (listed_of base r c) in
-            subst (λ (X : List Bool). IsSubset X P) (sym f.1)
-            (inner w (common T w) (λ X len. common_wide T w X) (λ X len. common_holds T w X len) (λ X Y s. common_grows T w X Y s) P r.0 p q sub less)) in
-        let differs = ⊎_elim (λ t. absurd (p.1 (same_set_is P (common T w P) (l ∙ sym (common_wide T w P)) t))) (λ f. ap not f) (cases_Bool (same_set P (common T w P))) in
-        said P l ∙ both_true (not (same_set P (common T w P))) (holds_lesser base P) differs holds,
+          let holds = lesser_from base P fits (λ r c sub less.
+          let f = fit_of r c in
+          let q = (both n r.0 (omega (arith, less, lt)) f.0).0 (listed_of base r c) in
+          subst (λ (X : List Bool). IsSubset X P) (sym f.1)
+          (inner w (common T w) (λ X len. common_wide T w X) (λ X len. common_holds T w X len) (λ X Y s. common_grows T w X Y s) P r.0 p q sub less)) in
+          let differs = ⊎_elim (λ t. absurd (p.1 (same_set_is P (common T w P) (l ∙ sym (common_wide T w P)) t))) (λ f. ap not f) (cases_Bool (same_set P (common T w P))) in
+          said P l ∙ both_true (not (same_set P (common T w P))) (holds_lesser base P) differs holds,
     )
 
     -- the list has exactly the pseudo-closed sets on its left sides

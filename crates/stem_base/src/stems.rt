@@ -9,9 +9,9 @@ ghost use Rattle.stem_base.specs.Lectic.{Precedes, IsKeptSet};
 ghost use Rattle.stem_base.specs.Found.{narrowed, AreBefore, AreNoted, AreStemsFound};
 ghost use Rattle.stem_base.specs.Faults.{IsBaseFault};
 
-use crate::next::next_set;
 use crate::BaseFault;
 use crate::implications::Implication;
+use crate::next::next_set;
 use kaba_bits::{BitRow, row_at};
 use std::alloc::{AllocError, Global};
 use std::mem::swap;
@@ -28,7 +28,12 @@ fn narrow(out: &mut BitRow, row: &BitRow, set: &BitRow)
 }
 
 /// The columns common to the rows that have all of a set.
-fn closure_of(alloc: Global, table: &[BitRow], width: u32, set: &BitRow) -> Result<BitRow, AllocError>
+fn closure_of(
+    alloc: Global,
+    table: &[BitRow],
+    width: u32,
+    set: &BitRow,
+) -> Result<BitRow, AllocError>
     requires rows { HasWidth width table.now }
     requires set { length set.now ≡ width }
     ensures { IfOk result (λ r. r ≡ common table.now width set.now) }
@@ -67,7 +72,12 @@ fn note(
 }
 
 /// The implications of all pseudo-closed sets, or one more than the bound of them.
-fn found_stems(alloc: Global, table: &[BitRow], width: u32, bound: u32) -> Result<Vec<Implication>, AllocError>
+fn found_stems(
+    alloc: Global,
+    table: &[BitRow],
+    width: u32,
+    bound: u32,
+) -> Result<Vec<Implication>, AllocError>
     requires rows { HasWidth width table.now }
     ensures { IfOk result (λ v. AreStemsFound width (common table.now width) bound (all_sides v.items)) }
 {
@@ -88,7 +98,12 @@ fn found_stems(alloc: Global, table: &[BitRow], width: u32, bound: u32) -> Resul
 }
 
 /// The least base of the implications of a table, if it has no more than the bound.
-pub fn stem_of(alloc: Global, table: &[BitRow], width: u32, bound: u32) -> Result<Vec<Implication>, BaseFault>
+pub fn stem_of(
+    alloc: Global,
+    table: &[BitRow],
+    width: u32,
+    bound: u32,
+) -> Result<Vec<Implication>, BaseFault>
     requires rows { HasWidth width table.now }
     ensures base { IfOk result (λ v. IsStemBase width (common table.now width) (all_sides v.items)) }
     ensures within { IfOk result (λ v. length v.items ≤ bound) }
