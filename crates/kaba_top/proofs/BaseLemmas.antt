@@ -31,12 +31,12 @@ many_concepts facts table (Ok reply) is more h = record { table = table; is = is
 pub few_concepts : (facts : Facts) (table : Table) (lattice : Lattice) (r : Result Reply AllocError) → IsTable facts table → IsLatticeOf table lattice
     → length lattice.concepts.items ≤ usual_concepts → IfOk r (λ reply. StemsOf table reply.status reply.out.items reply.err.items)
     → IfOk r (λ reply. BaseOf facts reply.status reply.out.items reply.err.items)
-few_concepts facts table lattice (Err e) is of within h = tt
-few_concepts facts table lattice (Ok reply) is of within h = record {
+few_concepts facts table lattice (Err e) is good within h = tt
+few_concepts facts table lattice (Ok reply) is good within h = record {
   table = table;
   is = is;
   answers = inr (record {
-    few = λ more. not_both table.rows.items table.width usual_concepts lattice.concepts.items of within more;
+    few = λ more. not_both table.rows.items table.width usual_concepts lattice.concepts.items good within more;
     answers = h;
   });
 }

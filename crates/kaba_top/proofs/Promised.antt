@@ -118,7 +118,7 @@ module _ (status : ℕ) (out err : List ℕ) (j : IsJudging status) where
         facts_are = text_facts p F facts;
         least = a.is;
         is = are_a_base a.table.rows.items a.table.width shown.base shown.is;
-        none_shorter = λ other of. none_shorter a.table.rows.items a.table.width shown.base other shown.is of;
+        none_shorter = λ other good. none_shorter a.table.rows.items a.table.width shown.base other shown.is good;
         shown_is = shown.gives.out_is;
       }
     ]
