@@ -33,6 +33,7 @@ sys.exit(done.returncode)
 # Words, of which the program says `usage` or not.
 WORDS = [
     *("", "-h", "runn x", "run", "run x", "run x y", "run x 01", "run x 1000000001", "run x 5 a b", "table", "table a b"),
+    *("base", "base f", "base -c 5 f", "base f g"),
     *("lattice", "lattice -j", "lattice -j -c 0 f", "lattice -c 5 -j f", "lattice -c", "lattice -c 5", "lattice f -j"),
     *("edit f", "edit f g h", "edit -c 20000 f g", "edit f g -c 5", "edit -c f g", "regen f", "make", "make 0", "make 101"),
     *("make -p", "make 5 -p", "make -p 2", "--help x", "--version x", "--help", "lattice -j -j", "lattice -j f -c 5"),

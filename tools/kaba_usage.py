@@ -8,15 +8,16 @@ FORMS = {
     "run": "run FILE STEPS WORD..",
     "table": "table FILE",
     "lattice": "lattice [-j] [-c N] FILE",
+    "base": "base FILE",
     "edit": "edit [-c N] FILE SCRIPT",
     "regen": "regen [-c N] FILE SCRIPT",
     "make": "make [-p] NUMBER",
     "--help": "--help",
     "--version": "--version",
 }
-FILES = {"run": 1, "table": 1, "lattice": 1, "edit": 2, "regen": 2}
+FILES = {"run": 1, "table": 1, "lattice": 1, "base": 1, "edit": 2, "regen": 2}
 MEANT = {"-h": "--help", "-help": "--help", "help": "--help", "-v": "--version", "-V": "--version"}
-MEANT |= {"version": "--version", "write": "regen", "split": "edit", "analyse": "lattice", "analyze": "lattice"}
+MEANT |= {"version": "--version", "implications": "base", "write": "regen", "split": "edit", "analyse": "lattice", "analyze": "lattice"}
 
 
 def is_number(word, least, most):

@@ -9,17 +9,18 @@ use Rattle.java_run.specs.Outcomes.{meant}
 use Rattle.fact_model.specs.declared.facts.Facts.{Facts}
 use Rattle.flow_rules.specs.Facts.{IsWithin}
 use Rattle.edit_script.specs.declared.lines.Line.{Line}
-use Rattle.kaba_words.specs.Commands.{Cmd, run, table, lattice, edit, regen, make, help, version}
+use Rattle.kaba_words.specs.Commands.{Cmd, run, table, lattice, base, edit, regen, make, help, version, usual_concepts}
 use Rattle.kaba_top.specs.TextPrograms.{IsTypedText}
 use Rattle.kaba_top.specs.TextFacts.{HasTextFacts}
 use Rattle.kaba_top.specs.Reading.{TextAnswers}
 use Rattle.kaba_top.specs.RunAnswers.{EndGives, RunAnswers}
 use Rattle.kaba_top.specs.FactsAnswers.{HasFacts, AnalysisAnswers, TableOf, LatticeOf}
+use Rattle.kaba_top.specs.BaseAnswers.{BaseOf}
 use Rattle.kaba_top.specs.ScriptAnswers.{HasLattice, ScriptAnswers, refusals}
 use Rattle.kaba_top.specs.EditAnswers.{ShowsHierarchy, EditOf}
 use Rattle.kaba_top.specs.RegenAnswers.{IsRegeneration, RegenOf}
 use Rattle.kaba_top.specs.Answers.{FileAnswers, EditAnswers, RegenAnswers, CommandAnswers}
-use Rattle.kaba_top.specs.OneAnswer.{OfSmallFile, IsTaken, IsTakenWithin, HasFewConcepts, IsTakenFor, IsAcceptedScript, IsReady, IsDoneWith, IsComplete}
+use Rattle.kaba_top.specs.OneAnswer.{OfSmallFile, IsTaken, IsTakenWithin, HasFewConcepts, IsTakenFor, HasFewImplications, IsTakenForBase, IsAcceptedScript, IsReady, IsDoneWith, IsComplete}
 use Rattle.kaba_top.proofs.OneCommand.{one_command}
 use Rattle.kaba_top.proofs.OneText.{one_program, not_both}
 use Rattle.kaba_top.proofs.OneEach.{none_some}
@@ -100,6 +101,13 @@ module _ (status : ℕ) (out err : List ℕ) where
       (λ bytes t b. of_text (AnalysisAnswers (LatticeOf json bound)) (status ≡ 0) bytes t.0 t.1
       (λ p e c. of_facts (LatticeOf json bound) (status ≡ 0) p (subst IsWithin e t.2)
       (λ F h g. ⊎_elim (λ m. absurd (subst (HasFewConcepts bound) e t.3 F g.table (text_facts p F h) g.is m.more)) (λ l. l.gives.status_is) g.answers) c) b) a
+  done (base file) first second r a =
+      of_file (TextAnswers (AnalysisAnswers BaseOf)) IsTakenForBase (status ≡ 0) first file r
+      (λ bytes t b. of_text (AnalysisAnswers BaseOf) (status ≡ 0) bytes t.0 t.1
+      (λ p e c. of_facts BaseOf (status ≡ 0) p (subst IsWithin e t.2)
+      (λ F h g. ⊎_elim (λ m. absurd (subst (HasFewConcepts usual_concepts) e t.3 F g.table (text_facts p F h) g.is m.more))
+      (λ few. ⊎_elim (λ m. absurd (subst HasFewImplications e t.4 F g.table (text_facts p F h) g.is m.more)) (λ l. l.gives.status_is) few.answers)
+      g.answers) c) b) a
   done (edit bound file script) first second r a =
       of_file (λ bytes. FileAnswers (EditAnswers bound bytes) second script) (IsTakenFor bound) ((status ≡ 0) ⊎ (status ≡ 4)) first file r.0
       (λ bytes t b. of_file (EditAnswers bound bytes) IsAcceptedScript ((status ≡ 0) ⊎ (status ≡ 4)) second script r.1

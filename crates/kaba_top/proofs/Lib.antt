@@ -5,6 +5,7 @@ pub mod TakenAgain
 pub mod Texts
 pub mod Runs
 pub mod Analysing
+pub mod BaseLemmas
 pub mod Reaching
 pub mod ReadsOne
 pub mod Promised
@@ -23,5 +24,6 @@ pub mod OneCommand
 pub mod OneScript
 pub mod OneText
 pub mod OneAnalysis
+pub mod OneBase
 pub mod OneEach
 pub mod Completing

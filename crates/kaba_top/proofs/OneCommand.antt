@@ -1,7 +1,7 @@
 -- The words of the command line say one command.
 use Rattle.std.proofs.Common.{◌≡◌, ℕ, ◌<◌, ◌^◌, Bool, true, false, List, [], ◌∷◌, refl, sym, ap, ◌∙◌, subst, arith, codes}
 use Rattle.std.proofs.lemmas.Fmt.{decimal_injective}
-use Rattle.kaba_words.specs.Commands.{Cmd, run, table, lattice, edit, regen, make, help, version, IsNumber, most_steps, most_concepts, most_samples, FitsRun, TakesFlag, BoundAfter, TakesBound, FitsLattice, FitsEdit, FitsMake, FitsArguments, Fits}
+use Rattle.kaba_words.specs.Commands.{Cmd, run, table, lattice, base, edit, regen, make, help, version, IsNumber, most_steps, most_concepts, most_samples, FitsRun, TakesFlag, BoundAfter, TakesBound, FitsLattice, FitsEdit, FitsMake, FitsArguments, Fits}
 
 heads : {A : Type 0} {x y : A} {xs ys : List A} → x ∷ xs ≡ y ∷ ys → x ≡ y
 heads e = cc e
@@ -66,6 +66,7 @@ one_of : (name : List ℕ) (words : List (List ℕ)) (c d : Cmd) → FitsArgumen
 one_of name words (run f n ws) (run f2 n2 ws2) h k = one_run words f f2 n n2 ws ws2 h.1 k.1
 one_of name words (run f n ws) (table f2) h k = let e = sym h.0 ∙ k.0 in let u : 114 ≡ 116 = heads e in absurd (omega (arith, u))
 one_of name words (run f n ws) (lattice j2 b2 f2) h k = let e = sym h.0 ∙ k.0 in let u : 114 ≡ 108 = heads e in absurd (omega (arith, u))
+one_of name words (run f n ws) (base f2) h k = let e = sym h.0 ∙ k.0 in let u : 114 ≡ 98 = heads e in absurd (omega (arith, u))
 one_of name words (run f n ws) (edit b2 f2 x2) h k = let e = sym h.0 ∙ k.0 in let u : 114 ≡ 101 = heads e in absurd (omega (arith, u))
 one_of name words (run f n ws) (regen b2 f2 x2) h k = let e = sym h.0 ∙ k.0 in let u : 117 ≡ 101 = heads (tails e) in absurd (omega (arith, u))
 one_of name words (run f n ws) (make p2 n2) h k = let e = sym h.0 ∙ k.0 in let u : 114 ≡ 109 = heads e in absurd (omega (arith, u))
@@ -74,6 +75,7 @@ one_of name words (run f n ws) version h k = let e = sym h.0 ∙ k.0 in let u : 
 one_of name words (table f) (run f2 n2 ws2) h k = let e = sym h.0 ∙ k.0 in let u : 116 ≡ 114 = heads e in absurd (omega (arith, u))
 one_of name words (table f) (table f2) h k = ap table (heads (sym h.1 ∙ k.1))
 one_of name words (table f) (lattice j2 b2 f2) h k = let e = sym h.0 ∙ k.0 in let u : 116 ≡ 108 = heads e in absurd (omega (arith, u))
+one_of name words (table f) (base f2) h k = let e = sym h.0 ∙ k.0 in let u : 116 ≡ 98 = heads e in absurd (omega (arith, u))
 one_of name words (table f) (edit b2 f2 x2) h k = let e = sym h.0 ∙ k.0 in let u : 116 ≡ 101 = heads e in absurd (omega (arith, u))
 one_of name words (table f) (regen b2 f2 x2) h k = let e = sym h.0 ∙ k.0 in let u : 116 ≡ 114 = heads e in absurd (omega (arith, u))
 one_of name words (table f) (make p2 n2) h k = let e = sym h.0 ∙ k.0 in let u : 116 ≡ 109 = heads e in absurd (omega (arith, u))
@@ -82,14 +84,25 @@ one_of name words (table f) version h k = let e = sym h.0 ∙ k.0 in let u : 116
 one_of name words (lattice j b f) (run f2 n2 ws2) h k = let e = sym h.0 ∙ k.0 in let u : 108 ≡ 114 = heads e in absurd (omega (arith, u))
 one_of name words (lattice j b f) (table f2) h k = let e = sym h.0 ∙ k.0 in let u : 108 ≡ 116 = heads e in absurd (omega (arith, u))
 one_of name words (lattice j b f) (lattice j2 b2 f2) h k = one_lattice words j j2 b b2 f f2 h.1 k.1
+one_of name words (lattice j b f) (base f2) h k = let e = sym h.0 ∙ k.0 in let u : 108 ≡ 98 = heads e in absurd (omega (arith, u))
 one_of name words (lattice j b f) (edit b2 f2 x2) h k = let e = sym h.0 ∙ k.0 in let u : 108 ≡ 101 = heads e in absurd (omega (arith, u))
 one_of name words (lattice j b f) (regen b2 f2 x2) h k = let e = sym h.0 ∙ k.0 in let u : 108 ≡ 114 = heads e in absurd (omega (arith, u))
 one_of name words (lattice j b f) (make p2 n2) h k = let e = sym h.0 ∙ k.0 in let u : 108 ≡ 109 = heads e in absurd (omega (arith, u))
 one_of name words (lattice j b f) help h k = let e = sym h.0 ∙ k.0 in let u : 108 ≡ 45 = heads e in absurd (omega (arith, u))
 one_of name words (lattice j b f) version h k = let e = sym h.0 ∙ k.0 in let u : 108 ≡ 45 = heads e in absurd (omega (arith, u))
+one_of name words (base f) (run f2 n2 ws2) h k = let e = sym h.0 ∙ k.0 in let u : 98 ≡ 114 = heads e in absurd (omega (arith, u))
+one_of name words (base f) (table f2) h k = let e = sym h.0 ∙ k.0 in let u : 98 ≡ 116 = heads e in absurd (omega (arith, u))
+one_of name words (base f) (lattice j2 b2 f2) h k = let e = sym h.0 ∙ k.0 in let u : 98 ≡ 108 = heads e in absurd (omega (arith, u))
+one_of name words (base f) (base f2) h k = ap base (heads (sym h.1 ∙ k.1))
+one_of name words (base f) (edit b2 f2 x2) h k = let e = sym h.0 ∙ k.0 in let u : 98 ≡ 101 = heads e in absurd (omega (arith, u))
+one_of name words (base f) (regen b2 f2 x2) h k = let e = sym h.0 ∙ k.0 in let u : 98 ≡ 114 = heads e in absurd (omega (arith, u))
+one_of name words (base f) (make p2 n2) h k = let e = sym h.0 ∙ k.0 in let u : 98 ≡ 109 = heads e in absurd (omega (arith, u))
+one_of name words (base f) help h k = let e = sym h.0 ∙ k.0 in let u : 98 ≡ 45 = heads e in absurd (omega (arith, u))
+one_of name words (base f) version h k = let e = sym h.0 ∙ k.0 in let u : 98 ≡ 45 = heads e in absurd (omega (arith, u))
 one_of name words (edit b f x) (run f2 n2 ws2) h k = let e = sym h.0 ∙ k.0 in let u : 101 ≡ 114 = heads e in absurd (omega (arith, u))
 one_of name words (edit b f x) (table f2) h k = let e = sym h.0 ∙ k.0 in let u : 101 ≡ 116 = heads e in absurd (omega (arith, u))
 one_of name words (edit b f x) (lattice j2 b2 f2) h k = let e = sym h.0 ∙ k.0 in let u : 101 ≡ 108 = heads e in absurd (omega (arith, u))
+one_of name words (edit b f x) (base f2) h k = let e = sym h.0 ∙ k.0 in let u : 101 ≡ 98 = heads e in absurd (omega (arith, u))
 one_of name words (edit b f x) (edit b2 f2 x2) h k = let o = one_edit words b b2 f f2 x x2 h.1 k.1 in λ i. edit (o.0 i) (o.1 i) (o.2 i)
 one_of name words (edit b f x) (regen b2 f2 x2) h k = let e = sym h.0 ∙ k.0 in let u : 101 ≡ 114 = heads e in absurd (omega (arith, u))
 one_of name words (edit b f x) (make p2 n2) h k = let e = sym h.0 ∙ k.0 in let u : 101 ≡ 109 = heads e in absurd (omega (arith, u))
@@ -98,6 +111,7 @@ one_of name words (edit b f x) version h k = let e = sym h.0 ∙ k.0 in let u : 
 one_of name words (regen b f x) (run f2 n2 ws2) h k = let e = sym h.0 ∙ k.0 in let u : 101 ≡ 117 = heads (tails e) in absurd (omega (arith, u))
 one_of name words (regen b f x) (table f2) h k = let e = sym h.0 ∙ k.0 in let u : 114 ≡ 116 = heads e in absurd (omega (arith, u))
 one_of name words (regen b f x) (lattice j2 b2 f2) h k = let e = sym h.0 ∙ k.0 in let u : 114 ≡ 108 = heads e in absurd (omega (arith, u))
+one_of name words (regen b f x) (base f2) h k = let e = sym h.0 ∙ k.0 in let u : 114 ≡ 98 = heads e in absurd (omega (arith, u))
 one_of name words (regen b f x) (edit b2 f2 x2) h k = let e = sym h.0 ∙ k.0 in let u : 114 ≡ 101 = heads e in absurd (omega (arith, u))
 one_of name words (regen b f x) (regen b2 f2 x2) h k = let o = one_edit words b b2 f f2 x x2 h.1 k.1 in λ i. regen (o.0 i) (o.1 i) (o.2 i)
 one_of name words (regen b f x) (make p2 n2) h k = let e = sym h.0 ∙ k.0 in let u : 114 ≡ 109 = heads e in absurd (omega (arith, u))
@@ -106,6 +120,7 @@ one_of name words (regen b f x) version h k = let e = sym h.0 ∙ k.0 in let u :
 one_of name words (make p n) (run f2 n2 ws2) h k = let e = sym h.0 ∙ k.0 in let u : 109 ≡ 114 = heads e in absurd (omega (arith, u))
 one_of name words (make p n) (table f2) h k = let e = sym h.0 ∙ k.0 in let u : 109 ≡ 116 = heads e in absurd (omega (arith, u))
 one_of name words (make p n) (lattice j2 b2 f2) h k = let e = sym h.0 ∙ k.0 in let u : 109 ≡ 108 = heads e in absurd (omega (arith, u))
+one_of name words (make p n) (base f2) h k = let e = sym h.0 ∙ k.0 in let u : 109 ≡ 98 = heads e in absurd (omega (arith, u))
 one_of name words (make p n) (edit b2 f2 x2) h k = let e = sym h.0 ∙ k.0 in let u : 109 ≡ 101 = heads e in absurd (omega (arith, u))
 one_of name words (make p n) (regen b2 f2 x2) h k = let e = sym h.0 ∙ k.0 in let u : 109 ≡ 114 = heads e in absurd (omega (arith, u))
 one_of name words (make p n) (make p2 n2) h k = one_make words p p2 n n2 h.1 k.1
@@ -114,6 +129,7 @@ one_of name words (make p n) version h k = let e = sym h.0 ∙ k.0 in let u : 10
 one_of name words help (run f2 n2 ws2) h k = let e = sym h.0 ∙ k.0 in let u : 45 ≡ 114 = heads e in absurd (omega (arith, u))
 one_of name words help (table f2) h k = let e = sym h.0 ∙ k.0 in let u : 45 ≡ 116 = heads e in absurd (omega (arith, u))
 one_of name words help (lattice j2 b2 f2) h k = let e = sym h.0 ∙ k.0 in let u : 45 ≡ 108 = heads e in absurd (omega (arith, u))
+one_of name words help (base f2) h k = let e = sym h.0 ∙ k.0 in let u : 45 ≡ 98 = heads e in absurd (omega (arith, u))
 one_of name words help (edit b2 f2 x2) h k = let e = sym h.0 ∙ k.0 in let u : 45 ≡ 101 = heads e in absurd (omega (arith, u))
 one_of name words help (regen b2 f2 x2) h k = let e = sym h.0 ∙ k.0 in let u : 45 ≡ 114 = heads e in absurd (omega (arith, u))
 one_of name words help (make p2 n2) h k = let e = sym h.0 ∙ k.0 in let u : 45 ≡ 109 = heads e in absurd (omega (arith, u))
@@ -122,6 +138,7 @@ one_of name words help version h k = let e = sym h.0 ∙ k.0 in let u : 104 ≡ 
 one_of name words version (run f2 n2 ws2) h k = let e = sym h.0 ∙ k.0 in let u : 45 ≡ 114 = heads e in absurd (omega (arith, u))
 one_of name words version (table f2) h k = let e = sym h.0 ∙ k.0 in let u : 45 ≡ 116 = heads e in absurd (omega (arith, u))
 one_of name words version (lattice j2 b2 f2) h k = let e = sym h.0 ∙ k.0 in let u : 45 ≡ 108 = heads e in absurd (omega (arith, u))
+one_of name words version (base f2) h k = let e = sym h.0 ∙ k.0 in let u : 45 ≡ 98 = heads e in absurd (omega (arith, u))
 one_of name words version (edit b2 f2 x2) h k = let e = sym h.0 ∙ k.0 in let u : 45 ≡ 101 = heads e in absurd (omega (arith, u))
 one_of name words version (regen b2 f2 x2) h k = let e = sym h.0 ∙ k.0 in let u : 45 ≡ 114 = heads e in absurd (omega (arith, u))
 one_of name words version (make p2 n2) h k = let e = sym h.0 ∙ k.0 in let u : 45 ≡ 109 = heads e in absurd (omega (arith, u))

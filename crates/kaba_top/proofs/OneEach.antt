@@ -15,13 +15,14 @@ use Rattle.hier_view.specs.Text.{live_nodes}
 use Rattle.tree_merge.specs.declared.steps.TreeStep.{TreeStep}
 use Rattle.tree_merge.specs.Logs.{step_of, steps_of}
 use Rattle.concept_build.specs.Laws.{told}
-use Rattle.kaba_words.specs.Commands.{Cmd, run, table, lattice, edit, regen, make, help, version, usual_concepts}
+use Rattle.kaba_words.specs.Commands.{Cmd, run, table, lattice, base, edit, regen, make, help, version, usual_concepts}
 use Rattle.kaba_top.specs.declared.make.Counts.{Counts}
 use Rattle.kaba_top.specs.About.{help_text, version_text}
 use Rattle.kaba_top.specs.Lines.{usage, cannot_read, file_too_large}
 use Rattle.kaba_top.specs.Reading.{TextAnswers}
 use Rattle.kaba_top.specs.RunAnswers.{EndGives, RunAnswers}
 use Rattle.kaba_top.specs.FactsAnswers.{AnalysisAnswers, TableOf, LatticeOf, too_many_concepts}
+use Rattle.kaba_top.specs.BaseAnswers.{BaseOf}
 use Rattle.kaba_top.specs.EditAnswers.{EditOf}
 use Rattle.kaba_top.specs.RegenAnswers.{RegenOf}
 use Rattle.kaba_top.specs.MakeAnswers.{sample_text, MadeTextAnswers, RunGives, WrittenGives, MadeOf, MakeAnswers, counts_of, made_steps}
@@ -30,6 +31,7 @@ use Rattle.kaba_top.specs.OneAnswer.{AreOneKind, HasOneAnswer}
 use Rattle.kaba_top.proofs.SameSets.{one_table, one_width}
 use Rattle.kaba_top.proofs.OneCommand.{one_command}
 use Rattle.kaba_top.proofs.OneText.{one_text}
+use Rattle.kaba_top.proofs.OneBase.{one_base_text}
 use Rattle.kaba_top.proofs.OneAnalysis.{said, given, one_analysis, one_table_text, one_lattice_text, one_edit_text, one_regen_text, one_told, tree_of_start, trees_same, one_written, few}
 
 -- ---- runs
@@ -154,6 +156,9 @@ one_of_command (lattice json bound file) first second =
     one_file (TextAnswers (AnalysisAnswers (LatticeOf json bound))) (one_text (AnalysisAnswers (LatticeOf json bound)) (AnalysisAnswers
     (LatticeOf json bound))
     (λ p q same. one_analysis (LatticeOf json bound) (LatticeOf json bound) (λ F G s. one_lattice_text s json bound) p q same)) first file
+one_of_command (base file) first second =
+    one_file (TextAnswers (AnalysisAnswers BaseOf)) (one_text (AnalysisAnswers BaseOf) (AnalysisAnswers BaseOf)
+    (λ p q same. one_analysis BaseOf BaseOf (λ F G s. one_base_text s) p q same)) first file
 one_of_command (edit bound file script) first second =
     one_file (λ bytes. FileAnswers (EditAnswers bound bytes) second script)
     (λ bytes. one_file (EditAnswers bound bytes) (one_edit bound bytes) second script) first file

@@ -21,7 +21,8 @@ use Rattle.hier_script.specs.Scripts.{kept, refusal, after_edits, refusals_of}
 use Rattle.edit_script.specs.declared.lines.Line.{Line}
 use Rattle.edit_script.specs.Script.{AreEditsOf}
 use Rattle.java_write.specs.Written.{IsWrittenText, tree_of_hierarchy}
-use Rattle.kaba_words.specs.Commands.{Cmd, run, table, lattice, edit, regen, make, help, version}
+use Rattle.kaba_words.specs.Commands.{Cmd, run, table, lattice, base, edit, regen, make, help, version}
+use Rattle.stem_base.proofs.Laws.{are_a_base, none_shorter}
 use Rattle.java_meaning.proofs.UntaggedRuns.{same_aside}
 use Rattle.write_model.proofs.Nowhere.{without_places}
 use Rattle.name_place_laws.specs.Laws.{HasNoPlaces}
@@ -32,11 +33,12 @@ use Rattle.kaba_top.specs.TextPrograms.{IsTypedText}
 use Rattle.kaba_top.specs.Reading.{IsRefusedText, TextAnswers}
 use Rattle.kaba_top.specs.TextFacts.{HasTextFacts}
 use Rattle.kaba_top.specs.FactsAnswers.{HasFacts, AnalysisAnswers, LatticeOf}
+use Rattle.kaba_top.specs.BaseAnswers.{BaseOf}
 use Rattle.kaba_top.specs.ScriptAnswers.{HasLattice, IsRun, ScriptAnswers, start_of, edited, refusals}
 use Rattle.kaba_top.specs.EditAnswers.{EditOf, ShowsHierarchy}
 use Rattle.kaba_top.specs.RegenAnswers.{IsRegeneration, RegenOf}
 use Rattle.kaba_top.specs.Answers.{FileAnswers, EditAnswers, RegenAnswers, CommandAnswers, Replies}
-use Rattle.kaba_top.specs.Promise.{ShowsLattice, AreJudged, none, made, breaks, unmade, JudgesEdits, IsRebuilt, TellsEdits, WritesProgram, FindsNoTree, OfFile, Promises, IsPromised}
+use Rattle.kaba_top.specs.Promise.{ShowsLattice, ShowsBase, AreJudged, none, made, breaks, unmade, JudgesEdits, IsRebuilt, TellsEdits, WritesProgram, FindsNoTree, OfFile, Promises, IsPromised}
 
 -- what is known of the facts of a program tells which facts they are
 text_facts : (p : Program) (F : Facts) → HasFacts p F → HasTextFacts (program_of p) F
@@ -99,6 +101,27 @@ module _ (status : ℕ) (out err : List ℕ) (j : IsJudging status) where
       is = record { text = text; facts_are = text_facts p F facts; least = a.is; concepts = shown.is };
       shown_is = shown.gives.out_is;
     }
+  ]
+
+  base_shown : (bytes : List ℕ) (p : Program) → IsTypedText bytes (program_of p) → (F : Facts) → HasFacts p F → BaseOf F status out err
+      → ShowsBase bytes out
+  base_shown bytes p text F facts a = elim a.answers as (λ _. ShowsBase bytes out) [
+    | inl many ↦ absurd (other 68 status (omega arith) (omega arith) many.says.status_is j)
+    | inr few ↦ elim few.answers as (λ _. ShowsBase bytes out) [
+      | inl many ↦ absurd (other 67 status (omega arith) (omega arith) many.says.status_is j)
+      | inr shown ↦ record {
+        program = p;
+        facts = F;
+        table = a.table;
+        implications = shown.base;
+        text = text;
+        facts_are = text_facts p F facts;
+        least = a.is;
+        is = are_a_base a.table.rows.items a.table.width shown.base shown.is;
+        none_shorter = λ other good. none_shorter a.table.rows.items a.table.width shown.base other shown.is good;
+        shown_is = shown.gives.out_is;
+      }
+    ]
   ]
 
 -- each edit is made or refused as the hierarchy after it meets its obligations
@@ -293,6 +316,11 @@ command_promised (lattice json bound file) first second status out err a = λ z.
     (λ bytes. in_text status out err (inl z) (AnalysisAnswers (LatticeOf json bound)) (ShowsLattice json bytes out) bytes
     (λ p text. in_facts status out err (inl z) (LatticeOf json bound) (ShowsLattice json bytes out) p
     (lattice_shown status out err (inl z) json bound bytes p text)))
+    a
+command_promised (base file) first second status out err a = λ z.
+    in_file status out err (inl z) (TextAnswers (AnalysisAnswers BaseOf)) (λ bytes. ShowsBase bytes out) first file
+    (λ bytes. in_text status out err (inl z) (AnalysisAnswers BaseOf) (ShowsBase bytes out) bytes
+    (λ p text. in_facts status out err (inl z) BaseOf (ShowsBase bytes out) p (base_shown status out err (inl z) bytes p text)))
     a
 command_promised (edit bound file script) first second status out err a = λ j.
     in_file status out err j (λ bytes. FileAnswers (EditAnswers bound bytes) second script)

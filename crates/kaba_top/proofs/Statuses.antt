@@ -6,12 +6,13 @@ use Rattle.java_core.specs.Programs.{program_of}
 use Rattle.java_meaning.specs.Moment as meaning
 use Rattle.fact_model.specs.declared.facts.Facts.{Facts}
 use Rattle.java_run.specs.Outcomes.{meant}
-use Rattle.kaba_words.specs.Commands.{Cmd, run, table, lattice, edit, regen, make, help, version}
+use Rattle.kaba_words.specs.Commands.{Cmd, run, table, lattice, base, edit, regen, make, help, version}
 use Rattle.kaba_top.specs.About.{help_text, version_text}
 use Rattle.kaba_top.specs.Lines.{Says, Gives}
 use Rattle.kaba_top.specs.Reading.{IsRefusedText, TextAnswers}
 use Rattle.kaba_top.specs.RunAnswers.{EndGives, RunAnswers}
 use Rattle.kaba_top.specs.FactsAnswers.{AnalysisAnswers, TableOf, LatticeOf}
+use Rattle.kaba_top.specs.BaseAnswers.{BaseOf}
 use Rattle.hier_view.specs.Text.{hierarchy_text}
 use Rattle.edit_script.specs.declared.lines.Line.{Line}
 use Rattle.hier_log.specs.Lines.{log_text}
@@ -68,6 +69,15 @@ lattice_other : (json : Bool) (bound : ℕ) (f : Facts) → AreOther (LatticeOf 
 lattice_other json bound f status out err a = elim a.answers as (λ _. IsOther status) [
   | inl many ↦ said 68 (omega arith, omega arith) _ status out err many.says
   | inr shown ↦ gave 0 (omega arith, omega arith) _ _ status out err shown.gives
+]
+
+base_other : (f : Facts) → AreOther (BaseOf f)
+base_other f status out err a = elim a.answers as (λ _. IsOther status) [
+  | inl many ↦ said 68 (omega arith, omega arith) _ status out err many.says
+  | inr few ↦ elim few.answers as (λ _. IsOther status) [
+    | inl many ↦ said 67 (omega arith, omega arith) _ status out err many.says
+    | inr shown ↦ gave 0 (omega arith, omega arith) _ _ status out err shown.gives
+  ]
 ]
 
 after_script : (none : Bool) (bytes refusals : List ℕ) → AreOther (Gives (if none then 0 else 4) bytes refusals)
@@ -147,6 +157,8 @@ command_other (table file) first second =
 command_other (lattice json bound file) first second =
     file_other (TextAnswers (AnalysisAnswers (LatticeOf json bound))) (text_other (AnalysisAnswers (LatticeOf json bound))
     (analysis_other (LatticeOf json bound) (lattice_other json bound))) first file
+command_other (base file) first second =
+    file_other (TextAnswers (AnalysisAnswers BaseOf)) (text_other (AnalysisAnswers BaseOf) (analysis_other BaseOf base_other)) first file
 command_other (edit bound file script) first second =
     file_other (λ bytes. FileAnswers (EditAnswers bound bytes) second script) (λ bytes. file_other (EditAnswers bound bytes) (edits_other bound bytes)
     second script) first file

@@ -1,13 +1,14 @@
 -- Believed. The answers of the program, for the words and the files.
 use Rattle.std.specs.Prelude.{◌≡◌, ◌⊎◌, ℕ, ◌<◌, ◌≤◌, List, [], length, Option, Some, None}
 use Rattle.kaba_base.specs.Outside.{Files, Rose, taken_more, HoldsPrefix}
-use Rattle.kaba_words.specs.Commands.{Cmd, run, table, lattice, edit, regen, make, help, version, Fits, FitsNone}
+use Rattle.kaba_words.specs.Commands.{Cmd, run, table, lattice, base, edit, regen, make, help, version, Fits, FitsNone}
 use Rattle.kaba_top.specs.About.{help_text, version_text}
 use Rattle.kaba_top.specs.Agreement.{Agrees}
 use Rattle.kaba_top.specs.Lines.{Says, Gives, usage, cannot_read, most_bytes, file_too_large}
 use Rattle.kaba_top.specs.Reading.{TextAnswers}
 use Rattle.kaba_top.specs.RunAnswers.{RunAnswers}
 use Rattle.kaba_top.specs.FactsAnswers.{AnalysisAnswers, TableOf, LatticeOf}
+use Rattle.kaba_top.specs.BaseAnswers.{BaseOf}
 use Rattle.kaba_top.specs.EditAnswers.{EditOf}
 use Rattle.kaba_top.specs.RegenAnswers.{RegenOf}
 use Rattle.kaba_top.specs.MakeAnswers.{MakeAnswers}
@@ -53,6 +54,7 @@ abbrev pub CommandAnswers : Cmd → Files → Files → ℕ → List ℕ → Lis
 CommandAnswers (run file steps words) first second = FileAnswers (TextAnswers (RunAnswers steps words)) first file
 CommandAnswers (table file) first second = FileAnswers (TextAnswers (AnalysisAnswers TableOf)) first file
 CommandAnswers (lattice json bound file) first second = FileAnswers (TextAnswers (AnalysisAnswers (LatticeOf json bound))) first file
+CommandAnswers (base file) first second = FileAnswers (TextAnswers (AnalysisAnswers BaseOf)) first file
 CommandAnswers (edit bound file script) first second = FileAnswers (λ bytes. FileAnswers (EditAnswers bound bytes) second script) first file
 CommandAnswers (regen bound file script) first second = FileAnswers (λ bytes. FileAnswers (RegenAnswers bound bytes) second script) first file
 CommandAnswers (make prints number) first second = MakeAnswers prints number
@@ -64,6 +66,7 @@ abbrev pub Names : Cmd → List ℕ → Type 0
 Names (run file steps words) name = name ≡ file
 Names (table file) name = name ≡ file
 Names (lattice json bound file) name = name ≡ file
+Names (base file) name = name ≡ file
 Names (edit bound file script) name = (name ≡ file) ⊎ (name ≡ script)
 Names (regen bound file script) name = (name ≡ file) ⊎ (name ≡ script)
 Names (make prints number) name = ⊥

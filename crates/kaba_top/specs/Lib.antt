@@ -6,6 +6,7 @@ pub mod TextFacts
 pub mod Reading
 pub mod RunAnswers
 pub mod FactsAnswers
+pub mod BaseAnswers
 pub mod ScriptAnswers
 pub mod CauseWords
 pub mod EditAnswers

@@ -6,13 +6,15 @@ use Rattle.fact_model.specs.declared.facts.Facts.{Facts}
 use Rattle.fact_model.specs.declared.sets.Table.{Table}
 use Rattle.fact_model.specs.Entries.{IsTable}
 use Rattle.fact_model.specs.Concepts.{AreMoreThan}
+use Rattle.stem_base.specs.Base.{common, AreMoreStems}
 use Rattle.flow_rules.specs.Facts.{IsWithin}
 use Rattle.edit_script.specs.Script.{IsFirstBadLine, HasTooManyEdits}
-use Rattle.kaba_words.specs.Commands.{Cmd, run, table, lattice, edit, regen, make, help, version, Fits}
+use Rattle.kaba_words.specs.Commands.{Cmd, run, table, lattice, base, edit, regen, make, help, version, Fits, usual_concepts}
 use Rattle.kaba_top.specs.Lines.{most_bytes}
 use Rattle.kaba_top.specs.TextPrograms.{IsTypedText}
 use Rattle.kaba_top.specs.TextFacts.{HasTextFacts}
 use Rattle.kaba_top.specs.Reading.{IsUnresolved, IsUntyped}
+use Rattle.kaba_top.specs.BaseAnswers.{most_implications}
 use Rattle.kaba_top.specs.Answers.{Answers}
 
 -- two refusals of a text that may differ: which condition on names holds, or which rule of types fails
@@ -57,6 +59,14 @@ HasFewConcepts bound P = (F : Facts) (t : Table) → HasTextFacts P F → IsTabl
 abbrev pub IsTakenFor : ℕ → List ℕ → Type 0
 IsTakenFor bound bytes = (P : Plain) × IsTypedText bytes P × IsWithin P × HasFewConcepts bound P
 
+-- its table has no more implications than a base may have
+abbrev pub HasFewImplications : Plain → Type 0
+HasFewImplications P = (F : Facts) (t : Table) → HasTextFacts P F → IsTable F t → AreMoreStems t.width (common t.rows.items t.width) most_implications → ⊥
+
+-- the text of such a program with so few concepts and implications
+abbrev pub IsTakenForBase : List ℕ → Type 0
+IsTakenForBase bytes = (P : Plain) × IsTypedText bytes P × IsWithin P × HasFewConcepts usual_concepts P × HasFewImplications P
+
 -- each line of a script is an edit or says nothing, and there are not too many edits
 abbrev pub IsAcceptedScript : List ℕ → Type 0
 IsAcceptedScript script = ((n : ℕ) → IsFirstBadLine script n → ⊥) × (HasTooManyEdits script → ⊥)
@@ -66,6 +76,7 @@ abbrev pub IsReady : Cmd → Files → Files → Type 0
 IsReady (run file steps words) first second = OfSmallFile first file IsTaken
 IsReady (table file) first second = OfSmallFile first file IsTakenWithin
 IsReady (lattice json bound file) first second = OfSmallFile first file (IsTakenFor bound)
+IsReady (base file) first second = OfSmallFile first file IsTakenForBase
 IsReady (edit bound file script) first second = OfSmallFile first file (IsTakenFor bound) × OfSmallFile second script IsAcceptedScript
 IsReady (regen bound file script) first second = OfSmallFile first file (IsTakenFor bound) × OfSmallFile second script IsAcceptedScript
 IsReady (make prints number) first second = ⊥
@@ -77,6 +88,7 @@ abbrev pub IsDoneWith : Cmd → ℕ → Type 0
 IsDoneWith (run file steps words) status = (status ≡ 0) ⊎ ((status ≡ 10) ⊎ (status ≡ 11))
 IsDoneWith (table file) status = status ≡ 0
 IsDoneWith (lattice json bound file) status = status ≡ 0
+IsDoneWith (base file) status = status ≡ 0
 IsDoneWith (edit bound file script) status = (status ≡ 0) ⊎ (status ≡ 4)
 IsDoneWith (regen bound file script) status = (status ≡ 0) ⊎ ((status ≡ 4) ⊎ (status ≡ 5))
 IsDoneWith (make prints number) status = Unit {0}

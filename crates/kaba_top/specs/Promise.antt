@@ -1,5 +1,5 @@
 -- Believed. What Kaba promises of its analysis and of the programs that it writes, without the answers around it.
-use Rattle.std.specs.Prelude.{◌≡◌, ◌⊎◌, ℕ, ◌≤◌, Bool, List, [], ◌∷◌, ◌++◌, codes, Option, Some, None, Ok, Err}
+use Rattle.std.specs.Prelude.{◌≡◌, ◌⊎◌, ℕ, ◌≤◌, Bool, List, [], ◌∷◌, ◌++◌, codes, length, Option, Some, None, Ok, Err}
 use Rattle.kaba_base.specs.Outside.{Files, taken_more}
 use Rattle.java_tree.specs.Syntax.{DeclTree}
 use Rattle.java_lex.specs.declared.Token.{Token}
@@ -18,6 +18,8 @@ use Rattle.fact_model.specs.declared.sets.PointsTo.{PointsTo}
 use Rattle.fact_model.specs.Entries.{IsTable}
 use Rattle.fact_model.specs.Concepts.{IsLatticeOf}
 use Rattle.fact_model.specs.Flowing.{AreSets}
+use Rattle.stem_base.specs.Base.{Sides, IsBaseOf}
+use Rattle.stem_base.specs.Text.{base_text}
 use Rattle.hier_model.specs.Hierarchies.{Hierarchy}
 use Rattle.hier_model.specs.Edits.{changed}
 use Rattle.hier_model.specs.Start.{start_from}
@@ -38,7 +40,7 @@ use Rattle.edit_script.specs.Script.{AreEditsOf}
 use Rattle.rebuild_model.specs.Rebuilds.{Rebuilds}
 use Rattle.rebuild_laws.specs.types.Rows.{OffersRows}
 use Rattle.rebuild_laws.specs.runs.Same.{HasSameRun}
-use Rattle.kaba_words.specs.Commands.{Cmd, run, table, lattice, edit, regen, make, help, version, Fits}
+use Rattle.kaba_words.specs.Commands.{Cmd, run, table, lattice, base, edit, regen, make, help, version, Fits}
 use Rattle.kaba_top.specs.TextPrograms.{IsTypedText, most_nesting}
 use Rattle.kaba_top.specs.TextFacts.{HasTextFacts, shown}
 use Rattle.kaba_top.specs.Agreement.{Agrees}
@@ -59,6 +61,20 @@ pub record ShowsLattice (json : Bool) (bytes out : List ℕ) : Type 0 where
   pub lattice : Lattice
   pub is : IsAnalysis bytes program facts table lattice
   pub shown_is : out ≡ shown json facts lattice
+
+-- the implications shown are a base of those of the least table: each holds there, and a set of columns is closed under them exactly where it is
+-- all that the rows with its columns have in common; and no list of which that holds is shorter
+pub record ShowsBase (bytes out : List ℕ) : Type 0 where
+  pub program : Program
+  pub facts : Facts
+  pub table : Table
+  pub implications : List Sides
+  pub text : IsTypedText bytes (program_of program)
+  pub facts_are : HasTextFacts (program_of program) facts
+  pub least : IsTable facts table
+  pub is : IsBaseOf table.rows.items table.width implications
+  pub none_shorter : (other : List Sides) → IsBaseOf table.rows.items table.width other → length implications ≤ length other
+  pub shown_is : out ≡ base_text implications
 
 module _ (F : Facts) (pt : PointsTo) where
   -- edits one after the other, from a hierarchy to the one that they leave, with what is told of those that are refused
@@ -152,6 +168,7 @@ pub record OfFile (files : Files) (file : List ℕ) (K : List ℕ → Type 0) : 
 -- what is promised of each command
 abbrev pub Promises : Cmd → Files → Files → ℕ → List ℕ → List ℕ → Type 0
 Promises (lattice json bound file) first second status out err = status ≡ 0 → OfFile first file (λ bytes. ShowsLattice json bytes out)
+Promises (base file) first second status out err = status ≡ 0 → OfFile first file (λ bytes. ShowsBase bytes out)
 Promises (edit bound file script) first second status out err = (status ≡ 0) ⊎ (status ≡ 4)
     → OfFile first file (λ bytes. OfFile second script (λ lines. TellsEdits bytes lines out err))
 Promises (regen bound file script) first second status out err =

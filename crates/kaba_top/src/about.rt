@@ -20,6 +20,7 @@ pub fn help_reply(alloc: Global) -> Tried<Reply>
         \x20 run FILE STEPS WORD..      runs the program on the words, for at most STEPS steps\n\
         \x20 table FILE                 prints its variables and creations, and the members that each needs\n\
         \x20 lattice [-j] [-c N] FILE   prints the concept lattice of that table, as JSON with -j, of at most N concepts\n\
+        \x20 base FILE                  prints the least base of implications of that table: which members always come together\n\
         \x20 edit [-c N] FILE SCRIPT    prints the class hierarchy after the edits of a script, and a line for each refused one\n\
         \x20 regen [-c N] FILE SCRIPT   prints the program that is written of that hierarchy, its classes brought into a tree\n\
         \x20 make [-p] NUMBER           does the whole job on a sample program of its own, or prints it with -p\n\

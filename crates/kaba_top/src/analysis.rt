@@ -43,7 +43,7 @@ pub fn analyse(alloc: Global, program: &Checked) -> Tried<Analysed>
 }
 
 /// The closed table of the facts.
-fn table_of(alloc: Global, facts: &Facts) -> Tried<Table>
+pub fn table_of(alloc: Global, facts: &Facts) -> Tried<Table>
     requires facts { InRange facts.now }
     ensures { IfOk result (λ table. IsTable facts.now table) }
 {

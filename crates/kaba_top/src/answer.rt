@@ -4,7 +4,7 @@
 ghost use Rattle.std.specs.Prelude.{◌≡◌, ◌≤◌, IfOk, length, string_bytes};
 ghost use Rattle.kaba_top.specs.Words.{texts, most_bytes, IsTask};
 ghost use Rattle.kaba_base.specs.Outside.{Files};
-ghost use Rattle.kaba_words.specs.Commands.{run, table, lattice, most_concepts};
+ghost use Rattle.kaba_words.specs.Commands.{run, table, lattice, base, most_concepts};
 ghost use Rattle.kaba_top.specs.Answers.{CommandReplies, Replies};
 ghost use Rattle.kaba_top.specs.Fetching.{FileReplies, IsFetched};
 ghost use Rattle.kaba_top.specs.Shown.{ShownAnswers, command_showing};
@@ -12,6 +12,7 @@ ghost use Rattle.kaba_top.specs.Shown.{ShownAnswers, command_showing};
 use crate::Tried;
 use crate::about::{help_reply, version_reply};
 use crate::analysis::{lattice_text, table_text};
+use crate::base::base_text;
 use crate::edit::edit_text;
 use crate::make::make_reply;
 use crate::regen::regen_text;
@@ -95,6 +96,17 @@ fn lattice_command<F: Shelf>(
     }
 }
 
+/// The reply of `base`.
+fn base_command<F: Shelf>(alloc: Global, shelf: &mut F, file: &String) -> Tried<Reply>
+    ensures replies { IfOk result (λ reply. CommandReplies (F.files shelf.old) (F.faults shelf.old)
+        (F.faults shelf.new) (base (string_bytes file.now)) reply.status reply.out.items reply.err.items) }
+{
+    match fetch_file(alloc, shelf, file)? {
+        Fetched::Bytes(bytes) => base_text(alloc, &bytes),
+        Fetched::Refused(reply) => Ok(reply),
+    }
+}
+
 /// What a command with a script shows: the hierarchy after it, or the program that is written of that.
 #[derive(Clone, Copy)]
 enum Shows {
@@ -173,6 +185,7 @@ pub fn answer<F: Shelf>(alloc: Global, words: &Vec<String>, shelf: &mut F) -> Tr
         Ok(Command::Lattice(json, bound, file)) => {
             lattice_command(alloc, shelf, &file, json, bound)
         }
+        Ok(Command::Base(file)) => base_command(alloc, shelf, &file),
         Ok(Command::Edit(bound, file, script)) => {
             script_command(alloc, shelf, Shows::Hierarchy, &file, &script, bound)
         }

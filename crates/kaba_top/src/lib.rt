@@ -9,6 +9,7 @@ ghost use Rattle.kaba_top.specs.Promise.{Kept};
 mod about;
 mod analysis;
 mod answer;
+mod base;
 mod cause_words;
 mod edit;
 mod laws;

@@ -1,16 +1,16 @@
 -- What is found on the way through all kept sets of a table.
-use Rattle.std.proofs.Common.{◌≡◌, ◌≢◌, ◌⊎◌, inl, inr, ⊎_elim, ℕ, suc, zero, ◌+◌, ◌<◌, ◌≤◌, Bool, true, false, cond, List, [], ◌∷◌, ◌++◌, length, get_or, All, AllPairs, Contains, refl, sym, ap, ◌∙◌, subst, arith}
+use Rattle.std.proofs.Common.{◌≡◌, ◌≢◌, inl, inr, ⊎_elim, ℕ, suc, zero, ◌+◌, ◌<◌, Bool, true, false, cond, List, [], ◌∷◌, ◌++◌, length, get_or, Contains, refl, sym, ap, ◌∙◌, subst, arith}
 use Rattle.std.proofs.lemmas.Bool.{cases_lt, false≢true}
 use Rattle.std.proofs.lemmas.List.Elements.{All-push, Contains-append_left, Contains-push}
 use Rattle.std.proofs.lemmas.List.Quantifiers.{all_pairs_push}
-use Rattle.kaba_bits.specs.Sets.{bit, size, IsSubset, IsEmpty}
+use Rattle.kaba_bits.specs.Sets.{bit, IsSubset, IsEmpty}
 use Rattle.kaba_bits.proofs.SetLemmas.{empty-size, subset-both}
 use Rattle.stem_base.specs.Base.{Sides, common, IsPseudo}
-use Rattle.stem_base.specs.Lectic.{Precedes, IsUpTo, IsKeptSet, AreUpTo, FailFrom, IsStepTo}
+use Rattle.stem_base.specs.Lectic.{Precedes, IsUpTo, IsKeptSet, FailFrom, IsStepTo}
 use Rattle.stem_base.specs.Found.{AreBefore, AreNoted, AreStemsFound, power_of_two, lectic_rank}
 use Rattle.stem_base.proofs.TableLemmas.{common_wide, common_holds, common_grows}
 use Rattle.stem_base.proofs.Pseudo.{from_said}
-use Rattle.stem_base.proofs.OrderLemmas.{three, never_both, apart_from, pseudo_kept, none_after, next_before, next_is_kept, next_is_least}
+use Rattle.stem_base.proofs.OrderLemmas.{three, never_both, pseudo_kept, none_after, next_before, next_is_kept, next_is_least}
 
 trans : (A B C : List Bool) → Precedes A B → Precedes B C → Precedes A C
 trans A B C a b = ⊎_elim

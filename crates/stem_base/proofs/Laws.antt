@@ -1,12 +1,12 @@
 -- The laws of the base of a table.
-use Rattle.std.proofs.Common.{◌≡◌, ◌≢◌, ⊎_elim, ℕ, ◌<◌, ◌≤◌, ◌↔◌, Bool, List, length, get_or, All, AllPairs, Contains, refl, sym, ap, ◌∙◌, subst, arith, rules}
+use Rattle.std.proofs.Common.{◌≡◌, ◌≢◌, ℕ, ◌≤◌, Bool, List, length, get_or, sym, ap, ◌∙◌, subst, rules}
 use Rattle.std.specs.declared.cmp.Ordering.TheVariants.{Less, Greater}
 use Rattle.std.specs.Ordering.{ordering_reverse}
 use Rattle.std.specs.Cmp.{IsTotalOrder}
 use Rattle.std.specs.Cmp.Rules.{comparing}
 use Rattle.std.proofs.lemmas.List.Elements.{All-contains}
-use Rattle.kaba_bits.specs.Sets.{bit, row, size, IsSubset}
-use Rattle.stem_base.specs.Base.{Sides, HoldsIn, Respects, IsClosedUnder, common, IsBaseOf, IsPseudo, implication_cmp, AreStems, IsStemBase}
+use Rattle.kaba_bits.specs.Sets.{IsSubset}
+use Rattle.stem_base.specs.Base.{Sides, HoldsIn, Respects, IsClosedUnder, common, IsBaseOf, implication_cmp, IsStemBase}
 use Rattle.stem_base.specs.Laws.{ClosesAsSaid, ReadsAsSaid, AreABase, AllFollow, NoneShorter}
 use Rattle.stem_base.proofs.TableLemmas.{common_wide, common_holds, common_grows, common_row, common_most, common_column}
 use Rattle.stem_base.proofs.Pseudo.{from_said, inner, closed_if}

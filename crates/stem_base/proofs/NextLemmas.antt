@@ -1,7 +1,7 @@
 -- What one try shows.
-use Rattle.std.proofs.Common.{◌≡◌, ⊎_elim, ℕ, suc, ◌+◌, ◌<◌, ◌≤◌, Bool, true, false, ◌&&◌, ◌||◌, not, nat_lt, List, length, All, refl, sym, ap, ◌∙◌, subst, arith, slice_set, get_or}
+use Rattle.std.proofs.Common.{◌≡◌, ⊎_elim, ℕ, ◌<◌, Bool, true, false, ◌&&◌, ◌||◌, not, nat_lt, List, length, refl, sym, ap, ◌∙◌, subst, arith, slice_set}
 use Rattle.std.specs.Bool.{OnTrue, OnFalse}
-use Rattle.std.proofs.lemmas.Bool.{cases_Bool, cases_lt, cases_eq, false≢true, and_parts, or_cases, or_right, ltb-true, lt-ltb, OnTrue_from, OnFalse_from}
+use Rattle.std.proofs.lemmas.Bool.{cases_lt, cases_eq, false≢true, and_parts, ltb-true, lt-ltb, OnTrue_from, OnFalse_from}
 use Rattle.std.proofs.lemmas.List.{get_or-set_same, get_or-set_other, length-set}
 use Rattle.kaba_bits.specs.Sets.{bit, IsSubset, IsEmpty, IsNoneFrom, IsLeastFrom}
 use Rattle.kaba_bits.proofs.SetLemmas.{bit-below}

@@ -1,11 +1,11 @@
 -- The lectically next set that is closed or pseudo-closed.
-use Rattle.std.proofs.Common.{◌≡◌, ◌≢◌, ◌⊎◌, inl, inr, ⊎_elim, ℕ, suc, zero, ◌<◌, ◌≤◌, Bool, true, false, List, [], ◌∷◌, length, get_or, All, Contains, refl, sym, ap, ◌∙◌, subst, arith}
-use Rattle.std.proofs.lemmas.Bool.{cases_Bool, false≢true, cases_lt, cases_eq}
-use Rattle.kaba_bits.specs.Sets.{bit, size, IsSubset}
-use Rattle.kaba_bits.proofs.SetLemmas.{bit-below, size-subset, subset-same, same_bits}
+use Rattle.std.proofs.Common.{◌≡◌, ◌≢◌, ◌⊎◌, inl, inr, ⊎_elim, ℕ, suc, zero, ◌<◌, ◌≤◌, Bool, true, false, List, [], ◌∷◌, length, get_or, refl, sym, ap, ◌∙◌, subst, arith}
+use Rattle.std.proofs.lemmas.Bool.{cases_Bool, false≢true, cases_lt}
+use Rattle.kaba_bits.specs.Sets.{bit, IsSubset}
+use Rattle.kaba_bits.proofs.SetLemmas.{bit-below, size-subset}
 use Rattle.stem_base.specs.Base.{Sides, Respects, IsClosedUnder, IsPseudo}
 use Rattle.stem_base.specs.Lectic.{Precedes, IsUpTo, IsKeptSet, AreUpTo, HasStart, IsTry, AddsNoneBelow, FailsAt, FailFrom, IsStepTo}
-use Rattle.stem_base.proofs.Pseudo.{same_or_less, inner, closed_if}
+use Rattle.stem_base.proofs.Pseudo.{same_or_less, inner}
 
 -- ---- the order
 more : (x : Bool) (A B : List Bool) → Precedes A B → Precedes (x ∷ A) (x ∷ B)

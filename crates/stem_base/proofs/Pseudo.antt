@@ -1,10 +1,10 @@
 -- Pseudo-closed sets of a closure operator, and the three laws over any such operator.
-use Rattle.std.proofs.Common.{◌≡◌, ◌≢◌, ◌⊎◌, inl, inr, ⊎_elim, ℕ, suc, zero, ◌+◌, ◌<◌, ◌≤◌, ◌↔◌, Bool, true, false, List, [], ◌∷◌, length, get_or, All, Contains, refl, sym, ap, ◌∙◌, subst, arith}
-use Rattle.std.proofs.lemmas.Bool.{cases_Bool, false≢true, cases_lt}
-use Rattle.kaba_bits.specs.Sets.{bit, size, IsSubset}
+use Rattle.std.proofs.Common.{◌≡◌, ◌≢◌, ◌⊎◌, inl, inr, ⊎_elim, ℕ, suc, zero, ◌<◌, ◌≤◌, Bool, List, length, sym, ap, ◌∙◌, subst, arith}
+use Rattle.std.proofs.lemmas.Bool.{cases_lt}
+use Rattle.kaba_bits.specs.Sets.{size, IsSubset}
 use Rattle.kaba_bits.proofs.SetLemmas.{size-le-length, size-subset, subset-same, subset-both}
 use Rattle.stem_base.proofs.SetLemmas.{length-in_both, in_both-left, in_both-right, in_both-most}
-use Rattle.stem_base.specs.Base.{in_both, Sides, Respects, IsClosedUnder, IsPseudoIn, IsPseudo, IsStemBase}
+use Rattle.stem_base.specs.Base.{in_both, Sides, IsPseudoIn, IsPseudo}
 
 -- two sets of one width, the first within the second, are one or the first is smaller
 pub same_or_less : (a b : List Bool) → length a ≡ length b → IsSubset a b → (a ≡ b) ⊎ (size a < size b)

@@ -1,13 +1,13 @@
 -- Rounds over implications.
-use Rattle.std.proofs.Common.{◌≡◌, ⊎_elim, ℕ, ◌+◌, ◌-◌, ◌<◌, ◌≤◌, Bool, true, false, ◌||◌, List, length, map, get_or, All, refl, sym, ap, ◌∙◌, subst, arith}
+use Rattle.std.proofs.Common.{◌≡◌, ⊎_elim, ℕ, ◌+◌, ◌-◌, ◌<◌, ◌≤◌, Bool, true, false, ◌||◌, List, length, get_or, refl, sym, ap, ◌∙◌, subst, arith}
 use Rattle.std.specs.Bool.{MatchBool}
 use Rattle.std.proofs.lemmas.Bool.{cases_lt, false≢true}
 use Rattle.std.proofs.lemmas.List.{length-map, get_or-map}
-use Rattle.kaba_bits.specs.Sets.{bit, size, IsSubset}
+use Rattle.kaba_bits.specs.Sets.{size, IsSubset}
 use Rattle.kaba_bits.proofs.SetLemmas.{size-subset}
 use Rattle.stem_base.specs.declared.implications.Implication.{Implication}
 use Rattle.stem_base.specs.Base.{Sides, Respects, IsClosedUnder, sides_of, all_sides}
-use Rattle.stem_base.specs.Saturate.{IsWithinClosed, ClosesInPart, IsRound, IsRoundDown}
+use Rattle.stem_base.specs.Saturate.{ClosesInPart, IsRound, IsRoundDown}
 
 step_then : (old mid new : List Bool) (grew g : Bool) → IsSubset mid new → MatchBool grew (size old < size mid) (mid ≡ old)
     → MatchBool g (size mid < size new) (new ≡ mid) → MatchBool (grew || g) (size old < size new) (new ≡ old)

@@ -1,12 +1,12 @@
 -- What the steps of the loops come to.
-use Rattle.std.proofs.Common.{◌≡◌, ⊎_elim, ℕ, zero, suc, ◌+◌, ◌-◌, ◌<◌, ◌≤◌, Bool, true, false, ◌&&◌, List, [], ◌∷◌, ◌++◌, length, map, get_or, drop, All, refl, sym, ap, ◌∙◌, subst, arith}
-use Rattle.std.proofs.lemmas.Bool.{cases_Bool, false≢true}
+use Rattle.std.proofs.Common.{◌≡◌, ⊎_elim, ℕ, ◌-◌, ◌<◌, Bool, true, false, ◌&&◌, List, [], ◌∷◌, ◌++◌, length, get_or, drop, All, refl, sym, ap, ◌∙◌, subst, arith}
+use Rattle.std.proofs.lemmas.Bool.{cases_Bool}
 use Rattle.std.proofs.lemmas.List.{length-map, get_or-map, map-append, drop_all}
-use Rattle.kaba_bits.specs.Sets.{bit, row, IsSubset, HasWidth}
+use Rattle.kaba_bits.specs.Sets.{bit, IsSubset}
 use Rattle.kaba_bits.proofs.SetLemmas.{same_bits}
 use Rattle.stem_base.specs.declared.implications.Implication.{Implication}
-use Rattle.stem_base.specs.Base.{Sides, is_subset, in_both, all_below, common, IsPseudo, sides_of, all_sides}
-use Rattle.stem_base.specs.Lectic.{IsUpTo, IsKeptSet, AreUpTo, FailFrom, IsStepTo}
+use Rattle.stem_base.specs.Base.{Sides, is_subset, in_both, all_below, common, sides_of, all_sides}
+use Rattle.stem_base.specs.Lectic.{IsKeptSet, AreUpTo, FailFrom, IsStepTo}
 use Rattle.stem_base.specs.Found.{narrowed, AreBefore, AreNoted, AreStemsFound, power_of_two, lectic_rank}
 use Rattle.stem_base.proofs.FoundLemmas.{noted_push, found_more, found_all, after_is, then_kept, then_before, lectic_rank-before, lectic_rank-lt}
 use Rattle.stem_base.specs.Saturate.{IsWide}

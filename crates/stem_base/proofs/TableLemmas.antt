@@ -1,9 +1,9 @@
 -- The closure of a table: it holds the set, grows with it, and holds what every implication of the table adds.
-use Rattle.std.proofs.Common.{◌≡◌, ⊎_elim, ℕ, suc, zero, ◌<◌, Bool, true, false, List, [], ◌∷◌, length, refl, sym, ap, ◌∙◌, subst, arith}
-use Rattle.std.proofs.lemmas.Bool.{cases_Bool, false≢true}
+use Rattle.std.proofs.Common.{◌≡◌, ⊎_elim, ℕ, suc, zero, ◌<◌, Bool, true, false, List, [], ◌∷◌, length, refl, sym, ◌∙◌, subst, arith}
+use Rattle.std.proofs.lemmas.Bool.{cases_Bool}
 use Rattle.kaba_bits.specs.Sets.{bit, row, IsSubset}
 use Rattle.kaba_bits.proofs.SetLemmas.{bit-below}
-use Rattle.stem_base.specs.Base.{Sides, HoldsIn, is_subset, in_both, all_below, common}
+use Rattle.stem_base.specs.Base.{HoldsIn, is_subset, in_both, common}
 use Rattle.stem_base.proofs.SetLemmas.{subset_is, is_subset_from, length-in_both, in_both-left, in_both-right, in_both-most, length-all_below, bit-all_below, bit-in_both, both_true}
 
 -- a row that has all of P, and one that lacks some of it

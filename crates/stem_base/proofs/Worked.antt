@@ -1,5 +1,5 @@
 -- A test that tells a base, and a worked table.
-use Rattle.std.specs.Prelude.{◌≡◌, ℕ, zero, suc, Bool, true, false, ◌&&◌, ◌||◌, not, nat_lt, List, [], ◌∷◌}
+use Rattle.std.specs.Prelude.{ℕ, zero, suc, Bool, true, false, ◌&&◌, ◌||◌, not, nat_lt, List, [], ◌∷◌}
 use Rattle.kaba_bits.specs.Sets.{size}
 use Rattle.stem_base.specs.Base.{Sides, is_subset, common}
 

@@ -1,9 +1,9 @@
 -- A list that the test tells is the base; and the base of the worked table, by computing.
-use Rattle.std.proofs.Common.{◌≡◌, ◌≢◌, ◌⊎◌, inl, inr, ⊎_elim, ℕ, suc, zero, ◌<◌, ◌≤◌, Bool, true, false, ◌&&◌, ◌||◌, not, nat_lt, List, [], ◌∷◌, length, get_or, All, AllPairs, Contains, refl, sym, ap, ◌∙◌, subst, arith}
+use Rattle.std.proofs.Common.{◌≡◌, ⊎_elim, ℕ, suc, zero, ◌<◌, Bool, true, false, ◌&&◌, ◌||◌, not, nat_lt, List, [], ◌∷◌, length, Contains, refl, sym, ap, ◌∙◌, subst, arith}
 use Rattle.std.proofs.lemmas.Bool.{cases_Bool, false≢true, and_parts, or_cases, or_left, or_right, ltb-true, lt-ltb}
 use Rattle.std.specs.List.{AllByRecursion}
 use Rattle.std.proofs.lemmas.List.Elements.{All-contains, All-from_recursion}
-use Rattle.kaba_bits.specs.Sets.{bit, size, IsSubset}
+use Rattle.kaba_bits.specs.Sets.{size, IsSubset}
 use Rattle.kaba_bits.proofs.SetLemmas.{subset-both}
 use Rattle.stem_base.specs.Base.{Sides, is_subset, common, IsPseudo}
 use Rattle.stem_base.proofs.Worked.{same_set, is_listed, holds_lesser, is_stem_by, same_truth, each_set, tells_base, table, table_base}

@@ -1,7 +1,7 @@
 -- Mirror. What is found before a set in lectic order.
-use Rattle.std.specs.Prelude.{◌≡◌, ℕ, zero, suc, ◌+◌, ◌*◌, ◌≤◌, Bool, true, false, List, [], ◌∷◌, length, All, AllPairs, Contains, cond}
+use Rattle.std.specs.Prelude.{◌≡◌, ℕ, zero, suc, ◌+◌, ◌≤◌, Bool, true, false, List, [], ◌∷◌, length, All, AllPairs, Contains, cond}
 use Rattle.stem_base.specs.Base.{Sides, is_subset, in_both, IsPseudo}
-use Rattle.stem_base.specs.Lectic.{Precedes, IsUpTo, AreUpTo}
+use Rattle.stem_base.specs.Lectic.{Precedes, AreUpTo}
 
 -- what a row leaves of the columns common to the others
 abbrev pub narrowed : List Bool → List Bool → List Bool → List Bool

@@ -1,8 +1,8 @@
 -- Mirror. Closing a set under implications that are kept as rows.
-use Rattle.std.specs.Prelude.{◌≡◌, ℕ, ◌<◌, ◌≤◌, Bool, true, false, List, length, slice_index_or, All}
+use Rattle.std.specs.Prelude.{◌≡◌, ℕ, ◌<◌, ◌≤◌, Bool, false, List, length, slice_index_or}
 use Rattle.std.specs.Bool.{MatchBool}
-use Rattle.kaba_bits.specs.Sets.{bit, size, IsSubset}
-use Rattle.stem_base.specs.Base.{Sides, sides_of, all_sides, Respects, IsClosedUnder}
+use Rattle.kaba_bits.specs.Sets.{size, IsSubset}
+use Rattle.stem_base.specs.Base.{Sides, Respects, IsClosedUnder}
 use Rattle.stem_base.specs.declared.implications.Implication.{Implication}
 
 -- both sides of an implication have a width

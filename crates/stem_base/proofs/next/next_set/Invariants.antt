@@ -1,4 +1,4 @@
-use Rattle.std.proofs.Common.{◌≡◌, ◌≤◌, ℕ, length}
+use Rattle.std.proofs.Common.{◌≡◌, ◌≤◌, length}
 use Rattle.stem_base.specs.Lectic.{IsStartBelow, FailFrom}
 use Rattle.stem_base.specs.Base.{all_sides}
 use Rattle.stem_base.proofs.next.next_set.Given as goal

@@ -1,4 +1,4 @@
-use Rattle.std.proofs.Common.{◌≡◌, ◌≤◌, ℕ, length, drop}
+use Rattle.std.proofs.Common.{◌≡◌, ◌≤◌, length, drop}
 use Rattle.stem_base.specs.Base.{common}
 use Rattle.stem_base.proofs.stems.closure_of.Given as goal
 

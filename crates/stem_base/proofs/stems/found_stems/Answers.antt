@@ -1,5 +1,5 @@
-use Rattle.std.proofs.Common.{refl, ap, sym, subst, ◌∙◌, ◌≡◌, length, List, Bool, arith}
-use Rattle.stem_base.specs.Base.{Sides, common, all_sides}
+use Rattle.std.proofs.Common.{ap, sym, subst, ◌∙◌, length, arith}
+use Rattle.stem_base.specs.Base.{common, all_sides}
 use Rattle.stem_base.specs.Found.{AreBefore}
 use Rattle.stem_base.proofs.FoundLemmas.{first_kept, first_before}
 use Rattle.stem_base.proofs.StemLemmas.{IsStep, step_sides, step_more, step_all, step_kept, step_before, step_falls}

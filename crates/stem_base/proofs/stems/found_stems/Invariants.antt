@@ -1,4 +1,4 @@
-use Rattle.std.proofs.Common.{◌≡◌, ◌-◌, ℕ, length}
+use Rattle.std.proofs.Common.{◌≡◌, ◌-◌, length}
 use Rattle.stem_base.specs.Base.{common, all_sides}
 use Rattle.stem_base.specs.Lectic.{IsKeptSet}
 use Rattle.stem_base.specs.Found.{AreBefore, lectic_rank, power_of_two}

@@ -1,5 +1,5 @@
 use Rattle.std.proofs.lemmas.Bool.{true≢false}
-use Rattle.std.proofs.Common.{refl, sym, ◌∙◌}
+use Rattle.std.proofs.Common.{refl, sym}
 use Rattle.stem_base.proofs.StemLemmas.{narrowed_has, narrowed_lacks}
 use Rattle.stem_base.proofs.stems.narrow.Goals as goal
 

@@ -1,8 +1,7 @@
-use Rattle.std.proofs.Common.{refl, ap, sym, subst, ◌∙◌, ◌≡◌, length, List, Bool, true, false}
-use Rattle.std.proofs.lemmas.Bool.{false≢true, true≢false}
+use Rattle.std.proofs.Common.{ap, sym, subst, ◌∙◌, length, List, Bool}
+use Rattle.std.proofs.lemmas.Bool.{false≢true}
 use Rattle.kaba_bits.specs.Sets.{IsSubset}
-use Rattle.stem_base.specs.Base.{Sides, common, all_sides, sides_of}
-use Rattle.stem_base.specs.Found.{AreNoted}
+use Rattle.stem_base.specs.Base.{all_sides}
 use Rattle.stem_base.proofs.TableLemmas.{common_wide}
 use Rattle.stem_base.proofs.FoundLemmas.{noted_same}
 use Rattle.stem_base.proofs.StemLemmas.{noted_pushed}

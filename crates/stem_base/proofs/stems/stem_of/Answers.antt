@@ -1,4 +1,4 @@
-use Rattle.std.proofs.Common.{◌≡◌, refl, length, arith}
+use Rattle.std.proofs.Common.{refl, arith}
 use Rattle.std.proofs.lemmas.List.{length-map}
 use Rattle.stem_base.specs.Base.{common, sides_of, all_sides}
 use Rattle.stem_base.proofs.BaseLemmas.{is_base, are_more, found_wide}
