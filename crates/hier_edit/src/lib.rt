@@ -3,13 +3,12 @@
 
 ghost use Rattle.std.specs.Prelude.{◌≡◌, ◌≢◌, ◌⊎◌, Ok, Err, IfErr, IfOk, OnErr, OnOk};
 ghost use Rattle.hier_rules.specs.Words.{InRange, AreSets, IsHierarchyOf, NamesSome, MeetsEdit};
-ghost use Rattle.hier_model.specs.Edits.{changed};
 ghost use Rattle.hier_edit.specs.Applied.{applied, tested, fault_of};
 ghost use Rattle.hier_edit.specs.declared.ApplyFault.TheVariants as ApplyFault;
 
 use fact_model::{Facts, PointsTo};
 use hier_model::{ChangeFault, Edit, Hier};
-use hier_rules::{Asked, Broken, Nodes, Rule, first_broken_after};
+use hier_rules::{Asked, Broken, Nodes, Rule, first_of_edit};
 use kaba_base::{ColId, NodeId};
 use std::alloc::Global;
 
@@ -46,21 +45,10 @@ fn fault_of(fault: ChangeFault) -> ApplyFault
     }
 }
 
-/// A hierarchy that an edit made of one which meets its obligations, where it meets them too.
-fn tested(
-    alloc: Global,
-    before: &Hier,
-    edit: &Edit,
-    made: Hier,
-    facts: &Facts,
-    sets: &PointsTo,
-) -> Result<Hier, ApplyFault>
+/// A hierarchy where it meets its obligations.
+fn tested(alloc: Global, made: Hier, facts: &Facts, sets: &PointsTo) -> Result<Hier, ApplyFault>
     requires range { InRange facts.now }
     requires sets { AreSets facts.now sets.now }
-    requires before { IsHierarchyOf facts.now before.now }
-    requires met { MeetsEdit facts.now sets.now before.now }
-    requires some { NamesSome edit.now }
-    requires after { changed facts.now before.now edit.now ≡ Ok made }
     requires hierarchy { IsHierarchyOf facts.now made }
     ensures value { (result ≡ Err ApplyFault.Memory) ⊎ (result ≡ tested facts.now sets.now made) }
     ensures meets { IfOk result (MeetsEdit facts.now sets.now) }
@@ -71,15 +59,15 @@ fn tested(
         pt: sets,
         hier: &made,
     };
-    match first_broken_after(alloc, before, &asked, edit) {
+    match first_of_edit(alloc, &asked) {
         Ok(None) => Ok(made),
         Ok(Some(broken)) => Err(ApplyFault::Breaks(broken)),
         Err(_) => Err(ApplyFault::Memory),
     }
 }
 
-/// Makes an edit of a hierarchy that meets the obligations B1 to B8, where the hierarchy after it meets them too
-/// (after Streckenbach and Snelting, 2004).
+/// Makes an edit of a hierarchy where the hierarchy after it meets the obligations B1 to B8 (after
+/// Streckenbach and Snelting, 2004).
 ///
 /// The changed hierarchy is made beside the old one, and takes its place when nothing can fail any more:
 /// after a refusal, and where memory is short, the hierarchy is the one before. A refusal holds the first
@@ -95,7 +83,6 @@ pub fn apply(
     requires range { InRange facts.now }
     requires sets { AreSets facts.now sets.now }
     requires hierarchy { IsHierarchyOf facts.now hier.old }
-    requires meets { MeetsEdit facts.now sets.now hier.old }
     requires some { NamesSome edit.now }
     ensures accepted { OnOk result (applied facts.now sets.now hier.old edit.now ≡ Ok hier.new) }
     ensures meets { OnOk result (MeetsEdit facts.now sets.now hier.new) }
@@ -104,7 +91,7 @@ pub fn apply(
     ensures is { IsHierarchyOf facts.now hier.new }
 {
     match hier.changed(alloc, facts, edit) {
-        Ok(changed) => match tested(alloc, hier, edit, changed, facts, sets) {
+        Ok(changed) => match tested(alloc, changed, facts, sets) {
             Ok(made) => {
                 *hier = made;
                 Ok(())

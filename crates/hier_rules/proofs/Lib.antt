@@ -9,6 +9,3 @@ pub mod NeedLemmas
 pub mod ChainLemmas
 pub mod Worked
 pub mod FoundLemmas
-pub mod ClassRowLemmas
-pub mod LeftLemmas
-pub mod AfterLemmas

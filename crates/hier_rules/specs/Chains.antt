@@ -1,9 +1,8 @@
 -- Mirror. What the search for unordered class nodes makes.
-use Rattle.std.specs.Prelude.{◌≡◌, ℕ, suc, zero, ◌+◌, ◌<◌, ◌==◌, ◌&&◌, ◌||◌, nat_lt, not, cond, length, List, Bool, true, slice_index_or}
-use Rattle.kaba_bits.specs.Sets.{bit, ListsBelow}
+use Rattle.std.specs.Prelude.{◌≡◌, ℕ, suc, zero, ◌+◌, ◌<◌, ◌==◌, ◌&&◌, nat_lt, not, cond, length, List, Bool, slice_index_or}
+use Rattle.kaba_bits.specs.Sets.{bit}
 use Rattle.fact_model.specs.declared.facts.Facts.{Facts}
-use Rattle.fact_model.specs.Items.{site_at, site_row, column_kind}
-use Rattle.hier_model.specs.Hierarchies.{Hierarchy, IsHierarchyOf, place_of_row, stands_at, is_of_class, is_class_node, any_below}
+use Rattle.hier_model.specs.Hierarchies.{Hierarchy, IsHierarchyOf, is_class_node, any_below}
 use Rattle.hier_rules.specs.declared.chains.ClassNodes.{ClassNodes}
 use Rattle.hier_rules.specs.Obligations.{is_class_above}
 
@@ -52,25 +51,3 @@ module _ (F : Facts) (H : Hierarchy) where
   pub record AreLooseNodes (nodes : List Bool) : Type 0 where
     pub width : length nodes ≡ length H.order.live
     pub exact : (n : ℕ) → bit nodes n ≡ (nat_lt n (length H.order.live) && is_loose n)
-
-  -- the set of the class nodes at or above a node, where it is one itself
-  pub record IsClassRow (n : ℕ) (set : List Bool) : Type 0 where
-    pub width : length set ≡ length H.order.live
-    pub exact : (x : ℕ) → bit set x ≡ is_class_above F H n x
-
-  -- a rising list of them
-  abbrev pub ListsClasses : ℕ → List ℕ → Type 0
-  ListsClasses n list = ListsBelow (λ x. is_class_above F H n x ≡ true) (length H.order.live) list
-
-  -- whether a column stands at a node that only a class can have
-  abbrev pub is_member_at : ℕ → ℕ → Bool
-  is_member_at p c = is_of_class (column_kind F c) && stands_at H p c
-
-  -- whether a site creates an object at a node
-  abbrev pub is_object_at : ℕ → ℕ → Bool
-  is_object_at p s = ((site_at F s).dim == 0) && (place_of_row H (site_row F s) == p)
-
-  -- the set of the nodes where such a column or such a site stands
-  pub record AreClassPlaces (places : List Bool) : Type 0 where
-    pub width : length places ≡ length H.order.live
-    pub exact : (p : ℕ) → bit places p ≡ (any_below (length F.columns.items) (is_member_at p) || any_below (length F.sites.items) (is_object_at p))

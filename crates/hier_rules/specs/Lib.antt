@@ -9,4 +9,3 @@ pub mod First
 pub mod Given
 pub mod Words
 pub mod Pairs
-pub mod Joins

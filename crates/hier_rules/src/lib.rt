@@ -2,11 +2,8 @@
 //! Streckenbach and Snelting, 2004).
 #![tactic(auto)]
 
-ghost use Rattle.std.specs.Prelude.{◌≡◌, Ok, IfOk};
-ghost use Rattle.hier_rules.specs.Words.{or_else, IsAsked, IsHierarchyOf, NamesSome, MeetsEdit};
-ghost use Rattle.hier_model.specs.Edits.{changed};
-ghost use Rattle.hier_rules.specs.Names.{first_confused};
-ghost use Rattle.hier_rules.specs.Joins.{joins};
+ghost use Rattle.std.specs.Prelude.{◌≡◌, IfOk};
+ghost use Rattle.hier_rules.specs.Words.{IsAsked};
 ghost use Rattle.hier_rules.specs.First.{first_changed_run, first_of_edit, first_broken};
 
 /// Whether one of the numbers below a count passes a test.
@@ -59,8 +56,6 @@ mod taken;
 use bodies::{first_two_bodies, first_wrong_need, first_wrong_super};
 pub use broken::{Broken, Nodes, Rule};
 pub use chains::first_unchained;
-use clashes::first_confused;
-use hier_model::{Edit, Hier};
 use names::first_misnamed;
 use outcomes::first_wrong_outcome;
 pub use places::Asked;
@@ -93,47 +88,6 @@ pub fn first_of_edit(alloc: Global, asked: &Asked) -> Result<Option<Broken>, All
     match first_changed_run(alloc, asked)? {
         Some(found) => Ok(Some(found)),
         None => first_misnamed(alloc, asked),
-    }
-}
-
-/// Whether an edit joins nodes: each node becomes one, with all that stood there, and what was ordered still is.
-fn joins(edit: &Edit) -> bool
-    ensures { result ≡ joins edit.now }
-{
-    matches!(edit, Edit::Merge(_) | Edit::Under(_, _))
-}
-
-/// The first instance of B2 to B8 in the hierarchy that an edit made of one which meets them. After an edit that
-/// joins nodes only B4 to B7 and the last part of B8 are looked at: it keeps the others. An error comes only for
-/// want of memory.
-pub fn first_broken_after(
-    alloc: Global,
-    before: &Hier,
-    asked: &Asked,
-    edit: &Edit,
-) -> Result<Option<Broken>, AllocError>
-    requires asked { IsAsked asked.now }
-    requires before { IsHierarchyOf asked.now.facts.now before.now }
-    requires meets { MeetsEdit asked.now.facts.now asked.now.pt.now before.now }
-    requires some { NamesSome edit.now }
-    requires after { changed asked.now.facts.now before.now edit.now ≡ Ok asked.now.hier.now }
-    ensures first { IfOk result (λ b. b ≡ first_of_edit asked.now.facts.now asked.now.pt.now asked.now.hier.now) }
-{
-    if joins(edit) {
-        return first_after_join(alloc, asked);
-    }
-    first_of_edit(alloc, asked)
-}
-
-/// The first instance against B4 to B7 and the last part of B8.
-fn first_after_join(alloc: Global, asked: &Asked) -> Result<Option<Broken>, AllocError>
-    requires { IsAsked asked.now }
-    ensures { IfOk result (λ b. b ≡ or_else (first_changed_run asked.now.facts.now asked.now.pt.now asked.now.hier.now)
-        (first_confused asked.now.facts.now asked.now.hier.now)) }
-{
-    match first_changed_run(alloc, asked)? {
-        Some(found) => Ok(Some(found)),
-        None => first_confused(alloc, asked),
     }
 }
 

@@ -1,14 +1,13 @@
 //! Where rows and columns stand, and what is offered.
 
 ghost use Rattle.std.specs.Prelude.{◌≡◌, ◌<◌, true, length, IfSome};
-ghost use Rattle.hier_rules.specs.Words.{row, is_le, is_live, IsAsked};
+ghost use Rattle.hier_rules.specs.Words.{is_le, is_live, IsAsked};
 ghost use Rattle.hier_model.specs.Hierarchies.{place_of_column, place_of_row, is_offered, is_at, stands_at};
 ghost use Rattle.hier_rules.specs.Obligations.{is_below, row_le, column_le, is_above};
 
 use fact_model::{Facts, PointsTo};
 use hier_model::Hier;
 use kaba_base::{ColId, NodeId, RowId};
-use kaba_bits::BitRow;
 use kaba_order::Order;
 
 /// What the obligations are asked of: facts, their sets, and a hierarchy.
@@ -40,14 +39,6 @@ pub fn is_le(hier: &Hier, a: u32, b: u32) -> bool
     ensures { result ≡ is_le hier.now.order a b }
 {
     hier.order().le(NodeId(a), NodeId(b))
-}
-
-/// The nodes at or above a live node.
-pub fn above(hier: &Hier, n: u32) -> &BitRow
-    requires { is_live hier.now.order n ≡ true }
-    ensures { result.now ≡ row hier.now.order.le n }
-{
-    hier.order().above(NodeId(n))
 }
 
 /// The node where a row stands.

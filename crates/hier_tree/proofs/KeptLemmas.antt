@@ -39,8 +39,7 @@ use Rattle.hier_tree.specs.Kept.{origin_at, field_at, slot_at, IsKept}
 use Rattle.hier_tree.proofs.GrownLemmas.{fields_apart, slots_apart, rest_of_half, under_keeps, under_own, under_half, under_names, merge_keeps, merge_half, merge_names, merge_own}
 use Rattle.hier_tree.proofs.ReadLemmas.{half_of, own_of}
 use Rattle.hier_tree.proofs.MadeLemmas.{put_under, made_one, merged_lives, merged_count, same_origin, least, least_there}
-use Rattle.hier_rules.proofs.LeftLemmas.{AreNamesLeft}
-use Rattle.hier_tree.proofs.NameLemmas.{names_left, confused_none}
+use Rattle.hier_tree.proofs.NameLemmas.{AreNamesLeft, names_left, confused_none}
 use Rattle.hier_laws.proofs.Unbroken.{none_of_edit}
 
 -- the same origins

@@ -1,4 +1,4 @@
-use Rattle.std.proofs.Common.{length, sym, ◌∙◌, arith}
+use Rattle.std.proofs.Common.{length, arith}
 use Rattle.kaba_bits.specs.Sets.{first_below}
 use Rattle.hier_rules.specs.Obligations.{unchained}
 use Rattle.hier_rules.proofs.FoundLemmas.{found_in}
@@ -9,4 +9,4 @@ returns-in-Some c =
     let F = c.args.facts.now in
     let H = c.args.hier.now in
     found_in (length H.order.live) c.loop-n.n (length H.order.live) (λ n x. first_below (length H.order.live) (unchained F H n x)) c.loop-n.invariant
-    (sym c.in-Some.is ∙ c.in_ok-found.ensures) (omega arith)
+    c.in-Some.ensures (omega arith)

@@ -1,7 +1,6 @@
 use Rattle.std.proofs.Common.{◌≡◌, ◌+◌, ◌<◌, length, get_or, Err, sym, ◌∙◌, subst, arith}
 use Rattle.hier_model.specs.Hierarchies.{Hierarchy}
 use Rattle.hier_model.specs.declared.edits.Edit.{Edit}
-use Rattle.hier_rules.specs.First.{MeetsEdit}
 use Rattle.hier_edit.specs.declared.ApplyFault.TheVariants.{Breaks}
 use Rattle.hier_tree.specs.Trees.{tried, try_of}
 use Rattle.tree_merge.specs.Attempts.{IsAttempt}
@@ -28,6 +27,5 @@ tries-preserved c =
       same = a.0 ∙ c.tries.invariant.same;
       first = sym (refused_at F pt H T k e (Breaks b) c.tries.invariant.below there) ∙ c.tries.invariant.first;
       last = sym (last_more T k e more) ∙ c.tries.invariant.last;
-      meets = subst (MeetsEdit F pt) (sym a.0) c.tries.invariant.meets;
       is = c.attempt_one.ensures.is;
     }
