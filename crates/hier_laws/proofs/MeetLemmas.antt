@@ -21,11 +21,17 @@ use Rattle.hier_laws.specs.Obligations.{IsOther, Half, Rest}
 use Rattle.hier_rules.specs.declared.broken.Rule.TheVariants.{B2, B3, B4, B5, B6, B7}
 use Rattle.hier_rules.specs.Asked.{is_tie, is_super, is_called, slots_of, is_other_body, meets, places_of}
 use Rattle.hier_rules.specs.Instances.{of_both, of_row, of_column}
-pub use Rattle.hier_rules.proofs.FoundLemmas.{none_by, none_both}
 use Rattle.hier_rules.specs.Obligations.{is_strictly_above, is_below, differ, row_le, column_le, place_of_site, is_nearer, has_nearer, wrong_body, wrong_need, first_wrong_need, is_between, has_between, wrong_super, first_wrong_super, is_body_at, two_bodies, first_two_bodies, unoffered, first_unoffered, untied, unheld, first_untied, wrong_outcome, first_wrong_outcome}
 use Rattle.hier_rules.specs.Obligations as rule
 use Rattle.hier_laws.proofs.ShapeLemmas.{shape, placed}
 use Rattle.hier_laws.proofs.GivenLemmas.{given}
+
+pub none_by : {B : Type 0} (t : Bool) (v : B) → (t ≡ true → ⊥) → when t v ≡ None
+none_by true v n = absurd (n refl)
+none_by false v n = refl
+
+pub none_both : {B : Type 0} (x y : Option B) → x ≡ None → y ≡ None → or_else x y ≡ None
+none_both x y e f = rw (e, f) refl
 
 one_slot_says : (a b : Option ℕ) → is_one_slot a b ≡ true → b ≡ a
 one_slot_says None b h = absurd (false≢true h)
