@@ -37,10 +37,10 @@ pub exact : (ts rest : List Token) (k : ℕ) → Reads (NDecls []) ts (Err (Left
 exact ts rest k r h =
     let b = begun r in
     let l = length-append b.0 rest in
-    let n : k ≡ length b.0 = (let g = ap length b.1.0 in omega (arith, h, g, l)) in
-    subst (λ (us : List Token). IsExact us k) (sym b.1.0)
-    (exact_of b.0 rest k (subst (λ (us : List Token). Reads (NDecls []) us (Err (Left rest))) b.1.0 r) b.1.1 n)
+    let n : k ≡ length b.0 = (let g = ap length b.1 in omega (arith, h, g, l)) in
+    subst (λ (us : List Token). IsExact us k) (sym b.1)
+    (exact_of b.0 rest k (subst (λ (us : List Token). Reads (NDecls []) us (Err (Left rest))) b.1 r) b.2 n)
 
 -- no more is left than there was
 pub rest_fits : (ts rest : List Token) → Reads (NDecls []) ts (Err (Left rest)) → length rest ≤ length ts
-rest_fits ts rest r = let b = begun r in let l = length-append b.0 rest in let g = ap length b.1.0 in omega (arith, g, l)
+rest_fits ts rest r = let b = begun r in let l = length-append b.0 rest in let g = ap length b.1 in omega (arith, g, l)

@@ -127,7 +127,10 @@ fn prefixed(alloc: Global, tokens: &[Token]) -> Result<(Expr, &[Token]), Stop<'_
         return Ok((whole, rest));
     }
     if let Some((base, at, place, rest)) = cast_at(tokens) {
-        let (value, rest) = prefixed(alloc, rest)?;
+        let (value, rest) = match prefixed(alloc, rest) {
+            Ok(read) => read,
+            Err(stop) => return Err(stop),
+        };
         let whole = cast_of(alloc, base, at, value, place)?;
         return Ok((whole, rest));
     }

@@ -5,7 +5,7 @@ use Rattle.java_parse.specs.Want.{NMoreArgs}
 use Rattle.java_parse.specs.Reading.{Reads}
 use Rattle.java_parse.specs.Front.{expr_snoc}
 use Rattle.java_parse.proofs.Pushed.{pushed_expr}
-use Rattle.java_parse.proofs.ExpressionSteps.{args_some, args_some_fails, more_args_next, more_args_next_fails, more_args_end, more_args_open, more_operator_fails, more_no_class}
+use Rattle.java_parse.proofs.ExpressionSteps.{prefixed_cast_fails, args_some, args_some_fails, more_args_next, more_args_next_fails, more_args_end, more_args_open, more_operator_fails, more_no_class}
 use Rattle.java_parse.proofs.expr.+reading.Goals as goal
 
 pub args-more-init : goal.args-more-init
@@ -31,6 +31,10 @@ args-returns-in-Some-mark_at-clause-reads t c = c.more.invariant.so_far _ _ _ c.
 pub args-returns-in_default-mark_at-2-clause-reads : goal.args-returns-in_default-mark_at-2-clause-reads
 args-returns-in_default-mark_at-2-clause-reads t c = c.more.invariant.so_far _ _ _ c.in_ok-next.ensures.reads
     (more_args_open (search rules) (search rules))
+
+pub prefixed-returns-in-Err-clause-reads : goal.prefixed-returns-in-Err-clause-reads
+prefixed-returns-in-Err-clause-reads t c =
+    prefixed_cast_fails (search rules) (search rules) (search rules) (sym c.in-Some-cast_at.ensures.value) c.in-Err.ensures.reads
 
 pub more-returns-in-Err-clause-reads : goal.more-returns-in-Err-clause-reads
 more-returns-in-Err-clause-reads t c = more_operator_fails (sym c.in-Some.ensures.value) c.level_of-level.ensures.value c.in-Err.ensures.reads
