@@ -1,4 +1,4 @@
--- Mirror. The answers of `base`, for the program of its file.
+-- Believed. The answers of `base`, for the program of its file.
 use Rattle.std.specs.Prelude.{ℕ, ◌≤◌, ◌⊎◌, List, [], length, codes}
 use Rattle.fact_model.specs.declared.facts.Facts.{Facts}
 use Rattle.fact_model.specs.declared.sets.Table.{Table}

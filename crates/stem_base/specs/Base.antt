@@ -1,4 +1,4 @@
--- Mirror. The least base of implications of a table (Duquenne and Guigues, 1986). A set of columns is a list of truth
+-- Believed. The least base of implications of a table (Duquenne and Guigues, 1986). A set of columns is a list of truth
 -- values, of the table's width w. A table is its rows.
 use Rattle.std.specs.Prelude.{◌≡◌, ◌≢◌, ℕ, suc, zero, ◌<◌, ◌↔◌, Bool, true, false, ◌&&◌, List, [], ◌∷◌, length, map, All, AllPairs, Contains}
 use Rattle.std.specs.declared.cmp.Ordering.{Ordering}

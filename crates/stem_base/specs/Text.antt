@@ -1,4 +1,4 @@
--- Mirror. The text of a base.
+-- Believed. The text of a base.
 use Rattle.std.specs.Prelude.{ℕ, ◌+◌, List, [], ◌∷◌, ◌++◌, length, codes, not}
 use Rattle.std.specs.List.{filter}
 use Rattle.std.specs.Fmt.{decimal}
