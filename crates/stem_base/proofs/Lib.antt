@@ -7,6 +7,7 @@ mod OrderLemmas
 mod SaturateLemmas
 mod Worked
 mod WorkedLemmas
+mod WorkedBase
 mod NextLemmas
 mod FoundLemmas
 mod StemLemmas

@@ -31,7 +31,7 @@ same_set_from : (a : List Bool) → same_set a a ≡ true
 same_set_from a = rw (is_subset_from a a (λ i h. h), same_set) refl
 
 -- the left sides have the width, and the right sides are their closures
-abbrev Fits : List (List Bool) → ℕ → Sides → Type 0
+abbrev pub Fits : List (List Bool) → ℕ → Sides → Type 0
 Fits T w r = (length r.0 ≡ w) × (r.1 ≡ common T w r.0)
 
 guard : (a b c : Bool) → (a ≡ true → b ≡ true) → c ≡ true → ((not a || b) && c) ≡ true
