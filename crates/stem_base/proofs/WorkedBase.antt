@@ -29,12 +29,19 @@ IsStem r = IsPseudo 5 (common table 5) r.0 × (r.1 ≡ common table 5 r.0)
 
 each : AllByRecursion IsStem table_base
 each =
-    let stem = told_each_stem table 5 table_base fits refl in
-    ((stem (stem_of (false ∷ false ∷ false ∷ false ∷ false ∷ [])) (0, omega arith, refl), refl),
-    ((stem (stem_of (true ∷ true ∷ false ∷ false ∷ false ∷ [])) (1, omega arith, refl), refl),
-    ((stem (stem_of (false ∷ true ∷ true ∷ false ∷ false ∷ [])) (2, omega arith, refl), refl),
-    ((stem (stem_of (false ∷ true ∷ false ∷ true ∷ false ∷ [])) (3, omega arith, refl), refl),
-    ((stem (stem_of (false ∷ true ∷ false ∷ false ∷ true ∷ [])) (4, omega arith, refl), refl), tt)))))
+    let stem = told_each_stem table 5 table_base fits refl in (
+      (stem (stem_of (false ∷ false ∷ false ∷ false ∷ false ∷ [])) (0, omega arith, refl), refl),
+      (
+        (stem (stem_of (true ∷ true ∷ false ∷ false ∷ false ∷ [])) (1, omega arith, refl), refl),
+        (
+          (stem (stem_of (false ∷ true ∷ true ∷ false ∷ false ∷ [])) (2, omega arith, refl), refl),
+          (
+            (stem (stem_of (false ∷ true ∷ false ∷ true ∷ false ∷ [])) (3, omega arith, refl), refl),
+            ((stem (stem_of (false ∷ true ∷ false ∷ false ∷ true ∷ [])) (4, omega arith, refl), refl), tt),
+          ),
+        ),
+      ),
+    )
 
 stems : AreStems 5 (common table 5) table_base
 stems = record {
