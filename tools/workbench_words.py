@@ -24,7 +24,7 @@ class Names:
         return f"{short(self.nodes[n]['name'])} (n{n})" if n in self.nodes else f"n{n}"
 
     def row(self, r):
-        return short(self.program.analysis.lattice.rows[r])
+        return short(self.program.given.said(self.program.analysis.lattice.rows[r]))
 
     def column(self, c):
         column = self.columns[c]

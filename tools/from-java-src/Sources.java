@@ -85,7 +85,11 @@ final class Sources {
     }
 
     boolean isLibrary(CompilationUnitTree unit) {
-        return libraryFiles.contains(new File(unit.getSourceFile().getName()).getPath());
+        return unit != null && libraryFiles.contains(new File(unit.getSourceFile().getName()).getPath());
+    }
+
+    List<CompilationUnitTree> ownUnits() {
+        return units.stream().filter(unit -> !isLibrary(unit)).toList();
     }
 
     Element elementOf(Tree tree) {

@@ -89,7 +89,7 @@ final class Statements {
     private void variable(VariableTree tree) {
         Element element = body.elementOf(tree);
         ExpressionTree value = tree.getInitializer();
-        Ty type = body.ty(element.asType());
+        Ty type = body.tyOf(element);
         if (body.shared.contains(element)) {
             if (value != null) {
                 body.setLocal(body.nameOf(element), initial(value, type, null));
@@ -116,7 +116,7 @@ final class Statements {
             return body.creations.array(array, type, name);
         }
         boolean plain = name != null && value instanceof NewClassTree made && made.getClassBody() == null
-            && body.tyOf(value).same(type);
+            && body.creations.typeOf(made).same(type);
         return plain ? body.creations.creation((NewClassTree) value, name) : body.exTo(value, type);
     }
 
@@ -311,8 +311,18 @@ final class Statements {
             return;
         }
         Ex walker = body.calls.invoke(over, method(iterable, "iterator"), List.of(), List.of(), tree, false);
-        Body.Target target = target(label, true);
         Ex at = Ex.local(body.fresh("iterator"), walker.type);
+        Ty given = walker.type.copy.as(iterator).env.values().iterator().next();
+        if (body.world.isApart(given) && type.is(Ty.Kind.CLASS) && given.copy.element.equals(type.copy.element)) {
+            declareOver(tree, at, variable, given, label, walker, iterator);
+            return;
+        }
+        declareOver(tree, at, variable, type, label, walker, iterator);
+    }
+
+    private void declareOver(EnhancedForLoopTree tree, Ex at, Element variable, Ty type, String label, Ex walker,
+        TypeElement iterator) {
+        Body.Target target = target(label, true);
         St first = new St.Let(walker.type.text(), at.text, walker.text);
         first.at = body.place;
         target.loop.first = first;

@@ -1,0 +1,80 @@
+"""Plans in the words of everyday Java: each name and place as the text has it that was written of the sources."""
+import re
+
+UNKNOWN = 10000000  # added to a line of the sources that no line of the text comes from
+WORD = r"[A-Za-z_$][\w$]*"
+TYPES = r"(?:<[\w$.,<>\[\]?]*>)?"
+CLASS = rf"{WORD}(?:\.{WORD})*{TYPES}"
+PARAMETERS = r"(?:\([\w$.,<>\[\]]*\))?"
+LABEL = rf"{CLASS}(?:\.{WORD})*{PARAMETERS}(?:\.{WORD})*"
+# A comment; a creation, a cast or a test; a variable; a label.
+THING = re.compile(
+    rf"(#.*)|\b(new|cast|instanceof)(\s+)({CLASS})((?:\[\])*)@([\w$.:<>,()]+)|\b(variable)(\s+)({LABEL})|({LABEL})"
+)
+PLACE = re.compile(r"(?:(.*\.java):)?(\d+)(?::(\d+))?")
+HEAD = re.compile(rf"(\s*class\s+{WORD}\s*:)(.*)", re.S)
+
+
+class InnerPlan:
+    """Turns a plan's words into those of the text."""
+
+    def __init__(self, everyday):
+        self.everyday, self.inner = everyday, {}
+        for label, said in everyday.labels.items():
+            self.inner.setdefault(said, []).append(label)
+
+    def text(self, text):
+        return "\n".join(map(self.line, text.split("\n")))
+
+    def line(self, line):
+        found = HEAD.fullmatch(line)
+        return found[1] + THING.sub(self.thing, found[2]) if found else THING.sub(self.thing, line)
+
+    def thing(self, found):
+        comment, kind, gap, name, dims, place, variable, space, label, alone = found.groups()
+        if comment:
+            return comment
+        if kind:
+            return self.creation(kind, gap, name, dims, place)
+        if variable:
+            return " ".join(f"{variable}{space}{it}" for it in self.labels(label))
+        return self.member(alone)
+
+    def creation(self, kind, gap, name, dims, place):
+        classes = self.objects(name)
+        at = PLACE.fullmatch(place)
+        places = self.lines(*at.groups()) if at else self.labels(place)
+        return " ".join(f"{kind}{gap}{it}{dims}@{where}" for it in classes for where in places)
+
+    def objects(self, name):
+        """The classes of the text for one of the sources, those that have objects."""
+        found = [it for it in self.inner.get(name, []) if it in self.everyday.classes]
+        return [it for it in found if not self.everyday.classes[it]["static"]] or [name]
+
+    def lines(self, file, line, column):
+        """The lines of the text of a place of the sources; a number above all where there is none."""
+        found = []
+        for number, place in enumerate(self.everyday.places, 1):
+            fits = place and str(place[1]) == line and column in (None, str(place[2]))
+            own = place and (place[0] in self.everyday.files if file is None else place[0].endswith(file))
+            if fits and own:
+                found.append(number)
+        return found or [UNKNOWN + int(line)]
+
+    def labels(self, label):
+        """The labels of the text for one of the sources."""
+        if label in self.inner and self.inner[label]:
+            return [it for it in self.inner[label] if not it.endswith("()")] or self.inner[label]
+        front, _, last = label.rpartition(".")
+        fits = [f"{it}.{last}" for it in self.inner.get(front, []) if not it.endswith("()")]
+        return fits or [label]
+
+    def member(self, label):
+        """A member or a class."""
+        found = self.inner.get(label, [])
+        if any(it in self.everyday.classes for it in found):
+            return self.objects(label)[0]
+        methods = [it for it in found if it.endswith("()")]
+        fields = [it for it in found if it not in methods and f"{it}()" not in self.everyday.members]
+        wanted = methods if label.endswith(")") else fields or methods
+        return " ".join(wanted) if wanted else label
