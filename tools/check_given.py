@@ -5,7 +5,7 @@ import sys
 
 from kaba_given import Everyday, bring
 from kaba_plan import Reader
-from kaba_tools import HERE
+from kaba_tools import HERE, kaba
 from workbench_browser import Workbench
 
 ZOO = """import java.util.ArrayList;
@@ -194,6 +194,45 @@ def check_workbench(tests, file):
         tests.expect("a plan in these words makes edits", status == 200 and json.loads(text)["edits"], text)
 
 
+APART = """import java.util.*;
+
+public class Two {
+    private final List<String> names = new ArrayList<>();
+    private final List<String> shared = new ArrayList<>();
+
+    List<String> all() {
+        return shared;
+    }
+
+    public static void main(String[] args) {
+        Two two = new Two();
+        two.names.add("a");
+        Map<String, Integer> counts = new TreeMap<>();
+        counts.merge("b", 2, Integer::sum);
+        for (Map.Entry<String, Integer> entry : counts.entrySet()) {
+            two.shared.add(entry.getKey() + entry.getValue());
+        }
+        Random random = new Random(42);
+        System.out.println(two.names + "" + two.all() + counts + random.nextInt(100) + random.nextInt() + random.nextBoolean());
+    }
+}
+"""
+
+
+def check_apart(tests, folder):
+    """Containers that meet no other have classes of their own; what is printed is the same."""
+    file, text = folder / "Two.java", folder / "two.txt"
+    file.write_text(APART)
+    status, out, err = tool("from-java", "--apart", file, "-o", text)
+    written = text.read_text() if text.exists() else ""
+    tests.expect("--apart brings in", status == 0, err)
+    tests.expect("a field's containers have a class", "class ArrayList_String_names " in written
+        and "class TreeMap_String_Integer_counts " in written, err)
+    tests.expect("what is given elsewhere shares one", "_shared" not in written and "class ArrayList_String " in written, err)
+    got = kaba("run", str(text), "1000000")
+    tests.expect("it prints the same", got[:2] == (0, b"[a][b2]{b=2}30234785527true\n"), got)
+
+
 def check_given(tests, folder):
     file = folder / "Zoo.java"
     file.write_text(ZOO)
@@ -203,4 +242,5 @@ def check_given(tests, folder):
     check_plan(tests, file)
     check_explain(tests, file, folder)
     check_folder(tests, folder)
+    check_apart(tests, folder)
     check_workbench(tests, file)

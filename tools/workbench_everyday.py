@@ -20,14 +20,14 @@ class Spots:
             for found in WORD.finditer(self.lines[number - 1], column - 1 if number == line else 0):
                 yield (number, found.start()), found[0]
 
-    def put(self, inner_line, item, word, before=None):
-        """Puts an item at the first free word of its name behind the place of a line of the text."""
+    def put(self, inner_line, item, word, before=None, whole_line=False):
+        """Puts an item at the first free word of its name behind the place of a line of the text, or in its line."""
         place = self.given.place(inner_line)
         line = self.given.shown_line(inner_line)
         if not line:
             return
         last = None
-        for at, found in self.words(line, place[2]):
+        for at, found in self.words(line, 1 if whole_line else place[2]):
             if found == word and before in (None, last) and (at, item[0]) not in self.taken:
                 if item[0] == "r":
                     self.taken.add((at, item[0]))
@@ -59,7 +59,9 @@ class Spots:
                 self.put(line, f"r{r}", member)
                 self.taken = {it for it in self.taken if it[0] not in self.items or f"r{r}" not in self.items[it[0]]}
             elif was:
-                self.put(line, f"r{r}", was)
+                # A parameter stands behind the beginning of its method; a local may stand before a part of its value.
+                is_local = label in self.given.variables and line != self.analysis.declared.members.get(f"{front}()")
+                self.put(line, f"r{r}", was, None, is_local)
 
     def pieces(self):
         found = []

@@ -2,6 +2,7 @@
 import re
 
 from workbench_runs import Fault, has_tool
+from workbench_words import with_brackets
 
 TOOL_SECONDS = 300
 
@@ -56,7 +57,8 @@ def things_of(program, node):
         elif kinds == ["field"]:
             yield f"{holder}.{name}"
         elif "field" in kinds or len(kinds) == 2:
-            yield from (f"{holder}.{name}{'' if kind == 'field' else '()'}" for kind in kinds if kind != "body")
+            method = with_brackets(name)
+            yield from (f"{holder}.{name if kind == 'field' else method}" for kind in kinds if kind != "body")
         else:
             yield f"{kinds[0]} {holder}.{name}"
     for r in node["rows"]:
