@@ -237,7 +237,7 @@ def bring(path):
 def given(path, is_everyday=False):
     """What the path names; ends the tool where it is everyday Java that cannot be brought in."""
     if not is_everyday and not os.path.isdir(path):
-        if is_taken(path) or not has_java():
+        if not str(path).endswith(".java") or is_taken(path) or not has_java():
             return Plain(path)
         found, _ = bring(path)
         return found or Plain(path)

@@ -13,9 +13,10 @@ import javax.lang.model.type.ArrayType;
 import javax.lang.model.type.TypeKind;
 import javax.lang.model.type.TypeMirror;
 
-/** Numbers that are not brought in, long and those with a fraction, and random numbers without a seed: told where the sources have them. */
+/** Numbers that are not brought in, long, those with a fraction and random ones without a seed: told where they stand. */
 final class Numbers extends TreeScanner<Void, Void> {
-    private static final String WHOLE = "there are no numbers with a fraction; count in whole parts, such as cents, in an int";
+    private static final String WHOLE = "there are no numbers with a fraction; count in whole parts, such as cents, "
+        + "in an int";
     private static final String SEED = "each run would have other numbers; give a seed, as in new Random(42)";
     private final Sources sources;
     private final Obstacles obstacles;

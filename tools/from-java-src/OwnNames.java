@@ -1,7 +1,9 @@
 import java.util.ArrayList;
 import java.util.HashMap;
+import java.util.HashSet;
 import java.util.List;
 import java.util.Map;
+import java.util.Set;
 import java.util.regex.Matcher;
 import java.util.regex.Pattern;
 import javax.lang.model.element.NestingKind;
@@ -11,14 +13,13 @@ import javax.lang.model.element.TypeElement;
 final class OwnNames {
     private static final Pattern CLASS = Pattern.compile("[\u0001\u0003]([0-9]+)\u0002");
     private final World world;
-    private final Map<String, TypeElement> simple = new HashMap<>(); // null where several have the name
+    private final Map<String, Set<TypeElement>> called = new HashMap<>(); // the classes of a simple name
 
     OwnNames(World world) {
         this.world = world;
         for (Copy copy : world.copies) {
-            if (isNamed(copy)) {
-                String name = copy.element.getSimpleName().toString();
-                simple.merge(name, copy.element, (one, other) -> one.equals(other) || copy.isLibrary ? one : world.sources.elements.getTypeElement("java.lang.Object"));
+            if (isNamed(copy) && !copy.isLibrary) {
+                called.computeIfAbsent(copy.element.getSimpleName().toString(), name -> new HashSet<>()).add(copy.element);
             }
         }
     }
@@ -33,8 +34,11 @@ final class OwnNames {
             return copy.name;
         }
         String name = copy.element.getSimpleName().toString();
-        if (!copy.element.equals(simple.get(name)) && copy.element.getEnclosingElement() instanceof TypeElement holder) {
+        boolean several = called.getOrDefault(name, Set.of()).size() > (copy.isLibrary ? 0 : 1);
+        if (several && copy.element.getEnclosingElement() instanceof TypeElement holder) {
             name = holder.getSimpleName() + "." + name;
+        } else if (several && copy.isLibrary) {
+            return copy.name;
         }
         List<String> arguments = new ArrayList<>();
         copy.env.values().forEach(one -> arguments.add(of(one)));
@@ -65,6 +69,7 @@ final class OwnNames {
 
     private String typesIn(String text) {
         Matcher found = CLASS.matcher(text);
-        return found.replaceAll(one -> Matcher.quoteReplacement(of(world.copies.get(Integer.parseInt(one.group(1))))));
+        return found.replaceAll(one ->
+            Matcher.quoteReplacement(of(world.copies.get(Integer.parseInt(one.group(1))))));
     }
 }

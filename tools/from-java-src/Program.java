@@ -102,9 +102,11 @@ final class Program {
             if (world.sources.isLibrary(unit)) {
                 continue;
             }
-            if (!world.variablesOf(one).isEmpty() && !classes.contains(one)) {
+            NestingKind nesting = one.getNestingKind();
+            boolean named = nesting == NestingKind.TOP_LEVEL || nesting == NestingKind.MEMBER;
+            if (named && !world.variablesOf(one).isEmpty() && !classes.contains(one)) {
                 leftOut(world.sources.placeOf(unit, world.sources.treeOf.get(one)), "the generic class "
-                    + one.getSimpleName() + ", of which there is no type argument");
+                    + one.getSimpleName() + ", which nothing uses");
                 continue;
             }
             for (Element member : one.getEnclosedElements()) {
