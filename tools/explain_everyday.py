@@ -1,4 +1,4 @@
-"""What tools/explain says of everyday Java: what stands in the way, how the run ends, and refused edits, all of the sources."""
+"""What tools/explain says of everyday Java, in its own lines: what stands in the way, how the run ends, refused edits."""
 import contextlib
 import io
 import re
@@ -74,7 +74,7 @@ def faulted(found, kind, asked):
     for label, k in reversed(frames):
         place = found.place(source.line_of(source.tokens[k]))
         if label != "Thrown.stop" and place and place != seen:
-            show(*place, f"in {found.said(label)}")
+            show(*place, f"in {found.of_method(label)}")
             seen = place
     if not frames:
         print(f"{found.name}: where it stands is not known: the run or the text is too long to be noted")

@@ -1,4 +1,4 @@
-"""What a tool was given: a text of Kaba's language, or everyday Java, which is brought in first and spoken of as it stands.
+"""What a tool was given: a text of Kaba's language, or everyday Java, which is brought in first and spoken of as it is.
 
 `given(path)` takes a file that the program takes as it is. A folder, and a file that it refuses and tools/from-java
 brings in, is everyday Java: the tools then work on the text that is written of it, and `said` puts the lines and the
@@ -20,8 +20,11 @@ from kaba_tools import fail, kaba
 REFUSED = 65
 WORD = r"[A-Za-z_$][\w$]*"
 LABEL = rf"{WORD}(?:\.{WORD})*(?:\(\))?"
-# A creation, a cast or a test; a number of lines; a label.
-SPOKEN = re.compile(rf"\b(new|cast|instanceof) ({WORD})((?:\[\])*)@(\d+)|\b(line|lines) (\d+(?:(?:, | and )\d+)*)|({LABEL})")
+# A creation, a cast or a test; a number of lines; a method's column; a label.
+SPOKEN = re.compile(
+    rf"\b(new|cast|instanceof) ({WORD})((?:\[\])*)@(\d+)|\b(line|lines) (\d+(?:(?:, | and )\d+)*)"
+    rf"|\b(dcl|def)\(({WORD}\.{WORD})\)|({LABEL})"
+)
 
 
 class Plain:
@@ -76,21 +79,21 @@ class Everyday:
 
     def __init__(self, name, files, file, found):
         self.name, self.files, self.file = name, files, file
-        self.places = [place and (place[0], place[1], place[2]) for place in found["lines"]]
+        self.places = [place and tuple(place) for place in found["lines"]]
         self.classes, self.members, self.variables = found["classes"], found["members"], found["variables"]
-        self.labels = {name: it["said"] for name, it in self.classes.items()}
-        self.calls = {}  # of a method's name in the text what the sources call it, where that is one name
+        # Labels of the text and what is said for them; methods without brackets stand apart, since a field may have the name.
+        self.labels, self.methods = {name: it["said"] for name, it in self.classes.items()}, {}
+        self.calls = {}  # of a method's name in the text what is said for it, in whatever class
         for label, it in self.members.items():
             holder, _, member = label.partition(".")
-            said = (it.get("said") or it["was"] or member).removesuffix("()")
-            plain = label.removesuffix("()")
-            is_method = plain != label
-            self.labels[label] = f"{self.labels[holder]}.{said}" + ("()" if is_method and not said.endswith(")") else "")
-            if is_method:
-                self.labels[plain] = f"{self.labels[holder]}.{said}"
-                self.calls.setdefault(member.removesuffix("()"), set()).add(it["was"] and said)
+            said = it.get("said") or it["was"] or member
+            self.labels[label] = f"{self.labels[holder]}.{said}"
+            if label.endswith("()"):
+                self.methods[label[:-2]] = self.labels[label]
+                self.labels[label] += "" if said.endswith(")") else "()"
+                self.calls.setdefault(member[:-2], set()).add(it["was"] and said)
         for label, it in self.variables.items():
-            self.labels[label] = f"{self.labels[label.rpartition('.')[0]]}.{it['was']}"
+            self.labels[label] = f"{self.methods[label.rpartition('.')[0]]}.{it['was']}"
         self.text = Path(file).read_text(encoding="utf-8").split("\n")
         self.inner = self.shown = None
 
@@ -120,23 +123,31 @@ class Everyday:
 
     def label(self, label):
         """The name of the sources for a label of the text."""
-        if label in self.labels:
-            return self.labels[label]
+        if label in self.labels or label in self.methods:
+            return self.labels.get(label) or self.methods[label]
         if label.endswith("()"):
-            said = next(iter(self.calls.get(label[:-2], ())), None) if len(self.calls.get(label[:-2], ())) == 1 else None
-            return label if said is None else said if said.endswith(")") else f"{said}()"
+            return self.of_call(label)
         front, dot, last = label.rpartition(".")
-        return f"{self.labels[front]}.{last}" if dot and front in self.labels else self.of_class(label)
-
-    def of_class(self, label):
+        if dot and front in self.methods:
+            return f"{self.methods[front]}.{last}"
         first, dot, rest = label.partition(".")
         return f"{self.labels[first]}.{rest}" if dot and first in self.classes else label
+
+    def of_call(self, label):
+        """A method's name without its class, where all methods of the name are called the same."""
+        found = self.calls.get(label[:-2], set())
+        said = min(found, key=str) if len(found) == 1 else None
+        return label if said is None else said if said.endswith(")") else f"{said}()"
+
+    def of_method(self, label):
+        return self.methods.get(label) or self.label(label)
 
     def creation(self, kind, name, dims, line):
         """A creation, a cast or a test; with its column where another one of the line would be called the same."""
         place = self.place(line)
         sign = f"({name}{dims})" if kind == "cast" else f"{kind} {name}"
-        others = [other for other in self.lines_of(place) if other != line and sign in self.text[other - 1]] if place else []
+        lines = self.lines_of(place) if place else []
+        others = [other for other in lines if other != line and sign in self.text[other - 1]]
         exact = any(self.places[other - 1][2] != place[2] for other in others)
         return f"{kind} {self.label(name)}{dims}@" + self.place_words(line, exact)
 
@@ -154,13 +165,13 @@ class Everyday:
         return SPOKEN.sub(self.spoken, text)
 
     def spoken(self, found):
-        kind, name, dims, line, word, lines, label = found.groups()
+        kind, name, dims, line, word, lines, side, method, label = found.groups()
         if kind:
             return self.creation(kind, name, dims, int(line))
         if word:
             words = re.sub(r"\d+", lambda it: self.place_words(int(it[0])), lines)
             return f"{word} {words}" if words[0].isdigit() else words
-        return self.label(label)
+        return f"{side}({self.of_method(method)})" if side else self.label(label)
 
     def again(self):
         return given(self.name, True)

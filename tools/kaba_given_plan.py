@@ -20,7 +20,7 @@ class InnerPlan:
 
     def __init__(self, everyday):
         self.everyday, self.inner = everyday, {}
-        for label, said in everyday.labels.items():
+        for label, said in [*everyday.labels.items(), *everyday.methods.items()]:
             self.inner.setdefault(said, []).append(label)
 
     def text(self, text):
@@ -62,12 +62,12 @@ class InnerPlan:
         return found or [UNKNOWN + int(line)]
 
     def labels(self, label):
-        """The labels of the text for one of the sources."""
-        if label in self.inner and self.inner[label]:
-            return [it for it in self.inner[label] if not it.endswith("()")] or self.inner[label]
+        """The labels of the text for a variable or a field of the sources."""
+        found = [it for it in self.inner.get(label, []) if it in self.everyday.variables or it in self.everyday.members]
+        if found:
+            return found
         front, _, last = label.rpartition(".")
-        fits = [f"{it}.{last}" for it in self.inner.get(front, []) if not it.endswith("()")]
-        return fits or [label]
+        return [f"{it}.{last}" for it in self.inner.get(front, []) if it in self.everyday.methods] or [label]
 
     def member(self, label):
         """A member or a class."""
@@ -75,6 +75,7 @@ class InnerPlan:
         if any(it in self.everyday.classes for it in found):
             return self.objects(label)[0]
         methods = [it for it in found if it.endswith("()")]
-        fields = [it for it in found if it not in methods and f"{it}()" not in self.everyday.members]
+        fields = [it for it in found if it in self.everyday.members and it not in methods]
+        methods = methods or [f"{it}()" for it in found if it in self.everyday.methods]
         wanted = methods if label.endswith(")") else fields or methods
         return " ".join(wanted) if wanted else label

@@ -43,11 +43,12 @@ class Program:
         analysis = self.analysis
         member, said = analysis.member(c), self.given.said
         holder = said(member.rpartition(".")[0] or member)
+        own = said(f"{member}()").removesuffix("()") if analysis.is_method(c) else said(member)
         return {
             "label": said(analysis.lattice.columns[c]),
             "kind": analysis.kind(c),
             "holder": holder,
-            "name": said(member).removeprefix(f"{holder}."),
+            "name": own.removeprefix(f"{holder}."),
             "line": self.given.shown_line(analysis.column_line(c)),
             "users": len(analysis.rows_of[c]),
             "alone": analysis.only_itself(c),
