@@ -325,18 +325,31 @@ final class Statements {
         Body.Target target = target(label, true);
         St first = new St.Let(walker.type.text(), at.text, walker.text);
         first.at = body.place;
-        target.loop.first = first;
-        target.loop.test = body.calls.invoke(at, method(iterator, "hasNext"), List.of(), List.of(), tree, false);
+        Ex[] more = new Ex[1];
+        List<St> before = body.within(() -> more[0] = body.calls.invoke(at, method(iterator, "hasNext"), List.of(),
+            List.of(), tree, false));
+        List<St> all = new ArrayList<>();
+        if (before.isEmpty()) {
+            target.loop.first = first;
+            target.loop.test = more[0];
+        } else {
+            body.out.add(first);
+            all.addAll(body.within(() -> {
+                body.out.addAll(before);
+                body.emit(new St.If(more[0].not(), new ArrayList<>(List.of(jump(target.loop, false))),
+                    new ArrayList<>()));
+            }));
+        }
         body.open();
         String name = body.declare(variable, type);
         body.targets.push(target);
         List<St> turn = part(tree.getStatement());
         body.targets.pop();
         body.close();
-        List<St> all = body.within(() -> {
+        all.addAll(body.within(() -> {
             Ex element = body.calls.invoke(at, method(iterator, "next"), List.of(), List.of(), tree, false);
             body.emit(new St.Let(type.text(), name, body.conversions.convert(element, type, tree).text));
-        });
+        }));
         all.addAll(turn);
         target.loop.body = all;
         body.emit(target.loop);
