@@ -158,8 +158,10 @@ def check_folder(tests, folder):
     tests.expect("a folder has a report", status == 0 and "class Till, Till.java:1" in out and "new Till@Main.java:3" in out,
         out + err)
     plan = folder / "shop.plan"
-    plan.write_text("class Drawer: Till.sum new Till@Main.java:3\n")
-    tests.expect("and a plan that names places with their files", tool("plan", shop, plan)[0] == 0)
+    plan.write_text("class Drawer: new Till@Main.java:3 new Till@Main.java:4\n")
+    status, out, err = tool("plan", shop, plan)
+    tests.expect("a plan names places with their files", status == 69 and err.count("\n") == 1
+        and "no Till is created in line 4, but in Main.java:3" in err, err)
 
 
 def check_names(tests, file):
