@@ -41,23 +41,25 @@ class InnerPlan:
         return self.member(alone)
 
     def creation(self, kind, gap, name, dims, place):
-        classes = self.objects(name)
-        at = PLACE.fullmatch(place)
-        places = self.lines(*at.groups()) if at else self.labels(place)
-        return " ".join(f"{kind}{gap}{it}{dims}@{where}" for it in classes for where in places)
+        at, found = PLACE.fullmatch(place), []
+        for it in self.objects(name):
+            sign = f"({it}{dims})" if kind == "cast" else f"{kind} {it}"
+            places = self.lines(sign, *at.groups()) if at else self.labels(place)
+            found += [f"{kind}{gap}{it}{dims}@{where}" for where in places]
+        return " ".join(found)
 
     def objects(self, name):
         """The classes of the text for one of the sources, those that have objects."""
         found = [it for it in self.inner.get(name, []) if it in self.everyday.classes]
         return [it for it in found if not self.everyday.classes[it]["static"]] or [name]
 
-    def lines(self, file, line, column):
-        """The lines of the text of a place of the sources; a number above all where there is none."""
+    def lines(self, sign, file, line, column):
+        """The lines of the text of a place of the sources in which a sign stands; where there is none, a number above all."""
         found = []
         for number, place in enumerate(self.everyday.places, 1):
             fits = place and str(place[1]) == line and column in (None, str(place[2]))
-            own = place and (place[0] in self.everyday.files if file is None else place[0].endswith(file))
-            if fits and own:
+            own = place and (place[0] in self.everyday.files if file is None else f"/{place[0]}".endswith(f"/{file}"))
+            if fits and own and sign in self.everyday.text[number - 1]:
                 found.append(number)
         return found or [UNKNOWN + int(line)]
 
