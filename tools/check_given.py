@@ -115,13 +115,14 @@ def check_plan(tests, file):
     plan.write_text(out)
     status, script, err = tool("plan", file, plan)
     tests.expect("and is taken as a plan", status == 0 and "# for the text that tools/from-java writes of" in script, err)
-    plan.write_text("class Dog: Animal.legs Animal.call(int) new Animal@47:22\nclass Bird: Animal.wings new Animal@Zoo.main.bird\n")
+    plan.write_text("class Dog: Animal.legs Animal.call(int) new Animal@47:22\n"
+        "class Bird: Animal.wings Animal.call(String) new Animal@Zoo.main.bird\n")
     tests.expect("so is one by line and column", tool("plan", file, plan)[0] == 0)
     plan.write_text("class Dog: Animal.lugs\nclass Bird: new Animal@99\n")
     status, out, err = tool("plan", file, plan)
     tests.expect("what is not there is told in these words", status == 69
         and "no member Animal.lugs; do you mean Animal.legs?" in err
-        and "no Animal is created in line 99, but in lines 47:22, 47:48" in err, err)
+        and "no Animal is created in line 99, but in lines 47\n" in err, err)
 
 
 def check_explain(tests, file, folder):
@@ -143,7 +144,7 @@ def check_explain(tests, file, folder):
         "8:46: random numbers: each run would have other numbers; give a seed, as in new Random(42)",
     ):
         tests.expect(f"it is told: {line}", f"{other}:{line}" in out, out)
-    tests.expect("with its line and a caret", "        long sum = 3L;\n                   ^" in out, out)
+    tests.expect("with its line and a caret", "long sum = 3L;\n" + " " * 23 + "^\n" in out, out)
 
 
 def check_folder(tests, folder):

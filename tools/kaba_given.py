@@ -169,7 +169,7 @@ class Everyday:
         if kind:
             return self.creation(kind, name, dims, int(line))
         if word:
-            words = re.sub(r"\d+", lambda it: self.place_words(int(it[0])), lines)
+            words = ", ".join(dict.fromkeys(self.place_words(int(it)) for it in re.findall(r"\d+", lines)))
             return f"{word} {words}" if words[0].isdigit() else words
         return f"{side}({self.of_method(method)})" if side else self.label(label)
 
