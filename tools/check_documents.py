@@ -38,6 +38,8 @@ def shown(text):
 def is_left_out(command):
     """Whether the command needs what is not there, or what is no part of this repository."""
     words = re.findall(r"(?:^|[|&;] *)(\w+)", command)
+    if "/everyday/" in command and not shutil.which("javac"):
+        return True
     return "rt" in words or any(word in words and not shutil.which(word) for word in MAY_MISS)
 
 

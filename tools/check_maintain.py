@@ -91,7 +91,7 @@ BAD_PLANS = [
     ("class Tea: leaves\n", 1, "write its class before it, such as Item.leaves"),
     ("class Tea: Item.never\n", 1, "nothing needs `Item.never`"),
     ("class Tea: Shop.made\n", 1, "`Shop.made` is static"),
-    ("class Tea: new Item@25\n", 1, "no Item is created in line 25, but in 24, 27"),
+    ("class Tea: new Item@25\n", 1, "no Item is created in line 25, but in lines 24, 27"),
     ("class Tea: new Item@Shop.main.pot\n", 1, "but into Shop.main.cup, Shop.main.tea"),
     ("class Tea: new Item\n", 1, "lacks its place"),
     ("class Tea: Item.leaves\nclass Tea: Item.heat\n", 2, "stands in line 1 too"),

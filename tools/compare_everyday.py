@@ -111,11 +111,11 @@ class Everyday:
                     self.wrong.append(f"{part}: java differs on {words}: {ends}, before {end}")
 
 
-def brought(programs, folder):
+def brought(programs, folder, apart=False):
     """Brings all programs in by one call of the Java half."""
     (folder / "bring").write_text("".join(program.job() + "\n" for program in programs))
-    words = [command("java"), "-XX:TieredStopAtLevel=1", "-cp", str(built()), "Batch", str(LIBRARY),
-        str(folder / "bring")]
+    words = [command("java"), "-XX:TieredStopAtLevel=1", *(["-Dapart=true"] if apart else []), "-cp",
+        str(built()), "Batch", str(LIBRARY), str(folder / "bring")]
     done = subprocess.run(words, capture_output=True, text=True)
     if done.returncode:
         sys.exit(f"{done.stderr}\nfrom-java failed in {folder}")
@@ -129,14 +129,14 @@ def random_programs(folder, count, seed):
     return folder
 
 
-def compare_everyday(names, run, with_regen=True, count=0, seed=0):
+def compare_everyday(names, run, with_regen=True, count=0, seed=0, apart=False):
     """Judges the programs of the corpus, or those of them that are named, or random ones, and counts."""
     folder = Path(tempfile.mkdtemp(prefix="compare-java-"))
     corpus = random_programs(folder / "random", count, seed) if count else CORPUS
     paths = sorted(path for path in corpus.iterdir() if path.suffix == ".java" or path.is_dir()
         and path.name != "wanted")
     programs = [Everyday(path, folder) for path in paths if count or not names or path.stem in names]
-    brought(programs, folder)
+    brought(programs, folder, apart)
     there = [program for program in programs if program.taken()]
     with ThreadPoolExecutor(3) as pool:
         list(pool.map(lambda program: program.run(with_regen), there))

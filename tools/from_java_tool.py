@@ -22,6 +22,12 @@ def command(name):
     return found
 
 
+def has_java():
+    """Whether there is a JDK."""
+    home = os.environ.get("JAVA_HOME")
+    return all(home and shutil.which(os.path.join(home, "bin", name)) or shutil.which(name) for name in ("java", "javac"))
+
+
 def built():
     """The folder of the tool's classes; where its sources changed it is made anew."""
     files = sorted(SOURCES.glob("*.java"))
@@ -65,8 +71,9 @@ def sources_of(paths):
     return files
 
 
-def brought(files, out="-", where="-", main="-"):
+def brought(files, out="-", where="-", main="-", apart=False):
     """What the tool says of the files."""
-    java = [command("java"), "-Xshare:auto", "-XX:TieredStopAtLevel=1", "-cp", str(built()), "FromJava"]
+    java = [command("java"), "-Xshare:auto", "-XX:TieredStopAtLevel=1", *(["-Dapart=true"] if apart else []), "-cp",
+        str(built()), "FromJava"]
     return subprocess.run([*java, str(LIBRARY), out, where, main, *files], stdin=subprocess.DEVNULL,
         capture_output=True)

@@ -1,4 +1,5 @@
 """What the analysis of a program shows: its lattice and its text, with each row and column in words and lines."""
+from kaba_given import Plain
 from kaba_tools import BadLattice, Declarations, Lattice, Source, bytes_of, class_of, fail, kaba
 
 KINDS = {"fld": "field", "dcl": "declaration", "def": "body", "is": "mark"}
@@ -10,6 +11,7 @@ class Analysis:
 
     def __init__(self, file, source, lattice):
         self.file, self.source, self.lattice = file, source, lattice
+        self.given = Plain(file)
         self.declared = Declarations(source)
         self.needs = [set() for _ in lattice.rows]
         for k, rows in enumerate(lattice.own_rows):
@@ -109,6 +111,13 @@ class Analysis:
             joined = sum((part[1] for part in touching), []) + columns
             parts.append((rows.union(*(part[0] for part in touching)), joined))
         return sorted(c for _, columns in common for c in columns), sorted(sorted(columns) for _, columns in parts)
+
+
+def analyse_given(given, most=16384):
+    """The analysis of what a tool was given."""
+    analysis = analyse(given.file, most)
+    analysis.given = given
+    return analysis
 
 
 def analyse(file, most=16384):

@@ -224,7 +224,7 @@ class Names:
     def no_row(self, word, name, line):
         lines = [label.rsplit("@", 1)[1] for label in self.lattice.rows if label.startswith(f"{word.kind} {name}@")]
         what = {"new": "no {} is created", "cast": "there is no cast to {}", "instanceof": "there is no test for {}"}
-        elsewhere = f", but in {', '.join(lines)}" if lines else ""
+        elsewhere = f", but in line{'s' if len(lines) > 1 else ''} {', '.join(lines)}" if lines else ""
         return f"{what[word.kind].format(name)} in line {line}{elsewhere}"
 
     def no_creation(self, name, place):

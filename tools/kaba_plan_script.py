@@ -133,7 +133,7 @@ class Script:
 
     def lines(self, plan_name):
         """The script's lines, those of each class with a comment."""
-        yield f"# {self.program.analysis.file} by {plan_name}"
+        yield f"# {self.program.given.name} by {plan_name}"
         last = None
         for edit in self.edits:
             heading = self.heading(edit)

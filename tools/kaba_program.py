@@ -1,7 +1,7 @@
 """A program as a plan speaks of it: its classes, members, variables and creations by name, and where each stands."""
 from java_tree import tree_of
 from kaba_access import Types, Uses
-from kaba_analysis import NO_CLASS, analyse
+from kaba_analysis import NO_CLASS, analyse_given
 from kaba_match import is_static
 from kaba_tools import class_of
 
@@ -96,8 +96,8 @@ def slot_of(method):
 class Program:
     """A program's analysis, and the names of what is in it."""
 
-    def __init__(self, file):
-        self.analysis = analyse(file)
+    def __init__(self, given):
+        self.analysis, self.given = analyse_given(given), given
         self.lattice, declared = self.analysis.lattice, self.analysis.declared
         self.classes, self.parents = list(declared.classes), declared.parents
         self.class_lines = declared.classes

@@ -119,7 +119,7 @@ class Everyday:
         return self.pick(
             lambda: f"({self.text(less)} + {self.number(less)})", lambda: f"(s += {self.number(less)} % 10)", lambda: f"(\"\" + {self.cell(less)})",
             lambda: f"({self.test(less)} ? {self.text(less)} : {self.text(less)})", lambda: f"{self.text(0)}.substring({self.number(less)} & 1)",
-            lambda: f"String.valueOf({self.number(less)})", lambda: f"({self.text(less)} + 'c' + {self.number(less)})")
+            lambda: f"String.valueOf(0 + {self.number(less)})", lambda: f"({self.text(less)} + 'c' + {self.number(less)})")
 
     def cell(self, depth=1):
         if depth == 0:
@@ -131,7 +131,7 @@ class Everyday:
     def statement(self, depth):
         simple = [
             lambda: f"x = {self.number()};", lambda: f"a[{self.number(1)} & 3] {self.chance.choice(['=', '+=', '*='])} {self.number(2)};",
-            lambda: f"System.out.println({self.number()});", lambda: f"System.out.println({self.text()});", lambda: f"flag = {self.test()};",
+            lambda: f"System.out.println(0 + {self.number()});", lambda: f"System.out.println({self.text()});", lambda: f"flag = {self.test()};",
             lambda: f"cell.n -= {self.number(2)};", lambda: f"list.add({self.number(2)});", lambda: f"cell = {self.cell(2)};",
             lambda: f"if (s.length() > 40) s = {self.text(1)}; else s += {self.number(1)} % 7;", lambda: f"f({self.number(2)}, {self.number(2)});",
             lambda: f"counts.merge({self.text(1)}, {self.number(1)}, Integer::sum);", lambda: "for (int e : a) x += e;",

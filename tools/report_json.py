@@ -53,7 +53,20 @@ def report_json(analysis, names, dead, lone):
         for heads in shared_slots(analysis.declared)
     ]
     held = [{"field": it[0], "type": it[1], "line": it[2], "creations": it[3]} for it in containers(analysis)]
-    found = {"file": analysis.file, "concepts": len(lattice.above), "columns": columns, "rows": rows}
+    found = {"file": None, "concepts": len(lattice.above), "columns": columns, "rows": rows}
     found["classes"] = [class_json(analysis, name) for name in names]
     found.update(needed_by_nothing=dead, needed_by_own_body_alone=lone, shared_slots=slots, shared_containers=held)
-    return json.dumps(found, indent=1)
+    found["file"] = analysis.given.name
+    return json.dumps(in_own_words(analysis.given, found), indent=1)
+
+
+def in_own_words(given, value):
+    """A value of the report with the names, the lines and the files of what was given."""
+    if isinstance(value, str):
+        return given.said(value)
+    if isinstance(value, list):
+        return [in_own_words(given, it) for it in value]
+    if isinstance(value, dict):
+        found = {key: it if key == "file" else in_own_words(given, it) for key, it in value.items()}
+        return {**found, **given.place_json(value["line"])} if "line" in value else found
+    return value

@@ -129,17 +129,18 @@ def run(words, given):
     return done.stdout if done.returncode == 0 else None
 
 
-def as_json(lattice):
-    """The lattice as `kaba lattice -j` writes it."""
+def as_json(lattice, said):
+    """The lattice as `kaba lattice -j` writes it, its labels as they are said."""
     parts = zip(lattice.above, lattice.own_columns, lattice.own_rows, lattice.sizes)
     concepts = [{"above": above, "columns": columns, "rows": rows, "size": size} for above, columns, rows, size in parts]
-    return json.dumps({"columns": lattice.columns, "concepts": concepts, "rows": lattice.rows}).encode()
+    columns, rows = [[said(label) for label in labels] for labels in (lattice.columns, lattice.rows)]
+    return json.dumps({"columns": columns, "concepts": concepts, "rows": rows}).encode()
 
 
-def picture(lattice, focus):
+def picture(lattice, focus, said):
     """The lattice drawn, or a sentence where Graphviz is not there."""
-    words = [sys.executable, str(HERE / "tools" / "lattice-dot")] + (["--focus", focus] if focus else [])
-    text = run(words, as_json(lattice))
+    words = [sys.executable, str(HERE / "tools" / "lattice-dot")] + (["--focus", said(focus)] if focus else [])
+    text = run(words, as_json(lattice, said))
     if text is None:
         if focus:
             return "<p>Nothing of this class stands in the lattice.</p>"
@@ -156,9 +157,9 @@ def picture(lattice, focus):
 
 def data_of(analysis):
     """What the page's script shows, as a text of it."""
-    lattice = analysis.lattice
-    columns = [{"label": label, "line": analysis.column_line(c)} for c, label in enumerate(lattice.columns)]
-    rows = [{"label": label, "line": analysis.row_lines[r]} for r, label in enumerate(lattice.rows)]
+    lattice, said, line = analysis.lattice, analysis.given.said, analysis.given.shown_line
+    columns = [{"label": said(label), "line": line(analysis.column_line(c))} for c, label in enumerate(lattice.columns)]
+    rows = [{"label": said(label), "line": line(analysis.row_lines[r])} for r, label in enumerate(lattice.rows)]
     concepts = [
         {"columns": own, "rows": at, "intent": sorted(intent), "extent": sorted(extent), "up": sorted(up)}
         for own, at, intent, extent, up in zip(lattice.own_columns, lattice.own_rows, lattice.intents, lattice.extents, lattice.up)
@@ -168,12 +169,12 @@ def data_of(analysis):
 
 def page(analysis, title, sections, focus):
     """The whole page."""
-    lines = analysis.source.data.decode(errors="replace").split("\n")
+    lines = analysis.given.shown_lines(analysis.source.data.decode(errors="replace"))
     numbered = [f'<div id="line{n}"><i>{n}</i>{html.escape(line.rstrip())}</div>' for n, line in enumerate(lines, 1)]
     said = [f"<h2>{html.escape(heading)}</h2><pre>{html.escape(chr(10).join(lines))}</pre>" for heading, lines in sections]
     parts = {
         "TITLE": html.escape(title),
-        "PICTURE": picture(analysis.lattice, focus),
+        "PICTURE": picture(analysis.lattice, focus, analysis.given.said),
         "SECTIONS": "\n".join(said),
         "TEXT": "".join(numbered),
         "DATA": data_of(analysis),

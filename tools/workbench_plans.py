@@ -2,6 +2,7 @@
 import re
 
 from workbench_runs import Fault, has_tool
+from workbench_words import with_brackets
 
 TOOL_SECONDS = 300
 
@@ -16,13 +17,14 @@ def edits_of_plan(session, plan):
     if not has_tool("plan"):
         raise Fault("tools/plan is not there")
     file = session.temporary(".plan")
-    file.write_text(plan, encoding="utf-8")
+    file.write_bytes(session.program.given.inner_plan(plan.encode(errors="replace")))
     try:
         answer = session.runner.tool("plan", session.program.copy, file, seconds=TOOL_SECONDS)
     finally:
         file.unlink(missing_ok=True)
     if answer.status:
-        raise Fault(re.sub(re.escape(str(file)), "plan", answer.error) or "tools/plan made no script")
+        said = session.program.given.said(answer.error)
+        raise Fault(re.sub(re.escape(str(file)), "plan", said) or "tools/plan made no script")
     return edits_in_order(answer.output.decode(errors="replace"))
 
 
@@ -35,10 +37,12 @@ def proposal(session, classes):
 
 
 def proposal_of(session, classes):
-    answer = session.runner.tool("propose", session.program.copy, *classes, seconds=TOOL_SECONDS)
+    given = session.program.given
+    own = classes or (given.shown_classes(session.program.analysis.declared.classes) if given.is_everyday else ())
+    answer = session.runner.tool("propose", session.program.copy, *own, seconds=TOOL_SECONDS)
     if answer.status:
         raise Fault(answer.error or "tools/propose has no proposal")
-    return answer.output.decode(errors="replace")
+    return given.outer_plan(answer.output.decode(errors="replace").replace(str(session.program.copy), given.name))
 
 
 def things_of(program, node):
@@ -53,7 +57,8 @@ def things_of(program, node):
         elif kinds == ["field"]:
             yield f"{holder}.{name}"
         elif "field" in kinds or len(kinds) == 2:
-            yield from (f"{holder}.{name}{'' if kind == 'field' else '()'}" for kind in kinds if kind != "body")
+            method = with_brackets(name)
+            yield from (f"{holder}.{name if kind == 'field' else method}" for kind in kinds if kind != "body")
         else:
             yield f"{kinds[0]} {holder}.{name}"
     for r in node["rows"]:

@@ -2,8 +2,9 @@
 import re
 from pathlib import Path
 
-from kaba_analysis import analyse
+from kaba_analysis import analyse_given
 from kaba_tools import class_of
+from workbench_everyday import everyday_pieces
 
 MARKED = re.compile(r"(new|cast|instanceof) (.+)@(\d+)")
 
@@ -11,17 +12,18 @@ MARKED = re.compile(r"(new|cast|instanceof) (.+)@(\d+)")
 class Program:
     """A file as it was when it was read: the analysis of it, and a copy which every answer is about."""
 
-    def __init__(self, file, folder, most):
-        self.file, self.most = str(file), most
-        self.analysis = analyse(self.file, most)
+    def __init__(self, given, folder, most):
+        self.given, self.file, self.most = given, str(given.name), most
+        self.analysis = analyse_given(given, most)
         self.data = self.analysis.source.data
-        self.copy = Path(folder, Path(self.file).name)
+        self.copy = Path(folder, Path(given.file).name)
         self.copy.write_bytes(self.data)
+        self.read = {file: Path(file).read_bytes() for file in given.files}
 
     def changed_on_disk(self):
-        """Whether the file has another text now."""
+        """Whether a file has another text now."""
         try:
-            return Path(self.file).read_bytes() != self.data
+            return any(Path(file).read_bytes() != data for file, data in self.read.items())
         except OSError:
             return True
 
@@ -31,7 +33,7 @@ class Program:
         return {
             "file": self.file,
             "name": Path(self.file).name,
-            "source": pieces(self.analysis),
+            "source": everyday_pieces(self.analysis) if self.given.is_everyday else pieces(self.analysis),
             "columns": [self.column(c) for c in range(len(lattice.columns))],
             "rows": [self.row(r) for r in range(len(lattice.rows))],
             "classes": self.classes(),
@@ -39,13 +41,15 @@ class Program:
 
     def column(self, c):
         analysis = self.analysis
-        member = analysis.member(c)
+        member, said = analysis.member(c), self.given.said
+        holder = said(member.rpartition(".")[0] or member)
+        own = said(f"{member}()").removesuffix("()") if analysis.is_method(c) else said(member)
         return {
-            "label": analysis.lattice.columns[c],
+            "label": said(analysis.lattice.columns[c]),
             "kind": analysis.kind(c),
-            "holder": member.rpartition(".")[0] or member,
-            "name": member.rpartition(".")[2],
-            "line": analysis.column_line(c),
+            "holder": holder,
+            "name": own.removeprefix(f"{holder}."),
+            "line": self.given.shown_line(analysis.column_line(c)),
             "users": len(analysis.rows_of[c]),
             "alone": analysis.only_itself(c),
         }
@@ -55,7 +59,7 @@ class Program:
         found = MARKED.fullmatch(label)
         last = {"this": "this", "return": "result"}.get(label.rpartition(".")[2], "variable")
         kind = found[1] if found else last
-        return {"label": label, "kind": kind, "line": self.analysis.row_lines[r],
+        return {"label": self.given.said(label), "kind": kind, "line": self.given.shown_line(self.analysis.row_lines[r]),
             "needs": sorted(self.analysis.needs[r])}
 
     def classes(self):
@@ -63,7 +67,7 @@ class Program:
         labels = self.analysis.lattice.columns
         found = {}
         for name, line in declared.classes.items():
-            found[name] = {"name": name, "line": line, "parent": declared.parents.get(name), "columns": []}
+            found[name] = {"name": name, "line": self.given.shown_line(line), "parent": declared.parents.get(name), "columns": []}
         for c, label in enumerate(labels):
             if not label.startswith("is(") and class_of(label) in found:
                 found[class_of(label)]["columns"].append(c)

@@ -177,7 +177,7 @@ class Handler(BaseHTTPRequestHandler):
 
     def download(self, name, session):
         body = DOWNLOADS[name](session)
-        file = Path(session.program.file)
+        file = session.program.copy
         own = {"script.edits": Path(session.script.path).name, "patched.diff": file.stem + ".diff",
             "plan": file.stem + ".plan"}.get(name, file.name)
         plain = "".join(c if c.isascii() and (c.isalnum() or c in "._-") else "_" for c in own)

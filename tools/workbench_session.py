@@ -28,9 +28,9 @@ class Superseded(Exception):
 class Session:
     """One program and one script. Each change is made by one caller at a time."""
 
-    def __init__(self, file, script, folder, runner, most):
+    def __init__(self, given, script, folder, runner, most):
         self.folder, self.runner, self.most = Path(folder), runner, most
-        self.program = Program(file, folder, most)
+        self.program = Program(given, folder, most)
         self.script = scripts.Script(script)
         self.lock, self.writing = threading.RLock(), threading.Lock()
         self.answers, self.written = OrderedDict(), 0
@@ -209,10 +209,14 @@ class Session:
 
     def read_program(self):
         """Takes the program's new text, where it is one that can be shown."""
-        answer = self.runner.kaba("lattice", "-j", "-c", self.most, self.program.file)
+        try:
+            given = self.program.given.again()
+        except SystemExit:
+            raise Fault("what is there now cannot be brought in; the text before is kept") from None
+        answer = self.runner.kaba("lattice", "-j", "-c", self.most, given.file)
         if answer.status:
             raise Fault(f"{answer.error or 'memory is short'}; the text before is kept")
-        self.program = Program(self.program.file, self.folder, self.most)
+        self.program = Program(given, self.folder, self.most)
         self.answers.clear()
         self.start = self.asked("")["nodes"]
 

@@ -24,15 +24,15 @@ class Names:
         return f"{short(self.nodes[n]['name'])} (n{n})" if n in self.nodes else f"n{n}"
 
     def row(self, r):
-        return short(self.program.analysis.lattice.rows[r])
+        return short(self.program.given.said(self.program.analysis.lattice.rows[r]))
 
     def column(self, c):
         column = self.columns[c]
-        holder, name = short(column["holder"]), short(column["name"])
+        holder, name = short(column["holder"]), with_brackets(short(column["name"]))
         said = {
-            "field": f"the field {holder}.{name}",
-            "declaration": f"the method {holder}.{name}()",
-            "body": f"the body of {holder}.{name}()",
+            "field": f"the field {holder}.{short(column['name'])}",
+            "declaration": f"the method {holder}.{name}",
+            "body": f"the body of {holder}.{name}",
         }
         return said.get(column["kind"], f"the mark of the tested type {holder}")
 
@@ -52,6 +52,11 @@ class Names:
         found = set(numbers)
         upper = set().union(*(ups[n] for n in found))
         return sorted(found | {k for k in upper if any(n in ups[k] for n in found)})
+
+
+def with_brackets(name):
+    """A method's name with its brackets; that of an overload in everyday Java has its types in them."""
+    return name if name.endswith(")") else f"{name}()"
 
 
 def short(text, most=60):
@@ -109,8 +114,8 @@ def told_b5(refused, edit, names):
 
 def told_b6(refused, edit, names):
     column = names.columns[refused["column"]]
-    node, name = names.node(refused["nodes"][0]), short(column["name"])
-    return f"{node} would have two bodies of one method {name}(); a type has one."
+    node, name = names.node(refused["nodes"][0]), with_brackets(short(column["name"]))
+    return f"{node} would have two bodies of one method {name}; a type has one."
 
 
 def told_b7(refused, edit, names):
@@ -232,7 +237,7 @@ def mends_of_names(refused, edit, names):
     if refused["column"] is None:
         return []
     column = names.columns[refused["column"]]
-    name = f"{column['name']}Of{column['holder']}"
+    name = re.sub(r"\W", "", f"{column['name']}Of{column['holder']}")
     return [(f"Call {names.column(refused['column'])} {short(name)} first",
         [f"member c{refused['column']} {name}", edit.text])]
 

@@ -6,6 +6,7 @@ import java.util.ArrayList;
 import java.util.Deque;
 import java.util.HashMap;
 import java.util.HashSet;
+import java.util.LinkedHashMap;
 import java.util.List;
 import java.util.Map;
 import java.util.Set;
@@ -37,7 +38,7 @@ final class Body {
     final Statements statements = new Statements(this);
     final Switches switches = new Switches(this);
     final Exceptions exceptions = new Exceptions(this);
-    private final Map<Element, String> names = new HashMap<>();
+    private final Map<Element, String> names = new LinkedHashMap<>();
     private final Deque<Set<String>> scopes = new ArrayDeque<>();
     private final Set<String> given = new HashSet<>();
     private final Set<String> declared = new HashSet<>();
@@ -67,6 +68,10 @@ final class Body {
 
     Ty ty(TypeMirror type) {
         return world.ty(type, env);
+    }
+
+    Ty tyOf(Element variable) {
+        return world.tyOf(variable, env);
     }
 
     Ty tyOf(Tree tree) {
@@ -134,6 +139,11 @@ final class Body {
 
     String nameOf(Element variable) {
         return names.get(variable);
+    }
+
+    /** What the variables of the sources are called. */
+    Map<Element, String> names() {
+        return names;
     }
 
     /** A name of our own, which nothing else in the body has. */

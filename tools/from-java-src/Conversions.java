@@ -53,6 +53,9 @@ final class Conversions {
     private Ex reference(Ex value, Ty to, Tree at) {
         Ty from = value.type;
         if (to.is(Ty.Kind.OBJECT)) {
+            if (body.world.isApart(from) && !body.owner.env.containsKey(body.world.tag)) {
+                return mismatch(value, to, at);
+            }
             return from.is(Ty.Kind.ARRAY) ? body.obstacleEx(at, "array as Object",
                 "give the variable the array's own type") : value;
         }

@@ -46,6 +46,7 @@ final class Copy {
         String result;
         List<String> params = new ArrayList<>();
         List<St> body; // null where it is abstract
+        Map<Element, String> locals = Map.of(); // what variables of the sources are called in it
         Place at;
     }
 

@@ -1,4 +1,5 @@
 import com.sun.source.tree.ExpressionTree;
+import com.sun.source.tree.MemberSelectTree;
 import com.sun.source.tree.NewArrayTree;
 import com.sun.source.tree.NewClassTree;
 import com.sun.source.tree.Tree;
@@ -11,6 +12,7 @@ import javax.lang.model.element.Element;
 import javax.lang.model.element.ExecutableElement;
 import javax.lang.model.element.TypeElement;
 import javax.lang.model.element.TypeParameterElement;
+import javax.lang.model.type.DeclaredType;
 
 /** Creations of objects and arrays, each at its place: first the object,
     then a call of the method that its constructor became. */
@@ -39,12 +41,23 @@ final class Creations {
         if (around) {
             parts.add(() -> body.ex(tree.getEnclosingExpression()));
         }
-        parts.addAll(body.calls.arguments(constructor, copy.env, tree.getArguments(), tree));
+        if (isOfClass(copy, tree)) {
+            parts.add(() -> Ex.constant("null", Ty.NULL));
+        } else {
+            parts.addAll(body.calls.arguments(constructor, copy.env, tree.getArguments(), tree));
+        }
         List<Ex> values = body.operands(parts);
         Ex made = made(copy, constructor, around ? values.get(0) : null, around ? values.subList(1, values.size())
             : values, name);
         body.place = saved;
         return made;
+    }
+
+    /** `new EnumMap<>(Coin.class)`: what the class says the type argument says too. */
+    private static boolean isOfClass(Copy copy, NewClassTree tree) {
+        return copy.element != null && copy.element.toString().equals("java.util.EnumMap")
+            && tree.getArguments().get(0) instanceof MemberSelectTree select
+            && select.getIdentifier().contentEquals("class");
     }
 
     /** `new String(..)` of nothing, of a string or of characters. */
@@ -61,9 +74,16 @@ final class Creations {
             : body.obstacleEx(tree, "new String", "write the string itself, or String.valueOf of the characters");
     }
 
+    /** The type of a new object; a container may have a class of its own. */
+    Ty typeOf(NewClassTree tree) {
+        Ty own = body.world.apart.of(tree);
+        return own == null ? body.tyOf(tree)
+            : body.world.copyOf((DeclaredType) body.world.sources.typeOf(tree), body.env, own).ty;
+    }
+
     private Copy copyOf(NewClassTree tree) {
         if (tree.getClassBody() == null) {
-            Ty type = body.tyOf(tree);
+            Ty type = typeOf(tree);
             return type.is(Ty.Kind.CLASS) ? type.copy : plainObject(tree, type);
         }
         TypeElement element = body.world.sources.localOf.get(tree.getClassBody());

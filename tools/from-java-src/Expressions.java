@@ -133,13 +133,13 @@ final class Expressions {
             }
             body.program.needStaticField(at, field);
             return Ex.active(at.staticToken() + "." + Members.field(field), Ex.POST,
-                body.world.ty(field.asType(), at.env));
+                body.world.tyOf(field, at.env));
         }
         Ex from = base == null ? body.around(holder) : base;
         if (from == null || !from.type.is(Ty.Kind.CLASS) || from.type.copy.as(holder) == null) {
             return body.obstacleEx(tree, "field", "the object of the field " + field + " is not at hand here");
         }
-        Ty type = body.world.ty(field.asType(), from.type.copy.as(holder).env);
+        Ty type = body.world.tyOf(field, from.type.copy.as(holder).env);
         return Ex.active(from.at(Ex.POST) + "." + Members.field(field), Ex.POST, type);
     }
 

@@ -75,21 +75,18 @@ public final class FromJava {
             String said = one.getMessage(null).replaceAll("\\s*\\n\\s*", "; ");
             obstacles.add(place, "library", "this is not in the library: " + said);
         }
+        boolean inLibrary = obstacles.none();
+        if (Numbers.tell(sources, obstacles)) {
+            obstacles.silence(Set.of("long", "float", "double"));
+        }
         Program program = null;
         ExecutableElement main = mainOf(sources, mainName);
         if (main == null) {
             result.told = "from-java: no class has public static void main(String[] args)\n";
             return result;
         }
-        if (obstacles.none()) {
-            World world = new World(sources, obstacles);
-            program = new Program(world);
-            world.program = program;
-            try {
-                program.build(main);
-            } catch (World.TooMany many) {
-                program.leftOut.add("");
-            }
+        if (inLibrary) {
+            program = built(sources, main);
         }
         if (!obstacles.none()) {
             java.io.ByteArrayOutputStream bytes = new java.io.ByteArrayOutputStream();
@@ -103,6 +100,25 @@ public final class FromJava {
         result.map = new TextMap(program, writer).json();
         result.told = String.join("", program.leftOut.stream().map(one -> one + "\n").toList());
         return result;
+    }
+
+    /** The program; with containers apart, those share a class whose values meet others. */
+    private Program built(Sources sources, ExecutableElement main) {
+        Apart apart = Boolean.getBoolean("apart") ? new Apart(sources) : new Apart();
+        while (true) {
+            Obstacles met = apart.count() == 0 ? obstacles : new Obstacles();
+            Program program = new Program(new World(sources, met, apart));
+            try {
+                program.build(main);
+                program.tellUncalled();
+            } catch (World.TooMany many) {
+                program.leftOut.add("");
+            }
+            if (met == obstacles || met.none()) {
+                return program;
+            }
+            apart.share(met.advices());
+        }
     }
 
     private static String line(Sources sources, Diagnostic<? extends JavaFileObject> one) {

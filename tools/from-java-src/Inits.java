@@ -133,6 +133,7 @@ final class Inits {
             Records.assign(program, copy, constructor, body);
         });
         method.body = Finish.finish(made, Ty.VOID, body);
+        method.locals = body.names();
         return method;
     }
 
@@ -161,7 +162,7 @@ final class Inits {
         VariableTree field = (VariableTree) member;
         VariableElement element = (VariableElement) body.elementOf(field);
         body.statements.hoisting(() -> {
-            Ex value = initial(body, field.getInitializer(), body.ty(element.asType()));
+            Ex value = initial(body, field.getInitializer(), body.tyOf(element));
             body.set("this." + Members.field(element), value);
         });
     }
@@ -215,6 +216,7 @@ final class Inits {
             }
         });
         method.body = Finish.finish(made, Ty.VOID, body);
+        method.locals = body.names();
         return method;
     }
 
@@ -223,7 +225,7 @@ final class Inits {
         if (element.getKind() == javax.lang.model.element.ElementKind.ENUM_CONSTANT) {
             Enums.constant(body, target, field, element, ordinal[0]++);
         } else {
-            body.set(target, initial(body, field.getInitializer(), body.ty(element.asType())));
+            body.set(target, initial(body, field.getInitializer(), body.tyOf(element)));
         }
     }
 }

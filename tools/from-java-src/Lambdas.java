@@ -101,6 +101,7 @@ final class Lambdas {
             }
         }));
         method.body = Finish.finish(statements, inner.result, inner);
+        method.locals = inner.names();
         made.methods.add(method);
     }
 
@@ -152,6 +153,7 @@ final class Lambdas {
             }
         });
         method.body = Finish.finish(statements, inner.result, inner);
+        method.locals = inner.names();
         made.methods.add(method);
     }
 

@@ -99,8 +99,12 @@ final class ObjectMethods {
     /** Asks for a method of a topmost class, which gets Object's where it has none. */
     private void need(Copy root, String name) {
         program.need(root, method(name), List.of());
-        if (program.world.find(root, method(name)) == null && injected.add(root.number + name)) {
+        World.Found found = program.world.find(root, method(name));
+        if (found == null && injected.add(root.number + name)) {
             program.later(() -> inject(root, name));
+        } else if (found != null && !found.copy().isInterface()) {
+            // It is called on this class, though there may be no object of it.
+            program.need(found.copy(), found.method(), List.of());
         }
     }
 

@@ -12,9 +12,20 @@ final class Obstacles {
     }
 
     private final Set<One> all = new LinkedHashSet<>();
+    private Set<String> silent = Set.of(); // forms of which all is told
 
     void add(Place place, String form, String advice) {
-        all.add(new One(place, form, advice));
+        if (!silent.contains(form)) {
+            all.add(new One(place, form, advice));
+        }
+    }
+
+    void silence(Set<String> forms) {
+        silent = forms;
+    }
+
+    List<String> advices() {
+        return all.stream().map(One::advice).toList();
     }
 
     boolean none() {

@@ -1,4 +1,5 @@
 import com.sun.source.tree.ClassTree;
+import com.sun.source.tree.CompilationUnitTree;
 import com.sun.source.tree.MethodTree;
 import com.sun.source.tree.Tree;
 import java.util.ArrayDeque;
@@ -45,6 +46,7 @@ final class Program {
 
     Program(World world) {
         this.world = world;
+        world.program = this;
         captures = new Captures(world);
         throwing = new Throwing(world.sources, world.methodNames);
     }
@@ -90,6 +92,34 @@ final class Program {
         drain();
     }
 
+    /** Tells the generic methods that nothing calls and the generic classes that nothing uses: there is no copy of them. */
+    void tellUncalled() {
+        Set<Element> methods = new HashSet<>(), classes = new HashSet<>();
+        needs.forEach(need -> methods.add(need.method));
+        world.copies.stream().filter(copy -> !copy.env.isEmpty()).forEach(copy -> classes.add(copy.element));
+        for (TypeElement one : world.sources.classes) {
+            CompilationUnitTree unit = world.sources.unitOf.get(one);
+            if (world.sources.isLibrary(unit)) {
+                continue;
+            }
+            NestingKind nesting = one.getNestingKind();
+            boolean named = nesting == NestingKind.TOP_LEVEL || nesting == NestingKind.MEMBER;
+            if (named && !world.variablesOf(one).isEmpty() && !classes.contains(one)) {
+                leftOut(world.sources.placeOf(unit, world.sources.treeOf.get(one)), "the generic class "
+                    + one.getSimpleName() + ", which nothing uses");
+                continue;
+            }
+            for (Element member : one.getEnclosedElements()) {
+                boolean generic = member instanceof ExecutableElement method && !method.getTypeParameters().isEmpty()
+                    && !methods.contains(method) && world.sources.treeOf.get(method) != null;
+                if (generic) {
+                    leftOut(world.sources.placeOf(unit, world.sources.treeOf.get(member)), "the generic method "
+                        + member.getSimpleName() + ", which nothing calls");
+                }
+            }
+        }
+    }
+
     private void drain() {
         prepareAll();
         while (!queue.isEmpty()) {
@@ -110,7 +140,7 @@ final class Program {
     /** What a class or lambda takes from around it. */
     void prepare(Copy copy, Tree tree, Copy around) {
         Captures.Found found = captures.of(tree);
-        found.locals.forEach(one -> copy.captured.put(one, world.ty(one.asType(), copy.env)));
+        found.locals.forEach(one -> copy.captured.put(one, world.tyOf(one, copy.env)));
         copy.outer = around;
         copy.holdsOuter = around != null && found.object;
     }
@@ -172,7 +202,7 @@ final class Program {
         if (member.getConstantValue() == null) {
             Place at = world.sources.placeOf(copy.unit, world.sources.treeOf.getOrDefault(member, copy.tree));
             world.place = at;
-            to.add(new Copy.Field(Members.field(member), world.ty(member.asType(), copy.env).text(), at,
+            to.add(new Copy.Field(Members.field(member), world.tyOf(member, copy.env).text(), at,
                 member.getSimpleName().toString()));
         }
     }
@@ -379,6 +409,7 @@ final class Program {
             Ty type = body.ty(one.asType());
             made.params.add(type.text() + " " + body.declare(one, type));
         }
+        made.locals = body.names();
         boolean isMain = to == main && made.name.equals("main") && isStatic;
         body.isMain = isMain;
         made.body = hasBody ? Finish.finish(statements(body, to, method, tree), body.result, body) : null;

@@ -1,6 +1,7 @@
 import com.sun.source.tree.ClassTree;
 import com.sun.source.tree.CompilationUnitTree;
-import com.sun.source.tree.LambdaExpressionTree;
+import com.sun.source.tree.MemberReferenceTree;
+import com.sun.source.tree.MethodInvocationTree;
 import com.sun.source.tree.MethodTree;
 import com.sun.source.tree.Tree;
 import com.sun.source.tree.TryTree;
@@ -42,6 +43,7 @@ final class Sources {
     final Set<String> variableNames = new HashSet<>();
     final List<Diagnostic<? extends JavaFileObject>> errors = new ArrayList<>();
     boolean hasTry;
+    boolean hasStreams;
     Trees trees;
     Elements elements;
     Types types;
@@ -85,7 +87,11 @@ final class Sources {
     }
 
     boolean isLibrary(CompilationUnitTree unit) {
-        return libraryFiles.contains(new File(unit.getSourceFile().getName()).getPath());
+        return unit != null && libraryFiles.contains(new File(unit.getSourceFile().getName()).getPath());
+    }
+
+    List<CompilationUnitTree> ownUnits() {
+        return units.stream().filter(unit -> !isLibrary(unit)).toList();
     }
 
     Element elementOf(Tree tree) {
@@ -159,8 +165,15 @@ final class Sources {
         }
 
         @Override
-        public Void visitLambdaExpression(LambdaExpressionTree tree, Void nothing) {
-            return super.visitLambdaExpression(tree, nothing);
+        public Void visitMethodInvocation(MethodInvocationTree tree, Void nothing) {
+            hasStreams |= own && ("" + trees.getTypeMirror(getCurrentPath())).startsWith("java.util.stream.");
+            return super.visitMethodInvocation(tree, nothing);
+        }
+
+        @Override
+        public Void visitMemberReference(MemberReferenceTree tree, Void nothing) {
+            hasStreams |= own && tree.getName().contentEquals("stream");
+            return super.visitMemberReference(tree, nothing);
         }
     }
 }

@@ -89,7 +89,7 @@ final class Statements {
     private void variable(VariableTree tree) {
         Element element = body.elementOf(tree);
         ExpressionTree value = tree.getInitializer();
-        Ty type = body.ty(element.asType());
+        Ty type = body.tyOf(element);
         if (body.shared.contains(element)) {
             if (value != null) {
                 body.setLocal(body.nameOf(element), initial(value, type, null));
@@ -116,7 +116,7 @@ final class Statements {
             return body.creations.array(array, type, name);
         }
         boolean plain = name != null && value instanceof NewClassTree made && made.getClassBody() == null
-            && body.tyOf(value).same(type);
+            && body.creations.typeOf(made).same(type);
         return plain ? body.creations.creation((NewClassTree) value, name) : body.exTo(value, type);
     }
 
@@ -311,22 +311,45 @@ final class Statements {
             return;
         }
         Ex walker = body.calls.invoke(over, method(iterable, "iterator"), List.of(), List.of(), tree, false);
-        Body.Target target = target(label, true);
         Ex at = Ex.local(body.fresh("iterator"), walker.type);
+        Ty given = walker.type.copy.as(iterator).env.values().iterator().next();
+        if (body.world.isApart(given) && type.is(Ty.Kind.CLASS) && given.copy.element.equals(type.copy.element)) {
+            declareOver(tree, at, variable, given, label, walker, iterator);
+            return;
+        }
+        declareOver(tree, at, variable, type, label, walker, iterator);
+    }
+
+    private void declareOver(EnhancedForLoopTree tree, Ex at, Element variable, Ty type, String label, Ex walker,
+        TypeElement iterator) {
+        Body.Target target = target(label, true);
         St first = new St.Let(walker.type.text(), at.text, walker.text);
         first.at = body.place;
-        target.loop.first = first;
-        target.loop.test = body.calls.invoke(at, method(iterator, "hasNext"), List.of(), List.of(), tree, false);
+        Ex[] more = new Ex[1];
+        List<St> before = body.within(() -> more[0] = body.calls.invoke(at, method(iterator, "hasNext"), List.of(),
+            List.of(), tree, false));
+        List<St> all = new ArrayList<>();
+        if (before.isEmpty()) {
+            target.loop.first = first;
+            target.loop.test = more[0];
+        } else {
+            body.out.add(first);
+            all.addAll(body.within(() -> {
+                body.out.addAll(before);
+                body.emit(new St.If(more[0].not(), new ArrayList<>(List.of(jump(target.loop, false))),
+                    new ArrayList<>()));
+            }));
+        }
         body.open();
         String name = body.declare(variable, type);
         body.targets.push(target);
         List<St> turn = part(tree.getStatement());
         body.targets.pop();
         body.close();
-        List<St> all = body.within(() -> {
+        all.addAll(body.within(() -> {
             Ex element = body.calls.invoke(at, method(iterator, "next"), List.of(), List.of(), tree, false);
             body.emit(new St.Let(type.text(), name, body.conversions.convert(element, type, tree).text));
-        });
+        }));
         all.addAll(turn);
         target.loop.body = all;
         body.emit(target.loop);

@@ -23,7 +23,8 @@ final class Throwing {
         this.names = names;
         Map<ExecutableElement, Set<ExecutableElement>> calls = new HashMap<>();
         sources.treeOf.forEach((element, tree) -> {
-            if (element instanceof ExecutableElement method) {
+            if (element instanceof ExecutableElement method && (sources.hasStreams
+                || !method.getEnclosingElement().toString().startsWith("java.util.stream."))) {
                 calls.put(method, new HashSet<>());
                 new TreeScanner<Void, Void>() {
                     @Override

@@ -30,6 +30,13 @@ final class Ty {
         return new Ty(Kind.CLASS, copy, null);
     }
 
+    /** What tells the copies of a container apart that one variable holds; no type of a value. */
+    static Ty tag(String name) {
+        Copy copy = new Copy(-1, null, null, null, Map.of(), true);
+        copy.name = name;
+        return of(copy);
+    }
+
     static Ty array(Ty of) {
         return ARRAYS.computeIfAbsent(of, o -> new Ty(Kind.ARRAY, null, o));
     }

@@ -39,10 +39,14 @@ final class World {
     private boolean toldMany;
     Place place; // where what is asked for stands
     Program program;
+    final Apart apart;
+    final Element tag; // the variable for which a container of its own has its tag
 
-    World(Sources sources, Obstacles obstacles) {
+    World(Sources sources, Obstacles obstacles, Apart apart) {
         this.sources = sources;
         this.obstacles = obstacles;
+        this.apart = apart;
+        tag = sources.elements.getTypeElement("java.lang.Void");
         methodNames = new MethodNames(sources);
         classNames.addAll(sources.variableNames);
     }
@@ -67,6 +71,17 @@ final class World {
             case LONG: case FLOAT: case DOUBLE: return refused(type);
             default: return Ty.OBJECT;
         }
+    }
+
+    /** The type of a field or a local: a container may have a class of its own. */
+    Ty tyOf(Element variable, Map<Element, Ty> env) {
+        Ty own = apart.of(variable);
+        return own == null ? ty(variable.asType(), env) : copyOf((DeclaredType) variable.asType(), env, own).ty;
+    }
+
+    /** Whether it is a container, or a part of one, with a class of its own. */
+    boolean isApart(Ty type) {
+        return type.is(Ty.Kind.CLASS) && type.copy.env.containsKey(tag);
     }
 
     /** Numbers that are not brought in; int in their place, so that nothing more is told of them. */
@@ -147,6 +162,10 @@ final class World {
     }
 
     Copy copyOf(DeclaredType type, Map<Element, Ty> env) {
+        return copyOf(type, env, env.get(tag));
+    }
+
+    Copy copyOf(DeclaredType type, Map<Element, Ty> env, Ty mark) {
         TypeElement element = (TypeElement) type.asElement();
         Map<Element, Ty> given = new LinkedHashMap<>();
         for (DeclaredType at = type; at != null; at = at.getEnclosingType() instanceof DeclaredType up ? up : null) {
@@ -165,6 +184,9 @@ final class World {
         for (TypeParameterElement one : variablesOf(element)) {
             Ty found = given.containsKey(one) ? given.get(one) : env.get(one);
             closed.put(one, found != null ? found : bound(one, ((TypeVariable) one.asType()).getUpperBound(), closed));
+        }
+        if (mark != null && Apart.isContainer(element) && sources.isLibrary(sources.unitOf.get(element))) {
+            closed.put(tag, mark);
         }
         return copy(element, closed);
     }

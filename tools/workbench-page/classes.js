@@ -1,5 +1,6 @@
 // The old classes and the new types side by side.
 import { at, make, short } from "./dom.js";
+import { withBrackets } from "./model.js";
 import { emit, on, select, store } from "./store.js";
 
 const MOST_OPEN = 200;
@@ -10,7 +11,7 @@ function oldMembers(it) {
   for (const c of it.columns) {
     const column = store.program.columns[c];
     const key = (column.kind === "field" ? "" : "m ") + column.name;
-    const member = found.get(key) || { text: column.kind === "field" ? column.name : column.name + "()", columns: [] };
+    const member = found.get(key) || { text: column.kind === "field" ? column.name : withBrackets(column.name), columns: [] };
     member.columns.push(c);
     found.set(key, member);
   }

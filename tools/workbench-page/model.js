@@ -2,6 +2,9 @@
 
 const GOLDEN = 137.5;
 
+// A method's name with its brackets; that of an overload in everyday Java has its types in them.
+export const withBrackets = (name) => name.endsWith(")") ? name : name + "()";
+
 export class Model {
   constructor(program, nodes) {
     this.program = program;
@@ -70,8 +73,9 @@ export class Model {
     const name = this.columnName(member.columns[0]);
     if (member.kind === "field") return name;
     if (member.kind === "mark") return "\u2039is " + member.holder + "\u203a";
-    if (member.kinds.length > 1) return name + "()";
-    return member.kinds[0] === "body" ? name + "() {..}" : name + "();";
+    const head = withBrackets(name);
+    if (member.kinds.length > 1) return head;
+    return member.kinds[0] === "body" ? head + " {..}" : head + ";";
   }
 
   isCreation(r) {

@@ -1,5 +1,7 @@
 package java.lang;
 
+import java.util.stream.IntStream;
+
 /** Methods of strings; in the text each takes the string as its first argument. */
 public final class String implements Comparable<String>, CharSequence {
     public String() {
@@ -45,6 +47,14 @@ public final class String implements Comparable<String>, CharSequence {
             text = text + characters[k];
         }
         return text;
+    }
+
+    public IntStream chars() {
+        int[] all = new int[length()];
+        for (int k = 0; k < all.length; k++) {
+            all[k] = charAt(k);
+        }
+        return IntStream.of(all);
     }
 
     private static void check(boolean fits, String text) {

@@ -1,5 +1,8 @@
 package java.util;
 
+import java.util.stream.IntStream;
+import java.util.stream.Stream;
+
 public final class Arrays {
     public static void sort(int[] all) {
         int[] other = new int[all.length];
@@ -364,6 +367,14 @@ public final class Arrays {
             text = text + (k == 0 ? "" : ", ") + toString(all[k]);
         }
         return text + "]";
+    }
+
+    public static IntStream stream(int[] all) {
+        return IntStream.of(all);
+    }
+
+    public static <T> Stream<T> stream(T[] all) {
+        return Stream.<T>of(all);
     }
 
     public static <T> List<T> asList(T... all) {

@@ -1,8 +1,13 @@
 package java.util;
 
 import java.util.function.Predicate;
+import java.util.stream.Stream;
 
 public interface Collection<E> extends Iterable<E> {
+    default Stream<E> stream() {
+        return Stream.<E>over(iterator());
+    }
+
     int size();
 
     boolean isEmpty();

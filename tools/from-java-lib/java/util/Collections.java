@@ -16,6 +16,16 @@ public final class Collections {
         }
     }
 
+    public static <T> void shuffle(List<T> list) {
+        shuffle(list, new Random(0));
+    }
+
+    public static <T> void shuffle(List<T> list, Random random) {
+        for (int k = list.size(); k > 1; k--) {
+            swap(list, k - 1, random.nextInt(k));
+        }
+    }
+
     public static <T> void swap(List<T> list, int one, int other) {
         T kept = list.get(one);
         list.set(one, list.get(other));

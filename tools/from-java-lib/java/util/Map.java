@@ -49,5 +49,21 @@ public interface Map<K, V> {
         V getValue();
 
         V setValue(V value);
+
+        static <K extends Comparable<? super K>, V> Comparator<Map.Entry<K, V>> comparingByKey() {
+            return (one, other) -> one.getKey().compareTo(other.getKey());
+        }
+
+        static <K, V extends Comparable<? super V>> Comparator<Map.Entry<K, V>> comparingByValue() {
+            return (one, other) -> one.getValue().compareTo(other.getValue());
+        }
+
+        static <K, V> Comparator<Map.Entry<K, V>> comparingByKey(Comparator<? super K> order) {
+            return (one, other) -> order.compare(one.getKey(), other.getKey());
+        }
+
+        static <K, V> Comparator<Map.Entry<K, V>> comparingByValue(Comparator<? super V> order) {
+            return (one, other) -> order.compare(one.getValue(), other.getValue());
+        }
     }
 }
