@@ -2,7 +2,7 @@ mod SetLemmas
 mod Pseudo
 mod TableLemmas
 mod Least
-mod Laws
+pub mod Laws
 mod OrderLemmas
 mod SaturateLemmas
 mod Worked
@@ -14,4 +14,4 @@ mod StemLemmas
 mod RisingOrder
 mod SortLemmas
 mod BaseLemmas
-mod Uniqueness
+pub mod Uniqueness
