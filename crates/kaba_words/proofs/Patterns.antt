@@ -4,7 +4,7 @@ use Rattle.std.specs.Str.{bytes_eq}
 use Rattle.std.proofs.lemmas.Bool.{false≢true}
 use Rattle.std.proofs.lemmas.Slice.Eq.{bytes_eq-Decides}
 use Rattle.std.proofs.lemmas.Fmt.{decimal_injective}
-use Rattle.kaba_words.specs.Commands.{Cmd, run, table, lattice, base, edit, regen, make, help, version, FitsRun, FitsLattice, NoEdit, NoMake, FitsNone, Fits, TakesFlag, TakesBound, BoundAfter, IsNumber, most_concepts, most_samples}
+use Rattle.kaba_words.specs.Commands.{Cmd, run, table, lattice, base, why, same, edit, regen, make, help, version, FitsRun, FitsLattice, FitsWhy, NoEdit, NoMake, FitsNone, Fits, TakesFlag, TakesBound, BoundAfter, IsNumber, most_concepts, most_samples}
 
 -- two words that differ
 apart : (a b : List ℕ) → bytes_eq a b ≡ false → a ≡ b → ⊥
@@ -16,6 +16,8 @@ name_of (run file steps after) = codes "run"
 name_of (table file) = codes "table"
 name_of (lattice json bound file) = codes "lattice"
 name_of (base file) = codes "base"
+name_of (why file row column) = codes "why"
+name_of (same first second) = codes "same"
 name_of (edit bound file script) = codes "edit"
 name_of (regen bound file script) = codes "regen"
 name_of (make prints n) = codes "make"
@@ -23,7 +25,7 @@ name_of help = codes "--help"
 name_of version = codes "--version"
 
 -- words with another name than that of a command do not say it
-other : (name own : List ℕ) (more : List (List ℕ)) (command : Cmd) → name ≡ own → bytes_eq own (name_of command) ≡ false → Fits (name ∷ more) command → ⊥
+pub other : (name own : List ℕ) (more : List (List ℕ)) (command : Cmd) → name ≡ own → bytes_eq own (name_of command) ≡ false → Fits (name ∷ more) command → ⊥
 other name own more (run file steps after) e f h = apart own (codes "run") f (sym e ∙ h.0)
 other name own more command e f h = apart own (name_of command) f (sym e ∙ h.0)
 
@@ -45,6 +47,16 @@ none_of_lattice {name} {more} e none command h = other name (codes "lattice") mo
 pub none_of_base : {name : List ℕ} {more : List (List ℕ)} → name ≡ codes "base" → ((file : List ℕ) → more ≡ file ∷ [] → ⊥) → FitsNone (name ∷ more)
 none_of_base e none (base file) h = none file h.1
 none_of_base {name} {more} e none command h = other name (codes "base") more command e refl h
+
+pub none_of_why : {name : List ℕ} {more : List (List ℕ)} → name ≡ codes "why" → ((file : List ℕ) (row column : ℕ) → FitsWhy more file row column → ⊥)
+    → FitsNone (name ∷ more)
+none_of_why e none (why file row column) h = none file row column h.1
+none_of_why {name} {more} e none command h = other name (codes "why") more command e refl h
+
+pub none_of_same : {name : List ℕ} {more : List (List ℕ)} → name ≡ codes "same" → ((first second : List ℕ) → more ≡ first ∷ second ∷ [] → ⊥)
+    → FitsNone (name ∷ more)
+none_of_same e none (same first second) h = none first second h.1
+none_of_same {name} {more} e none command h = other name (codes "same") more command e refl h
 
 pub none_of_edit : {name : List ℕ} {more : List (List ℕ)} → name ≡ codes "edit" → NoEdit more → FitsNone (name ∷ more)
 none_of_edit e none (edit bound file script) h = none bound file script h.1

@@ -1,5 +1,5 @@
 -- Believed. The words of the command line, and the commands that they say.
-use Rattle.std.specs.Prelude.{◌≡◌, ℕ, ◌<◌, ◌≤◌, Bool, true, false, List, [], ◌∷◌, length, map, codes, string_bytes}
+use Rattle.std.specs.Prelude.{◌≡◌, ℕ, ◌<◌, ◌≤◌, Bool, true, false, List, [], ◌∷◌, ◌++◌, length, map, codes, string_bytes}
 use Rattle.std.specs.List.{All}
 use Rattle.std.specs.Fmt.{decimal}
 use Rattle.std.specs.declared.string.String.{String}
@@ -13,6 +13,8 @@ pub data Cmd : Type 0 where
   table : (file : List ℕ) → Cmd
   lattice : (json : Bool) (bound : ℕ) (file : List ℕ) → Cmd
   base : (file : List ℕ) → Cmd
+  why : (file : List ℕ) (row column : ℕ) → Cmd
+  same : (first second : List ℕ) → Cmd
   edit : (bound : ℕ) (file script : List ℕ) → Cmd
   regen : (bound : ℕ) (file script : List ℕ) → Cmd
   make : (prints : Bool) (number : ℕ) → Cmd
@@ -29,6 +31,8 @@ command_of (commands.Run file steps words) = run (string_bytes file) steps (text
 command_of (commands.Table file) = table (string_bytes file)
 command_of (commands.Lattice json bound file) = lattice json bound (string_bytes file)
 command_of (commands.Base file) = base (string_bytes file)
+command_of (commands.Why file row column) = why (string_bytes file) row column
+command_of (commands.Same first second) = same (string_bytes first) (string_bytes second)
 command_of (commands.Edit bound file script) = edit bound (string_bytes file) (string_bytes script)
 command_of (commands.Regen bound file script) = regen bound (string_bytes file) (string_bytes script)
 command_of (commands.Make prints number) = make prints number
@@ -89,6 +93,24 @@ pub record FitsLattice (words : List (List ℕ)) (json : Bool) (bound : ℕ) (fi
   pub takes_bound : TakesBound after bound rest
   pub file_is : rest ≡ file ∷ []
 
+-- the greatest number that a row or a column may be asked for by
+abbrev pub most_numbers : ℕ
+most_numbers = 4294967295
+
+-- the word of a row: an r and its number
+abbrev pub row_word : ℕ → List ℕ
+row_word n = codes "r" ++ decimal n
+
+-- the word of a column: a c and its number
+abbrev pub column_word : ℕ → List ℕ
+column_word n = codes "c" ++ decimal n
+
+-- FILE ROW COLUMN
+pub record FitsWhy (words : List (List ℕ)) (file : List ℕ) (row column : ℕ) : Type 0 where
+  pub words_are : words ≡ file ∷ row_word row ∷ column_word column ∷ []
+  pub row_small : row ≤ most_numbers
+  pub column_small : column ≤ most_numbers
+
 -- [-c N] FILE SCRIPT
 pub record FitsEdit (words : List (List ℕ)) (bound : ℕ) (file script : List ℕ) : Type 0 where
   pub rest : List (List ℕ)
@@ -122,6 +144,8 @@ FitsArguments name words (run file steps more) = (name ≡ codes "run") × FitsR
 FitsArguments name words (table file) = (name ≡ codes "table") × (words ≡ file ∷ [])
 FitsArguments name words (lattice json bound file) = (name ≡ codes "lattice") × FitsLattice words json bound file
 FitsArguments name words (base file) = (name ≡ codes "base") × (words ≡ file ∷ [])
+FitsArguments name words (why file row column) = (name ≡ codes "why") × FitsWhy words file row column
+FitsArguments name words (same first second) = (name ≡ codes "same") × (words ≡ first ∷ second ∷ [])
 FitsArguments name words (edit bound file script) = (name ≡ codes "edit") × FitsEdit words bound file script
 FitsArguments name words (regen bound file script) = (name ≡ codes "regen") × FitsEdit words bound file script
 FitsArguments name words (make prints n) = (name ≡ codes "make") × FitsMake words prints n

@@ -3,7 +3,7 @@
 
 ghost use Rattle.std.specs.Prelude.{◌≡◌, ◌∷◌, ◌≤◌, ℕ, Bool, true, false, List, [], Err, IfOk, MatchOption, IsTrue, ◌↔◌, length, codes, string_bytes};
 ghost use Rattle.std.specs.List.{All};
-ghost use Rattle.kaba_words.specs.Commands.{Cmd, texts, command_of, IsNumber, Fits, FitsNone, FitsRun, TakesFlag, BoundAfter, TakesBound, FitsLattice, FitsEdit, NoEdit, FitsMake, NoMake, most_units};
+ghost use Rattle.kaba_words.specs.Commands.{Cmd, texts, command_of, IsNumber, Fits, FitsNone, FitsRun, TakesFlag, BoundAfter, TakesBound, FitsLattice, FitsWhy, row_word, column_word, FitsEdit, NoEdit, FitsMake, NoMake, most_units, most_numbers};
 ghost use Rattle.kaba_words.specs.declared.words.WordsFault.TheVariants as WordsFault;
 
 use std::alloc::{AllocError, Global};
@@ -19,6 +19,10 @@ pub enum Command {
     Lattice(bool, u32, String),
     /// `base FILE`: the least base of implications of the table of the file's program.
     Base(String),
+    /// `why FILE ROW COLUMN`: why the row of this number has the column of this number.
+    Why(String, u32, u32),
+    /// `same FILE FILE`: whether the programs of the two files are one.
+    Same(String, String),
     /// `edit [-c N] FILE SCRIPT`: the hierarchy of the file's program after the edits of the script.
     Edit(u32, String, String),
     /// `regen [-c N] FILE SCRIPT`: the program that is written of that hierarchy, once its classes are a tree.
@@ -195,6 +199,65 @@ fn read_base(alloc: Global, mut arguments: Arguments<'_>) -> Result<Command, Wor
     Ok(Command::Base(made!(String::from_str(alloc, file))))
 }
 
+/// The number of the row that the word names.
+fn row_in(alloc: Global, word: &str) -> Result<Option<u32>, AllocError>
+    ensures { IfOk result (λ read. MatchOption read ((n : ℕ) → n ≤ most_numbers → word.now ≡ row_word n → ⊥) (λ n. word.now ≡ row_word n)) }
+{
+    match word.strip_prefix('r') {
+        None => Ok(None),
+        Some(digits) => number(alloc, digits, 4_294_967_295),
+    }
+}
+
+/// The number of the column that the word names.
+fn column_in(alloc: Global, word: &str) -> Result<Option<u32>, AllocError>
+    ensures { IfOk result (λ read. MatchOption read ((n : ℕ) → n ≤ most_numbers → word.now ≡ column_word n → ⊥) (λ n. word.now ≡ column_word n)) }
+{
+    match word.strip_prefix('c') {
+        None => Ok(None),
+        Some(digits) => number(alloc, digits, 4_294_967_295),
+    }
+}
+
+/// The command `why`, of which the words after its name are left.
+fn read_why(alloc: Global, mut arguments: Arguments<'_>) -> Result<Command, WordsFault>
+    ensures command { IfOk result (λ command. Fits (codes "why" ∷ texts arguments.entry.words.now) (command_of command)) }
+    ensures usage { result ≡ Err WordsFault.Usage → (file : List ℕ) (row column : ℕ) → FitsWhy (texts arguments.entry.words.now) file row column → ⊥ }
+{
+    let Some(file) = arguments.next() else {
+        return Err(WordsFault::Usage);
+    };
+    let Some(word) = arguments.next() else {
+        return Err(WordsFault::Usage);
+    };
+    let Some(row) = made!(row_in(alloc, word)) else {
+        return Err(WordsFault::Usage);
+    };
+    let Some(word) = arguments.last() else {
+        return Err(WordsFault::Usage);
+    };
+    let Some(column) = made!(column_in(alloc, word)) else {
+        return Err(WordsFault::Usage);
+    };
+    Ok(Command::Why(made!(String::from_str(alloc, file)), row, column))
+}
+
+/// The command `same`, of which the words after its name are left.
+fn read_same(alloc: Global, mut arguments: Arguments<'_>) -> Result<Command, WordsFault>
+    ensures command { IfOk result (λ command. Fits (codes "same" ∷ texts arguments.entry.words.now) (command_of command)) }
+    ensures usage { result ≡ Err WordsFault.Usage → (first second : List ℕ) → texts arguments.entry.words.now ≡ first ∷ second ∷ [] → ⊥ }
+{
+    let Some(first) = arguments.next() else {
+        return Err(WordsFault::Usage);
+    };
+    let Some(second) = arguments.last() else {
+        return Err(WordsFault::Usage);
+    };
+    let first = made!(String::from_str(alloc, first));
+    let second = made!(String::from_str(alloc, second));
+    Ok(Command::Same(first, second))
+}
+
 /// The number after `-c`.
 fn read_count(alloc: Global, arguments: &mut Arguments<'_>) -> Result<u32, WordsFault>
     ensures bound { IfOk result (λ n. BoundAfter true (texts arguments.old.words.now) n (texts arguments.new.words.now)) }
@@ -292,6 +355,8 @@ fn read_named(alloc: Global, name: &str, arguments: Arguments<'_>) -> Result<Com
         "table" => read_table(alloc, arguments),
         "lattice" => read_lattice(alloc, arguments),
         "base" => read_base(alloc, arguments),
+        "why" => read_why(alloc, arguments),
+        "same" => read_same(alloc, arguments),
         "edit" => read_edit(alloc, false, arguments),
         "regen" => read_edit(alloc, true, arguments),
         "make" => read_make(alloc, arguments),
