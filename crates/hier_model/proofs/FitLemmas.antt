@@ -309,26 +309,26 @@ module _ (F : Facts) (R : InRange F) (H : Hierarchy) (fit : IsHierarchyOf F H) w
         table = fit.table;
       }
 
-  unless_ok : (o : Option NodeId) (f : NodeId → ChangeFault) (r : Result Hierarchy ChangeFault) (h : Hierarchy) → unless o f r ≡ Ok h → (o ≡ None) × (r ≡ Ok h)
+  pub unless_ok : (o : Option NodeId) (f : NodeId → ChangeFault) (r : Result Hierarchy ChangeFault) (h : Hierarchy) → unless o f r ≡ Ok h → (o ≡ None) × (r ≡ Ok h)
   unless_ok None f r h e = (refl, e)
   unless_ok (Some n) f r h e = absurd (cc e)
 
-  if_ok : (b : Bool) (x : ChangeFault) (k h : Hierarchy) → cond b (Err x) (Ok k) ≡ Ok h → (b ≡ false) × (k ≡ h)
+  pub if_ok : (b : Bool) (x : ChangeFault) (k h : Hierarchy) → cond b (Err x) (Ok k) ≡ Ok h → (b ≡ false) × (k ≡ h)
   if_ok true x k h e = absurd (cc e)
   if_ok false x k h e = (refl, cc e)
 
-  or_err : (b : Bool) (x : ChangeFault) (r : Result Hierarchy ChangeFault) (h : Hierarchy) → cond b r (Err x) ≡ Ok h → (b ≡ true) × (r ≡ Ok h)
+  pub or_err : (b : Bool) (x : ChangeFault) (r : Result Hierarchy ChangeFault) (h : Hierarchy) → cond b r (Err x) ≡ Ok h → (b ≡ true) × (r ≡ Ok h)
   or_err true x r h e = (refl, e)
   or_err false x r h e = absurd (cc e)
 
-  is_ok : (k h : Hierarchy) → ◌≡◌ {A = Result Hierarchy ChangeFault} (Ok k) (Ok h) → k ≡ h
+  pub is_ok : (k h : Hierarchy) → ◌≡◌ {A = Result Hierarchy ChangeFault} (Ok k) (Ok h) → k ≡ h
   is_ok k h e = cc e
 
   fits_as : (k h : Hierarchy) → k ≡ h → IsHierarchyOf F k → IsHierarchyOf F h
   fits_as k h e f = subst (IsHierarchyOf F) e f
 
   -- a column that stands somewhere is one of the list
-  placed_below : (c : ColId) → is_placed H c ≡ true → c.0 < length H.columns
+  pub placed_below : (c : ColId) → is_placed H c ≡ true → c.0 < length H.columns
   placed_below c h =
       ⊎_elim (λ lt. lt)
       (λ past. absurd (false≢true (sym (ap is_some (get_or-eq_default H.columns None {n = c.0} past)) ∙ h)))

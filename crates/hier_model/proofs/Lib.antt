@@ -10,3 +10,11 @@ pub mod StartLemmas
 pub mod BeginLemmas
 pub mod NameLemmas
 pub mod Worked
+pub mod EachLemmas
+pub mod WrittenLemmas
+pub mod EditedLemmas
+pub mod ChangeLemmas
+pub mod RestoreLemmas
+pub mod ChangeSteps
+pub mod UndoLemmas
+pub mod WorkedUndo

@@ -46,19 +46,19 @@ concepts =
     ∷ (false ∷ false ∷ false ∷ false ∷ [], true ∷ true ∷ true ∷ true ∷ true ∷ []) ∷ []
 
 -- a list where one of other items stands
-abbrev listed : {A B : Type 0} → Vec A Global → (xs : List B) → length xs ≤ 9 → Vec B Global
+abbrev pub listed : {A B : Type 0} → Vec A Global → (xs : List B) → length xs ≤ 9 → Vec B Global
 listed v xs fits = record { ptr = v.ptr; len = length xs; cap = 9; alloc = v.alloc; items = xs; ok = (refl, fits); small = lit< tt }
 
 -- the facts of the program, as far as a hierarchy asks them
 module _ (others : Facts) (faces : Vec ClassId Global) where
-  abbrev facts : Facts
+  abbrev pub facts : Facts
   facts = record others {
     columns = listed others.columns the_columns (lit≤ tt);
     classes = listed others.classes (the_classes (listed faces [] (lit≤ tt))) (lit≤ tt);
     words = listed others.words the_words (lit≤ tt);
   }
 
-  abbrev begun : Hierarchy
+  abbrev pub begun : Hierarchy
   begun = start_of facts table concepts
 
   pub places : map (option_map (λ n. n.0)) begun.columns ≡ (Some 1 ∷ Some 2 ∷ Some 2 ∷ Some 3 ∷ Some 3 ∷ [])

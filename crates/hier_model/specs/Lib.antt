@@ -5,3 +5,6 @@ pub mod Start
 pub mod Listed
 pub mod Edits
 pub mod Nodes
+pub mod Differences
+pub mod Alike
+pub mod Restored

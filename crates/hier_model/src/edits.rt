@@ -1,4 +1,4 @@
-//! Edits, and why one makes no hierarchy.
+//! Edits and acts, and why an edit makes no hierarchy.
 
 use kaba_base::{ColId, Name, NodeId};
 use std::alloc::AllocError;
@@ -18,6 +18,15 @@ pub enum Edit {
     MemberName(ColId, Name),
     /// Take out a node where nothing stands.
     Drop(NodeId),
+}
+
+/// What a script asks for: an edit, or to take back the last one that was made.
+#[derive(Drop)]
+pub enum Act {
+    /// An edit.
+    Edit(Edit),
+    /// Take back the last edit that was made and not taken back.
+    Undo,
 }
 
 /// Why an edit makes no hierarchy.

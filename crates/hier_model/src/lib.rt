@@ -1,5 +1,5 @@
 //! A class hierarchy over the rows and columns of a table: its nodes, places, names and origins, its
-//! start from the concept lattice, and what an edit makes of it.
+//! start from the concept lattice, what an edit makes of it, and the way back.
 #![tactic(auto)]
 
 ghost use Rattle.std.specs.Prelude.{◌≡◌, ℕ, ◌<◌, ◌^◌, true, length, IfOk, Some};
@@ -18,15 +18,18 @@ use std::marker::Model;
 
 mod begin;
 mod changes;
+mod differences;
 mod edits;
 mod items;
 mod moves;
 mod names;
 mod orders;
 mod origins;
+mod restore;
 
 pub use begin::start;
-pub use edits::{ChangeFault, Edit};
+pub use differences::{Change, Undo};
+pub use edits::{Act, ChangeFault, Edit};
 use items::is_of_class;
 pub use items::{column_at, site_at, this_of};
 

@@ -199,7 +199,7 @@ pub fn is_mark(kind: ColKind) -> bool
 }
 
 /// Whether a place is a node.
-fn is_at(n: NodeId, place: Option<NodeId>) -> bool
+pub fn is_at(n: NodeId, place: Option<NodeId>) -> bool
     ensures { result ≡ is_at n.0 place }
 {
     match place {

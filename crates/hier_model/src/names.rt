@@ -205,7 +205,7 @@ fn is_field(kind: ColKind) -> bool
 }
 
 /// Whether two names are the same.
-fn is_same(a: &Name, b: &Name) -> bool
+pub fn is_same(a: &Name, b: &Name) -> bool
     ensures { result ≡ bytes_eq a.now b.now }
 {
     a.same(b)

@@ -1,10 +1,10 @@
 -- The nodes above a node that are no upper covers of it.
-use Rattle.std.proofs.Common.{◌≡◌, ◌≢◌, ◌⊎◌, inl, inr, ⊎_elim, ℕ, ◌+◌, ◌<◌, ◌==◌, ◌↔◌, IsTrue, Bool, true, false, ◌&&◌, ◌||◌, not, List, length, refl, sym, ap, subst, ◌∙◌, arith}
+use Rattle.std.proofs.Common.{◌≡◌, ◌⊎◌, inl, inr, ⊎_elim, ℕ, ◌+◌, ◌==◌, ◌↔◌, IsTrue, Bool, true, false, ◌&&◌, ◌||◌, not, List, length, refl, sym, ap, subst, ◌∙◌, arith}
 use Rattle.std.proofs.lemmas.Bool.{cases_lt, false≢true, eq-eqb, ne_eqb}
-use Rattle.kaba_bits.specs.Sets.{bit, row, IsEmpty}
+use Rattle.kaba_bits.specs.Sets.{bit, IsEmpty}
 use Rattle.kaba_bits.proofs.SetLemmas.{bit-below}
 use Rattle.kaba_order.specs.Orders.{Ordered, IsPartialOrder, is_le, IsStrictlyBelow, IsCover}
-use Rattle.kaba_order.specs.Beyond.{LiesBetween, IsBeyond}
+use Rattle.kaba_order.specs.Beyond.{IsBeyond}
 
 -- at first there is none
 pub none_beyond : (o : Ordered) (n : ℕ) (set : List Bool) → IsEmpty set → IsBeyond o n 0 set

@@ -4,3 +4,4 @@ pub mod MergeLemmas
 pub mod StepLemmas
 pub mod UniqueLemmas
 pub mod BeyondLemmas
+pub mod FlipLemmas

@@ -4,6 +4,7 @@
 ghost use Rattle.std.specs.Prelude.{◌≡◌, ℕ, ◌+◌, ◌<◌, ◌↔◌, ◌&&◌, ◌||◌, ◌==◌, not, true, length, IsTrue, IfOk, OnOk, OnErr, MatchOption, All};
 ghost use Rattle.kaba_bits.specs.Sets.{bit, row, HasWidth, ListsBelow};
 ghost use Rattle.kaba_order.specs.Beyond.{IsBeyond};
+ghost use Rattle.kaba_order.specs.Flips.{IsFlipped, HasFlipped};
 ghost use Rattle.kaba_order.specs.Orders.{Ordered, IsPartialOrder, is_le, is_live, IsStrictlyBelow, IsCover, numbers, IsLeastWith, IsUnder, IsDropped, IsBetween, IsFirstBetween, IsLeastOf, IsLeastMerged, IsMerged};
 
 use kaba_base::NodeId;
@@ -11,9 +12,11 @@ use kaba_bits::{BitRow, row_at};
 use std::alloc::{AllocError, Global};
 use std::marker::Model;
 
+mod flips;
 mod merge;
 mod rows;
 
+use flips::{flip_live, flip_rows};
 use merge::{has_some, is_among, keep_one, least_of, merge_rows, some_has};
 
 /// Why an order was not changed.
@@ -189,6 +192,20 @@ impl Order {
     {
         self.live.remove(n.0);
         rows::drop_from(&mut self.le, n.0);
+    }
+
+    /// Exchanges live and dead for the nodes of a list, and related and unrelated for the pairs of another; a node
+    /// stands with itself where it is live. Each number is below the count, and a partial order comes of it. It takes
+    /// no memory.
+    pub fn flip(&mut self, nodes: &Vec<NodeId>, pairs: &Vec<(NodeId, NodeId)>)
+        requires nodes { All (λ n. n.0 < length self.old.live) nodes.now.items }
+        requires pairs { All (λ p. (p.0.0 < length self.old.live) × (p.1.0 < length self.old.live)) pairs.now.items }
+        requires order { HasFlipped self.old nodes.now.items pairs.now.items }
+        ensures flipped { IsFlipped self.old nodes.now.items pairs.now.items self.new }
+        ensures order { IsPartialOrder self.new }
+    {
+        flip_live(&mut self.live, nodes);
+        flip_rows(&mut self.le, nodes, pairs);
     }
 }
 
