@@ -3,12 +3,13 @@
 
 ghost use Rattle.std.specs.Prelude.{◌≡◌, ◌≢◌, ◌⊎◌, Ok, Err, IfErr, IfOk, OnErr, OnOk};
 ghost use Rattle.hier_rules.specs.Words.{InRange, AreSets, IsHierarchyOf, NamesSome, MeetsEdit};
+ghost use Rattle.hier_model.specs.Edits.{changed};
 ghost use Rattle.hier_edit.specs.Applied.{applied, tested, fault_of};
 ghost use Rattle.hier_edit.specs.declared.ApplyFault.TheVariants as ApplyFault;
 
 use fact_model::{Facts, PointsTo};
 use hier_model::{ChangeFault, Edit, Hier};
-use hier_rules::{Asked, Broken, Nodes, Rule, first_of_edit};
+use hier_rules::{Asked, Broken, Nodes, Rule, first_broken_after};
 use kaba_base::{ColId, NodeId};
 use std::alloc::Global;
 
@@ -45,11 +46,22 @@ fn fault_of(fault: ChangeFault) -> ApplyFault
     }
 }
 
-/// A hierarchy where it meets its obligations.
-fn tested(alloc: Global, made: Hier, facts: &Facts, sets: &PointsTo) -> Result<Hier, ApplyFault>
+/// The hierarchy after an edit of one that met its obligations, where it meets them.
+fn tested(
+    alloc: Global,
+    before: &Hier,
+    made: Hier,
+    edit: &Edit,
+    facts: &Facts,
+    sets: &PointsTo,
+) -> Result<Hier, ApplyFault>
     requires range { InRange facts.now }
     requires sets { AreSets facts.now sets.now }
+    requires before { IsHierarchyOf facts.now before.now }
+    requires meets { MeetsEdit facts.now sets.now before.now }
+    requires some { NamesSome edit.now }
     requires hierarchy { IsHierarchyOf facts.now made }
+    requires after { changed facts.now before.now edit.now ≡ Ok made }
     ensures value { (result ≡ Err ApplyFault.Memory) ⊎ (result ≡ tested facts.now sets.now made) }
     ensures meets { IfOk result (MeetsEdit facts.now sets.now) }
     ensures fits { IfOk result (IsHierarchyOf facts.now) }
@@ -59,20 +71,46 @@ fn tested(alloc: Global, made: Hier, facts: &Facts, sets: &PointsTo) -> Result<H
         pt: sets,
         hier: &made,
     };
-    match first_of_edit(alloc, &asked) {
+    match first_broken_after(alloc, before, &asked, edit) {
         Ok(None) => Ok(made),
         Ok(Some(broken)) => Err(ApplyFault::Breaks(broken)),
         Err(_) => Err(ApplyFault::Memory),
     }
 }
 
-/// Makes an edit of a hierarchy where the hierarchy after it meets the obligations B1 to B8 (after
-/// Streckenbach and Snelting, 2004).
+/// The hierarchy after an edit of one that meets the obligations B1 to B8 (after Streckenbach and Snelting, 2004),
+/// where it meets them too, beside the old one. A refusal holds the first cause: a node or a column that is not there, a node to
+/// drop where something stands, or the first instance of the first obligation that the hierarchy after the edit
+/// breaks; `Memory` comes where memory is short.
+pub fn edited(
+    alloc: Global,
+    hier: &Hier,
+    facts: &Facts,
+    sets: &PointsTo,
+    edit: &Edit,
+) -> Result<Hier, ApplyFault>
+    requires range { InRange facts.now }
+    requires sets { AreSets facts.now sets.now }
+    requires hierarchy { IsHierarchyOf facts.now hier.now }
+    requires meets { MeetsEdit facts.now sets.now hier.now }
+    requires some { NamesSome edit.now }
+    ensures accepted { IfOk result (λ made. applied facts.now sets.now hier.now edit.now ≡ Ok made) }
+    ensures meets { IfOk result (MeetsEdit facts.now sets.now) }
+    ensures refused { IfErr result (λ fault. fault ≢ ApplyFault.Memory → applied facts.now sets.now hier.now edit.now ≡ Err fault) }
+    ensures fits { IfOk result (IsHierarchyOf facts.now) }
+{
+    match hier.changed(alloc, facts, edit) {
+        Ok(changed) => tested(alloc, hier, changed, edit, facts, sets),
+        Err(fault) => Err(fault_of(fault)),
+    }
+}
+
+/// Makes an edit of a hierarchy that meets the obligations B1 to B8 where the hierarchy after it meets them
+/// too (after Streckenbach and Snelting, 2004).
 ///
 /// The changed hierarchy is made beside the old one, and takes its place when nothing can fail any more:
-/// after a refusal, and where memory is short, the hierarchy is the one before. A refusal holds the first
-/// cause: a node or a column that is not there, a node to drop where something stands, or the first instance
-/// of the first obligation that the hierarchy after the edit breaks.
+/// after a refusal, and where memory is short, the hierarchy is the one before. The refusals are those of
+/// `edited`.
 pub fn apply(
     alloc: Global,
     hier: &mut Hier,
@@ -83,6 +121,7 @@ pub fn apply(
     requires range { InRange facts.now }
     requires sets { AreSets facts.now sets.now }
     requires hierarchy { IsHierarchyOf facts.now hier.old }
+    requires meets { MeetsEdit facts.now sets.now hier.old }
     requires some { NamesSome edit.now }
     ensures accepted { OnOk result (applied facts.now sets.now hier.old edit.now ≡ Ok hier.new) }
     ensures meets { OnOk result (MeetsEdit facts.now sets.now hier.new) }
@@ -90,14 +129,11 @@ pub fn apply(
     ensures kept { OnErr result (hier.new ≡ hier.old) }
     ensures is { IsHierarchyOf facts.now hier.new }
 {
-    match hier.changed(alloc, facts, edit) {
-        Ok(changed) => match tested(alloc, changed, facts, sets) {
-            Ok(made) => {
-                *hier = made;
-                Ok(())
-            }
-            Err(fault) => Err(fault),
-        },
-        Err(fault) => Err(fault_of(fault)),
+    match edited(alloc, hier, facts, sets, edit) {
+        Ok(made) => {
+            *hier = made;
+            Ok(())
+        }
+        Err(fault) => Err(fault),
     }
 }

@@ -9,3 +9,5 @@ pub mod NeedLemmas
 pub mod ChainLemmas
 pub mod Worked
 pub mod FoundLemmas
+pub mod AfterLemmas
+pub mod JoinLemmas

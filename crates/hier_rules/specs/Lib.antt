@@ -9,3 +9,4 @@ pub mod First
 pub mod Given
 pub mod Words
 pub mod Pairs
+pub mod After

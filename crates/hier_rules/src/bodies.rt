@@ -3,11 +3,13 @@
 ghost use Rattle.std.specs.Prelude.{◌≡◌, ℕ, ◌<◌, ◌↔◌, ◌==◌, ◌++◌, ◌∷◌, [], true, cond, length, IfOk, OnOk, Contains};
 ghost use Rattle.hier_rules.specs.Words.{IsNonDecreasing, bit, row, first_below, is_live, IsAsked};
 ghost use Rattle.std.specs.Option.{option_and_then};
+ghost use Rattle.kaba_order.specs.Orders.{is_among};
 ghost use Rattle.fact_model.specs.Items.{site_class, column_kind, column_class, column_slot, row_class};
 ghost use Rattle.fact_model.specs.Classes.{is_def, finds};
 ghost use Rattle.hier_rules.specs.Asked.{is_super, is_called, slots_of, is_other_body};
 ghost use Rattle.hier_rules.specs.Instances.{of_column};
 ghost use Rattle.hier_rules.specs.Pairs.{IsPairsRow};
+ghost use Rattle.hier_rules.specs.After.{AreApartOutside};
 ghost use Rattle.hier_rules.specs.Obligations.{is_nearer, has_nearer, wrong_body, wrong_need, first_wrong_need, is_between, has_between, wrong_super, first_wrong_super, is_body_at, two_bodies, first_two_bodies};
 ghost use Rattle.hier_model.specs.Edits.{is_one_slot};
 
@@ -252,6 +254,37 @@ pub fn first_two_bodies(asked: &Asked) -> Option<Broken>
     ensures { result ≡ first_two_bodies asked.now.facts.now asked.now.hier.now }
 {
     first_below!(n < node_count(asked.hier); first_two_bodies_at(asked, n))
+}
+
+/// The same, where no node outside a list has two bodies of one slot.
+#[tactic(auto, using(kaba_bits::proofs::FirstLemmas::first_below_found))]
+pub fn first_two_bodies_among(asked: &Asked, nodes: &[NodeId]) -> Option<Broken>
+    requires asked { IsAsked asked.now }
+    requires others { AreApartOutside asked.now.facts.now asked.now.hier.now nodes.now }
+    ensures { result ≡ first_two_bodies asked.now.facts.now asked.now.hier.now }
+{
+    first_below!(n < node_count(asked.hier); first_two_bodies_if(asked, nodes, n))
+}
+
+/// The first two bodies of one slot at a node, by whether it is one of a list outside of which no node has such.
+fn first_two_bodies_if(asked: &Asked, nodes: &[NodeId], n: u32) -> Option<Broken>
+    requires asked { IsAsked asked.now }
+    requires others { AreApartOutside asked.now.facts.now asked.now.hier.now nodes.now }
+    requires node { n < length asked.now.hier.now.order.live }
+    ensures { result ≡ first_below (length asked.now.facts.now.columns.items)
+        (λ c. first_below (length asked.now.facts.now.columns.items) (two_bodies asked.now.facts.now asked.now.hier.now n c)) }
+{
+    if !is_among(nodes, n) {
+        return None;
+    }
+    first_two_bodies_at(asked, n)
+}
+
+/// Whether a number is that of a node of a list.
+fn is_among(nodes: &[NodeId], n: u32) -> bool
+    ensures { result ≡ is_among nodes.now n }
+{
+    nodes.iter().any(|s| n == s.0)
 }
 
 /// The first two bodies of one slot at a node.

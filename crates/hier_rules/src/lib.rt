@@ -42,6 +42,7 @@ macro_rules! first_found_below {
     }};
 }
 
+mod after;
 mod bodies;
 mod broken;
 mod chains;
@@ -53,6 +54,7 @@ mod places;
 mod rows;
 mod taken;
 
+pub use after::first_broken_after;
 use bodies::{first_two_bodies, first_wrong_need, first_wrong_super};
 pub use broken::{Broken, Nodes, Rule};
 pub use chains::first_unchained;

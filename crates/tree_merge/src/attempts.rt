@@ -1,7 +1,7 @@
 //! The first try of a conflict that is accepted.
 
 ghost use Rattle.std.specs.Prelude.{◌≡◌, ◌<◌, length, All, IfOk, OnErr};
-ghost use Rattle.hier_rules.specs.Words.{IsHierarchyOf};
+ghost use Rattle.hier_rules.specs.Words.{IsHierarchyOf, MeetsEdit};
 ghost use Rattle.hier_edit.specs.declared.ApplyFault.TheVariants as ApplyFault;
 ghost use Rattle.tree_merge.specs.Attempts.{IsGiven, IsTryOf, IsOfTry, IsAttempt, IsTried};
 
@@ -38,6 +38,7 @@ fn broken_of(fault: ApplyFault) -> Result<Broken, AllocError>
 fn attempt_one(given: &Given, hier: &mut Hier, edit: &Edit) -> Result<Option<Broken>, AllocError>
     requires given { IsGiven given.now }
     requires hierarchy { IsHierarchyOf given.now.facts.now hier.old }
+    requires meets { MeetsEdit given.now.facts.now given.now.sets.now hier.old }
     requires edit { IsTryOf hier.old edit.now }
     ensures attempt { IfOk result (IsAttempt given.now.facts.now given.now.sets.now hier.old hier.new edit.now) }
     ensures kept { OnErr result (hier.new ≡ hier.old) }
@@ -57,6 +58,7 @@ fn attempt_one(given: &Given, hier: &mut Hier, edit: &Edit) -> Result<Option<Bro
 pub fn first_accepted(given: &Given, hier: &mut Hier, tries: &[Edit]) -> Result<Attempt, AllocError>
     requires given { IsGiven given.now }
     requires hierarchy { IsHierarchyOf given.now.facts.now hier.old }
+    requires meets { MeetsEdit given.now.facts.now given.now.sets.now hier.old }
     requires some { 0 < length tries.now }
     requires tries { All (IsTryOf hier.old) tries.now }
     ensures tried { IfOk result (IsTried given.now.facts.now given.now.sets.now hier.old hier.new tries.now) }

@@ -1,7 +1,7 @@
 //! One step towards a tree.
 
 ghost use Rattle.std.specs.Prelude.{◌≡◌, IfOk, OnErr, Some};
-ghost use Rattle.hier_rules.specs.Words.{IsHierarchyOf};
+ghost use Rattle.hier_rules.specs.Words.{IsHierarchyOf, MeetsEdit};
 ghost use Rattle.hier_rules.specs.Obligations.{first_unchained};
 ghost use Rattle.tree_merge.specs.Attempts.{IsGiven, IsTurn};
 
@@ -38,6 +38,7 @@ pub enum Turn {
 fn step_at(given: &Given, hier: &mut Hier, broken: Broken) -> Result<Turn, AllocError>
     requires given { IsGiven given.now }
     requires hierarchy { IsHierarchyOf given.now.facts.now hier.old }
+    requires meets { MeetsEdit given.now.facts.now given.now.sets.now hier.old }
     requires conflict { first_unchained given.now.facts.now hier.old ≡ Some broken }
     ensures turn { IfOk result (IsTurn given.now.facts.now given.now.sets.now hier.old hier.new) }
     ensures kept { OnErr result (hier.new ≡ hier.old) }
@@ -59,6 +60,7 @@ fn step_at(given: &Given, hier: &mut Hier, broken: Broken) -> Result<Turn, Alloc
 pub fn step(given: &Given, hier: &mut Hier) -> Result<Turn, AllocError>
     requires given { IsGiven given.now }
     requires hierarchy { IsHierarchyOf given.now.facts.now hier.old }
+    requires meets { MeetsEdit given.now.facts.now given.now.sets.now hier.old }
     ensures turn { IfOk result (IsTurn given.now.facts.now given.now.sets.now hier.old hier.new) }
     ensures kept { OnErr result (hier.new ≡ hier.old) }
     ensures is { IsHierarchyOf given.now.facts.now hier.new }

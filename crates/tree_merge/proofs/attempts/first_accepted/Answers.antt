@@ -2,6 +2,7 @@ use Rattle.std.proofs.Common.{◌≡◌, ◌+◌, ◌<◌, length, get_or, Err, 
 use Rattle.hier_model.specs.Hierarchies.{Hierarchy}
 use Rattle.hier_model.specs.declared.edits.Edit.{Edit}
 use Rattle.hier_edit.specs.declared.ApplyFault.TheVariants.{Breaks}
+use Rattle.hier_rules.specs.First.{MeetsEdit}
 use Rattle.hier_tree.specs.Trees.{tried, try_of}
 use Rattle.tree_merge.specs.Attempts.{IsAttempt}
 use Rattle.tree_merge.proofs.AttemptLemmas.{refused_at, last_more}
@@ -28,4 +29,5 @@ tries-preserved c =
       first = sym (refused_at F pt H T k e (Breaks b) c.tries.invariant.below there) ∙ c.tries.invariant.first;
       last = sym (last_more T k e more) ∙ c.tries.invariant.last;
       is = c.attempt_one.ensures.is;
+      meets = subst (MeetsEdit F pt) (sym a.0) c.tries.invariant.meets;
     }

@@ -1,5 +1,6 @@
 use Rattle.std.proofs.Common.{◌≡◌, ◌<◌, ◌-◌, length, map, drop}
 use Rattle.hier_model.specs.Hierarchies.{IsHierarchyOf}
+use Rattle.hier_rules.specs.First.{MeetsEdit}
 use Rattle.hier_tree.specs.Trees.{first_accepted, last_try, try_of}
 use Rattle.tree_merge.proofs.attempts.first_accepted.Given as goal
 
@@ -11,6 +12,7 @@ invariant-tries l = record {
       ≡ first_accepted l.given.facts.now l.given.sets.now l.initial.hier (map try_of l.tries);
   last : last_try (map try_of (drop l.k l.tries)) ≡ last_try (map try_of l.tries);
   is : IsHierarchyOf l.given.facts.now l.hier;
+  meets : MeetsEdit l.given.facts.now l.given.sets.now l.hier;
 }
 
 abbrev pub decreases-tries : goal.decreases-tries

@@ -1,0 +1,50 @@
+use Rattle.std.proofs.Common.{◌≡◌, sym, subst}
+use Rattle.std.specs.Prelude.{IfOk}
+use Rattle.hier_rules.specs.After.{AreApartOutside}
+use Rattle.hier_rules.proofs.JoinLemmas.{merge_after, under_after, type_after, member_after}
+use Rattle.hier_rules.proofs.after.first_broken_after.Goals as goal
+
+pub first_after_join-requires-clause-others : goal.first_after_join-requires-clause-others
+first_after_join-requires-clause-others c =
+    let F = c.args.asked.now.facts.now in
+    let K = c.args.asked.now.hier.now in
+    let after = merge_after F c.args.before.now c.requires.before c.args.asked.now.pt.now c.requires.meets K c.args.edit.now c.requires.after
+    c.in-Merge.set c.in-Merge.is c.requires.some in
+    subst (AreApartOutside F K) (sym c.deref.ensures.value) after.1
+
+pub first_after_join-requires-in-Under-clause-others : goal.first_after_join-requires-in-Under-clause-others
+first_after_join-requires-in-Under-clause-others c =
+    (under_after c.args.asked.now.facts.now c.args.before.now c.requires.before c.args.asked.now.pt.now c.requires.meets c.args.asked.now.hier.now
+    c.args.edit.now c.requires.after c.in-Under.field-0 c.in-Under.field-1 c.in-Under.is).1
+
+pub returns-in-Merge : goal.returns-in-Merge
+returns-in-Merge c =
+    let F = c.args.asked.now.facts.now in
+    let K = c.args.asked.now.hier.now in
+    let after = merge_after F c.args.before.now c.requires.before c.args.asked.now.pt.now c.requires.meets K c.args.edit.now c.requires.after
+    c.in-Merge.set c.in-Merge.is c.requires.some in
+    record { first = subst (λ o. IfOk c.first_after_join.result (λ b. b ≡ o)) (sym after.0) c.first_after_join.ensures }
+
+pub returns-in-Under : goal.returns-in-Under
+returns-in-Under c =
+    let F = c.args.asked.now.facts.now in
+    let K = c.args.asked.now.hier.now in
+    let after = under_after F c.args.before.now c.requires.before c.args.asked.now.pt.now c.requires.meets K c.args.edit.now c.requires.after
+    c.in-Under.field-0 c.in-Under.field-1 c.in-Under.is in
+    record { first = subst (λ o. IfOk c.first_after_join-in-Under.result (λ b. b ≡ o)) (sym after.0) c.first_after_join-in-Under.ensures }
+
+pub returns-in-TypeName : goal.returns-in-TypeName
+returns-in-TypeName c =
+    let F = c.args.asked.now.facts.now in
+    let K = c.args.asked.now.hier.now in
+    let after = type_after F c.args.before.now c.requires.before c.args.asked.now.pt.now c.requires.meets K c.args.edit.now c.requires.after
+    c.in-TypeName.field-0 c.in-TypeName.field-1 c.in-TypeName.is in
+    record { first = subst (λ o. IfOk c.first_misnamed.result (λ b. b ≡ o)) (sym after) c.first_misnamed.ensures }
+
+pub returns-in-MemberName : goal.returns-in-MemberName
+returns-in-MemberName c =
+    let F = c.args.asked.now.facts.now in
+    let K = c.args.asked.now.hier.now in
+    let after = member_after F c.args.before.now c.requires.before c.args.asked.now.pt.now c.requires.meets K c.args.edit.now c.requires.after
+    c.in-MemberName.field-0 c.in-MemberName.field-1 c.in-MemberName.is in
+    record { first = subst (λ o. IfOk c.first_misnamed-in-MemberName.result (λ b. b ≡ o)) (sym after) c.first_misnamed-in-MemberName.ensures }
