@@ -5,19 +5,25 @@ use Rattle.std.specs.Str.{all_scalars, encode_utf8_all}
 use Rattle.kaba_base.specs.declared.NodeId.{NodeId}
 use Rattle.kaba_base.specs.declared.ColId.{ColId}
 use Rattle.hier_model.specs.declared.edits.Edit.{Edit}
+use Rattle.hier_model.specs.declared.edits.Act.{Act}
 use Rattle.edit_script.specs.declared.lines.Reading.{Reading}
 use Rattle.edit_script.specs.declared.lines.Reading.TheVariants as readings
-use Rattle.edit_script.specs.Script.{node_word, column_word, IsId, IsNode, IsComment, IsEditLine, IsBadLine, Writes}
+use Rattle.edit_script.specs.Script.{node_word, column_word, IsId, IsNode, IsComment, IsActLine, IsBadLine, Writes, WritesAct}
 
 -- the edit that the words write, or none where they write none
 abbrev pub IsRead : List (List ℕ) → Option Edit → Type 0
 IsRead words (Some edit) = Writes words edit
 IsRead words None = (edit : Edit) → Writes words edit → ⊥
 
+-- the act that the words write, or none where they write none
+abbrev pub IsActRead : List (List ℕ) → Option Act → Type 0
+IsActRead words (Some act) = WritesAct words act
+IsActRead words None = (act : Act) → WritesAct words act → ⊥
+
 -- what a line is
 abbrev pub IsReading : List ℕ → Reading → Type 0
 IsReading line readings.Comment = IsComment line
-IsReading line (readings.Edit edit) = IsEditLine line edit
+IsReading line (readings.Act act) = IsActLine line act
 IsReading line readings.Bad = IsBadLine line
 
 -- the first word is that of no node, or of no column

@@ -1,4 +1,4 @@
--- Believed. What a script says: its lines, its words, and the edits that they write.
+-- Believed. What a script says: its lines, its words, and the acts that they write: edits, and undos.
 use Rattle.std.specs.Prelude.{◌≡◌, ◌⊎◌, ℕ, ◌+◌, ◌-◌, ◌<◌, ◌≤◌, ◌^◌, ◌==◌, Bool, true, false, List, [], ◌∷◌, ◌++◌, length, map, codes, slice_index}
 use Rattle.std.specs.List.{All, filter, slice_split}
 use Rattle.std.specs.Fmt.{decimal}
@@ -7,6 +7,8 @@ use Rattle.kaba_base.specs.declared.NodeId.{NodeId}
 use Rattle.kaba_base.specs.declared.ColId.{ColId}
 use Rattle.hier_model.specs.declared.edits.Edit.{Edit}
 use Rattle.hier_model.specs.declared.edits.Edit.TheVariants.{Merge, Under, Move, TypeName, MemberName, Drop}
+use Rattle.hier_model.specs.declared.edits.Act.{Act}
+use Rattle.hier_model.specs.declared.edits.Act.TheVariants as acts
 use Rattle.edit_script.specs.declared.lines.Line.{Line}
 
 -- the lines of a text end at a line feed, or with the text
@@ -73,6 +75,11 @@ pub record Writes (words : List (List ℕ)) (edit : Edit) : Type 0 where
   pub words_are : words ≡ words_of edit
   pub sound : IsSound edit
 
+-- the words write the act: those of an edit, or the one word of an undo
+abbrev pub WritesAct : List (List ℕ) → Act → Type 0
+WritesAct words (acts.Edit edit) = Writes words edit
+WritesAct words acts.Undo = words ≡ codes "undo" ∷ []
+
 -- a line that is empty or begins with `#`
 abbrev pub IsSkipped : List ℕ → Type 0
 IsSkipped line = (line ≡ []) ⊎ (slice_index line 0 ≡ 35)
@@ -86,33 +93,33 @@ pub record IsComment (line : List ℕ) : Type 0 where
   pub utf8 : IsUtf8 line
   pub skipped : IsSkipped line
 
--- a line that writes this edit, its words between spaces, of which none stands first or last
-pub record IsEditLine (line : List ℕ) (edit : Edit) : Type 0 where
+-- a line that writes this act, its words between spaces, of which none stands first or last
+pub record IsActLine (line : List ℕ) (act : Act) : Type 0 where
   pub utf8 : IsUtf8 line
   pub trimmed : HasOuterSpace line → ⊥
-  pub writes : Writes (words_in line) edit
+  pub writes : WritesAct (words_in line) act
 
 -- a line that is neither
 pub record IsBadLine (line : List ℕ) : Type 0 where
   pub no_comment : IsComment line → ⊥
-  pub no_edit : (edit : Edit) → IsEditLine line edit → ⊥
+  pub no_act : (act : Act) → IsActLine line act → ⊥
 
--- the next edit is that of this line, which has the number k, and the further ones are as K says
+-- the next act is that of this line, which has the number k, and the further ones are as K says
 abbrev pub IsNext : ℕ → List ℕ → (List Line → Type 0) → List Line → Type 0
 IsNext k line K [] = ⊥
-IsNext k line K (e ∷ edits) = (e.number ≡ k) × IsEditLine line e.edit × K edits
+IsNext k line K (e ∷ edits) = (e.number ≡ k) × IsActLine line e.act × K edits
 
--- there is no further edit
+-- there is no further act
 abbrev pub IsNone : List Line → Type 0
 IsNone [] = Unit {0}
 IsNone (e ∷ edits) = ⊥
 
--- the edits of these lines, the first of which has the number k; lines that say nothing are skipped
+-- the acts of these lines, the first of which has the number k; lines that say nothing are skipped
 abbrev pub AreEditsFrom : ℕ → List (List ℕ) → List Line → Type 0
 AreEditsFrom k [] edits = IsNone edits
 AreEditsFrom k (line ∷ lines) edits = (IsComment line × AreEditsFrom (k + 1) lines edits) ⊎ IsNext k line (AreEditsFrom (k + 1) lines) edits
 
--- the edits of a script, with the numbers of their lines, counted from 1
+-- the edits and undos of a script, with the numbers of their lines, counted from 1
 abbrev pub AreEditsOf : List ℕ → List Line → Type 0
 AreEditsOf bytes edits = AreEditsFrom 1 (lines_of bytes) edits
 
@@ -125,7 +132,7 @@ IsFirstBadFrom k (line ∷ lines) n = (IsBadLine line × (n ≡ k)) ⊎ ((IsBadL
 abbrev pub IsFirstBadLine : List ℕ → ℕ → Type 0
 IsFirstBadLine bytes n = IsFirstBadFrom 1 (lines_of bytes) n
 
--- how many edits a script may have
+-- how many edits a script may have, each undo counted with them
 abbrev pub most_edits : ℕ
 most_edits = 4096
 

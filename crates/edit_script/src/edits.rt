@@ -1,14 +1,14 @@
-//! The edit that the words of a line write.
+//! The edit that the words of a line write, and whether they write an undo.
 #![tactic(auto)]
 
-ghost use Rattle.std.specs.Prelude.{◌≡◌, ◌∷◌, ℕ, true, List, [], IfOk, MatchOption, codes};
+ghost use Rattle.std.specs.Prelude.{◌≡◌, ◌∷◌, ◌↔◌, ℕ, true, List, [], IfOk, IsTrue, MatchOption, codes};
 ghost use Rattle.std.specs.Str.{all_scalars, encode_utf8_all};
 ghost use Rattle.kaba_base.specs.declared.NodeId.{NodeId};
 ghost use Rattle.edit_script.specs.Script.{words_in, node_word, column_word, IsId, IsNode, Writes};
-ghost use Rattle.edit_script.specs.Readings.{IsRead, AreNodesIn, NoNodes, NoMerge, NoDrop};
+ghost use Rattle.edit_script.specs.Readings.{IsRead, IsActRead, AreNodesIn, NoNodes, NoMerge, NoDrop};
 
 use crate::words::{Words, node_in};
-use hier_model::Edit;
+use hier_model::{Act, Edit};
 use kaba_base::{ColId, Name, NodeId};
 use std::alloc::{AllocError, Global};
 
@@ -137,7 +137,7 @@ fn read_drop(alloc: Global, mut words: Words<'_>) -> Result<Option<Edit>, AllocE
 }
 
 /// The edit that the words of the line write, or `None` where they write none.
-pub fn read_edit(alloc: Global, line: &str) -> Result<Option<Edit>, AllocError>
+fn read_edit(alloc: Global, line: &str) -> Result<Option<Edit>, AllocError>
     ensures { IfOk result (λ read. IsRead (words_in line.now) read) }
 {
     let mut words = Words { rest: line };
@@ -149,6 +149,31 @@ pub fn read_edit(alloc: Global, line: &str) -> Result<Option<Edit>, AllocError>
         Some("member") => made_of!(read_name::<ColId>(alloc, words), MemberName),
         Some("drop") => read_drop(alloc, words),
         Some(_) => Ok(None),
+        None => Ok(None),
+    }
+}
+
+/// Whether the words of the line write an undo.
+fn is_undo(line: &str) -> bool
+    ensures { IsTrue result ↔ (words_in line.now ≡ codes "undo" ∷ []) }
+{
+    let mut words = Words { rest: line };
+    match words.next() {
+        Some("undo") => words.is_done(),
+        Some(_) => false,
+        None => false,
+    }
+}
+
+/// The act that the words of the line write, or `None` where they write none.
+pub fn read_act(alloc: Global, line: &str) -> Result<Option<Act>, AllocError>
+    ensures { IfOk result (λ read. IsActRead (words_in line.now) read) }
+{
+    if is_undo(line) {
+        return Ok(Some(Act::Undo));
+    }
+    match read_edit(alloc, line)? {
+        Some(edit) => Ok(Some(Act::Edit(edit))),
         None => Ok(None),
     }
 }

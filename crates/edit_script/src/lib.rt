@@ -1,5 +1,5 @@
 //! Scripts of edits, one a line: `merge n1 n2 ..`, `under n p`, `move c n`, `type n NAME`, `member c NAME`,
-//! `drop n`.
+//! `drop n`; and `undo`, which takes the last edit back.
 #![tactic(auto)]
 
 mod edits;

@@ -8,24 +8,24 @@ ghost use Rattle.edit_script.specs.Readings.{IsReading};
 ghost use Rattle.edit_script.specs.Lines.{left};
 ghost use Rattle.edit_script.specs.declared.lines.ScriptFault.TheVariants as ScriptFault;
 
-use crate::edits::read_edit;
-use hier_model::Edit;
+use crate::edits::read_act;
+use hier_model::Act;
 use std::alloc::{AllocError, AllocFailed, Global};
 use std::str;
 
-/// An edit of a script, and the number of its line, counted from 1.
+/// An edit or an undo of a script, and the number of its line, counted from 1.
 #[derive(Drop)]
 pub struct Line {
     pub number: u32,
-    pub edit: Edit,
+    pub act: Act,
 }
 
 /// Why a script has no edits.
 #[derive(Clone, Copy)]
 pub enum ScriptFault {
-    /// The line of this number is no edit, and the first such.
+    /// The line of this number is no edit and no undo, and the first such.
     BadLine(u32),
-    /// There are more than 4,096 edits.
+    /// There are more than 4,096 edits and undos.
     TooManyEdits,
     /// Memory is short.
     Memory,
@@ -35,7 +35,7 @@ pub enum ScriptFault {
 #[derive(Drop)]
 pub enum Reading {
     Comment,
-    Edit(Edit),
+    Act(Act),
     Bad,
 }
 
@@ -107,8 +107,8 @@ fn read_text(alloc: Global, line: &str) -> Result<Reading, AllocError>
     if has_outer_space(line) {
         return Ok(Reading::Bad);
     }
-    match read_edit(alloc, line)? {
-        Some(edit) => Ok(Reading::Edit(edit)),
+    match read_act(alloc, line)? {
+        Some(act) => Ok(Reading::Act(act)),
         None => Ok(Reading::Bad),
     }
 }
@@ -123,12 +123,13 @@ fn read_line(alloc: Global, line: &[u8]) -> Result<Reading, AllocError>
     }
 }
 
-/// The edits of a script, each with the number of its line.
+/// The edits and undos of a script, each with the number of its line.
 ///
 /// A line is an edit where its words write one: they stand between spaces, none of which stands first or
 /// last, and a node is `n` and a column `c` with a number of at most 4,294,967,295 without a leading zero.
-/// A line that is empty or begins with `#` is skipped. `BadLine` has the number of the first line that is
-/// neither, or is not UTF-8; else `TooManyEdits` comes exactly where there are more than 4,096 edits.
+/// It is an undo where its one word is `undo`. A line that is empty or begins with `#` is skipped. `BadLine`
+/// has the number of the first line that is none of these, or is not UTF-8; else `TooManyEdits` comes
+/// exactly where there are more than 4,096 edits and undos.
 /// `Memory` comes where memory is short.
 pub fn read_script(alloc: Global, bytes: &Vec<u8>) -> Result<Vec<Line>, ScriptFault>
     requires small { length bytes.now.items < 4294967295 }
@@ -146,8 +147,8 @@ pub fn read_script(alloc: Global, bytes: &Vec<u8>) -> Result<Vec<Line>, ScriptFa
         number += 1;
         match read_line(alloc, line) {
             Ok(Reading::Comment) => {}
-            Ok(Reading::Edit(edit)) => {
-                if all.push(Line { number, edit }).is_err() {
+            Ok(Reading::Act(act)) => {
+                if all.push(Line { number, act }).is_err() {
                     return Err(ScriptFault::Memory);
                 }
             }

@@ -1,3 +1,4 @@
 pub mod Refusals
 pub mod Scripts
 pub mod Answers
+pub mod Histories

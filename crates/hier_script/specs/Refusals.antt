@@ -1,4 +1,4 @@
--- Believed. The line of an edit that was refused.
+-- Believed. The line of an edit, or of an undo, that was refused.
 use Rattle.std.specs.Prelude.{ℕ, List, [], ◌∷◌, ◌++◌, codes, Option, Some, None}
 use Rattle.std.specs.Fmt.{decimal}
 use Rattle.kaba_base.specs.declared.RowId.{RowId}
@@ -57,3 +57,7 @@ fault_text Memory = []
 -- edit LINE: WHY
 abbrev pub refusal_line : ℕ → ApplyFault → List ℕ
 refusal_line number fault = codes "edit " ++ (decimal number ++ (codes ": " ++ (fault_text fault ++ 10 ∷ [])))
+
+-- the line of an undo where nothing is to be taken back: edit LINE: nothing to undo
+abbrev pub no_undo_line : ℕ → List ℕ
+no_undo_line number = codes "edit " ++ (decimal number ++ (codes ": nothing to undo" ++ 10 ∷ []))

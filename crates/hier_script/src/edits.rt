@@ -1,45 +1,96 @@
-//! Edits, one after the other.
+//! Edits and undos, one after the other.
 #![tactic(auto)]
 
 ghost use Rattle.std.specs.Prelude.{◌≡◌, All, IfOk, OnOk, string_bytes};
+ghost use Rattle.hier_edit.specs.Applied.{applied};
+ghost use Rattle.hier_model.specs.declared.edits.Act.TheVariants as Act;
 ghost use Rattle.hier_rules.specs.Words.{InRange, AreSets, IsHierarchyOf, NamesSome, MeetsEdit};
-ghost use Rattle.hier_script.specs.Scripts.{after_edit, refusal_of, after_edits, refusals_of};
+ghost use Rattle.hier_script.specs.Histories.{IsEditable, HasHistory, HasSomeHistory, IsCarriedOn, IsTold, IsUndone, IsUndoTold, ActNamesSome};
+ghost use Rattle.hier_script.specs.Scripts.{refusal, after_edits, refusals_of};
 
-use crate::refusals::refusal_line;
+use crate::refusals::{no_undo_line, refusal_line};
 use edit_script::Line;
 use fact_model::{Facts, PointsTo};
-use hier_edit::{ApplyFault, apply};
-use hier_model::Hier;
+use hier_edit::ApplyFault;
+use hier_model::{Act, Edit, Hier, Undo};
+use hier_undo::{apply_kept, take_back};
 use std::alloc::{AllocError, Global};
 
-/// Applies one edit, and gives its line where it is refused, and else no text.
+/// Makes an edit, keeps what takes it back behind the undos, and gives its line where it is refused, and
+/// else no text.
 fn run_edit(
     alloc: Global,
     hier: &mut Hier,
+    undos: &mut Vec<Undo>,
+    facts: &Facts,
+    sets: &PointsTo,
+    number: u32,
+    edit: &Edit,
+) -> Result<String, AllocError>
+    requires range { InRange facts.now }
+    requires sets { AreSets facts.now sets.now }
+    requires hierarchy { IsHierarchyOf facts.now hier.old }
+    requires meets { MeetsEdit facts.now sets.now hier.old }
+    requires some { NamesSome edit.now }
+    ensures history { OnOk result (IsCarriedOn facts.now sets.now (Act.Edit edit.now) hier.old undos.old.items hier.new undos.new.items) }
+    ensures refusal { IfOk result (λ text. string_bytes text ≡ refusal number (applied facts.now sets.now hier.old edit.now)) }
+{
+    match apply_kept(alloc, hier, facts, sets, edit) {
+        Ok(undo) => {
+            undos.push(undo)?;
+            Ok(String::new(alloc))
+        }
+        Err(ApplyFault::Memory) => Err(AllocError),
+        Err(fault) => refusal_line(alloc, number, fault),
+    }
+}
+
+/// Takes the last edit back, and gives a line where there is none, and else no text.
+fn run_undo(
+    alloc: Global,
+    hier: &mut Hier,
+    undos: &mut Vec<Undo>,
+    number: u32,
+) -> Result<String, AllocError>
+    requires history { HasSomeHistory hier.old undos.old.items }
+    ensures history { OnOk result (IsUndone hier.old undos.old.items hier.new undos.new.items) }
+    ensures refusal { IfOk result (λ text. IsUndoTold hier.old undos.old.items number (string_bytes text)) }
+{
+    match undos.pop() {
+        None => no_undo_line(alloc, number),
+        Some(undo) => {
+            take_back(hier, undo);
+            Ok(String::new(alloc))
+        }
+    }
+}
+
+/// Does what a line says, and gives a line where that is refused, and else no text.
+fn run_act(
+    alloc: Global,
+    hier: &mut Hier,
+    undos: &mut Vec<Undo>,
     facts: &Facts,
     sets: &PointsTo,
     line: &Line,
 ) -> Result<String, AllocError>
     requires range { InRange facts.now }
     requires sets { AreSets facts.now sets.now }
-    requires hierarchy { IsHierarchyOf facts.now hier.old }
-    requires meets { MeetsEdit facts.now sets.now hier.old }
-    requires some { NamesSome line.now.edit }
-    ensures hierarchy { OnOk result (hier.new ≡ after_edit facts.now sets.now hier.old line.now) }
-    ensures refusal { IfOk result (λ text. string_bytes text ≡ refusal_of facts.now sets.now hier.old line.now) }
-    ensures is { IsHierarchyOf facts.now hier.new }
-    ensures meets { MeetsEdit facts.now sets.now hier.new }
+    requires history { HasHistory facts.now sets.now hier.old undos.old.items }
+    requires some { ActNamesSome line.now.act }
+    ensures history { OnOk result (IsCarriedOn facts.now sets.now line.now.act hier.old undos.old.items hier.new undos.new.items) }
+    ensures refusal { IfOk result (λ text. IsTold facts.now sets.now line.now.act hier.old undos.old.items line.now.number (string_bytes text)) }
 {
-    match apply(alloc, hier, facts, sets, &line.edit) {
-        Ok(()) => Ok(String::new(alloc)),
-        Err(ApplyFault::Memory) => Err(AllocError),
-        Err(fault) => refusal_line(alloc, line.number, fault),
+    match &line.act {
+        Act::Edit(edit) => run_edit(alloc, hier, undos, facts, sets, line.number, edit),
+        Act::Undo => run_undo(alloc, hier, undos, line.number),
     }
 }
 
-/// Applies the edits one after the other, and gives the lines of those that are refused.
+/// Makes the edits and undos one after the other, and gives the lines of those that are refused. What takes
+/// an edit back is kept until then, and no hierarchy but the present one.
 ///
-/// `AllocError` comes where memory is short; the edits up to then are applied.
+/// `AllocError` comes where memory is short; the edits up to then are made.
 pub fn run_edits(
     alloc: Global,
     hier: &mut Hier,
@@ -51,15 +102,15 @@ pub fn run_edits(
     requires sets { AreSets facts.now sets.now }
     requires hierarchy { IsHierarchyOf facts.now hier.old }
     requires meets { MeetsEdit facts.now sets.now hier.old }
-    requires some { All (λ line. NamesSome line.edit) lines.now }
+    requires some { All (λ line. ActNamesSome line.act) lines.now }
     ensures hierarchy { OnOk result (hier.new ≡ after_edits facts.now sets.now hier.old lines.now) }
     ensures refusals { IfOk result (λ refusals. refusals.items ≡ refusals_of facts.now sets.now hier.old lines.now) }
-    ensures is { IsHierarchyOf facts.now hier.new }
-    ensures meets { MeetsEdit facts.now sets.now hier.new }
+    ensures editable { OnOk result (IsEditable facts.now sets.now hier.new) }
 {
+    let mut undos = Vec::new(alloc);
     let mut refusals = Vec::new(alloc);
     for line in lines {
-        let refusal = run_edit(alloc, hier, facts, sets, line)?;
+        let refusal = run_act(alloc, hier, &mut undos, facts, sets, line)?;
         refusals.extend_from_slice(refusal.as_bytes())?;
     }
     Ok(refusals)

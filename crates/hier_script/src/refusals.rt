@@ -1,10 +1,10 @@
-//! The line of an edit that was refused.
+//! The line of an edit, or of an undo, that was refused.
 #![tactic(auto)]
 
 ghost use Rattle.std.specs.Prelude.{◌≡◌, ◌≢◌, ◌++◌, IfOk, string_bytes};
 ghost use Rattle.std.specs.Fmt.{decimal};
 ghost use Rattle.hier_edit.specs.declared.ApplyFault.TheVariants as ApplyFault;
-ghost use Rattle.hier_script.specs.Refusals.{rule_text, nodes_text, some_row_text, some_column_text, broken_text, fault_text, refusal_line};
+ghost use Rattle.hier_script.specs.Refusals.{rule_text, nodes_text, some_row_text, some_column_text, broken_text, fault_text, refusal_line, no_undo_line};
 
 use hier_edit::ApplyFault;
 use hier_rules::{Broken, Nodes, Rule};
@@ -102,4 +102,11 @@ pub fn refusal_line(alloc: Global, number: u32, fault: ApplyFault) -> Result<Str
 {
     let why = fault_text(alloc, fault)?;
     format!(in alloc; "edit {number}: {why}\n")
+}
+
+/// The line of an undo where nothing is to be taken back.
+pub fn no_undo_line(alloc: Global, number: u32) -> Result<String, AllocError>
+    ensures { IfOk result (λ text. string_bytes text ≡ no_undo_line number) }
+{
+    format!(in alloc; "edit {number}: nothing to undo\n")
 }

@@ -1,4 +1,4 @@
--- Believed. The hierarchies that a script of drops and fresh renames makes of a start.
+-- Believed. The hierarchies that a script of drops, fresh renames and undos makes of a start: an undo brings back one of them.
 use Rattle.std.specs.Prelude.{◌≡◌, ◌≢◌, ℕ, true, List, All, Some, Ok}
 use Rattle.kaba_base.specs.declared.NodeId.{NodeId}
 use Rattle.kaba_base.specs.declared.ColId.{ColId}

@@ -1,9 +1,9 @@
 use Rattle.std.proofs.Common.{subst, sym}
 use Rattle.std.specs.List.{All}
-use Rattle.hier_model.specs.Edits.{NamesSome}
 use Rattle.hier_laws.proofs.StartMeets.{start_meets}
 use Rattle.hier_rules.specs.First.{MeetsEdit}
 use Rattle.edit_script.specs.Script.{lines_of}
+use Rattle.hier_script.specs.Histories.{ActNamesSome}
 use Rattle.hier_script.proofs.Sound.{all_named}
 use Rattle.hier_script.proofs.scripts.run_script.Goals as goal
 
@@ -17,5 +17,5 @@ run_edits-requires-clause-meets c =
 
 pub run_edits-requires-clause-some : goal.run_edits-requires-clause-some
 run_edits-requires-clause-some c =
-    subst (All (λ line. NamesSome line.edit)) (sym c.deref.ensures.value) (all_named 1 (lines_of c.args.script.now.items) c.in-Ok.lines.items
+    subst (All (λ line. ActNamesSome line.act)) (sym c.deref.ensures.value) (all_named 1 (lines_of c.args.script.now.items) c.in-Ok.lines.items
     c.in-Ok.ensures.edits)
