@@ -3,3 +3,4 @@ pub mod given
 pub mod types
 pub mod twins
 pub mod runs
+pub mod one

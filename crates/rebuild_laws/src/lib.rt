@@ -30,10 +30,16 @@
 //! is the body's twin (crate `rebuild_laws`); `proofs/runs/Tied.antt`, `proofs/runs/Outcomes.antt` and
 //! `proofs/runs/Creations.antt` that they have it where the hierarchy breaks no obligation;
 //! `proofs/runs/Rebuilt.antt` has the two programs, and `proofs/runs/Whole.antt` the law.
+//!
+//! Two programs that are one but for places, order, modifiers and `this.` have the same run.
+//!
+//! `proofs/one/Found.antt` says what the look-ups of the two find, `proofs/one/Statics.antt` what types expressions have,
+//! `proofs/one/Laid.antt` what new objects hold, `proofs/one/Twin.antt` that their bodies are twins;
+//! `proofs/one/Seen.antt` has the watched run of the first, and `proofs/one/Whole.antt` the law.
 #![tactic(auto)]
 
 ghost use Rattle.rebuild_laws.specs.types.Laws.{WrittenIsTyped, RowsAreOffered};
-ghost use Rattle.rebuild_laws.specs.runs.Same.{RebuiltRunsTheSame};
+ghost use Rattle.rebuild_laws.specs.runs.Same.{OneRunsTheSame, RebuiltRunsTheSame};
 
 /// A formed program that rebuilds a typed one over a hierarchy that breaks no obligation is typed, where its
 /// methods are public and what fills in for a body gives the default of its result (after Streckenbach and
@@ -54,4 +60,11 @@ pub fn rows_are_offered()
 /// program behaves as before). That it is typed is not asked: no run of it comes where no rule is.
 pub fn same_run()
     ensures { RebuiltRunsTheSame }
+{}
+
+/// Two formed programs that are one but for places, modifiers without meaning, `this.` written or left away, and the
+/// order of types and members have the same run, where the first is typed: for all words and every bound on the steps
+/// they end the same way, with the same output and as many steps left.
+pub fn one_run()
+    ensures { OneRunsTheSame }
 {}

@@ -2,3 +2,4 @@ pub mod Reclassed
 pub mod Worked
 pub mod WorkedRebuilds
 pub mod Retagging
+pub mod WorkedOne

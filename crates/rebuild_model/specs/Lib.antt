@@ -3,3 +3,5 @@ pub mod Matches
 pub mod Members
 pub mod Rebuilds
 pub mod Written
+pub mod OneBodies
+pub mod OnePrograms

@@ -147,6 +147,29 @@ module _ (L M : Lang) (K : Link) (Made : Option ℕ → Kind → Kind → Type 0
     own_read d b dd w ey at o p k l xs ys made (same_elements {t = v} {u = v2} shape) s t go on r there q = wrong_first s
         (read_member M h b dd w (an_array v2) at (cell p (an_array v2) xs) t on)
 
+    -- one by its simple name in the second
+    pub both_read : (d b dd : Ex) (at : ℕ) (o p : Option ℕ) (k l : Kind) (xs ys : List Value) → Made o k l → SameValues L M K Made o k l xs ys
+        → (s t : State) (go on : ToValue) → R s t → slice_get s.cells at ≡ Some (cell o k xs) → KV L M K Made s.cells (K.may (held g.body d)) go on
+        → Alike (read_field L g.body e d x at (cell o k xs) s go) (read_field M h.body b dd y at (cell p l ys) t on)
+    both_read d b dd at o p k l xs ys made (same_fields {c = c} {k = c2} same) s t go on r there q =
+        field_read d b dd at o p c c2 xs ys made same s t go on r there q
+    both_read d b dd at o p k l xs ys made (same_elements {t = v} {u = v2} shape) s t go on r there q = wrong_first s
+        (read_field M h.body b dd y at (cell p (an_array v2) xs) t on)
+
+    -- and on a written `this` in the first
+    pub written_read : (d b dd : Ex) (w : List ℕ) (i : ℕ) → L.field g e w ≡ x → x ≡ Some i → (at : ℕ) (o p : Option ℕ) (k l : Kind) (xs ys : List Value)
+        → Made o k l → SameValues L M K Made o k l xs ys
+        → (s t : State) (go on : ToValue) → R s t → slice_get s.cells at ≡ Some (cell o k xs) → KV L M K Made s.cells (K.may (held g.body d)) go on
+        → Alike (read_member L g e d w k at (cell o k xs) s go) (read_field M h.body b dd y at (cell p l ys) t on)
+    written_read d b dd w i ew ex at o p k l xs ys made (same_fields {c = c} {k = c2} same) s t go on r there q =
+        subst (λ z. Alike (read_field L g.body e d z at (cell o (an_object c) xs) s go) (read_field M h.body b dd y at (cell p (an_object c2) ys) t on))
+        (sym ew)
+        (field_read d b dd at o p c c2 xs ys made same s t go on r there q)
+    written_read d b dd w i ew ex at o p k l xs ys made (same_elements {t = v} {u = v2} shape) s t go on r there q =
+        subst (λ z. Alike (on_bool (names_length z w) s (λ s1. go (Number (int_of (length xs))) s1) (stop Wrong))
+        (read_field M h.body b dd y at (cell p (an_array v2) xs) t on)) (sym (ew ∙ ex))
+        (wrong_first s (read_field M h.body b dd y at (cell p (an_array v2) xs) t on))
+
     pub field_write : (b : Ex) (v : Value) (at : ℕ) (o p : Option ℕ) (k l : Kind) (xs ys : List Value) → Made o k l → SameValues L M K Made o k l xs ys
         → (s t : State) (go on : State → Outcome) → R s t → slice_get s.cells at ≡ Some (cell o k xs) → KS L M K Made s.cells go on
         → Alike (write_field L g.body e x v at (cell o k xs) s go) (write_field M h.body b y v at (cell p l ys) t on)

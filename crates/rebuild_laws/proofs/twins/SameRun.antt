@@ -12,10 +12,10 @@ use Rattle.flow_laws.specs.cover.Families.{Set}
 use Rattle.flow_laws.specs.cover.Watched.{Of}
 use Rattle.flow_laws.proofs.cover.Held.{Keeps, of_kept, keeps_same, keeps_on, member_of, plain_of, default_plain}
 use Rattle.rebuild_laws.specs.twins.Twins.{Link, spot_of, BothPair, SameCall, SameIf, Same, SameAll, SameTarget, SameSt, SameSts, SameArms, SameEnv, AreTwins}
-use Rattle.rebuild_laws.specs.twins.Twins.{same_number, same_character, same_text, same_truth, same_null, same_this, same_local, same_static_field, same_own_field, same_field, same_index, same_call, same_static_call, same_super_call, same_create, same_create_array, same_cast, same_instance_of, same_unary, same_binary, same_no_ex, same_ex_then, same_to_local, same_to_static, same_to_own, same_to_field, same_to_element}
+use Rattle.rebuild_laws.specs.twins.Twins.{same_number, same_character, same_text, same_truth, same_null, same_this, same_local, same_static_field, same_own_field, same_own, same_written, same_field, same_index, same_call, same_static_call, same_super_call, same_create, same_create_array, same_cast, same_instance_of, same_unary, same_binary, same_no_ex, same_ex_then, same_to_local, same_to_static, same_to_own, same_to_both, same_to_written, same_to_field, same_to_element}
 use Rattle.rebuild_laws.proofs.twins.Shapes.{same_convert, same_default, same_arguments, same_at}
 use Rattle.rebuild_laws.proofs.twins.States.{Alike, wrong_first, first_some, second_some, equals_at, equals, shapes, tests, frame, SameValues, same_fields, same_elements, no_cells, more_cells, SameState, HeldIn, held_kept, held_set, KV, KS, KL, KF, kv_on, kf_on, printed, ended, steps, with_cells, cells_at}
-use Rattle.rebuild_laws.proofs.twins.Moves.{looks, looks_first, looks_all, given_on, static_set, member_read, own_read, field_write, element_read, element_write, object_made, array_made, cast_done, class_tested}
+use Rattle.rebuild_laws.proofs.twins.Moves.{looks, looks_first, looks_all, given_on, static_set, member_read, own_read, both_read, written_read, field_write, element_read, element_write, object_made, array_made, cast_done, class_tested}
 use Rattle.rebuild_laws.proofs.twins.Operators.{string_given, operated, left_done, unary_done, string_called}
 
 module _ (L M : Lang) (K : Link) (Made : Option ℕ → Kind → Kind → Type 0) (Pair : Body → Body → Type 0) (twins : AreTwins L M K Made Pair) where
@@ -196,6 +196,14 @@ module _ (L M : Lang) (K : Link) (Made : Option ℕ → Kind → Kind → Type 0
               with_cells L M K Made v s t _ _ r (λ at z w ev there same.
               own_read L M K Made Pair twins g h (this a) (Some x) (M.field h (this c) y) f _
               (this c) _ y refl at z.site w.site z.kind w.kind z.values w.values same.made same.values s t k j r there q)
+          value_same (same_own {t = a} {u = b} {f = x} {j = y} f) v ls s t k j r i q =
+              with_cells L M K Made v s t _ _ r (λ at z w ev there same.
+              both_read L M K Made Pair twins g h (this a) (Some x) (Some y) f _
+              (this b) _ at z.site w.site z.kind w.kind z.values w.values same.made same.values s t k j r there q)
+          value_same (same_written {t = a} {u = b} {v = c} {f = x} {j = y} {x = name} e f) v ls s t k j r i q =
+              with_cells L M K Made v s t _ _ r (λ at z w ev there same.
+              written_read L M K Made Pair twins g h (this c) (Some x) (Some y) f _
+              (this b) _ name x e refl at z.site w.site z.kind w.kind z.values w.values same.made same.values s t k j r there q)
           value_same (same_field {t = a} {u = b} {e = e} {d = d} {x = x} {y = y} p f len) v ls s t k j r i q =
               value_same p v ls s t _ _ r i (λ u s1 t1 r1 k1 o1. with_cells L M K Made u s1 t1 _ _ r1 (λ at z w ev there same.
               member_read L M K Made Pair twins g h e (L.field g e x)
@@ -301,6 +309,16 @@ module _ (L M : Lang) (K : Link) (Made : Option ℕ → Kind → Kind → Type 0
             value_same p v ls s t _ _ r i (λ u s1 t1 r1 k1 o1. with_cells L M K Made v s1 t1 _ _ r1 (λ at z w ev there same.
             field_write L M K Made Pair twins g h (this a) (Some x) (M.field h (this c) y) f
             (this c) u at z.site w.site z.kind w.kind z.values w.values same.made same.values s1 t1 _ _ r1 there
+            (flow_on s s1 v ls k j k1 i q)))
+        assign_same (same_to_both {t = a} {u = b} {f = x} {j = y} f) p v ls s t k j r i q =
+            value_same p v ls s t _ _ r i (λ u s1 t1 r1 k1 o1. with_cells L M K Made v s1 t1 _ _ r1 (λ at z w ev there same.
+            field_write L M K Made Pair twins g h (this a) (Some x) (Some y) f
+            (this b) u at z.site w.site z.kind w.kind z.values w.values same.made same.values s1 t1 _ _ r1 there
+            (flow_on s s1 v ls k j k1 i q)))
+        assign_same (same_to_written {t = a} {u = b} {v = c} {j = y} {x = x} f) p v ls s t k j r i q =
+            value_same p v ls s t _ _ r i (λ u s1 t1 r1 k1 o1. with_cells L M K Made v s1 t1 _ _ r1 (λ at z w ev there same.
+            field_write L M K Made Pair twins g h (this c) (L.field g (this c) x) (Some y) f
+            (this b) u at z.site w.site z.kind w.kind z.values w.values same.made same.values s1 t1 _ _ r1 there
             (flow_on s s1 v ls k j k1 i q)))
         assign_same (same_to_field {e = e} {d = d} {x = x} {y = y} b f) p v ls s t k j r i q =
             value_same b v ls s t _ _ r i (λ u s1 t1 r1 k1 o1. value_same p v ls s1 t1 _ _ r1 (kept_in s s1 v ls k1 i) (λ w s2 t2 r2 k2 o2.

@@ -122,6 +122,10 @@ module _ (L M : Lang) (K : Link) (Made : Option ℕ → Kind → Kind → Type 0
         same_static_field : {t u : Tag} {f j : ℕ} → SameStatic f j → Same (static_field t f) (static_field u j)
         -- a field of `this` by its simple name is one on a written `this`
         same_own_field : {t u v : Tag} {f : ℕ} {y : List ℕ} → SameField (this t) (Some f) (M.field h (this v) y) → Same (own_field t f) (field u (this v) y)
+        -- so is one by its simple name, and one on a written `this` the twin of one by its simple name, where it is a field
+        same_own : {t u : Tag} {f j : ℕ} → SameField (this t) (Some f) (Some j) → Same (own_field t f) (own_field u j)
+        same_written : {t u v : Tag} {f j : ℕ} {x : List ℕ} → L.field g (this v) x ≡ Some f → SameField (this v) (Some f) (Some j)
+            → Same (field t (this v) x) (own_field u j)
         same_field : {t u : Tag} {e d : Ex} {x y : List ℕ} → Same e d → SameField e (L.field g e x) (M.field h d y) → SameLength e d x y
             → Same (field t e x) (field u d y)
         same_index : {t u : Tag} {e d i j : Ex} → Same e d → Same i j → Same (index t e i) (index u d j)
@@ -150,6 +154,9 @@ module _ (L M : Lang) (K : Link) (Made : Option ℕ → Kind → Kind → Type 0
       same_to_local : {t u : Tag} {i : ℕ} → SameTarget a (to_local t i) (to_local u i)
       same_to_static : {t u : Tag} {f j : ℕ} → SameStatic f j → SameTarget a (to_static t f) (to_static u j)
       same_to_own : {t u v : Tag} {f : ℕ} {y : List ℕ} → SameField (this t) (Some f) (M.field h (this v) y) → SameTarget a (to_own t f) (to_field u (this v) y)
+      same_to_both : {t u : Tag} {f j : ℕ} → SameField (this t) (Some f) (Some j) → SameTarget a (to_own t f) (to_own u j)
+      same_to_written : {t u v : Tag} {j : ℕ} {x : List ℕ} → SameField (this v) (L.field g (this v) x) (Some j)
+          → SameTarget a (to_field t (this v) x) (to_own u j)
       same_to_field : {t u : Tag} {e d : Ex} {x y : List ℕ} → Same e d → SameField e (L.field g e x) (M.field h d y)
           → SameTarget a (to_field t e x) (to_field u d y)
       same_to_element : {t u : Tag} {e d i j : Ex} → Same e d → Same i j → SameStore e a → SameTarget a (to_element t e i) (to_element u d j)

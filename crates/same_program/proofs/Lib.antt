@@ -1,0 +1,4 @@
+pub mod Seen
+pub mod Lists
+pub mod Partners
+pub mod Decided
