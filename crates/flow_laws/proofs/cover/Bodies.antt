@@ -234,6 +234,7 @@ module _ (P : Plain) (F : Facts) (formed : IsFormed P) (facts : IsFactsOf P F) w
         body = found.0;
         slot = slot;
         found = ap (λ z. finds_within F z c j) (same_length P F facts) ∙ f.1 ∙ ap (λ z. Some z) (sym (ap (λ z. z.column) found.2));
+        column = f.2 ∙ ap (λ z. Some z) (sym (ap (λ z. z.column) found.2));
         is_body = record {
           listed = found.1;
           this = this.1 ∙ ap (λ z. Some z) (sym (ap (λ z. z.this) found.2));

@@ -37,7 +37,7 @@ module _ (P : Plain) (F : Facts) (formed : IsFormed P) (typed : IsTyped P) (slot
       } in
       from_kind B p (part_from P formed typed m k e p c)
 
-  all_kinded : IsKinded P F
+  pub all_kinded : IsKinded P F
   unfolding numbers
   all_kinded = record {
     parts = method_parts;

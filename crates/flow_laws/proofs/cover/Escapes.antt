@@ -1,15 +1,17 @@
 -- No run of a program under the watch of closed sets escapes.
 use Rattle.std.proofs.Common.{◌≡◌, ℕ, suc, ◌+◌, List, [], ◌∷◌, Option, Some, None, refl, sym, ◌∙◌, subst, arith}
-use Rattle.std.specs.Prelude.{◌≢◌, true, false, slice_get, map}
+use Rattle.std.specs.Prelude.{◌≢◌, Bool, true, false, slice_get, map}
 use Rattle.std.specs.Option.{option_map_or, option_and_then}
 use Rattle.std.specs.List.{AllByRecursion}
-use Rattle.std.proofs.lemmas.Bool.{and_from}
+use Rattle.std.proofs.lemmas.Bool.{and_from, and_parts}
 use Rattle.java_core.specs.declared.Ty.{Ty}
 use Rattle.java_core.specs.Programs.{Plain}
 use Rattle.java_core.specs.Classes.{lookup, super_method}
 use Rattle.java_core.specs.Types.{field_type, types_of}
-use Rattle.java_meaning.specs.Moment.{Value, Nothing, Object, Cell, Spot, held, bound, result_of, set_static, kept, End, Escaped, Body}
+use Rattle.java_meaning.specs.Moment.{Value, Nothing, Object, Cell, Spot, held, bound, self_of, result_of, set_static, kept, touched, tested, ran, Met, End, Escaped, Body, Lang}
 use Rattle.java_meaning.specs.Values.{default_of}
+use Rattle.java_meaning.specs.Meaning.{run_in}
+use Rattle.java_meaning.specs.Watched.{Eyes, watched_with}
 use Rattle.java_meaning.specs.Languages.{layout, default_at, body_with}
 use Rattle.java_meaning.proofs.Moves.{then_some}
 use Rattle.java_meaning.proofs.Calls.{mapped_some}
@@ -23,13 +25,13 @@ use Rattle.flow_rules.specs.Lists.{point_at, site_in}
 use Rattle.flow_rules.specs.Facts.{numbers, IsFactsOf}
 use Rattle.flow_laws.specs.cover.Families.{ArePlain, IsIncluded, AreIncluded, Begins}
 use Rattle.flow_laws.specs.cover.Watched.{Of, IsWatched}
-use Rattle.flow_laws.specs.cover.Covers.{Sets, has, IsClosed, operand_at, at_point, at_cell, field_cell, held_in, sites_at, spot_set, is_seen, are_seen, labelled_with, labelled_body, watched, CoversEachRun}
+use Rattle.flow_laws.specs.cover.Covers.{Sets, has, IsClosed, operand_at, passes, at_point, at_cell, field_cell, held_in, point_sites, tested_by, called_on, sites_at, spot_set, is_seen, are_seen, labelled_with, labelled_body, watched, CoversEachRun}
 use Rattle.flow_laws.proofs.cover.Held.{default_plain, Stays}
 use Rattle.flow_laws.proofs.cover.Cover.{run_stays}
 use Rattle.flow_laws.proofs.cover.Kinded.{IsKinded}
 use Rattle.flow_laws.proofs.cover.Flows.{when_some, looks_in}
 use Rattle.flow_laws.proofs.cover.Calls.{local_object, result_object}
-use Rattle.flow_laws.proofs.cover.Included.{passes_map, MadeAs, typed_sites, family, ClosedBody}
+use Rattle.flow_laws.proofs.cover.Included.{passes_map, MadeAs, accessed_as, tests_as, finds_as, strictly, holds_at, typed_sites, family, ClosedBody}
 use Rattle.std.proofs.lemmas.Option.{slice_get-map}
 use Rattle.flow_laws.proofs.cover.IncludedBodies.{included_code}
 use Rattle.java_meaning.proofs.Layouts.{places as same_place}
@@ -56,11 +58,25 @@ module _ (P : Plain) (F : Facts) (S : Sets) where
   typed_sub (result_of m) s h = (when_some (result_object P F S m) (at_point P F S ((numbers P).point (point.Result m))) s h).1
   typed_sub (set_static f) s h = (when_some (field_object P f) (at_point P F S ((numbers P).point (point.Static f))) s h).1
   typed_sub (kept o f) s h = (when_some (field_object P f) (at_cell P F S (option_and_then (field_cell P F f) (site_in (numbers P) o))) s h).1
+  typed_sub (touched m e f) s h = (and_parts (point_sites P F S (operand_at P m e) s) (accessed_as P F S m e f) h).0
+  typed_sub (tested m d b) s h = (and_parts (point_sites P F S (operand_at P m (tested_by P F S d)) s) (tests_as P F S d b s) h).0
+  typed_sub (ran m d b) s h = (and_parts (point_sites P F S (operand_at P m (called_on P F S d)) s) (finds_as P F S m d b s) h).0
   typed_sub p s h = h
+
+  from_strictly : (X : ℕ → Bool) (z : Option ℕ) → strictly P F S X z ≡ true → passes X z ≡ true
+  from_strictly X None h = refl
+  from_strictly X (Some s) h = h
+
+  at_passes : (p : Spot) (X : ℕ → Bool) (z : Option ℕ) → holds_at P F S p X z ≡ true → passes X z ≡ true
+  at_passes (self_of m) X z h = from_strictly X z h
+  at_passes (touched m e f) X z h = from_strictly X z h
+  at_passes (ran m d b) X z h = from_strictly X z h
+  at_passes p X z h = h
 
   value_seen : (p : Spot) (v : Value) (h : List Cell) → Of h v ((family P F S).spot p) → is_seen P F S (spot_set P F S p) v h ≡ true
   value_seen p (Object a) h o = subst (λ z. option_map_or (λ c. spot_set P F S p c.site) z false ≡ true) (sym o.there)
-      (passes_map (typed_sites P F S p) (sites_at P F S p) (site_in (numbers P) o.cell.site) (typed_sub p) o.member)
+      (passes_map (typed_sites P F S p) (sites_at P F S p) (site_in (numbers P) o.cell.site) (typed_sub p)
+      (at_passes p (typed_sites P F S p) (site_in (numbers P) o.cell.site) o.member))
   value_seen p v h o = refl
 
   all_seen : (b i : ℕ) (vs : List Value) (h : List Cell) → ((x y : ℕ) (v : Value) → y ≡ i + x → slice_get vs x ≡ Some v
@@ -68,6 +84,34 @@ module _ (P : Plain) (F : Facts) (S : Sets) where
   all_seen b i [] h p = refl
   all_seen b i (v ∷ vs) h p = and_from (is_seen P F S (spot_set P F S (bound b i)) v h) (are_seen P F S b (suc i) vs h)
       (value_seen (bound b i) v h (p 0 i v (omega arith) refl)) (all_seen b (suc i) vs h (λ x y w e d. p (suc x) y w (omega (arith, e)) d))
+
+  -- the run that eyes watch
+  abbrev eyed : Eyes → Lang
+  eyed eyes = watched_with P (labelled_body P F S) eyes
+
+  abbrev of_sets : Eyes
+  of_sets = record {
+    sees = λ p v h. is_seen P F S (spot_set P F S p) v h;
+    sees_all = λ b vs h. are_seen P F S b 0 vs h;
+    note = λ p v h m. m;
+    note_all = λ b vs h m. m;
+  }
+
+  -- the watch of the typed sets themselves, with a record
+  abbrev pub closely : (Spot → Value → List Cell → List Met → List Met) → Eyes
+  closely note = record {
+    sees = λ p v h. is_seen P F S ((family P F S).spot p) v h;
+    sees_all = λ b vs h. true;
+    note = note;
+    note_all = λ b vs h m. m;
+  }
+
+  seen_closely : (p : Spot) (v : Value) (h : List Cell) → Of h v ((family P F S).spot p) → is_seen P F S ((family P F S).spot p) v h ≡ true
+  seen_closely p (Object a) h o = subst (λ z. option_map_or (λ c. (family P F S).spot p c.site) z false ≡ true) (sym o.there) o.member
+  seen_closely p v h o = refl
+
+  watches_closely : (note : Spot → Value → List Cell → List Met → List Met) → IsWatched (eyed (closely note)) (family P F S)
+  watches_closely note = record { sees = seen_closely; sees_all = λ b vs h p. refl }
 
   watches : IsWatched (watched P F S) (family P F S)
   watches = record {
@@ -77,21 +121,21 @@ module _ (P : Plain) (F : Facts) (S : Sets) where
   }
 
   module _ (closed : (ps : List Fact) (f : Fact) → Inclusion F ps f → AllByRecursion (λ p. has S p ≡ true) ps → has S f ≡ true)
-      (facts : IsFactsOf P F) (kinded : IsKinded P F) where
-    body_included : (c : ℕ) (b : Body) → labelled_body P F S c ≡ Some b → IsIncluded (watched P F S) (MadeAs P F S) (family P F S) b
+      (facts : IsFactsOf P F) (kinded : IsKinded P F) (eyes : Eyes) where
+    body_included : (c : ℕ) (b : Body) → labelled_body P F S c ≡ Some b → IsIncluded (eyed eyes) (MadeAs P F S) (family P F S) b
     unfolding labelled_body
     body_included c b e =
         let h = then_some (labelled_with P F S c) (slice_get P.methods c) b e in
         let y = mapped_some (λ xs. body_with c h.0 (label_sts 0 xs)) h.0.body b h.2 in
         let B : ClosedBody =
-        record { program = P; facts = F; sets = S; closed = closed; are_facts = facts; kinded = kinded; number = c; method = h.0; stands = h.1 } in
-        subst (λ z. IsIncluded (watched P F S) (MadeAs P F S) (family P F S) z) y.2 (record {
+        record { program = P; facts = F; sets = S; eyes = eyes; closed = closed; are_facts = facts; kinded = kinded; number = c; method = h.0; stands = h.1 } in
+        subst (λ z. IsIncluded (eyed eyes) (MadeAs P F S) (family P F S) z) y.2 (record {
           code = included_code B y.0 y.1;
           rest = map_plain default_of (types_of h.0.locals) default_no_object;
           ends = optional_default h.0.result;
         })
 
-    all_included : AreIncluded (watched P F S) (MadeAs P F S) (family P F S)
+    all_included : AreIncluded (eyed eyes) (MadeAs P F S) (family P F S)
     all_included = record {
       places = same_place P;
       fresh = λ c. map_plain (λ f. default_at P f) (layout P c) (λ f a e. optional_default (field_type P f) a e);
@@ -101,8 +145,8 @@ module _ (P : Plain) (F : Facts) (S : Sets) where
       super_bodies = λ c x b e. let z = then_some (labelled_body P F S) (super_method P c x) b e in body_included z.0 b z.2;
     }
 
-begins : (P : Plain) (F : Facts) (S : Sets) (m : ℕ) → Begins (watched P F S) (MadeAs P F S) (family P F S) m
-begins P F S m = record { made = record { sited = λ t e. absurd (cc); typed = λ s e. absurd (cc) }; words = λ b e. refl }
+begins : (P : Plain) (F : Facts) (S : Sets) (eyes : Eyes) (m : ℕ) → Begins (eyed P F S eyes) (MadeAs P F S) (family P F S) m
+begins P F S eyes m = record { made = record { sited = λ t e. absurd (cc); typed = λ s e. absurd (cc) }; words = λ b e. refl }
 
 stays_not : (e : End) → Stays e → e ≢ Escaped
 stays_not e s d = subst (λ z. Stays z) d s
@@ -110,5 +154,14 @@ stays_not e s d = subst (λ z. Stays z) d s
 pub kinded_covers : (P : Plain) (F : Facts) → IsFactsOf P F → IsKinded P F → CoversEachRun P F
 unfolding CoversEachRun IsClosed
 kinded_covers P F facts kinded =
-    λ S closed words n. stays_not _ (run_stays (watched P F S) (MadeAs P F S) (family P F S) (all_included P F S closed facts kinded)
-    (watches P F S) P.main (begins P F S P.main) words n)
+    λ S closed words n. stays_not _ (run_stays (watched P F S) (MadeAs P F S) (family P F S) (all_included P F S closed facts kinded (of_sets P F S))
+    (watches P F S) P.main (begins P F S (of_sets P F S) P.main) words n)
+
+-- nor does one under the closer watch of the typed sets, whatever it notes
+pub kinded_closely : (P : Plain) (F : Facts) → IsFactsOf P F → IsKinded P F → (S : Sets) → IsClosed F S
+    → (note : Spot → Value → List Cell → List Met → List Met) (words : List (List ℕ)) (n : ℕ)
+    → (run_in (watched_with P (labelled_body P F S) (closely P F S note)) P.main words n).end ≢ Escaped
+unfolding IsClosed
+kinded_closely P F facts kinded S closed note words n =
+    stays_not _ (run_stays (eyed P F S (closely P F S note)) (MadeAs P F S) (family P F S) (all_included P F S closed facts kinded (closely P F S note))
+    (watches_closely P F S note) P.main (begins P F S (closely P F S note) P.main) words n)

@@ -18,13 +18,14 @@ use Rattle.fact_model.specs.declared.facts.FlowInfo.{FlowInfo}
 use Rattle.fact_model.specs.declared.facts.LoadInfo.{LoadInfo}
 use Rattle.fact_model.specs.declared.facts.StoreInfo.{StoreInfo}
 use Rattle.fact_model.specs.declared.facts.CastInfo.{CastInfo}
+use Rattle.fact_model.specs.declared.facts.AccessInfo.{AccessInfo}
 use Rattle.flow_rules.specs.declared.items.ObjectType.{ObjectType}
 use Rattle.flow_rules.specs.declared.items.Operand.{Operand}
 use Rattle.flow_rules.specs.declared.items.ColumnItem.TheVariants as column
 use Rattle.flow_rules.specs.Types.{field_object}
 use Rattle.flow_rules.specs.Parts.{Part, a_load, an_element, a_creation, a_test, a_store, an_element_store, parts_of}
 use Rattle.flow_rules.specs.Numbered.{Body, body_at, bodies_of}
-use Rattle.flow_rules.specs.Lists.{both, these, point_at, site_in, created, moved, news_of, flows_of, loads_of, stores_of, casts_of}
+use Rattle.flow_rules.specs.Lists.{both, these, point_at, site_in, created, moved, news_of, flows_of, loads_of, stores_of, casts_of, accesses_of}
 use Rattle.flow_rules.specs.Facts.{numbers, gathered, IsFactsOf}
 use Rattle.flow_laws.specs.cover.Covers.{Sets, has, is_site, is_column, is_cell, passes, cell_number, field_cell, element_cell, at_point, at_cell, or_itself}
 use Rattle.flow_laws.proofs.cover.Kinded.{site_type, IsPoint, HasPoint, IsCreation, IsBase}
@@ -171,6 +172,10 @@ module _ (P : Plain) (F : Facts) (S : Sets) where
 
       casts_given : (p : Part) → Contains (parts_of P m k) p → (x : CastInfo) → Contains (casts_of (numbers P) p) x → Contains F.casts.items x
       casts_given p c x d = (facts.casts x).1 (given (λ b. casts_of (numbers P)) m k p x stands c d)
+
+      pub accesses_given : (p : Part) → Contains (parts_of P m k) p → (x : AccessInfo) → Contains (accesses_of (numbers P) p) x
+          → Contains F.accesses.items x
+      accesses_given p c x d = (facts.accesses x).1 (given (λ b. accesses_of (numbers P)) m k p x stands c d)
 
       -- a creation's site goes where the facts say
       new_goes : (p : Part) → Contains (parts_of P m k) p → (o : Operand) (t : Option ℕ) (n s q : ℕ)

@@ -1,35 +1,39 @@
 -- The family of typed sets of a program's facts, and what reads and writes at the expressions of a body leave in them.
 use Rattle.std.proofs.Common.{◌≡◌, ℕ, zero, suc, List, Option, Some, None, refl, sym, ap, ◌∙◌, subst, arith}
-use Rattle.std.specs.Prelude.{◌==◌, Bool, true, false, slice_get, Contains}
-use Rattle.std.specs.Option.{option_and_then}
+use Rattle.std.specs.Prelude.{◌==◌, ◌&&◌, Bool, true, false, slice_get, position, Contains}
+use Rattle.std.specs.Option.{option_map_or, option_and_then, is_some}
 use Rattle.std.specs.List.{AllByRecursion}
 use Rattle.std.proofs.lemmas.Option.{same_Some}
-use Rattle.std.proofs.lemmas.Bool.{false≢true, eqb-true, and_parts}
+use Rattle.std.proofs.lemmas.Bool.{false≢true, eqb-true, eq-eqb, and_parts, and_from}
 use Rattle.kaba_base.specs.declared.Place.{Place}
 use Rattle.java_core.specs.declared.Ty.{Ty}
 use Rattle.java_core.specs.declared.TyBase.{TyBase}
 use Rattle.java_core.specs.declared.TyBase.TheVariants.{Int, Boolean, Char, Str, Class}
-use Rattle.java_core.specs.Trees.{Ex, Exs, no_ex, ex_then, create, create_array}
+use Rattle.java_core.specs.Trees.{Ex, Exs, no_ex, ex_then, call, create, create_array, cast, instance_of}
 use Rattle.java_core.specs.Programs.{Plain, PlainMethod}
 use Rattle.java_core.specs.Classes.{below, member_field, slot_of}
-use Rattle.java_core.specs.Types.{element_in, field_in, is_subtype, is_sub_base, static}
+use Rattle.java_core.specs.Types.{class_type, element_in, field_in, is_subtype, is_sub_base, static}
 use Rattle.java_meaning.specs.Moment.{Kind, an_object, own_type, Spot, held, bound, self_of, result_of, set_static, kept, put_in, touched, tested, ran, Lang}
 use Rattle.java_meaning.specs.Languages.{slot_in}
-use Rattle.fact_model.specs.Items.{site_class}
-use Rattle.fact_model.specs.Classes.{IsBelow}
+use Rattle.java_meaning.specs.Values.{same_bool}
+use Rattle.java_meaning.specs.Watched.{Eyes, watched_with}
+use Rattle.fact_model.specs.Items.{site_at, site_class}
+use Rattle.fact_model.specs.Classes.{IsBelow, finds}
 use Rattle.fact_model.specs.Flowing.{Fact, Inclusion}
 use Rattle.fact_model.specs.declared.facts.Facts.{Facts}
 use Rattle.flow_rules.specs.declared.items.ObjectType.{ObjectType}
 use Rattle.flow_rules.specs.declared.items.Operand.{Operand}
+use Rattle.flow_rules.specs.declared.items.ColumnItem.TheVariants as column
 use Rattle.flow_rules.specs.declared.items.PointItem.TheVariants as point
 use Rattle.flow_rules.specs.Operands.{object_in, object_of, object_field, call_slot, type_in}
 use Rattle.flow_rules.specs.Types.{field_object}
-use Rattle.flow_rules.specs.Parts.{a_load, an_element, a_creation, a_store, an_element_store, is_accessed, parts, parts_of}
+use Rattle.flow_rules.specs.Parts.{Part, a_load, an_element, a_creation, a_store, an_element_store, is_accessed, parts, parts_of}
 use Rattle.flow_rules.specs.Lists.{point_at, site_in}
 use Rattle.flow_rules.specs.Facts.{numbers, IsFactsOf}
 use Rattle.flow_rules.proofs.TypeLemmas.{class_is}
+use Rattle.flow_rules.proofs.Listed.{position_there}
 use Rattle.flow_laws.specs.cover.Families.{Sub, Family, Gives, Reads, Writes, ReadsElement, WritesElement}
-use Rattle.flow_laws.specs.cover.Covers.{Sets, has, passes, operand_at, at_point, point_sites, watched, tested_by, called_on}
+use Rattle.flow_laws.specs.cover.Covers.{Sets, has, passes, operand_at, at_point, point_sites, labelled_body, tested_by, called_on}
 use Rattle.flow_laws.proofs.cover.Kinded.{site_type, IsPoint, IsCreation, IsBase, IsKindedLoad, IsKindedStore, IsKindedPart, IsKinded}
 use Rattle.flow_laws.proofs.cover.SeenOperands.{at_seen, part_at}
 use Rattle.flow_laws.proofs.cover.Each.{here}
@@ -60,6 +64,55 @@ module _ (P : Plain) (F : Facts) (S : Sets) where
     pub sited : (t : ObjectType) → object_of (own_type k) ≡ Some t → (s : ℕ) × (site_in (numbers P) o ≡ Some s)
     pub typed : (s : ℕ) → site_in (numbers P) o ≡ Some s → object_of (own_type k) ≡ Some (site_type F s)
 
+  -- a site as a type of the text
+  abbrev pub site_as : ℕ → Ty
+  site_as s = record { base = Class (site_at F s).class; dim = (site_at F s).dim }
+
+  -- the type that a cast or `instanceof` tests against
+  abbrev pub tested_type : Ex → Option Ty
+  tested_type (cast t n u e) = Some u
+  tested_type (instance_of t n e c) = Some (class_type c)
+  tested_type e = None
+
+  -- the slot that a call calls, in the method m
+  abbrev pub called_slot : ℕ → Ex → Option ℕ
+  called_slot m (call t e x es) = option_and_then (λ k. call_slot P (type_in P m k e) x) (slice_get P.methods m)
+  called_slot m e = None
+
+  -- whether both are there, and the same
+  abbrev pub same_number : Option ℕ → Option ℕ → Bool
+  same_number None n = false
+  same_number (Some m) None = false
+  same_number (Some m) (Some n) = m == n
+
+  -- whether a test of what the site makes passes as it did, and whether a call on it finds the body that ran
+  abbrev pub tests_as : Ex → Bool → ℕ → Bool
+  tests_as d b s = option_map_or (λ t. same_bool b (is_subtype P (site_as s) t)) (tested_type d) true
+
+  abbrev pub finds_as : ℕ → Ex → ℕ → ℕ → Bool
+  finds_as m d c s = option_map_or (λ j. same_number (finds F (site_class F s) j) ((numbers P).column (column.Def c))) (called_slot m d) true
+
+  -- whether a part reads or writes the field f of what the expression gives, and whether a part of the body does
+  abbrev pub accesses_as : ℕ → Ex → ℕ → Part → Bool
+  accesses_as m e f (a_load p b (Some g) o) = (g == f) && same_number (point_at (numbers P) b) (point_at (numbers P) (operand_at P m e))
+  accesses_as m e f (a_store p b (Some g) o) = (g == f) && same_number (point_at (numbers P) b) (point_at (numbers P) (operand_at P m e))
+  accesses_as m e f p = false
+
+  abbrev pub accessed_as : ℕ → Ex → ℕ → Bool
+  accessed_as m e f = option_map_or (λ k. is_some (position (accesses_as m e f) (parts_of P m k))) (slice_get P.methods m) false
+
+  -- the sites of what has one
+  abbrev pub strictly : (ℕ → Bool) → Option ℕ → Bool
+  strictly X None = false
+  strictly X (Some s) = X s
+
+  -- what is entered, called or touched has a site
+  abbrev pub holds_at : Spot → (ℕ → Bool) → Option ℕ → Bool
+  holds_at (self_of m) X z = strictly X z
+  holds_at (touched m e f) X z = strictly X z
+  holds_at (ran m d b) X z = strictly X z
+  holds_at p X z = passes X z
+
   -- the family of typed sets
   abbrev pub typed_sites : Spot → ℕ → Bool
   typed_sites (held m e) s = looks_in P F S (operand_at P m e).created (operand_at P m e) s
@@ -69,14 +122,14 @@ module _ (P : Plain) (F : Facts) (S : Sets) where
   typed_sites (set_static f) s = when_object (field_object P f) (at_point P F S ((numbers P).point (point.Static f))) s
   typed_sites (kept o f) s = field_sites P F S f (site_in (numbers P) o) s
   typed_sites (put_in o) s = element_sites P F S (site_in (numbers P) o) s
-  typed_sites (touched m e f) s = point_sites P F S (operand_at P m e) s
-  typed_sites (tested m d b) s = point_sites P F S (operand_at P m (tested_by P F S d)) s
-  typed_sites (ran m d b) s = point_sites P F S (operand_at P m (called_on P F S d)) s
+  typed_sites (touched m e f) s = point_sites P F S (operand_at P m e) s && accessed_as m e f
+  typed_sites (tested m d b) s = point_sites P F S (operand_at P m (tested_by P F S d)) s && tests_as d b s
+  typed_sites (ran m d b) s = point_sites P F S (operand_at P m (called_on P F S d)) s && finds_as m d b s
 
   abbrev pub family : Family
   family = record {
     value = λ m e q. passes (value_sites P F S (operand_at P m e)) (site_in (numbers P) q);
-    spot = λ p q. passes (typed_sites p) (site_in (numbers P) q);
+    spot = λ p q. holds_at p (typed_sites p) (site_in (numbers P) q);
   }
 
 -- a body of a program whose parts are kinded, with sets that the inclusions of the program's facts close
@@ -84,6 +137,7 @@ pub record ClosedBody : Type 0 where
   pub program : Plain
   pub facts : Facts
   pub sets : Sets
+  pub eyes : Eyes
   pub closed : (ps : List Fact) (f : Fact) → Inclusion facts ps f → AllByRecursion (λ p. has sets p ≡ true) ps → has sets f ≡ true
   pub are_facts : IsFactsOf program facts
   pub kinded : IsKinded program facts
@@ -102,7 +156,7 @@ pub record Watch : Type 1 where
 abbrev pub watch : ClosedBody → Watch
 watch B = record {
   at = operand_at B.program B.number;
-  lang = watched B.program B.facts B.sets;
+  lang = watched_with B.program (labelled_body B.program B.facts B.sets) B.eyes;
   Made = MadeAs B.program B.facts B.sets;
   sites = typed_sites B.program B.facts B.sets;
   spots = family B.program B.facts B.sets;
@@ -178,6 +232,20 @@ module _ (B : ClosedBody) where
   base_at e z u h = passes_map (value_sites P F S (at e)) (point_sites P F S (at e)) z
       (λ s v. let a = (used_at P F S (at e) s u v).1 in is_at P F S (point_at (numbers P) (at e)) a.number s a.there a.holds) h
 
+  -- of an object with a site, a base that is used is in its point, and a part of the body accesses it
+  pub base_strictly : (e : Ex) (f : ℕ) (q : Part) (z : Option ℕ) (s : ℕ) → z ≡ Some s → IsUsed P F S (at e) → passes (value_sites P F S (at e)) z ≡ true
+      → Contains (parts_of P m k) q
+      → (same_number P F S (point_at (numbers P) (at e)) (point_at (numbers P) (at e)) ≡ true → accesses_as P F S m e f q ≡ true)
+      → strictly P F S (sites (touched m e f)) z ≡ true
+  base_strictly e f q z s ez u h c w =
+      let a = (used_at P F S (at e) s u (subst (λ y. passes (value_sites P F S (at e)) y ≡ true) ez h)).1 in
+      let same : same_number P F S (point_at (numbers P) (at e)) (point_at (numbers P) (at e)) ≡ true =
+      subst (λ y. same_number P F S y y ≡ true) (sym a.there) (eq-eqb a.number a.number refl) in
+      let i = position_there (accesses_as P F S m e f) (parts_of P m k) q c (w same) in
+      subst (λ y. strictly P F S (sites (touched m e f)) y ≡ true) (sym ez)
+      (and_from (point_sites P F S (at e) s) (accessed_as P F S m e f) (is_at P F S (point_at (numbers P) (at e)) a.number s a.there a.holds)
+      (ap (λ y. option_map_or (λ k. is_some (position (accesses_as P F S m e f) (parts_of P m k))) y false) stands ∙ ap is_some i.1))
+
   load_kind : (p : Place) (b o : Operand) (f : ℕ) → Contains (parts_of P m k) (a_load p b (Some f) o) → IsKindedLoad P F b f o
   unfolding IsKindedPart
   load_kind p b o f c = kinded.parts m k stands (a_load p b (Some f) o) c
@@ -185,6 +253,11 @@ module _ (B : ClosedBody) where
   store_kind : (p : Place) (b o : Operand) (f : ℕ) → Contains (parts_of P m k) (a_store p b (Some f) o) → IsKindedStore P F b f o
   unfolding IsKindedPart
   store_kind p b o f c = kinded.parts m k stands (a_store p b (Some f) o) c
+
+  -- the site of an object, with its class
+  pub object_site : (o : Option ℕ) (c : ℕ) → Made o (an_object c) → (s : ℕ) × (site_in (numbers P) o ≡ Some s)
+      × (site_type F s ≡ record { class = record { 0 = c }; dim = 0 })
+  object_site o c made = let s = made.sited (record { class = record { 0 = c }; dim = 0 }) refl in (s.0, s.1, sym (same_Some _ _ (made.typed s.0 s.1)))
 
   pub reads : (p : Place) (e d : Ex) (x : Option ℕ) → (at d).created ≡ None
       → ((j : ℕ) → x ≡ Some j → Contains (parts_of P m k) (a_load p (at e) (Some j) (at d)) × (IsBase P F (at e) → IsUsed P F S (at e)))
@@ -195,7 +268,8 @@ module _ (B : ClosedBody) where
       let kind = load_kind p (at e) (at d) j w.0 in
       let u = w.1 kind.base in
       record {
-        base = base_at e (site_in (numbers P) o) u v;
+        base = base_strictly e j (a_load p (at e) (Some j) (at d)) (site_in (numbers P) o) (object_site o c made).0 (object_site o c made).1 u v
+            w.0 (λ h. and_from (j == j) _ (eq-eqb j j refl) h);
         gives = gives d (field_sites P F S j (site_in (numbers P) o)) (λ s r. load_goes P F S closed facts m k stands p (at e) j
             (at d) w.0 kind.gives u pl (site_in (numbers P) o) v s r);
       }
@@ -203,11 +277,6 @@ module _ (B : ClosedBody) where
   site_some : (o : Option ℕ) (s : ℕ) → site_in (numbers P) o ≡ Some s → (n : ℕ) × ((numbers P).site n ≡ Some s)
   site_some None s e = absurd (cc)
   site_some (Some n) s e = (n, e)
-
-  -- the site of an object, with its class
-  pub object_site : (o : Option ℕ) (c : ℕ) → Made o (an_object c) → (s : ℕ) × (site_in (numbers P) o ≡ Some s)
-      × (site_type F s ≡ record { class = record { 0 = c }; dim = 0 })
-  object_site o c made = let s = made.sited (record { class = record { 0 = c }; dim = 0 }) refl in (s.0, s.1, sym (same_Some _ _ (made.typed s.0 s.1)))
 
   pub writes : (p : Place) (e d : Ex) (x : Option ℕ) → ((j : ℕ) → x ≡ Some j → Contains (parts_of P m k) (a_store p (at e) (Some j) (at d))
       × (IsBase P F (at e) → IsUsed P F S (at e))) → IsUsed P F S (at d) → Writes L Made V g e d x
@@ -219,7 +288,8 @@ module _ (B : ClosedBody) where
       let site = object_site o c made in
       let base : value_sites P F S (at e) site.0 ≡ true = subst (λ z. passes (value_sites P F S (at e)) z ≡ true) site.1 v in
       record {
-        base = base_at e (site_in (numbers P) o) u v;
+        base = base_strictly e j (a_store p (at e) (Some j) (at d)) (site_in (numbers P) o) site.0 site.1 u v w.0
+            (λ h. and_from (j == j) _ (eq-eqb j j refl) h);
         gives = sub_sites P (value_sites P F S (at d)) (field_sites P F S j (site_in (numbers P) o))
             (λ s r. subst (λ z. field_sites P F S j z s ≡ true) (sym site.1)
             (store_goes P F S closed facts m k stands p (at e) j (at d) w.0 kind.takes u ud site.0 base

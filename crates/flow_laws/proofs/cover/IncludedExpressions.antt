@@ -1,24 +1,30 @@
 -- All that the expressions of a body do stays in the typed sets of a family that the inclusions of the facts close.
 use Rattle.std.proofs.Common.{[], ◌≡◌, ℕ, zero, suc, List, ◌++◌, Option, Some, None, refl, sym, ap, ◌∙◌, subst}
 use Rattle.std.specs.Prelude.{Bool, true, false, slice_get, Contains}
-use Rattle.std.specs.Option.{is_some}
+use Rattle.std.specs.Option.{option_map_or, option_and_then, is_some}
 use Rattle.std.proofs.lemmas.Option.{same_Some}
-use Rattle.std.proofs.lemmas.Bool.{eq-eqb}
+use Rattle.std.proofs.lemmas.Bool.{false≢true, eq-eqb, and_from}
 use Rattle.kaba_base.specs.declared.Place.{Place}
 use Rattle.java_core.specs.declared.Ty.{Ty}
+use Rattle.java_core.specs.declared.TyBase.{TyBase}
+use Rattle.java_core.specs.declared.TyBase.TheVariants.{Int, Boolean, Char, Str, Class}
 use Rattle.java_core.specs.Trees.{Tag, Ex, Exs, no_ex, ex_then, this, local, static_field, own_field, field, index, call, static_call, super_call, create, create_array, cast, instance_of, unary, binary}
 use Rattle.java_core.specs.Programs.{PlainMethod}
 use Rattle.java_core.specs.Classes.{lookup, super_method}
-use Rattle.java_core.specs.Types.{types_of, class_type, field_type}
-use Rattle.java_meaning.specs.Moment.{Kind, an_object, an_array, own_type, held, bound, self_of, result_of, set_static, Body}
+use Rattle.java_core.specs.Types.{types_of, class_type, field_type, is_subtype}
+use Rattle.java_meaning.specs.Moment.{Kind, an_object, an_array, own_type, held, bound, self_of, result_of, set_static, tested, ran, Body}
 use Rattle.java_meaning.specs.Languages.{body_with}
+use Rattle.java_meaning.specs.Values.{same_bool}
 use Rattle.java_meaning.proofs.Moves.{then_some}
 use Rattle.java_meaning.proofs.Calls.{mapped_some}
 use Rattle.fact_model.specs.Items.{site_class}
+use Rattle.fact_model.specs.Classes.{finds as found_for}
+use Rattle.flow_rules.specs.declared.items.ObjectType.{ObjectType}
 use Rattle.flow_rules.specs.declared.items.Operand.{Operand}
+use Rattle.flow_rules.specs.declared.items.ColumnItem.TheVariants as column
 use Rattle.flow_rules.specs.declared.items.PointItem.TheVariants as point
 use Rattle.flow_rules.specs.declared.items.RowItem.TheVariants as row
-use Rattle.flow_rules.specs.Operands.{object_of, object_if, call_slot, call_declaration, operands_of, type_in}
+use Rattle.flow_rules.specs.Operands.{object_in, object_of, object_if, call_slot, call_declaration, operands_of, type_in}
 use Rattle.flow_rules.specs.Labels.{label_sts}
 use Rattle.flow_rules.specs.Types.{field_object}
 use Rattle.flow_rules.specs.Parts.{a_load, an_element, a_creation, a_call, a_static_call, a_super_call, a_test, a_store, is_accessed, parts, parts_all, parts_of}
@@ -31,7 +37,7 @@ use Rattle.flow_laws.proofs.cover.SeenOperands.{at_seen, part_at, plain}
 use Rattle.flow_laws.proofs.cover.Each.{left, right, past, here}
 use Rattle.flow_laws.proofs.cover.Flows.{when_object, value_in, value_sites, looks_in, IsUsed, HasTypes, creation_looks, cast_goes}
 use Rattle.flow_laws.proofs.cover.Calls.{local_is, local_object, local_sites, result_sites, call_goes, StaticGoes, static_goes, super_goes, super_self}
-use Rattle.flow_laws.proofs.cover.Included.{ClosedBody, watch, sub_sites, passes_all, exs_at}
+use Rattle.flow_laws.proofs.cover.Included.{ClosedBody, watch, sub_sites, passes_all, exs_at, site_as, tested_type, called_slot, same_number, tests_as, finds_as, strictly}
 use Rattle.std.proofs.lemmas.Option.{slice_get-map}
 use Rattle.flow_rules.proofs.TypeLemmas.{object_or}
 use Rattle.flow_laws.proofs.cover.Included as sets
@@ -95,11 +101,16 @@ module _ (B : ClosedBody) where
   unfolding IsKindedPart
   call_kind p b o j n es c = kinded.parts m k stands (a_call p b (Some j) n es o) c
 
-  calls : (p : Place) (e d : Ex) (x : List ℕ) (es : Exs) (n : Option ℕ) → called_on P F S d ≡ e → (at d).created ≡ None
+  -- the body that is found is the one of the column
+  same_numbers : (a b : Option ℕ) (n : ℕ) → a ≡ Some n → b ≡ Some n → same_number P F S a b ≡ true
+  same_numbers a b n e d = subst (λ z. same_number P F S z b ≡ true) (sym e) (subst (λ z. same_number P F S (Some n) z ≡ true) (sym d) (eq-eqb n n refl))
+
+  calls : (p : Place) (e d : Ex) (x : List ℕ) (es : Exs) (n : Option ℕ) → called_on P F S d ≡ e
+      → called_slot P F S m d ≡ call_slot P (type_in P m k e) x → (at d).created ≡ None
       → Contains (parts_of P m k) (a_call p (at e) (call_slot P (type_in P m k e) x) n (operands_of P (type_in P m k) m k es) (at d))
       → IsUsed P F S (at e) → Stands (parts_all P (type_in P m k) m k true es) → Calls L Made V g d e x es
   unfolding Calls
-  calls p e d x es n ce pl there ue st = λ o c j b made ej eb v.
+  calls p e d x es n ce cs pl there ue st = λ o c j b made ej eb v.
       let site = sets.object_site B o c made in
       let base : value_sites P F S (at e) site.0 ≡ true = subst (λ z. passes (value_sites P F S (at e)) z ≡ true) site.1 v in
       let part = subst (λ z. Contains (parts_of P m k) (a_call p (at e) z n (operands_of P (type_in P m k) m k es) (at d))) (sets.slot_seen B e x ∙ ej) there in
@@ -112,12 +123,34 @@ module _ (B : ClosedBody) where
       f.method f.there finds_site (call_kind p (at e) (at d) j n (operands_of P (type_in P m k) m k es) part look.0 f.method f.there finds.slot)
       (kinded.variables look.0 f.method f.there f.has_body) in
       record {
-        receiver = subst (λ y. passes (point_sites P F S (at y)) (site_in (numbers P) o) ≡ true) (sym ce) (sets.base_at B e (site_in (numbers P) o) ue v);
-        self = subst (λ z. passes (sites (self_of b.env.body)) z ≡ true) (sym site.1)
+        receiver = subst (λ z. strictly P F S (sites (ran m d b.env.body)) z ≡ true) (sym site.1)
+            (and_from (point_sites P F S (at (called_on P F S d)) site.0) (finds_as P F S m d b.env.body site.0)
+            (subst (λ y. point_sites P F S (at y) site.0 ≡ true) (sym ce)
+            (subst (λ y. passes (point_sites P F S (at e)) y ≡ true) site.1 (sets.base_at B e (site_in (numbers P) o) ue v)))
+            (subst (λ y. option_map_or (λ j. same_number P F S (found_for F (site_class F site.0) j) ((numbers P).column (column.Def b.env.body))) y true ≡ true)
+            (sym (cs ∙ sets.slot_seen B e x ∙ ej)) (same_numbers (found_for F (site_class F site.0) j) ((numbers P).column (column.Def b.env.body))
+            finds_site.body.column.0 finds_site.found (ap (λ y. (numbers P).column (column.Def y)) f.body_is ∙ finds_site.column))));
+        self = subst (λ z. strictly P F S (sites (self_of b.env.body)) z ≡ true) (sym site.1)
             (subst (λ y. at_point P F S ((numbers P).point (point.This y)) site.0 ≡ true) (sym f.body_is) goes.self);
         enters = enters d es b look.0 f.body_is (λ i a h s w. goes.args i (seen a) (operand_there es i a h)
             (used_seen a (sets.is_used B a (argument_stands true es i a h st))) s (value_seen a s w)) goes.result;
       }
+
+  sub_strictly : (X Y : ℕ → Bool) → ((s : ℕ) → X s ≡ true → Y s ≡ true) → Sub (λ q. strictly P F S X (site_in (numbers P) q))
+      (λ q. strictly P F S Y (site_in (numbers P) q))
+  sub_strictly X Y f q h = go (site_in (numbers P) q) h
+    where
+      go : (z : Option ℕ) → strictly P F S X z ≡ true → strictly P F S Y z ≡ true
+      go None h = absurd (false≢true h)
+      go (Some s) h = f s h
+
+  from_strictly : (X Y : ℕ → Bool) → ((s : ℕ) → X s ≡ true → Y s ≡ true) → Sub (λ q. strictly P F S X (site_in (numbers P) q))
+      (λ q. passes Y (site_in (numbers P) q))
+  from_strictly X Y f q h = go (site_in (numbers P) q) h
+    where
+      go : (z : Option ℕ) → strictly P F S X z ≡ true → passes Y z ≡ true
+      go None h = absurd (false≢true h)
+      go (Some s) h = f s h
 
   static_kind : (p : Place) (c : ℕ) (o : Operand) (es : List Operand) → Contains (parts_of P m k) (a_static_call p c es o) → (h : PlainMethod)
       → slice_get P.methods c ≡ Some h → IsKindedCall P F h es o
@@ -155,7 +188,7 @@ module _ (B : ClosedBody) where
       let part = subst (λ z. Contains (parts_of P m k) (a_super_call p z (operands_of P (type_in P m k) m k es) (at d))) look.1 there in
       let kind = super_kind p look.0 (at d) (operands_of P (type_in P m k) m k es) part f.method f.there f.has_body in
       record {
-        self = subst (λ y. Sub (V.spot (self_of m)) (V.spot (self_of y))) (sym f.body_is) (sub_sites P (sites (self_of m)) (sites (self_of look.0))
+        self = subst (λ y. Sub (V.spot (self_of m)) (V.spot (self_of y))) (sym f.body_is) (sub_strictly (sites (self_of m)) (sites (self_of look.0))
             (λ s h. super_self P F S closed facts m k stands p look.0 (operands_of P (type_in P m k) m k es) (at d) part kind.1.0 kind.1.1 s h));
         enters = one_enters d es b look.0 f.body_is st (super_goes P F S closed facts m k stands p look.0 (operands_of P (type_in P m k) m k es)
             (at d) part pl f.method f.there kind.0 (kinded.variables look.0 f.method f.there f.has_body));
@@ -174,11 +207,34 @@ module _ (B : ClosedBody) where
             (subst (λ z. is_site z s ≡ true) (sym e) (eq-eqb s s refl)));
       }
 
+  same_bools : (b : Bool) → same_bool b b ≡ true
+  same_bools true = refl
+  same_bools false = refl
+
+  -- a type that a row can have, from its class and its brackets
+  abbrev as_ty : TyBase → ℕ → Ty
+  as_ty b d = record { base = b; dim = d }
+
+  as_base : (b : TyBase) (d : ℕ) (r : ObjectType) → object_in b d ≡ Some r → as_ty b d ≡ as_ty (Class r.class) r.dim
+  as_base (Class c) d r e = ap (λ z. as_ty (Class z.class) z.dim) (same_Some (record { class = c; dim = d }) r e)
+  as_base Int d r e = absurd (cc)
+  as_base Boolean d r e = absurd (cc)
+  as_base Char d r e = absurd (cc)
+  as_base Str d r e = absurd (cc)
+
+  as_type : (t : Ty) (r : ObjectType) → object_of t ≡ Some r → t ≡ as_ty (Class r.class) r.dim
+  as_type t r e = as_base t.base t.dim r e
+
   -- casts and instanceof
-  tests : (d e : Ex) (t : Ty) → tested_by P F S d ≡ e → IsUsed P F S (at e) → Tests L Made V g d e t
+  tests : (d e : Ex) (t : Ty) → tested_by P F S d ≡ e → tested_type P F S d ≡ Some t → IsUsed P F S (at e) → Tests L Made V g d e t
   unfolding Tests
-  tests d e t te ue = λ o h made v. subst (λ y. passes (point_sites P F S (at y)) (site_in (numbers P) o) ≡ true) (sym te)
-      (sets.base_at B e (site_in (numbers P) o) ue v)
+  tests d e t te ty ue = λ o h made v. passes_all (sites (tested m d (is_subtype P (own_type h) t))) (site_in (numbers P) o) (λ s es.
+      and_from (point_sites P F S (at (tested_by P F S d)) s) (tests_as P F S d (is_subtype P (own_type h) t) s)
+      (subst (λ y. point_sites P F S (at y) s ≡ true) (sym te)
+      (subst (λ y. passes (point_sites P F S (at e)) y ≡ true) es (sets.base_at B e (site_in (numbers P) o) ue v)))
+      (subst (λ y. option_map_or (λ u. same_bool (is_subtype P (own_type h) t) (is_subtype P (site_as P F S s) u)) y true ≡ true) (sym ty)
+      (subst (λ y. same_bool (is_subtype P (own_type h) t) (is_subtype P y t) ≡ true) (as_type (own_type h) (site_type F s) (made.typed s es))
+      (same_bools (is_subtype P (own_type h) t)))))
 
   test_kind : (p : Place) (e o : Operand) → Contains (parts_of P m k) (a_test p e o) → HasPoint P F o
   unfolding IsKindedPart
@@ -200,7 +256,7 @@ module _ (B : ClosedBody) where
   -- variables
   pub this_sub : (t : Tag) → Sub (V.spot (self_of m)) (V.value m (this t))
   unfolding type_in
-  this_sub t = sub_sites P (sites (self_of m)) (value_sites P F S (at (this t))) (λ s h. subst (λ z. value_sites P F S z s ≡ true)
+  this_sub t = from_strictly (sites (self_of m)) (value_sites P F S (at (this t))) (λ s h. subst (λ z. value_sites P F S z s ≡ true)
       (sym (at_seen P m k stands (this t))) h)
 
   pub local_seen : (t : Tag) (i : ℕ) → type_in P m k (local t i) ≡ local_object P F S m i
@@ -283,7 +339,8 @@ module _ (B : ClosedBody) where
     included u (call t e x es) st = (
       included true e (left (tree true e) _ st),
       included_all true es (past _ _ (right (tree true e) _ st)),
-      calls t.place e (call t e x es) x es (call_declaration P (type_in P m k e) x) refl (plain P m k stands (call t e x es) refl)
+      calls t.place e (call t e x es) x es (call_declaration P (type_in P m k e) x) refl
+          (ap (λ z. option_and_then (λ k. call_slot P (type_in P m k e) x) z) stands) (plain P m k stands (call t e x es) refl)
           (part_at P m k stands (λ o z. a_call t.place o (call_slot P (type_in P m k e) x) (call_declaration P (type_in P m k e) x)
           (operands_of P (type_in P m k) m k es) z) e (call t e x es) (here _ _ (right (tree true e) _ st)))
           (sets.is_used B e (left (tree true e) _ st)) (past _ _ (right (tree true e) _ st)),
@@ -312,13 +369,13 @@ module _ (B : ClosedBody) where
     )
     included u (cast t n v e) st = (
       included true e (past _ _ st),
-      tests (cast t n v e) e v refl (sets.is_used B e (past _ _ st)),
+      tests (cast t n v e) e v refl refl (sets.is_used B e (past _ _ st)),
       casts t.place (cast t n v e) e v (plain P m k stands (cast t n v e) refl) (cast_seen t n v e)
           (part_at P m k stands (λ o z. a_test t.place o z) e (cast t n v e) (here _ _ st)) (sets.is_used B e (past _ _ st)),
     )
     included u (instance_of t n e c) st = (
       included true e (left (tree true e) _ st),
-      tests (instance_of t n e c) e (class_type c) refl (sets.is_used B e (left (tree true e) _ st)),
+      tests (instance_of t n e c) e (class_type c) refl refl (sets.is_used B e (left (tree true e) _ st)),
     )
     included u (unary t o e) st = included false e st
     included u (binary t o e d) st = (

@@ -12,6 +12,7 @@ use Rattle.fact_model.specs.declared.facts.Facts.{Facts}
 use Rattle.fact_model.specs.declared.facts.BodyInfo.{BodyInfo}
 use Rattle.flow_rules.specs.declared.items.ObjectType.{ObjectType}
 use Rattle.flow_rules.specs.declared.items.Operand.{Operand}
+use Rattle.flow_rules.specs.declared.items.ColumnItem.TheVariants as column
 use Rattle.flow_rules.specs.declared.items.PointItem.TheVariants as point
 use Rattle.flow_rules.specs.Operands.{object_if}
 use Rattle.flow_rules.specs.Types.{field_object, variable_object}
@@ -96,6 +97,7 @@ module _ (P : Plain) (F : Facts) where
     pub is_body : IsBodyOf m k body
     pub slot : k.slot ≡ Some j
     pub found : finds F c j ≡ Some body.column.0
+    pub column : (numbers P).column (column.Def m) ≡ Some body.column.0
 
   -- what the covering of runs needs of a program beside its facts
   pub record IsKinded : Type 0 where

@@ -1,0 +1,8 @@
+use Rattle.std.proofs.Common.{◌≡◌, ◌++◌, drop, string_bytes}
+use Rattle.sure_report.specs.Text.{lines, cast_line}
+use Rattle.sure_report.proofs.text.add_casts.Given as goal
+
+-- with the lines that are left, it is the whole
+abbrev pub invariant-loop-k : goal.invariant-loop-k
+invariant-loop-k l = string_bytes l.text ++ lines (cast_line l.facts) (drop l.k l.spots) (drop l.k l.casts)
+    ≡ string_bytes l.fn.text ++ lines (cast_line l.facts) l.spots l.casts
