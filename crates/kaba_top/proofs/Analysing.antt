@@ -15,7 +15,7 @@ use Rattle.edit_script.specs.declared.lines.Line.{Line}
 use Rattle.hier_tree.specs.Reached.{IsReached, begun}
 use Rattle.tree_merge.specs.declared.steps.TreeStep.{TreeStep}
 use Rattle.tree_merge.specs.declared.trees.NoTree.{NoTree}
-use Rattle.hier_log.specs.Lines.{log_text, no_tree_text}
+use Rattle.kaba_top.specs.Logs.{log_text, no_tree_text}
 use Rattle.kaba_top.specs.declared.reply.Reply.{Reply}
 use Rattle.kaba_top.specs.declared.script.Proposal.{Proposal}
 use Rattle.kaba_top.specs.Lines.{Says, Gives, line}

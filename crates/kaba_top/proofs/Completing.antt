@@ -9,21 +9,24 @@ use Rattle.java_run.specs.Outcomes.{meant}
 use Rattle.fact_model.specs.declared.facts.Facts.{Facts}
 use Rattle.flow_rules.specs.Facts.{IsWithin}
 use Rattle.edit_script.specs.declared.lines.Line.{Line}
-use Rattle.kaba_words.specs.Commands.{Cmd, run, table, lattice, base, edit, regen, make, help, version, usual_concepts}
+use Rattle.kaba_words.specs.Commands.{Cmd, run, table, lattice, base, why, same, edit, regen, make, help, version, usual_concepts}
 use Rattle.kaba_top.specs.TextPrograms.{IsTypedText}
 use Rattle.kaba_top.specs.TextFacts.{HasTextFacts}
-use Rattle.kaba_top.specs.Reading.{TextAnswers}
+use Rattle.kaba_top.specs.Lines.{line}
+use Rattle.kaba_top.specs.Reading.{IsRefusedText, TextAnswers}
 use Rattle.kaba_top.specs.RunAnswers.{EndGives, RunAnswers}
 use Rattle.kaba_top.specs.FactsAnswers.{HasFacts, AnalysisAnswers, TableOf, LatticeOf}
 use Rattle.kaba_top.specs.BaseAnswers.{BaseOf}
+use Rattle.kaba_top.specs.WhyAnswers.{WhyOf}
+use Rattle.kaba_top.specs.SameAnswers.{SameOf}
 use Rattle.kaba_top.specs.ScriptAnswers.{HasLattice, ScriptAnswers, refusals}
 use Rattle.kaba_top.specs.EditAnswers.{ShowsHierarchy, EditOf}
 use Rattle.kaba_top.specs.RegenAnswers.{IsRegeneration, RegenOf}
-use Rattle.kaba_top.specs.Answers.{FileAnswers, EditAnswers, RegenAnswers, CommandAnswers}
+use Rattle.kaba_top.specs.Answers.{FileAnswers, NamedAnswers, EditAnswers, RegenAnswers, CommandAnswers}
 use Rattle.kaba_top.specs.OneAnswer.{OfSmallFile, IsTaken, IsTakenWithin, HasFewConcepts, IsTakenFor, HasFewImplications, IsTakenForBase, IsAcceptedScript, IsReady, IsDoneWith, IsComplete}
-use Rattle.kaba_top.proofs.OneCommand.{one_command}
+use Rattle.kaba_words.proofs.OneCommand.{one_command}
 use Rattle.kaba_top.proofs.OneText.{one_program, not_both}
-use Rattle.kaba_top.proofs.OneEach.{none_some}
+use Rattle.kaba_top.proofs.Absent.{none_some}
 
 module _ (status : ℕ) (out err : List ℕ) where
   -- the file is there with its bytes
@@ -57,6 +60,17 @@ module _ (status : ℕ) (out err : List ℕ) where
   of_script bound script p F A D h few ok f (inl (inl a)) = absurd (few F a.table (text_facts p F h) a.is a.many.more)
   of_script bound script p F A D h few ok f (inl (inr a)) = ⊎_elim (λ b. absurd (ok.0 b.line b.first)) (λ b. absurd (ok.1 b.many)) a.fault
   of_script bound script p F A D h few ok f (inr a) = f a.has a.edits a.answers
+
+  -- the program of a file that is told by its name
+  of_named : (K : Program → ℕ → List ℕ → List ℕ → Type 0) (D : Type 0) (files : Files) (file : List ℕ) → OfSmallFile files file IsTaken
+      → ((p : Program) → K p status out err → D) → NamedAnswers K files file status out err → D
+  of_named K D files file r f (inl a) = absurd (none_some a.missing r.there)
+  of_named K D files file r f (inr (inl a)) =
+      let n = ap length (same_Some a.answers.bytes r.bytes (sym a.answers.there ∙ r.there)) in absurd (omega (arith, n, a.answers.large, r.small))
+  of_named K D files file r f (inr (inr a)) = ⊎_elim
+      (λ b. absurd (not_both r.bytes status out (line b.text) r.holds.0
+      (subst (λ z. IsRefusedText z status out (line b.text)) (same_Some a.bytes r.bytes (sym a.there ∙ r.there)) b.answers) r.holds.1))
+      (λ b. f b.program b.answers) a.answers
 
   by_end : (e : meaning.End) (bytes : List ℕ) → EndGives e bytes status out err → (status ≡ 0) ⊎ ((status ≡ 10) ⊎ (status ≡ 11))
   by_end meaning.Ended bytes a = inl a.status_is
@@ -108,6 +122,15 @@ module _ (status : ℕ) (out err : List ℕ) where
       (λ F h g. ⊎_elim (λ m. absurd (subst (HasFewConcepts usual_concepts) e t.3 F g.table (text_facts p F h) g.is m.more))
       (λ few. ⊎_elim (λ m. absurd (subst HasFewImplications e t.4 F g.table (text_facts p F h) g.is m.more)) (λ l. l.gives.status_is) few.answers)
       g.answers) c) b) a
+  done (why file row column) first second r a =
+      of_file (TextAnswers (AnalysisAnswers (WhyOf row column))) IsTakenWithin ((status ≡ 0) ⊎ (status ≡ 71)) first file r
+      (λ bytes t b. of_text (AnalysisAnswers (WhyOf row column)) ((status ≡ 0) ⊎ (status ≡ 71)) bytes t.0 t.1
+      (λ p e c. of_facts (WhyOf row column) ((status ≡ 0) ⊎ (status ≡ 71)) p (subst IsWithin e t.2)
+      (λ F h g. ⊎_elim (λ n. inr n.says.status_is) (λ l. inl l.gives.status_is) g) c) b) a
+  done (same file other) first second r a =
+      of_named (λ p. NamedAnswers (SameOf file other p) second other) ((status ≡ 0) ⊎ (status ≡ 1)) first file r.0
+      (λ p b. of_named (SameOf file other p) ((status ≡ 0) ⊎ (status ≡ 1)) second other r.1
+      (λ q c. ⊎_elim (λ one. inl one.gives.status_is) (λ apart. inr apart.says.status_is) c) b) a
   done (edit bound file script) first second r a =
       of_file (λ bytes. FileAnswers (EditAnswers bound bytes) second script) (IsTakenFor bound) ((status ≡ 0) ⊎ (status ≡ 4)) first file r.0
       (λ bytes t b. of_file (EditAnswers bound bytes) IsAcceptedScript ((status ≡ 0) ⊎ (status ≡ 4)) second script r.1

@@ -20,10 +20,14 @@ pub mod SameObligations
 pub mod SameSteps
 pub mod SameWritten
 pub mod SameTexts
-pub mod OneCommand
 pub mod OneScript
 pub mod OneText
 pub mod OneAnalysis
 pub mod OneBase
+pub mod OneWhy
+pub mod WhyLemmas
+pub mod OneSame
+pub mod Absent
+pub mod Naming
 pub mod OneEach
 pub mod Completing

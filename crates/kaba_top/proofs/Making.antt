@@ -9,9 +9,11 @@ use Rattle.fact_model.specs.InOrder.{InOrder}
 use Rattle.hier_model.specs.Hierarchies.{Hierarchy}
 use Rattle.hier_model.specs.declared.edits.Edit.{Edit}
 use Rattle.hier_model.specs.declared.edits.Edit.TheVariants.{Merge, Under, Move, TypeName, MemberName, Drop}
+use Rattle.hier_model.specs.declared.edits.Act.{Act}
+use Rattle.hier_model.specs.declared.edits.Act.TheVariants as acts
 use Rattle.hier_script.specs.Scripts.{after_edits}
 use Rattle.edit_script.specs.declared.lines.Line.{Line}
-use Rattle.edit_script.specs.Script.{words_of, IsNone, AreEditsOf, IsFirstBadLine, HasTooManyEdits}
+use Rattle.edit_script.specs.Script.{words_of, WritesAct, IsNone, AreEditsOf, IsFirstBadLine, HasTooManyEdits}
 use Rattle.hier_tree.specs.Kept.{HasNoInterface}
 use Rattle.hier_tree.specs.Reached.{IsReached, begun}
 use Rattle.tree_merge.specs.declared.steps.TreeStep.{TreeStep}
@@ -45,6 +47,10 @@ wordless (TypeName n name) h = let u = h in cc
 wordless (MemberName c name) h = let u = h in cc
 wordless (Drop n) h = let u = h in cc
 
+actless : (a : Act) → WritesAct [] a → ⊥
+actless (acts.Edit e) w = wordless e w.words_are
+actless acts.Undo w = let u = w in cc
+
 no_lines : (edits : List Line) → IsNone edits → edits ≡ []
 no_lines [] h = refl
 no_lines (e ∷ edits) h = absurd h
@@ -53,7 +59,7 @@ no_lines (e ∷ edits) h = absurd h
 pub no_edits : (edits : List Line) → AreEditsOf [] edits → edits ≡ []
 no_edits edits (inl h) = no_lines edits h.1
 no_edits [] (inr h) = refl
-no_edits (e ∷ edits) (inr h) = absurd (wordless e.edit h.1.writes.words_are)
+no_edits (e ∷ edits) (inr h) = absurd (actless e.act h.1.writes)
 
 -- and no bad line
 well_written : (n : ℕ) → IsFirstBadLine [] n → ⊥

@@ -24,7 +24,9 @@ use Rattle.hier_model.specs.declared.edits.Edit.TheVariants as edit
 use Rattle.hier_edit.specs.Applied.{outcome, applied}
 use Rattle.hier_view.specs.Text.{hierarchy_text}
 use Rattle.hier_view.specs.EditText.{nodes_text, edit_text}
-use Rattle.hier_script.specs.Scripts.{kept, refusal, after_edits, refusals_of}
+use Rattle.hier_model.specs.declared.edits.Act.{Act}
+use Rattle.hier_model.specs.declared.edits.Act.TheVariants as acts
+use Rattle.hier_script.specs.Scripts.{History, unedited, kept, refusal, after_act, act_refusal, after_acts, refusals_from, after_edits, refusals_of}
 use Rattle.hier_script.specs.Refusals.{broken_text}
 use Rattle.hier_tree.specs.declared.Conflict.{Conflict}
 use Rattle.hier_tree.specs.Trees.{Try, MakeOne, PutUnder, Step, End, Tree, Stuck, Grows, IsEditOf, try_of}
@@ -32,7 +34,7 @@ use Rattle.hier_tree.proofs.GrowLemmas.{one_tree}
 use Rattle.hier_rules.specs.declared.broken.Broken.{Broken}
 use Rattle.tree_merge.specs.declared.steps.TreeStep.{TreeStep}
 use Rattle.tree_merge.specs.Logs.{steps_of, AreEdits}
-use Rattle.hier_log.specs.Lines.{conflict_text, log_text, no_tree_text}
+use Rattle.kaba_top.specs.Logs.{conflict_text, log_text, no_tree_text}
 use Rattle.edit_script.specs.declared.lines.Line.{Line}
 use Rattle.std.proofs.lemmas.List.Elements.{All-head, All-tail}
 use Rattle.write_model.specs.Written.{java_tree}
@@ -52,15 +54,15 @@ use Rattle.kaba_top.proofs.SameHierarchies.{start_is}
 use Rattle.kaba_top.proofs.SameSteps.{applied_is, grows_on}
 use Rattle.kaba_top.proofs.SameWritten.{tree_is}
 use Rattle.kaba_top.proofs.SameTexts.{table_text_is, lattice_text_is, lattice_json_is, hierarchy_text_is}
-use Rattle.kaba_top.proofs.OneScript.{AreOneEdit, AreOneList, one_script, one_count, no_bad_line, one_bad_line}
+use Rattle.kaba_top.proofs.OneScript.{AreOneEdit, AreOneAct, AreOneList, one_script, one_count, no_bad_line, one_bad_line}
 
 pub said : (n : ℕ) (x y : List ℕ) → x ≡ y → AreOneKind (Says n x) (Says n y)
 said n x y q s t o p e f a b =
-    record { status = a.status_is ∙ sym b.status_is; out = a.out_is ∙ sym b.out_is; err = inl (a.err_is ∙ ap line q ∙ sym b.err_is) }
+    record { status = a.status_is ∙ sym b.status_is; out = inl (a.out_is ∙ sym b.out_is); err = inl (a.err_is ∙ ap line q ∙ sym b.err_is) }
 
 pub given : (n m : ℕ) (x y v w : List ℕ) → n ≡ m → x ≡ y → v ≡ w → AreOneKind (Gives n x v) (Gives m y w)
 given n m x y v w k q r s t o p e f a b =
-    record { status = a.status_is ∙ k ∙ sym b.status_is; out = a.out_is ∙ q ∙ sym b.out_is; err = inl (a.err_is ∙ r ∙ sym b.err_is) }
+    record { status = a.status_is ∙ k ∙ sym b.status_is; out = inl (a.out_is ∙ q ∙ sym b.out_is); err = inl (a.err_is ∙ r ∙ sym b.err_is) }
 
 no_some : {A : Type 0} {x : A} → ◌≡◌ {A = Option A} (Some x) None → ⊥
 no_some e = cc e
@@ -143,26 +145,40 @@ module _ {F G : Facts} (same : AreSame F G) (bound : ℕ) (h : HasLattice bound 
   one_applied : (H : Hierarchy) (e f : Edit) → AreOneEdit e f → applied F h.sets H e ≡ applied G k.sets H f
   one_applied H e f one = applied_is same h.sets k.sets points set_rows H e ∙ ap (outcome G k.sets) (one G H)
 
-  after_is : (es fs : List Line) → AreOneList es fs → (H : Hierarchy) → after_edits F h.sets H es ≡ after_edits G k.sets H fs
-  after_is [] [] one H = refl
-  after_is [] (f ∷ fs) one H = absurd one
-  after_is (e ∷ es) [] one H = absurd one
-  after_is (e ∷ es) (f ∷ fs) one H =
-      ap (λ r. after_edits F h.sets (kept H r) es) (one_applied H e.edit f.edit one.1) ∙ after_is es fs one.2 (kept H (applied G k.sets H f.edit))
+  act_is : (y : History) (a b : Act) → AreOneAct a b → after_act F h.sets y a ≡ after_act G k.sets y b
+  act_is y (acts.Edit e) (acts.Edit f) one = ap (kept y) (one_applied y.present e f one)
+  act_is y (acts.Edit e) acts.Undo one = absurd one
+  act_is y acts.Undo (acts.Edit f) one = absurd one
+  act_is y acts.Undo acts.Undo one = refl
 
-  refused_is : (es fs : List Line) → AreOneList es fs → (H : Hierarchy) → refusals_of F h.sets H es ≡ refusals_of G k.sets H fs
-  refused_is [] [] one H = refl
-  refused_is [] (f ∷ fs) one H = absurd one
-  refused_is (e ∷ es) [] one H = absurd one
-  refused_is (e ∷ es) (f ∷ fs) one H =
-      (λ i. refusal (one.0 i) (one_applied H e.edit f.edit one.1 i) ++ refusals_of F h.sets (kept H (one_applied H e.edit f.edit one.1 i)) es)
-      ∙ ap (λ z. refusal f.number (applied G k.sets H f.edit) ++ z) (refused_is es fs one.2 (kept H (applied G k.sets H f.edit)))
+  refusal_is : (n : ℕ) (y : History) (a b : Act) → AreOneAct a b → act_refusal F h.sets n y a ≡ act_refusal G k.sets n y b
+  refusal_is n y (acts.Edit e) (acts.Edit f) one = ap (refusal n) (one_applied y.present e f one)
+  refusal_is n y (acts.Edit e) acts.Undo one = absurd one
+  refusal_is n y acts.Undo (acts.Edit f) one = absurd one
+  refusal_is n y acts.Undo acts.Undo one = refl
+
+  after_is : (es fs : List Line) → AreOneList es fs → (y : History) → after_acts F h.sets y es ≡ after_acts G k.sets y fs
+  after_is [] [] one y = refl
+  after_is [] (f ∷ fs) one y = absurd one
+  after_is (e ∷ es) [] one y = absurd one
+  after_is (e ∷ es) (f ∷ fs) one y =
+      ap (λ z. after_acts F h.sets z es) (act_is y e.act f.act one.1) ∙ after_is es fs one.2 (after_act G k.sets y f.act)
+
+  refused_is : (es fs : List Line) → AreOneList es fs → (y : History) → refusals_from F h.sets y es ≡ refusals_from G k.sets y fs
+  refused_is [] [] one y = refl
+  refused_is [] (f ∷ fs) one y = absurd one
+  refused_is (e ∷ es) [] one y = absurd one
+  refused_is (e ∷ es) (f ∷ fs) one y =
+      ap (λ n. act_refusal F h.sets n y e.act ++ refusals_from F h.sets (after_act F h.sets y e.act) es) one.0
+      ∙ (λ i. refusal_is f.number y e.act f.act one.1 i ++ refusals_from F h.sets (act_is y e.act f.act one.1 i) es)
+      ∙ ap (λ z. act_refusal G k.sets f.number y f.act ++ z) (refused_is es fs one.2 (after_act G k.sets y f.act))
 
   pub one_edited : (es fs : List Line) → AreOneList es fs → edited bound F h es ≡ edited bound G k fs
-  one_edited es fs one = ap (λ H. after_edits F h.sets H es) start ∙ after_is es fs one (script.start_of bound G k)
+  one_edited es fs one =
+      ap (λ H. after_edits F h.sets H es) start ∙ ap (λ (y : History). y.present) (after_is es fs one (unedited (script.start_of bound G k)))
 
   pub one_refusals : (es fs : List Line) → AreOneList es fs → refusals bound F h es ≡ refusals bound G k fs
-  one_refusals es fs one = ap (λ H. refusals_of F h.sets H es) start ∙ refused_is es fs one (script.start_of bound G k)
+  one_refusals es fs one = ap (λ H. refusals_of F h.sets H es) start ∙ refused_is es fs one (unedited (script.start_of bound G k))
 
   -- the steps of both are those of one
   pub steps_on : {H K : Hierarchy} → H ≡ K → {log : List Step} {end : End} → Grows F h.sets H log end → Grows G k.sets K log end

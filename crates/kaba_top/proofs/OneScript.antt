@@ -1,5 +1,5 @@
 -- A script has one list of edits, or one first bad line.
-use Rattle.std.proofs.Common.{◌≡◌, ◌⊎◌, inl, inr, ⊎_elim, ℕ, ◌+◌, List, [], ◌∷◌, length, map, Ok, refl, sym, ap, ◌∙◌, subst, arith}
+use Rattle.std.proofs.Common.{◌≡◌, ◌⊎◌, inl, inr, ⊎_elim, ℕ, ◌+◌, List, [], ◌∷◌, length, map, codes, Ok, refl, sym, ap, ◌∙◌, subst, arith}
 use Rattle.std.specs.Prelude.{All}
 use Rattle.std.specs.List.{filter, onto_first}
 use Rattle.std.specs.Fmt.{decimal}
@@ -11,12 +11,14 @@ use Rattle.kaba_base.specs.declared.ColId.{ColId}
 use Rattle.kaba_base.proofs.Texts.{encodes-same}
 use Rattle.hier_model.specs.declared.edits.Edit.{Edit}
 use Rattle.hier_model.specs.declared.edits.Edit.TheVariants.{Merge, Under, Move, TypeName, MemberName, Drop}
+use Rattle.hier_model.specs.declared.edits.Act.{Act}
+use Rattle.hier_model.specs.declared.edits.Act.TheVariants as acts
 use Rattle.hier_model.specs.declared.edits.ChangeFault.TheVariants.{UnknownNode, Cycle}
 use Rattle.hier_model.specs.Hierarchies.{Hierarchy}
 use Rattle.hier_model.specs.Edits.{first_unknown, first_between, merged, unless, changed}
 use Rattle.fact_model.specs.declared.facts.Facts.{Facts}
 use Rattle.edit_script.specs.declared.lines.Line.{Line}
-use Rattle.edit_script.specs.Script.{is_space, is_there, parts_of, words_in, node_word, column_word, words_of, IsId, IsNode, IsSound, IsComment, IsEditLine, IsBadLine, IsNext, AreEditsFrom, AreEditsOf, IsFirstBadFrom, IsFirstBadLine, lines_of}
+use Rattle.edit_script.specs.Script.{is_space, is_there, parts_of, words_in, node_word, column_word, words_of, IsId, IsNode, IsSound, IsComment, WritesAct, IsActLine, IsBadLine, IsNext, AreEditsFrom, AreEditsOf, IsFirstBadFrom, IsFirstBadLine, lines_of}
 
 heads : {A : Type 0} {x y : A} {xs ys : List A} → x ∷ xs ≡ y ∷ ys → x ≡ y
 heads e = cc e
@@ -94,6 +96,28 @@ one_edit (Drop n) (TypeName m y) e a b = let h = heads e in let u : 100 ≡ 116 
 one_edit (Drop n) (MemberName d y) e a b = let h = heads e in let u : 100 ≡ 109 = heads h in absurd (omega (arith, u))
 one_edit (Drop n) (Drop m) e a b = λ F H. let u = one_node n m a b (heads (tails e)) in λ i. changed F H (Drop (u i))
 
+-- no edit is written by the word of an undo
+not_undo : (e : Edit) → words_of e ≡ codes "undo" ∷ [] → ⊥
+not_undo (Merge nodes) h = let u : 109 ≡ 117 = heads (heads h) in absurd (omega (arith, u))
+not_undo (Under n p) h = let t = tails h in cc t
+not_undo (Move c n) h = let t = tails h in cc t
+not_undo (TypeName n name) h = let t = tails h in cc t
+not_undo (MemberName c name) h = let t = tails h in cc t
+not_undo (Drop n) h = let t = tails h in cc t
+
+-- acts that make the same of each hierarchy
+abbrev pub AreOneAct : Act → Act → Type 0
+AreOneAct (acts.Edit e) (acts.Edit f) = AreOneEdit e f
+AreOneAct (acts.Edit e) acts.Undo = ⊥
+AreOneAct acts.Undo (acts.Edit f) = ⊥
+AreOneAct acts.Undo acts.Undo = Unit {0}
+
+one_act : (words : List (List ℕ)) (a b : Act) → WritesAct words a → WritesAct words b → AreOneAct a b
+one_act words (acts.Edit e) (acts.Edit f) v w = one_edit e f (sym v.words_are ∙ w.words_are) v.sound w.sound
+one_act words (acts.Edit e) acts.Undo v w = not_undo e (sym v.words_are ∙ w)
+one_act words acts.Undo (acts.Edit f) v w = not_undo f (sym w.words_are ∙ v)
+one_act words acts.Undo acts.Undo v w = tt
+
 -- ---- lines
 
 -- no edit is written by no words
@@ -114,27 +138,36 @@ not_marked (TypeName n name) w ws h = let u : 35 ≡ 116 = heads (heads h) in ab
 not_marked (MemberName c name) w ws h = let u : 35 ≡ 109 = heads (heads h) in absurd (omega (arith, u))
 not_marked (Drop n) w ws h = let u : 35 ≡ 100 = heads (heads h) in absurd (omega (arith, u))
 
+-- nor is an undo
+actless : (a : Act) → WritesAct [] a → ⊥
+actless (acts.Edit e) w = wordless e w.words_are
+actless acts.Undo w = let u = w in cc u
+
+act_not_marked : (a : Act) (w : List ℕ) (ws : List (List ℕ)) → WritesAct ((35 ∷ w) ∷ ws) a → ⊥
+act_not_marked (acts.Edit e) w ws h = not_marked e w ws h.words_are
+act_not_marked acts.Undo w ws h = let u : 35 ≡ 117 = heads (heads h) in absurd (omega (arith, u))
+
 -- a line that begins with `#` has such a first word
 marked : (rest : List ℕ) (parts : List (List ℕ)) → parts_of rest ≡ parts → (w : List ℕ) × (ws : List (List ℕ)) × (words_in (35 ∷ rest) ≡ (35 ∷ w) ∷ ws)
 marked rest [] e = ([], [], ap (filter is_there) (slice_split-cons_no is_space 35 rest refl ∙ ap (onto_first 35) e))
 marked rest (w ∷ ws) e = (w, filter is_there ws, ap (filter is_there) (slice_split-cons_no is_space 35 rest refl ∙ ap (onto_first 35) e))
 
--- a line that says nothing is no edit
-no_edit : (line : List ℕ) (e : Edit) → IsComment line → IsEditLine line e → ⊥
-no_edit [] e c h = wordless e h.writes.words_are
-no_edit (b ∷ rest) e c h = ⊎_elim (λ z. cc z) (λ z.
+-- a line that says nothing is no edit and no undo
+no_act : (line : List ℕ) (a : Act) → IsComment line → IsActLine line a → ⊥
+no_act [] a c h = actless a h.writes
+no_act (b ∷ rest) a c h = ⊎_elim (λ z. cc z) (λ z.
     let m = marked rest (parts_of rest) refl in
     let first : b ≡ 35 = z in
-    not_marked e m.0 m.1 (sym m.2 ∙ subst (λ x. words_in (x ∷ rest) ≡ words_of e) first h.writes.words_are)) c.skipped
+    act_not_marked a m.0 m.1 (subst (λ words. WritesAct words a) m.2 (subst (λ x. WritesAct (words_in (x ∷ rest)) a) first h.writes))) c.skipped
 
 -- ---- scripts
 
--- lists of edits that are one by one the same
+-- lists of acts that are one by one the same
 abbrev pub AreOneList : List Line → List Line → Type 0
 AreOneList [] [] = Unit {0}
 AreOneList [] (f ∷ fs) = ⊥
 AreOneList (e ∷ es) [] = ⊥
-AreOneList (e ∷ es) (f ∷ fs) = (e.number ≡ f.number) × AreOneEdit e.edit f.edit × AreOneList es fs
+AreOneList (e ∷ es) (f ∷ fs) = (e.number ≡ f.number) × AreOneAct e.act f.act × AreOneList es fs
 
 one_next : (k : ℕ) (line : List ℕ) (K : List Line → Type 0) → ((es fs : List Line) → K es → K fs → AreOneList es fs) → (es fs : List Line)
     → IsNext k line K es → IsNext k line K fs → AreOneList es fs
@@ -142,13 +175,13 @@ one_next k line K one [] fs h g = absurd h
 one_next k line K one (e ∷ es) [] h g = absurd g
 one_next k line K one (e ∷ es) (f ∷ fs) h g = (
   h.0 ∙ sym g.0,
-  one_edit e.edit f.edit (sym h.1.writes.words_are ∙ g.1.writes.words_are) h.1.writes.sound g.1.writes.sound,
+  one_act (words_in line) e.act f.act h.1.writes g.1.writes,
   one es fs h.2 g.2,
 )
 
 no_next : (k : ℕ) (line : List ℕ) (K : List Line → Type 0) (es : List Line) → IsComment line → IsNext k line K es → ⊥
 no_next k line K [] c h = h
-no_next k line K (e ∷ es) c h = no_edit line e.edit c h.1
+no_next k line K (e ∷ es) c h = no_act line e.act c h.1
 
 one_from : (k : ℕ) (lines : List (List ℕ)) (es fs : List Line) → AreEditsFrom k lines es → AreEditsFrom k lines fs → AreOneList es fs
 one_from k [] [] [] h g = tt
@@ -171,7 +204,7 @@ one_count (e ∷ es) (f ∷ fs) h = let z = one_count es fs h.2 in omega (arith,
 -- a script with a bad line has no edits
 edit_there : (k : ℕ) (line : List ℕ) (K : List Line → Type 0) (es : List Line) → IsBadLine line → IsNext k line K es → ⊥
 edit_there k line K [] b h = h
-edit_there k line K (e ∷ es) b h = b.no_edit e.edit h.1
+edit_there k line K (e ∷ es) b h = b.no_act e.act h.1
 
 rest_there : (k : ℕ) (line : List ℕ) (K : List Line → Type 0) (es : List Line) → IsNext k line K es → (fs : List Line) × K fs
 rest_there k line K [] h = absurd h

@@ -1,5 +1,5 @@
 -- A text is refused, or it is that of one program; it is refused in one way, but for what may be told of names and of types.
-use Rattle.std.proofs.Common.{◌≡◌, inl, inr, ℕ, ◌≤◌, List, Result, Ok, Err, refl, sym, ap, ◌∙◌, subst, arith, codes}
+use Rattle.std.proofs.Common.{◌≡◌, ◌⊎◌, inl, inr, ⊎_elim, ℕ, ◌≤◌, List, Result, Ok, Err, refl, sym, ap, ◌∙◌, subst, arith, codes}
 use Rattle.java_lex.specs.declared.Token.{Token}
 use Rattle.java_lex.specs.Lexing.{tokens_of}
 use Rattle.java_tree.specs.Syntax.{DeclTree}
@@ -75,17 +75,23 @@ module _ (bytes : List ℕ) where
 
   -- ---- how it is refused
 
-  said : (n : ℕ) (x y : List ℕ) → x ≡ y → AreOneKind (Says n x) (Says n y)
+  -- two refusals are one, but for what may be told of names and of types
+  pub record RefusesOnce (s t : ℕ) (o p e f : List ℕ) : Type 0 where
+    pub status : s ≡ t
+    pub out : o ≡ p
+    pub err : (e ≡ f) ⊎ AreFree bytes s o e t p f
+
+  said : (n : ℕ) (x y : List ℕ) → x ≡ y → (s t : ℕ) (o p e f : List ℕ) → Says n x s o e → Says n y t p f → RefusesOnce s t o p e f
   said n x y q s t o p e f a b = record {
     status = a.status_is ∙ sym b.status_is;
     out = a.out_is ∙ sym b.out_is;
     err = inl (a.err_is ∙ ap line q ∙ sym b.err_is);
   }
 
-  free : (s t : ℕ) (o p e f x y : List ℕ) → Says 65 x s o e → Says 65 y t p f → AreFree bytes s o e t p f → AreOne s o e t p f
-  free s t o p e f x y a b c = record { status = a.status_is ∙ sym b.status_is; out = a.out_is ∙ sym b.out_is; err = inr (bytes, c) }
+  free : (s t : ℕ) (o p e f x y : List ℕ) → Says 65 x s o e → Says 65 y t p f → AreFree bytes s o e t p f → RefusesOnce s t o p e f
+  free s t o p e f x y a b c = record { status = a.status_is ∙ sym b.status_is; out = a.out_is ∙ sym b.out_is; err = inr c }
 
-  pub one_refusal : AreOneKind (IsRefusedText bytes) (IsRefusedText bytes)
+  pub one_refusal : (s t : ℕ) (o p e f : List ℕ) → IsRefusedText bytes s o e → IsRefusedText bytes t p f → RefusesOnce s t o p e f
   unfolding IsRefusedText
   one_refusal s t o p e f (inl a) (inl b) =
       said 65 (refused (lex_text a.fault)) (refused (lex_text b.fault)) (ap (λ z. refused (lex_text z)) (err_same (sym a.lexed ∙ b.lexed))) s t o p e f
@@ -129,10 +135,14 @@ module _ (bytes : List ℕ) where
       absurd (no_names b.tree a.tree b.why b.read b.condition a.has.read a.has.none)
   one_refusal s t o p e f (inr (inr (inr (inr a)))) (inr (inr (inr (inr b)))) = free s t o p e f _ _ a.says b.says (inr (a, b))
 
+-- so they are one
+once : (bytes : List ℕ) (s t : ℕ) (o p e f : List ℕ) → RefusesOnce bytes s t o p e f → AreOne s o e t p f
+once bytes s t o p e f r = record { status = r.status; out = inl r.out; err = ⊎_elim (λ q. inl q) (λ c. inr (inl (bytes, c))) r.err }
+
 -- the answers for a text, where the answers for its program are one
 pub one_text : (K L : Program → ℕ → List ℕ → List ℕ → Type 0) → ((p q : Program) → program_of p ≡ program_of q → AreOneKind (K p) (L q)) → (bytes : List ℕ)
     → AreOneKind (TextAnswers K bytes) (TextAnswers L bytes)
-one_text K L one bytes s t o p e f (inl a) (inl b) = one_refusal bytes s t o p e f a b
+one_text K L one bytes s t o p e f (inl a) (inl b) = once bytes s t o p e f (one_refusal bytes s t o p e f a b)
 one_text K L one bytes s t o p e f (inl a) (inr b) = absurd (not_both bytes s o e (program_of b.program) a b.is)
 one_text K L one bytes s t o p e f (inr a) (inl b) = absurd (not_both bytes t p f (program_of a.program) b a.is)
 one_text K L one bytes s t o p e f (inr a) (inr b) =

@@ -13,15 +13,18 @@ use Rattle.fact_model.specs.declared.facts.Facts.{Facts}
 use Rattle.fact_model.specs.declared.sets.PointsTo.{PointsTo}
 use Rattle.hier_model.specs.Hierarchies.{Hierarchy}
 use Rattle.hier_model.specs.Edits.{changed}
+use Rattle.hier_model.specs.declared.edits.Edit.{Edit}
+use Rattle.hier_model.specs.declared.edits.Act.{Act}
+use Rattle.hier_model.specs.declared.edits.Act.TheVariants as acts
 use Rattle.hier_model.specs.declared.edits.ChangeFault.{ChangeFault}
 use Rattle.hier_rules.specs.declared.broken.Broken.{Broken}
 use Rattle.hier_rules.specs.First.{first_of_edit}
 use Rattle.hier_edit.specs.Applied.{unless_broken, outcome}
-use Rattle.hier_script.specs.Scripts.{kept, refusal, after_edits, refusals_of}
+use Rattle.hier_script.specs.Scripts.{History, unedited, kept, taken_back, refusal, undo_refusal, after_act, act_refusal, after_acts, refusals_from}
 use Rattle.edit_script.specs.declared.lines.Line.{Line}
 use Rattle.edit_script.specs.Script.{AreEditsOf}
 use Rattle.java_write.specs.Written.{IsWrittenText, tree_of_hierarchy}
-use Rattle.kaba_words.specs.Commands.{Cmd, run, table, lattice, base, edit, regen, make, help, version}
+use Rattle.kaba_words.specs.Commands.{Cmd, run, table, lattice, base, why, same, edit, regen, make, help, version}
 use Rattle.stem_base.proofs.Laws.{are_a_base, none_shorter}
 use Rattle.java_meaning.proofs.UntaggedRuns.{same_aside}
 use Rattle.write_model.proofs.Nowhere.{without_places}
@@ -30,15 +33,28 @@ use Rattle.name_place_laws.proofs.Whole.{has_no_places}
 use Rattle.kaba_top.proofs.ReadsOne.{reads_one}
 use Rattle.kaba_top.proofs.TakenAgain.{taken_again}
 use Rattle.kaba_top.specs.TextPrograms.{IsTypedText}
+use Rattle.kaba_top.specs.Lines.{line}
 use Rattle.kaba_top.specs.Reading.{IsRefusedText, TextAnswers}
 use Rattle.kaba_top.specs.TextFacts.{HasTextFacts}
 use Rattle.kaba_top.specs.FactsAnswers.{HasFacts, AnalysisAnswers, LatticeOf}
 use Rattle.kaba_top.specs.BaseAnswers.{BaseOf}
+use Rattle.kaba_top.specs.WhyAnswers.{WhyOf}
+use Rattle.kaba_top.specs.SameAnswers.{SameOf}
+use Rattle.java_core.specs.Formed.{IsFormed}
+use Rattle.java_core.specs.Typing.{IsTyped}
+use Rattle.rebuild_model.specs.OnePrograms.{AreOne}
+use Rattle.rebuild_laws.specs.runs.Same.{HasSameRun, OneRunsTheSame}
+use Rattle.rebuild_laws.proofs.one.Whole.{one_runs_the_same}
 use Rattle.kaba_top.specs.ScriptAnswers.{HasLattice, IsRun, ScriptAnswers, start_of, edited, refusals}
 use Rattle.kaba_top.specs.EditAnswers.{EditOf, ShowsHierarchy}
 use Rattle.kaba_top.specs.RegenAnswers.{IsRegeneration, RegenOf}
-use Rattle.kaba_top.specs.Answers.{FileAnswers, EditAnswers, RegenAnswers, CommandAnswers, Replies}
-use Rattle.kaba_top.specs.Promise.{ShowsLattice, ShowsBase, AreJudged, none, made, breaks, unmade, JudgesEdits, IsRebuilt, TellsEdits, WritesProgram, FindsNoTree, OfFile, Promises, IsPromised}
+use Rattle.kaba_top.specs.Answers.{FileAnswers, NamedAnswers, EditAnswers, RegenAnswers, CommandAnswers, Replies}
+use Rattle.kaba_top.specs.Promise.{ShowsLattice, ShowsBase, ShowsTrail, IsSameProgram, AreJudged, none, made, breaks, unmade, undone, none_left, JudgesEdits, IsRebuilt, TellsEdits, WritesProgram, FindsNoTree, OfFile, Promises, IsPromised}
+
+-- programs that are one have the same run
+runs_alike : (P Q : Plain) → IsFormed P → IsTyped P → IsFormed Q → AreOne P Q → HasSameRun P Q
+unfolding OneRunsTheSame
+runs_alike = one_runs_the_same
 
 -- what is known of the facts of a program tells which facts they are
 text_facts : (p : Program) (F : Facts) → HasFacts p F → HasTextFacts (program_of p) F
@@ -52,6 +68,9 @@ IsJudging status = (status ≡ 0) ⊎ (status ≡ 4)
 other : (n status : ℕ) → (n ≡ 0 → ⊥) → (n ≡ 4 → ⊥) → status ≡ n → IsJudging status → ⊥
 other n status no_zero no_four e (inl z) = no_zero (sym e ∙ z)
 other n status no_zero no_four e (inr f) = no_four (sym e ∙ f)
+
+not_one : {status : ℕ} → status ≡ 1 → IsJudging status → ⊥
+not_one {status} e j = other 1 status (omega arith) (omega arith) e j
 
 refused : (bytes : List ℕ) (status : ℕ) (out err : List ℕ) → IsJudging status → IsRefusedText bytes status out err → ⊥
 unfolding IsRefusedText
@@ -124,25 +143,77 @@ module _ (status : ℕ) (out err : List ℕ) (j : IsJudging status) where
     ]
   ]
 
--- each edit is made or refused as the hierarchy after it meets its obligations
+  in_named : (K : Program → ℕ → List ℕ → List ℕ → Type 0) (P : List ℕ → Type 0) (files : Files) (file : List ℕ)
+      → ((bytes : List ℕ) (p : Program) → IsTypedText bytes (program_of p) → K p status out err → P bytes) → NamedAnswers K files file status out err
+      → OfFile files file P
+  in_named K P files file f (inl a) = absurd (other 66 status (omega arith) (omega arith) a.says.status_is j)
+  in_named K P files file f (inr (inl a)) = absurd (other 67 status (omega arith) (omega arith) a.answers.says.status_is j)
+  in_named K P files file f (inr (inr a)) = elim a.answers as (λ _. OfFile files file P) [
+    | inl b ↦ absurd (refused a.bytes status out (line b.text) j b.answers)
+    | inr b ↦ record { bytes = a.bytes; there = a.there; holds = f a.bytes b.program b.is b.answers }
+  ]
+
+  found_one : (file other : List ℕ) (bytes others : List ℕ) (p q : Program) → IsTypedText bytes (program_of p) → IsTypedText others (program_of q)
+      → SameOf file other p q status out err → IsSameProgram bytes others
+  found_one file other bytes others p q text again (inl a) = record {
+    program = p;
+    other = q;
+    text = text;
+    other_text = again;
+    one = a.one;
+    same = runs_alike (program_of p) (program_of q) text.formed text.typed again.formed a.one;
+  }
+  found_one file other bytes others p q text again (inr a) = absurd (not_one a.says.status_is j)
+
+  trail_shown : (row column : ℕ) (bytes : List ℕ) (p : Program) → IsTypedText bytes (program_of p) → (F : Facts) → HasFacts p F
+      → WhyOf row column F status out err → ShowsTrail row column bytes out
+  trail_shown row column bytes p text F facts (inl absent) = absurd (other 71 status (omega arith) (omega arith) absent.says.status_is j)
+  trail_shown row column bytes p text F facts (inr shown) = record {
+    program = p;
+    facts = F;
+    trail = shown.trail;
+    text = text;
+    facts_are = text_facts p F facts;
+    holds = shown.holds;
+    is = shown.is;
+    shown_is = shown.gives.out_is;
+  }
+
+-- each edit is made or refused as the hierarchy after it meets its obligations, and each undo as there is something to take back
 module _ (F : Facts) (pt : PointsTo) where
-  by_tested : (H K : Hierarchy) (line : Line) (lines : List Line) (o : Option Broken) → changed F H line.edit ≡ Ok K → first_of_edit F pt K ≡ o
-      → ((L : Hierarchy) → AreJudged F pt L lines (after_edits F pt L lines) (refusals_of F pt L lines))
-      → AreJudged F pt H (line ∷ lines) (after_edits F pt (kept H (unless_broken K o)) lines) (refusal line.number (unless_broken K o)
-      ++ refusals_of F pt (kept H (unless_broken K o)) lines)
-  by_tested H K line lines None e t rest = made e t (rest K)
-  by_tested H K line lines (Some b) e t rest = breaks e t (rest H)
+  -- the further acts are judged, whatever the history
+  abbrev AreRestJudged : List Line → Type 0
+  AreRestJudged lines = (h : History) → AreJudged F pt h.present h.past lines (after_acts F pt h lines).present (refusals_from F pt h lines)
 
-  by_changed : (H : Hierarchy) (line : Line) (lines : List Line) (r : Result Hierarchy ChangeFault) → changed F H line.edit ≡ r
-      → ((L : Hierarchy) → AreJudged F pt L lines (after_edits F pt L lines) (refusals_of F pt L lines))
-      → AreJudged F pt H (line ∷ lines) (after_edits F pt (kept H (outcome F pt r)) lines) (refusal line.number (outcome F pt r) ++ refusals_of F pt
-      (kept H (outcome F pt r)) lines)
-  by_changed H line lines (Ok K) e rest = by_tested H K line lines (first_of_edit F pt K) e refl rest
-  by_changed H line lines (Err fault) e rest = unmade e (rest H)
+  by_tested : (h : History) (K : Hierarchy) (line : Line) (e : Edit) (lines : List Line) (o : Option Broken) → line.act ≡ acts.Edit e
+      → changed F h.present e ≡ Ok K → first_of_edit F pt K ≡ o → AreRestJudged lines
+      → AreJudged F pt h.present h.past (line ∷ lines) (after_acts F pt (kept h (unless_broken K o)) lines).present
+      (refusal line.number (unless_broken K o) ++ refusals_from F pt (kept h (unless_broken K o)) lines)
+  by_tested h K line e lines None is c t rest = made is c t (rest (kept h (Ok K)))
+  by_tested h K line e lines (Some b) is c t rest = breaks is c t (rest h)
 
-  judged : (lines : List Line) (H : Hierarchy) → AreJudged F pt H lines (after_edits F pt H lines) (refusals_of F pt H lines)
-  judged [] H = none
-  judged (line ∷ lines) H = by_changed H line lines (changed F H line.edit) refl (judged lines)
+  by_changed : (h : History) (line : Line) (e : Edit) (lines : List Line) (r : Result Hierarchy ChangeFault) → line.act ≡ acts.Edit e
+      → changed F h.present e ≡ r → AreRestJudged lines
+      → AreJudged F pt h.present h.past (line ∷ lines) (after_acts F pt (kept h (outcome F pt r)) lines).present
+      (refusal line.number (outcome F pt r) ++ refusals_from F pt (kept h (outcome F pt r)) lines)
+  by_changed h line e lines (Ok K) is c rest = by_tested h K line e lines (first_of_edit F pt K) is c refl rest
+  by_changed h line e lines (Err fault) is c rest = unmade is c (rest h)
+
+  by_undo : (H : Hierarchy) (past : List Hierarchy) (line : Line) (lines : List Line) → line.act ≡ acts.Undo → AreRestJudged lines
+      → AreJudged F pt H past (line ∷ lines) (after_acts F pt (taken_back H past) lines).present
+      (undo_refusal line.number past ++ refusals_from F pt (taken_back H past) lines)
+  by_undo H [] line lines is rest = none_left is (rest (unedited H))
+  by_undo H (K ∷ past) line lines is rest = undone is (rest (record { present = K; past = past }))
+
+  by_act : (h : History) (line : Line) (a : Act) (lines : List Line) → line.act ≡ a → AreRestJudged lines
+      → AreJudged F pt h.present h.past (line ∷ lines) (after_acts F pt (after_act F pt h a) lines).present
+      (act_refusal F pt line.number h a ++ refusals_from F pt (after_act F pt h a) lines)
+  by_act h line (acts.Edit e) lines is rest = by_changed h line e lines (changed F h.present e) is refl rest
+  by_act h line acts.Undo lines is rest = by_undo h.present h.past line lines is rest
+
+  judged : (lines : List Line) → AreRestJudged lines
+  judged [] h = none
+  judged (line ∷ lines) h = by_act h line line.act lines refl (judged lines)
 
 -- the edits of a run
 abbrev judges : (bound : ℕ) (bytes script : List ℕ) (p : Program) (F : Facts) → IsTypedText bytes (program_of p) → HasFacts p F
@@ -155,7 +226,7 @@ judges bound bytes script p F text facts has edits are = record {
   sets_are = has.are_sets;
   edits = edits;
   are = are;
-  judged = judged F has.sets edits (start_of bound F has);
+  judged = judged F has.sets edits (unedited (start_of bound F has));
 }
 
 written_bare : (tree : List DeclTree) (P : Plain) → unplaced tree ≡ tree → IsGiven tree → HasNoCondition tree → Resolves tree P → untagged P ≡ P
@@ -321,6 +392,18 @@ command_promised (base file) first second status out err a = λ z.
     in_file status out err (inl z) (TextAnswers (AnalysisAnswers BaseOf)) (λ bytes. ShowsBase bytes out) first file
     (λ bytes. in_text status out err (inl z) (AnalysisAnswers BaseOf) (ShowsBase bytes out) bytes
     (λ p text. in_facts status out err (inl z) BaseOf (ShowsBase bytes out) p (base_shown status out err (inl z) bytes p text)))
+    a
+command_promised (why file row column) first second status out err a = λ z.
+    in_file status out err (inl z) (TextAnswers (AnalysisAnswers (WhyOf row column))) (λ bytes. ShowsTrail row column bytes out) first file
+    (λ bytes. in_text status out err (inl z) (AnalysisAnswers (WhyOf row column)) (ShowsTrail row column bytes out) bytes
+    (λ p text. in_facts status out err (inl z) (WhyOf row column) (ShowsTrail row column bytes out) p
+    (trail_shown status out err (inl z) row column bytes p text)))
+    a
+command_promised (same file other) first second status out err a = λ z.
+    in_named status out err (inl z) (λ p. NamedAnswers (SameOf file other p) second other)
+    (λ bytes. OfFile second other (λ others. IsSameProgram bytes others)) first file
+    (λ bytes p text. in_named status out err (inl z) (SameOf file other p) (λ others. IsSameProgram bytes others) second other
+    (λ others q again. found_one status out err (inl z) file other bytes others p q text again))
     a
 command_promised (edit bound file script) first second status out err a = λ j.
     in_file status out err j (λ bytes. FileAnswers (EditAnswers bound bytes) second script)

@@ -1,6 +1,8 @@
--- What drops and fresh names make of a start, and that facts without an interface have none.
+-- What drops, fresh names and undos make of a start, and that facts without an interface have none.
 use Rattle.std.proofs.Common.{◌≡◌, ℕ, zero, suc, ◌+◌, Bool, false, List, [], ◌∷◌, Result, Ok, Err, map, refl, ◌∙◌, ap, slice_get}
+use Rattle.std.specs.Prelude.{All}
 use Rattle.std.specs.List.{list_any}
+use Rattle.std.proofs.lemmas.List.Elements.{All-nil, All-cons, All-head, All-tail}
 use Rattle.std.proofs.lemmas.Bool.{or_parts}
 use Rattle.std.specs.Option.{option_map_or}
 use Rattle.java_core.specs.declared.Program.{Program}
@@ -15,31 +17,54 @@ use Rattle.flow_rules.specs.Facts.{ClassFacts, class_seen, class_facts}
 use Rattle.hier_model.specs.Hierarchies.{Hierarchy}
 use Rattle.hier_model.specs.declared.edits.Edit.{Edit}
 use Rattle.hier_model.specs.declared.edits.Edit.TheVariants.{Merge, Under, Move, TypeName, MemberName, Drop}
+use Rattle.hier_model.specs.declared.edits.Act.{Act}
+use Rattle.hier_model.specs.declared.edits.Act.TheVariants as acts
 use Rattle.hier_edit.specs.declared.ApplyFault.{ApplyFault}
 use Rattle.hier_edit.specs.Applied.{applied}
 use Rattle.edit_script.specs.declared.lines.Line.{Line}
-use Rattle.hier_script.specs.Scripts.{kept, after_edit, after_edits}
+use Rattle.hier_script.specs.Scripts.{History, unedited, kept, taken_back, after_act, after_acts, after_edits}
 use Rattle.hier_tree.specs.Kept.{HasNoInterface}
 use Rattle.hier_tree.specs.Reached.{IsReached, dropped, type_named, member_named}
-use Rattle.kaba_top.specs.Fresh.{DeclaresNoInterface, IsDropOrFresh, AreDropsAndFreshNames}
+use Rattle.kaba_top.specs.Fresh.{DeclaresNoInterface, IsDropOrFresh, IsDropFreshOrUndo, AreDropsAndFreshNamesFrom, AreDropsAndFreshNames}
 use Rattle.kaba_top.specs.FactsAnswers.{HasFacts}
 
 module _ (F : Facts) (pt : PointsTo) (t : Table) (l : Lattice) where
+  -- the hierarchy at present and all past ones are reached
+  record AreReached (h : History) : Type 0 where
+    pub present : IsReached F pt t l h.present
+    pub past : All (IsReached F pt t l) h.past
+
+  -- an edit was made
+  grown : (h : History) (New : Hierarchy) → AreReached h → IsReached F pt t l New → AreReached (kept h (Ok New))
+  grown h New r new = record { present = new; past = All-cons (IsReached F pt t l) h.present h.past r.present r.past }
+
   -- an edit that was accepted or refused
-  by_result : (H : Hierarchy) (e : Edit) (r : Result Hierarchy ApplyFault) → IsDropOrFresh F H e → IsReached F pt t l H → applied F pt H e ≡ r
-      → IsReached F pt t l (kept H r)
-  by_result H (Drop n) (Ok New) d h made = dropped n h made
-  by_result H (TypeName n name) (Ok New) d h made = type_named n name h d made
-  by_result H (MemberName c name) (Ok New) d h made = member_named c name h d made
-  by_result H (Merge set) (Ok New) d h made = absurd d
-  by_result H (Under n p) (Ok New) d h made = absurd d
-  by_result H (Move c n) (Ok New) d h made = absurd d
-  by_result H e (Err fault) d h made = h
+  by_result : (h : History) (e : Edit) (r : Result Hierarchy ApplyFault) → IsDropOrFresh F h.present e → AreReached h → applied F pt h.present e ≡ r
+      → AreReached (kept h r)
+  by_result h (Drop n) (Ok New) d a made = grown h New a (dropped n a.present made)
+  by_result h (TypeName n name) (Ok New) d a made = grown h New a (type_named n name a.present d made)
+  by_result h (MemberName c name) (Ok New) d a made = grown h New a (member_named c name a.present d made)
+  by_result h (Merge set) (Ok New) d a made = absurd d
+  by_result h (Under n p) (Ok New) d a made = absurd d
+  by_result h (Move c n) (Ok New) d a made = absurd d
+  by_result h e (Err fault) d a made = a
+
+  -- an undo brings back what was reached
+  back : (H : Hierarchy) (past : List Hierarchy) → IsReached F pt t l H → All (IsReached F pt t l) past → AreReached (taken_back H past)
+  back H [] r all = record { present = r; past = all }
+  back H (K ∷ past) r all = record { present = All-head (IsReached F pt t l) K past all; past = All-tail (IsReached F pt t l) K past all }
+
+  by_act : (h : History) (a : Act) → IsDropFreshOrUndo F h.present a → AreReached h → AreReached (after_act F pt h a)
+  by_act h (acts.Edit e) d r = by_result h e (applied F pt h.present e) d r refl
+  by_act h acts.Undo d r = back h.present h.past r.present r.past
 
   -- one after the other
+  all_reached : (h : History) (lines : List Line) → AreDropsAndFreshNamesFrom F pt h lines → AreReached h → AreReached (after_acts F pt h lines)
+  all_reached h [] d r = r
+  all_reached h (line ∷ lines) d r = all_reached (after_act F pt h line.act) lines d.1 (by_act h line.act d.0 r)
+
   pub reached : (H : Hierarchy) (lines : List Line) → AreDropsAndFreshNames F pt H lines → IsReached F pt t l H → IsReached F pt t l (after_edits F pt H lines)
-  reached H [] d h = h
-  reached H (line ∷ lines) d h = reached (after_edit F pt H line) lines d.1 (by_result H line.edit (applied F pt H line.edit) d.0 h refl)
+  reached H lines d r = (all_reached (unedited H) lines d (record { present = r; past = All-nil (IsReached F pt t l) })).present
 
 abbrev interface_of : List ClassFacts → Bool
 interface_of [] = false

@@ -139,7 +139,7 @@ module _ {F G : Facts} (s : AreSame F G) where
       (by_array n c (subst (λ z. n < length z) s.sites lt) (subst (λ z. 0 < z.dim) (site_at_is s n) dim)
       (subst (λ z. IsColumn G Is z c) (site_class_is s n) (column_on h)))
 
-  entry_on : (r c : ℕ) → IsEntry F r c → IsEntry G r c
+  pub entry_on : (r c : ℕ) → IsEntry F r c → IsEntry G r c
   entry_on r c h = derivable_least (Entails F) (λ e. IsEntry G e.0 e.1) (λ ps a q all. derivable_by (Entails G) ps a (entails_on q) all) (r, c) h
 
 -- families of one size whose sets have the same numbers are one

@@ -6,22 +6,24 @@ use Rattle.java_core.specs.Programs.{program_of}
 use Rattle.java_meaning.specs.Moment as meaning
 use Rattle.fact_model.specs.declared.facts.Facts.{Facts}
 use Rattle.java_run.specs.Outcomes.{meant}
-use Rattle.kaba_words.specs.Commands.{Cmd, run, table, lattice, base, edit, regen, make, help, version}
+use Rattle.kaba_words.specs.Commands.{Cmd, run, table, lattice, base, why, same, edit, regen, make, help, version}
 use Rattle.kaba_top.specs.About.{help_text, version_text}
 use Rattle.kaba_top.specs.Lines.{Says, Gives}
 use Rattle.kaba_top.specs.Reading.{IsRefusedText, TextAnswers}
 use Rattle.kaba_top.specs.RunAnswers.{EndGives, RunAnswers}
 use Rattle.kaba_top.specs.FactsAnswers.{AnalysisAnswers, TableOf, LatticeOf}
 use Rattle.kaba_top.specs.BaseAnswers.{BaseOf}
+use Rattle.kaba_top.specs.WhyAnswers.{WhyOf}
+use Rattle.kaba_top.specs.SameAnswers.{SameOf}
 use Rattle.hier_view.specs.Text.{hierarchy_text}
 use Rattle.edit_script.specs.declared.lines.Line.{Line}
-use Rattle.hier_log.specs.Lines.{log_text}
+use Rattle.kaba_top.specs.Logs.{log_text}
 use Rattle.kaba_top.specs.ScriptAnswers.{HasLattice, ScriptAnswers, edited, refusals}
 use Rattle.kaba_top.specs.EditAnswers.{EditOf, ShowsHierarchy}
 use Rattle.kaba_top.specs.RegenAnswers.{IsRegeneration, IsWithoutTree, RegenOf}
 use Rattle.kaba_top.specs.MakeAnswers.{sample_text, MadeTextAnswers, RunGives, WrittenGives, MadeOf, MakeAnswers, counts_of, made_steps, summary}
 use Rattle.kaba_top.specs.declared.make.Counts.{Counts}
-use Rattle.kaba_top.specs.Answers.{FileAnswers, EditAnswers, RegenAnswers, CommandAnswers, Answers, Replies}
+use Rattle.kaba_top.specs.Answers.{FileAnswers, NamedAnswers, EditAnswers, RegenAnswers, CommandAnswers, Answers, Replies}
 
 abbrev pub IsOther : ℕ → Type 0
 IsOther status = (status ≡ 70 → ⊥) × (status ≡ 74 → ⊥)
@@ -80,6 +82,10 @@ base_other f status out err a = elim a.answers as (λ _. IsOther status) [
   ]
 ]
 
+why_other : (row column : ℕ) (f : Facts) → AreOther (WhyOf row column f)
+why_other row column f status out err (inl none) = said 71 (omega arith, omega arith) _ status out err none.says
+why_other row column f status out err (inr shown) = gave 0 (omega arith, omega arith) _ _ status out err shown.gives
+
 after_script : (none : Bool) (bytes refusals : List ℕ) → AreOther (Gives (if none then 0 else 4) bytes refusals)
 after_script true bytes refusals status out err h = gave 0 (omega arith, omega arith) _ _ status out err h
 after_script false bytes refusals status out err h = gave 4 (omega arith, omega arith) _ _ status out err h
@@ -114,6 +120,19 @@ file_other : (K : List ℕ → ℕ → List ℕ → List ℕ → Type 0) → ((b
 file_other K o files name status out err (inl a) = said 66 (omega arith, omega arith) _ status out err a.says
 file_other K o files name status out err (inr (inl a)) = said 67 (omega arith, omega arith) _ status out err a.says
 file_other K o files name status out err (inr (inr a)) = o a.bytes status out err a.answers
+
+same_other : (file other : List ℕ) (p q : Program) → AreOther (SameOf file other p q)
+same_other file other p q status out err (inl a) = gave 0 (omega arith, omega arith) _ _ status out err a.gives
+same_other file other p q status out err (inr a) = said 1 (omega arith, omega arith) _ status out err a.says
+
+named_other : (K : Program → ℕ → List ℕ → List ℕ → Type 0) → ((p : Program) → AreOther (K p)) → (files : Files) (name : List ℕ)
+    → AreOther (NamedAnswers K files name)
+named_other K o files name status out err (inl a) = said 66 (omega arith, omega arith) _ status out err a.says
+named_other K o files name status out err (inr (inl a)) = said 67 (omega arith, omega arith) _ status out _ a.answers.says
+named_other K o files name status out err (inr (inr a)) = elim a.answers as (λ _. IsOther status) [
+  | inl b ↦ refused a.bytes status out _ b.answers
+  | inr b ↦ o b.program status out err b.answers
+]
 
 edits_other : (bound : ℕ) (bytes script : List ℕ) → AreOther (EditAnswers bound bytes script)
 edits_other bound bytes script = text_other (AnalysisAnswers (EditOf bound script)) (analysis_other (EditOf bound script) (edit_other bound script)) bytes
@@ -159,6 +178,12 @@ command_other (lattice json bound file) first second =
     (analysis_other (LatticeOf json bound) (lattice_other json bound))) first file
 command_other (base file) first second =
     file_other (TextAnswers (AnalysisAnswers BaseOf)) (text_other (AnalysisAnswers BaseOf) (analysis_other BaseOf base_other)) first file
+command_other (why file row column) first second =
+    file_other (TextAnswers (AnalysisAnswers (WhyOf row column))) (text_other (AnalysisAnswers (WhyOf row column))
+    (analysis_other (WhyOf row column) (why_other row column))) first file
+command_other (same file other) first second =
+    named_other (λ p. NamedAnswers (SameOf file other p) second other) (λ p. named_other (SameOf file other p) (same_other file other p) second other)
+    first file
 command_other (edit bound file script) first second =
     file_other (λ bytes. FileAnswers (EditAnswers bound bytes) second script) (λ bytes. file_other (EditAnswers bound bytes) (edits_other bound bytes)
     second script) first file

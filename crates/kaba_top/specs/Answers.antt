@@ -1,14 +1,17 @@
 -- Believed. The answers of the program, for the words and the files.
 use Rattle.std.specs.Prelude.{◌≡◌, ◌⊎◌, ℕ, ◌<◌, ◌≤◌, List, [], length, Option, Some, None}
 use Rattle.kaba_base.specs.Outside.{Files, Rose, taken_more, HoldsPrefix}
-use Rattle.kaba_words.specs.Commands.{Cmd, run, table, lattice, base, edit, regen, make, help, version, Fits, FitsNone}
+use Rattle.kaba_words.specs.Commands.{Cmd, run, table, lattice, base, why, same, edit, regen, make, help, version, Fits, FitsNone}
 use Rattle.kaba_top.specs.About.{help_text, version_text}
 use Rattle.kaba_top.specs.Agreement.{Agrees}
 use Rattle.kaba_top.specs.Lines.{Says, Gives, usage, cannot_read, most_bytes, file_too_large}
-use Rattle.kaba_top.specs.Reading.{TextAnswers}
+use Rattle.java_core.specs.declared.Program.{Program}
+use Rattle.kaba_top.specs.Reading.{IsRefusedText, IsAnsweredText, TextAnswers}
 use Rattle.kaba_top.specs.RunAnswers.{RunAnswers}
 use Rattle.kaba_top.specs.FactsAnswers.{AnalysisAnswers, TableOf, LatticeOf}
 use Rattle.kaba_top.specs.BaseAnswers.{BaseOf}
+use Rattle.kaba_top.specs.WhyAnswers.{WhyOf}
+use Rattle.kaba_top.specs.SameAnswers.{IsNamed, SameOf}
 use Rattle.kaba_top.specs.EditAnswers.{EditOf}
 use Rattle.kaba_top.specs.RegenAnswers.{RegenOf}
 use Rattle.kaba_top.specs.MakeAnswers.{MakeAnswers}
@@ -41,6 +44,19 @@ pub record IsRead (K : List ℕ → ℕ → List ℕ → List ℕ → Type 0) (f
 abbrev pub FileAnswers : (List ℕ → ℕ → List ℕ → List ℕ → Type 0) → Files → List ℕ → ℕ → List ℕ → List ℕ → Type 0
 FileAnswers K files file status out err = IsMissing files file status out err ⊎ (IsTooLarge files file status out err ⊎ IsRead K files file status out err)
 
+-- the answers for the bytes of a file whose name is told where its text is refused, where K are those for its program
+abbrev pub NamedTextAnswers : List ℕ → (Program → ℕ → List ℕ → List ℕ → Type 0) → List ℕ → ℕ → List ℕ → List ℕ → Type 0
+NamedTextAnswers file K bytes status out err = IsNamed file (IsRefusedText bytes) status out err ⊎ IsAnsweredText K bytes status out err
+
+-- the answers of a command that reads the program of a file, whose name is told where it is refused
+abbrev pub NamedAnswers : (Program → ℕ → List ℕ → List ℕ → Type 0) → Files → List ℕ → ℕ → List ℕ → List ℕ → Type 0
+NamedAnswers K files file status out err = IsMissing files file status out err
+    ⊎ (IsNamed file (IsTooLarge files file) status out err ⊎ IsRead (NamedTextAnswers file K) files file status out err)
+
+-- the answers of `same`: the refusals of its first file, then those of its second, and then whether their programs are one
+abbrev pub SameAnswers : List ℕ → List ℕ → Files → Files → ℕ → List ℕ → List ℕ → Type 0
+SameAnswers file other first second = NamedAnswers (λ p. NamedAnswers (SameOf file other p) second other) first file
+
 -- the answers of `edit` for the bytes of its file and of its script
 abbrev pub EditAnswers : ℕ → List ℕ → List ℕ → ℕ → List ℕ → List ℕ → Type 0
 EditAnswers bound bytes script = TextAnswers (AnalysisAnswers (EditOf bound script)) bytes
@@ -55,6 +71,8 @@ CommandAnswers (run file steps words) first second = FileAnswers (TextAnswers (R
 CommandAnswers (table file) first second = FileAnswers (TextAnswers (AnalysisAnswers TableOf)) first file
 CommandAnswers (lattice json bound file) first second = FileAnswers (TextAnswers (AnalysisAnswers (LatticeOf json bound))) first file
 CommandAnswers (base file) first second = FileAnswers (TextAnswers (AnalysisAnswers BaseOf)) first file
+CommandAnswers (why file row column) first second = FileAnswers (TextAnswers (AnalysisAnswers (WhyOf row column))) first file
+CommandAnswers (same file other) first second = SameAnswers file other first second
 CommandAnswers (edit bound file script) first second = FileAnswers (λ bytes. FileAnswers (EditAnswers bound bytes) second script) first file
 CommandAnswers (regen bound file script) first second = FileAnswers (λ bytes. FileAnswers (RegenAnswers bound bytes) second script) first file
 CommandAnswers (make prints number) first second = MakeAnswers prints number
@@ -67,6 +85,8 @@ Names (run file steps words) name = name ≡ file
 Names (table file) name = name ≡ file
 Names (lattice json bound file) name = name ≡ file
 Names (base file) name = name ≡ file
+Names (why file row column) name = name ≡ file
+Names (same file other) name = (name ≡ file) ⊎ (name ≡ other)
 Names (edit bound file script) name = (name ≡ file) ⊎ (name ≡ script)
 Names (regen bound file script) name = (name ≡ file) ⊎ (name ≡ script)
 Names (make prints number) name = ⊥

@@ -1,8 +1,8 @@
 -- Mirror. What is known once a file was asked for.
 use Rattle.std.specs.Prelude.{◌≡◌, ◌⊎◌, ℕ, ◌≤◌, List, length, Option, Some}
 use Rattle.kaba_base.specs.Outside.{Files}
-use Rattle.kaba_top.specs.declared.answer.Fetched.{Fetched}
-use Rattle.kaba_top.specs.declared.answer.Fetched.TheVariants.{Bytes, Refused}
+use Rattle.kaba_top.specs.declared.fetching.Fetched.{Fetched}
+use Rattle.kaba_top.specs.declared.fetching.Fetched.TheVariants.{Bytes, Refused}
 use Rattle.kaba_top.specs.Lines.{most_bytes}
 use Rattle.kaba_top.specs.Agreement.{Agrees}
 use Rattle.kaba_top.specs.Answers.{IsMissing, IsTooLarge, IsFault, IsAnswered, FileAnswers}

@@ -1,4 +1,5 @@
 pub mod Lines
+pub mod Logs
 pub mod About
 pub mod Agreement
 pub mod TextPrograms
@@ -7,6 +8,9 @@ pub mod Reading
 pub mod RunAnswers
 pub mod FactsAnswers
 pub mod BaseAnswers
+pub mod WhyAnswers
+pub mod SameAnswers
+pub mod Named
 pub mod ScriptAnswers
 pub mod CauseWords
 pub mod EditAnswers

@@ -20,27 +20,33 @@ use Rattle.fact_model.specs.Concepts.{IsLatticeOf}
 use Rattle.fact_model.specs.Flowing.{AreSets}
 use Rattle.stem_base.specs.Base.{Sides, IsBaseOf}
 use Rattle.stem_base.specs.Text.{base_text}
+use Rattle.why_table.specs.declared.trail.Trail.{Trail}
+use Rattle.why_table.specs.Found.{HasEntry, IsTrailOf}
+use Rattle.why_table.specs.Text.{trail_text}
 use Rattle.hier_model.specs.Hierarchies.{Hierarchy}
 use Rattle.hier_model.specs.Edits.{changed}
 use Rattle.hier_model.specs.Start.{start_from}
+use Rattle.hier_model.specs.declared.edits.Edit.{Edit}
+use Rattle.hier_model.specs.declared.edits.Act.TheVariants as acts
 use Rattle.hier_model.specs.declared.edits.ChangeFault.{ChangeFault}
 use Rattle.hier_rules.specs.declared.broken.Broken.{Broken}
 use Rattle.hier_rules.specs.First.{first_of_edit, first_broken}
 use Rattle.hier_edit.specs.Applied.{fault_of}
 use Rattle.hier_edit.specs.declared.ApplyFault.TheVariants.{Breaks}
 use Rattle.hier_view.specs.Text.{hierarchy_text}
-use Rattle.hier_script.specs.Refusals.{refusal_line}
+use Rattle.hier_script.specs.Refusals.{refusal_line, no_undo_line}
 use Rattle.hier_tree.specs.Trees.{Tree, Stuck, Grows}
 use Rattle.tree_merge.specs.declared.steps.TreeStep.{TreeStep}
 use Rattle.tree_merge.specs.declared.trees.NoTree.{NoTree}
 use Rattle.tree_merge.specs.Logs.{steps_of}
-use Rattle.hier_log.specs.Lines.{log_text, no_tree_text}
+use Rattle.kaba_top.specs.Logs.{log_text, no_tree_text}
 use Rattle.edit_script.specs.declared.lines.Line.{Line}
 use Rattle.edit_script.specs.Script.{AreEditsOf}
+use Rattle.rebuild_model.specs.OnePrograms.{AreOne}
 use Rattle.rebuild_model.specs.Rebuilds.{Rebuilds}
 use Rattle.rebuild_laws.specs.types.Rows.{OffersRows}
 use Rattle.rebuild_laws.specs.runs.Same.{HasSameRun}
-use Rattle.kaba_words.specs.Commands.{Cmd, run, table, lattice, base, edit, regen, make, help, version, Fits}
+use Rattle.kaba_words.specs.Commands.{Cmd, run, table, lattice, base, why, same, edit, regen, make, help, version, Fits}
 use Rattle.kaba_top.specs.TextPrograms.{IsTypedText, most_nesting}
 use Rattle.kaba_top.specs.TextFacts.{HasTextFacts, shown}
 use Rattle.kaba_top.specs.Agreement.{Agrees}
@@ -76,19 +82,48 @@ pub record ShowsBase (bytes out : List ℕ) : Type 0 where
   pub none_shorter : (other : List Sides) → IsBaseOf table.rows.items table.width other → length implications ≤ length other
   pub shown_is : out ≡ base_text implications
 
+-- the row has the column in the least table, and the steps shown are a trail to that: each follows from earlier ones by its rule
+pub record ShowsTrail (row column : ℕ) (bytes out : List ℕ) : Type 0 where
+  pub program : Program
+  pub facts : Facts
+  pub trail : Trail
+  pub text : IsTypedText bytes (program_of program)
+  pub facts_are : HasTextFacts (program_of program) facts
+  pub holds : HasEntry facts row column
+  pub is : IsTrailOf facts (record { 0 = row }) (record { 0 = column }) trail.steps.items
+  pub shown_is : out ≡ trail_text trail.steps.items
+
+-- the programs of two texts are one, and have for all words and every bound on the steps the same output, end and steps
+pub record IsSameProgram (bytes others : List ℕ) : Type 0 where
+  pub program : Program
+  pub other : Program
+  pub text : IsTypedText bytes (program_of program)
+  pub other_text : IsTypedText others (program_of other)
+  pub one : AreOne (program_of program) (program_of other)
+  pub same : HasSameRun (program_of program) (program_of other)
+
 module _ (F : Facts) (pt : PointsTo) where
-  -- edits one after the other, from a hierarchy to the one that they leave, with what is told of those that are refused
-  pub data AreJudged : Hierarchy → List Line → Hierarchy → List ℕ → Type 0 where
-    none : {H : Hierarchy} → AreJudged H [] H []
+  -- edits and undos one after the other, from a hierarchy and those before its edits, the last one first, to the hierarchy that they leave, with what
+  -- is told of those that are refused
+  pub data AreJudged : Hierarchy → List Hierarchy → List Line → Hierarchy → List ℕ → Type 0 where
+    none : {H : Hierarchy} {past : List Hierarchy} → AreJudged H past [] H []
     -- an edit is made where the edited hierarchy breaks none of the obligations
-    made : {H K New : Hierarchy} {line : Line} {lines : List Line} {told : List ℕ} → changed F H line.edit ≡ Ok K → first_of_edit F pt K ≡ None
-        → AreJudged K lines New told → AreJudged H (line ∷ lines) New told
+    made : {H K New : Hierarchy} {past : List Hierarchy} {line : Line} {lines : List Line} {told : List ℕ} {e : Edit} → line.act ≡ acts.Edit e
+        → changed F H e ≡ Ok K → first_of_edit F pt K ≡ None → AreJudged K (H ∷ past) lines New told → AreJudged H past (line ∷ lines) New told
     -- and refused where it breaks one, of which the first instance is told; then nothing changes
-    breaks : {H K New : Hierarchy} {line : Line} {lines : List Line} {b : Broken} {told : List ℕ} → changed F H line.edit ≡ Ok K → first_of_edit F pt K ≡ Some b
-        → AreJudged H lines New told → AreJudged H (line ∷ lines) New (refusal_line line.number (Breaks b) ++ told)
+    breaks : {H K New : Hierarchy} {past : List Hierarchy} {line : Line} {lines : List Line} {b : Broken} {told : List ℕ} {e : Edit}
+        → line.act ≡ acts.Edit e → changed F H e ≡ Ok K → first_of_edit F pt K ≡ Some b → AreJudged H past lines New told
+        → AreJudged H past (line ∷ lines) New (refusal_line line.number (Breaks b) ++ told)
     -- or where it names what is not there, drops what is used, or leaves no order
-    unmade : {H New : Hierarchy} {line : Line} {lines : List Line} {fault : ChangeFault} {told : List ℕ} → changed F H line.edit ≡ Err fault
-        → AreJudged H lines New told → AreJudged H (line ∷ lines) New (refusal_line line.number (fault_of fault) ++ told)
+    unmade : {H New : Hierarchy} {past : List Hierarchy} {line : Line} {lines : List Line} {fault : ChangeFault} {told : List ℕ} {e : Edit}
+        → line.act ≡ acts.Edit e → changed F H e ≡ Err fault → AreJudged H past lines New told
+        → AreJudged H past (line ∷ lines) New (refusal_line line.number (fault_of fault) ++ told)
+    -- an undo brings back the hierarchy before the last edit that was made and not taken back
+    undone : {H K New : Hierarchy} {past : List Hierarchy} {line : Line} {lines : List Line} {told : List ℕ} → line.act ≡ acts.Undo
+        → AreJudged K past lines New told → AreJudged H (K ∷ past) (line ∷ lines) New told
+    -- and is refused where there is none
+    none_left : {H New : Hierarchy} {line : Line} {lines : List Line} {told : List ℕ} → line.act ≡ acts.Undo → AreJudged H [] lines New told
+        → AreJudged H [] (line ∷ lines) New (no_undo_line line.number ++ told)
 
 -- the edits of the script, each so judged, from the hierarchy that the lattice proposes
 pub record JudgesEdits (bytes script : List ℕ) (program : Program) (facts : Facts) (sets : PointsTo) (after : Hierarchy) (told : List ℕ) : Type 0 where
@@ -98,7 +133,7 @@ pub record JudgesEdits (bytes script : List ℕ) (program : Program) (facts : Fa
   pub sets_are : AreSets facts sets
   pub edits : List Line
   pub are : AreEditsOf script edits
-  pub judged : AreJudged facts sets (start_from facts table lattice) edits after told
+  pub judged : AreJudged facts sets (start_from facts table lattice) [] edits after told
 
 -- the tokens of what is written derive a tree that resolves to a typed program; it rebuilds the old one over the hierarchy, offers each row its
 -- columns, and has for all words and every bound on the steps the same output, end and steps
@@ -169,6 +204,8 @@ pub record OfFile (files : Files) (file : List ℕ) (K : List ℕ → Type 0) : 
 abbrev pub Promises : Cmd → Files → Files → ℕ → List ℕ → List ℕ → Type 0
 Promises (lattice json bound file) first second status out err = status ≡ 0 → OfFile first file (λ bytes. ShowsLattice json bytes out)
 Promises (base file) first second status out err = status ≡ 0 → OfFile first file (λ bytes. ShowsBase bytes out)
+Promises (why file row column) first second status out err = status ≡ 0 → OfFile first file (λ bytes. ShowsTrail row column bytes out)
+Promises (same file other) first second status out err = status ≡ 0 → OfFile first file (λ bytes. OfFile second other (λ others. IsSameProgram bytes others))
 Promises (edit bound file script) first second status out err = (status ≡ 0) ⊎ (status ≡ 4)
     → OfFile first file (λ bytes. OfFile second script (λ lines. TellsEdits bytes lines out err))
 Promises (regen bound file script) first second status out err =

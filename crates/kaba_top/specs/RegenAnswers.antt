@@ -10,7 +10,7 @@ use Rattle.edit_script.specs.declared.lines.Line.{Line}
 use Rattle.tree_merge.specs.declared.steps.TreeStep.{TreeStep}
 use Rattle.tree_merge.specs.declared.trees.NoTree.{NoTree}
 use Rattle.tree_merge.specs.Logs.{steps_of, AreEdits}
-use Rattle.hier_log.specs.Lines.{log_text, no_tree_text}
+use Rattle.kaba_top.specs.Logs.{log_text, no_tree_text}
 use Rattle.java_write.specs.Written.{IsWrittenText}
 use Rattle.kaba_top.specs.Lines.{Gives, line}
 use Rattle.kaba_top.specs.ScriptAnswers.{HasLattice, ScriptAnswers, start_of, edited, refusals}

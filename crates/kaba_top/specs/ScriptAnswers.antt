@@ -16,7 +16,7 @@ use Rattle.hier_script.specs.Scripts.{after_edits, refusals_of}
 use Rattle.kaba_top.specs.Lines.{Says}
 use Rattle.kaba_top.specs.FactsAnswers.{IsTooMany}
 
--- the text for a script of which this line is no edit
+-- the text for a script of which this line is no edit and no undo
 abbrev pub bad_script : ℕ → List ℕ
 bad_script n = codes "bad script: line " ++ decimal n
 
@@ -40,7 +40,7 @@ pub record IsOverBound (bound : ℕ) (facts : Facts) (status : ℕ) (out err : L
   pub is : IsTable facts table
   pub many : IsTooMany bound table status out err
 
--- a line of the script is no edit, and this is the first
+-- a line of the script is no edit and no undo, and this is the first
 pub record IsBadScript (script : List ℕ) (status : ℕ) (out err : List ℕ) : Type 0 where
   pub line : ℕ
   pub first : IsFirstBadLine script line
@@ -65,11 +65,11 @@ module _ (bound : ℕ) (facts : Facts) (has : HasLattice bound facts) where
   abbrev pub start_of : Hierarchy
   start_of = start_from facts has.table has.lattice
 
-  -- the hierarchy after edits, each of which was made or refused in its turn, and a line for each that was refused
+  -- the hierarchy after edits and undos, each of which was made or refused in its turn
   abbrev pub edited : List Line → Hierarchy
   edited edits = after_edits facts has.sets start_of edits
 
-  -- the lines of the edits that were refused
+  -- the lines of those that were refused
   abbrev pub refusals : List Line → List ℕ
   refusals edits = refusals_of facts has.sets start_of edits
 

@@ -5,7 +5,7 @@ pub use Rattle.kaba_words.specs.Commands.{texts}
 pub use Rattle.hier_rules.specs.Words.{InRange, InOrder, IsTable, AreSets, IsHierarchyOf, MeetsEdit}
 pub use Rattle.java_core.specs.Programs.{program_of}
 pub use Rattle.java_run.specs.Outcomes.{end_of}
-pub use Rattle.hier_log.specs.Lines.{log_text, no_tree_text}
+pub use Rattle.kaba_top.specs.Logs.{log_text, no_tree_text}
 pub use Rattle.flow_program.specs.Known.{AreProgramFacts}
 pub use Rattle.java_write.specs.Written.{HasText}
 pub use Rattle.kaba_top.specs.Lines.{Gives, Says, line, most_bytes}

@@ -4,9 +4,9 @@
 ghost use Rattle.std.specs.Prelude.{◌≡◌, ◌≤◌, IfOk, length, string_bytes};
 ghost use Rattle.kaba_top.specs.Words.{texts, most_bytes, IsTask};
 ghost use Rattle.kaba_base.specs.Outside.{Files};
-ghost use Rattle.kaba_words.specs.Commands.{run, table, lattice, base, most_concepts};
+ghost use Rattle.kaba_words.specs.Commands.{run, table, lattice, base, why, most_concepts};
 ghost use Rattle.kaba_top.specs.Answers.{CommandReplies, Replies};
-ghost use Rattle.kaba_top.specs.Fetching.{FileReplies, IsFetched};
+ghost use Rattle.kaba_top.specs.Fetching.{FileReplies};
 ghost use Rattle.kaba_top.specs.Shown.{ShownAnswers, command_showing};
 
 use crate::Tried;
@@ -14,40 +14,17 @@ use crate::about::{help_reply, version_reply};
 use crate::analysis::{lattice_text, table_text};
 use crate::base::base_text;
 use crate::edit::edit_text;
+use crate::fetching::{Fetched, fetch_file};
 use crate::make::make_reply;
 use crate::regen::regen_text;
 use crate::reply::Reply;
 use crate::run::run_text;
+use crate::same::same_command;
 use crate::script::Task;
-use kaba_base::{ReadFault, Shelf, read_file};
+use crate::why::{Asked, why_text};
+use kaba_base::Shelf;
 use kaba_words::{Command, WordsFault, read_words};
 use std::alloc::{AllocError, Global};
-
-/// A file that was asked for: its bytes, or the reply that tells why there are none.
-#[derive(Drop)]
-enum Fetched {
-    Bytes(Vec<u8>),
-    Refused(Reply),
-}
-
-/// The bytes of the file, or the reply that it cannot be read or is too large.
-fn fetch_file<F: Shelf>(alloc: Global, shelf: &mut F, name: &String) -> Tried<Fetched>
-    ensures fetched { IfOk result (λ fetched. IsFetched (F.files shelf.old) (F.faults shelf.old) (F.faults shelf.new) (string_bytes name.now) fetched) }
-    ensures same { F.files shelf.new ≡ F.files shelf.old }
-    ensures later { F.faults shelf.old ≤ F.faults shelf.new }
-{
-    match read_file(alloc, shelf, name, 1_048_576) {
-        Ok(bytes) => Ok(Fetched::Bytes(bytes)),
-        Err(ReadFault::CannotRead) => {
-            let text = format!(in alloc; "cannot read {name}")?;
-            Ok(Fetched::Refused(Reply::line(alloc, 66, text.as_bytes())?))
-        }
-        Err(ReadFault::TooLong(_)) => {
-            Ok(Fetched::Refused(Reply::line(alloc, 67, b"too large: file 1048576")?))
-        }
-        Err(ReadFault::Memory) => Err(AllocError),
-    }
-}
 
 /// The reply of `run`.
 fn run_command<F: Shelf>(
@@ -103,6 +80,24 @@ fn base_command<F: Shelf>(alloc: Global, shelf: &mut F, file: &String) -> Tried<
 {
     match fetch_file(alloc, shelf, file)? {
         Fetched::Bytes(bytes) => base_text(alloc, &bytes),
+        Fetched::Refused(reply) => Ok(reply),
+    }
+}
+
+/// The reply of `why`.
+fn why_command<F: Shelf>(
+    alloc: Global,
+    shelf: &mut F,
+    file: &String,
+    row: u32,
+    column: u32,
+) -> Tried<Reply>
+    ensures replies { IfOk result (λ reply. CommandReplies (F.files shelf.old) (F.faults shelf.old)
+        (F.faults shelf.new) (why (string_bytes file.now) row column) reply.status reply.out.items
+        reply.err.items) }
+{
+    match fetch_file(alloc, shelf, file)? {
+        Fetched::Bytes(bytes) => why_text(alloc, &bytes, Asked { row, column }),
         Fetched::Refused(reply) => Ok(reply),
     }
 }
@@ -186,6 +181,8 @@ pub fn answer<F: Shelf>(alloc: Global, words: &Vec<String>, shelf: &mut F) -> Tr
             lattice_command(alloc, shelf, &file, json, bound)
         }
         Ok(Command::Base(file)) => base_command(alloc, shelf, &file),
+        Ok(Command::Why(file, row, column)) => why_command(alloc, shelf, &file, row, column),
+        Ok(Command::Same(file, other)) => same_command(alloc, shelf, &file, &other),
         Ok(Command::Edit(bound, file, script)) => {
             script_command(alloc, shelf, Shows::Hierarchy, &file, &script, bound)
         }

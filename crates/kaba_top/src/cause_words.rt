@@ -1,4 +1,5 @@
-//! The words of causes: what the program prints of a form, a rule of types, a limit and a fault.
+//! The words of causes: what the program prints of a form, a rule of types, a limit, a fault, and that in which two
+//! programs part.
 #![tactic(auto)]
 
 ghost use Rattle.std.specs.Prelude.{◌≡◌};
@@ -8,6 +9,7 @@ use flow_program::Counted;
 use java_check::Kind;
 use java_core::Fault;
 use java_resolve::Form;
+use same_program::What;
 
 /// What the line of an answer names.
 #[derive(Clone, Copy)]
@@ -20,6 +22,8 @@ pub enum Cause {
     Limit(Counted),
     /// What went wrong in a run.
     Fault(Fault),
+    /// In what two programs part.
+    Parted(What),
 }
 
 /// The words of a cause.
@@ -52,5 +56,18 @@ pub fn cause_text(cause: Cause) -> &'static str
         Cause::Fault(Fault::ClassCast) => "ClassCast",
         Cause::Fault(Fault::DivZero) => "DivZero",
         Cause::Fault(Fault::TooLong) => "TooLong",
+        Cause::Parted(What::Type) => "type",
+        Cause::Parted(What::Field) => "field",
+        Cause::Parted(What::Method) => "method",
+        Cause::Parted(What::Variable) => "variable",
+        Cause::Parted(What::Main) => "main",
+        Cause::Parted(What::Statement) => "statement",
+        Cause::Parted(What::Expression) => "expression",
+        Cause::Parted(What::Literal) => "literal",
+        Cause::Parted(What::Operator) => "operator",
+        Cause::Parted(What::Call) => "call",
+        Cause::Parted(What::Creation) => "creation",
+        Cause::Parted(What::Cast) => "cast",
+        Cause::Parted(What::Test) => "test",
     }
 }

@@ -12,13 +12,17 @@ mod answer;
 mod base;
 mod cause_words;
 mod edit;
+mod fetching;
 mod laws;
+mod log;
 mod make;
 mod reading;
 mod regen;
 mod reply;
 mod run;
+mod same;
 mod script;
+mod why;
 
 use crate::answer::answer;
 pub use crate::laws::one_answer;

@@ -9,11 +9,11 @@ ghost use Rattle.kaba_top.specs.Proposals.{IsWrittenOver};
 
 use crate::Tried;
 use crate::analysis::{Analysed, analyse};
+use crate::log::{log_text, no_tree_text};
 use crate::reading::{Reading, read_program};
 use crate::reply::Reply;
 use crate::script::{Proposed, Task, edit_status, propose};
 use fact_model::{Facts, PointsTo};
-use hier_log::{log_text, no_tree_text};
 use hier_model::Hier;
 use java_core::Checked;
 use java_write::write_java;

@@ -1,5 +1,5 @@
 use Rattle.std.proofs.Common.{◌∙◌, ap, refl, ◌++◌}
-use Rattle.hier_log.specs.Lines.{log_text, no_tree_text}
+use Rattle.kaba_top.specs.Logs.{log_text, no_tree_text}
 use Rattle.kaba_top.specs.Lines.{line}
 use Rattle.kaba_top.proofs.Analysing.{lines_then}
 use Rattle.kaba_top.proofs.regen.stuck.Goals as goal

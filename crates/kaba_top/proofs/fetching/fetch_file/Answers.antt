@@ -1,7 +1,7 @@
 use Rattle.std.proofs.Common.{◌∙◌, Err, ap, subst, string_bytes}
 use Rattle.kaba_top.specs.Lines.{Says}
 use Rattle.kaba_top.proofs.Replying.{is_there, cannot, too_large}
-use Rattle.kaba_top.proofs.answer.fetch_file.Goals as goal
+use Rattle.kaba_top.proofs.fetching.fetch_file.Goals as goal
 
 pub returns-in-Ok-clause-fetched : goal.returns-in-Ok-clause-fetched
 returns-in-Ok-clause-fetched g c = is_there (g.F.Shelf.files c.args.shelf.now) (string_bytes c.args.name.now) c.in-Ok.bytes.items

@@ -2,7 +2,7 @@
 #![tactic(auto)]
 
 ghost use Rattle.std.specs.Prelude.{◌≡◌, IfOk, string_bytes};
-ghost use Rattle.hier_log.specs.Lines.{conflict_text, log_line, log_text, no_tree_text};
+ghost use Rattle.kaba_top.specs.Logs.{conflict_text, log_line, log_text, no_tree_text};
 
 use hier_script::broken_text;
 use hier_view::add_edit;
@@ -21,7 +21,7 @@ fn conflict_text(alloc: Global, conflict: Conflict) -> Result<String, AllocError
 
 /// The line of a step: its conflict, and its edit as a script has it. An error comes only for want
 /// of memory.
-pub fn log_line(alloc: Global, step: &TreeStep) -> Result<String, AllocError>
+fn log_line(alloc: Global, step: &TreeStep) -> Result<String, AllocError>
     ensures { IfOk result (λ text. string_bytes text ≡ log_line step.now) }
 {
     let conflict = conflict_text(alloc, step.conflict)?;
