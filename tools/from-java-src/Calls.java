@@ -49,6 +49,9 @@ final class Calls {
         if (holder.toString().equals("java.lang.String") && new Formats(body).isText(method)) {
             return new Formats(body).call(tree, method);
         }
+        if (method.toString().equals("printStackTrace()")) {
+            body.program.leftOut(body.placeOf(tree), "printStackTrace: there is one output, and this is not printed");
+        }
         Ex written = new Intrinsics(body).call(tree, method);
         if (written != null) {
             return written;
@@ -70,7 +73,7 @@ final class Calls {
         if (first == null) {
             return Ex.constant("null", Ty.NULL);
         }
-        return on(first, method, margs(method, body.world.sources.typeOf(select)), tree.getArguments(), tree, alone);
+        return on(first, method, margs(method, body.world.sources.typeOf(select), tree.getArguments()), tree.getArguments(), tree, alone);
     }
 
     static boolean isSuper(ExpressionTree tree) {
@@ -92,8 +95,9 @@ final class Calls {
     // ---- calls by kind
 
     /** A call on an object whose value is known, with arguments of the sources. */
-    Ex on(Ex receiver, ExecutableElement method, List<Ty> margs, List<? extends ExpressionTree> arguments, Tree tree,
+    Ex on(Ex receiver, ExecutableElement method, List<Ty> found, List<? extends ExpressionTree> arguments, Tree tree,
         boolean alone) {
+        List<Ty> margs = Wilds.with(body, method, environment(receiver, method, found), found, arguments);
         Map<Element, Ty> env = environment(receiver, method, margs);
         List<Supplier<Ex>> parts = new ArrayList<>();
         parts.add(() -> receiver);
@@ -125,9 +129,7 @@ final class Calls {
         } else if (receiver != null && receiver.type.is(Ty.Kind.STRING)) {
             ((TypeElement) holder).getTypeParameters().forEach(one -> env.put(one, Ty.STRING));
         }
-        for (int k = 0; k < margs.size(); k++) {
-            env.put(method.getTypeParameters().get(k), margs.get(k));
-        }
+        Wilds.put(env, method, margs);
         return env;
     }
 
@@ -211,7 +213,7 @@ final class Calls {
         if (at == null || tree.getMethodSelect().toString().contains(".super.")) {
             return body.obstacleEx(tree, "super call", "only the method of a class above is called so");
         }
-        List<Ty> margs = margs(method, body.world.sources.typeOf(tree.getMethodSelect()));
+        List<Ty> margs = margs(method, body.world.sources.typeOf(tree.getMethodSelect()), tree.getArguments());
         body.program.needInherited(above, method, margs);
         Map<Element, Ty> env = new HashMap<>(environment(Ex.constant("this", at.ty), method, margs));
         List<Ex> values = body.operands(arguments(method, env, tree.getArguments(), tree));
@@ -222,7 +224,8 @@ final class Calls {
     }
 
     private Ex ofClass(MethodInvocationTree tree, ExecutableElement method, TypeElement holder, boolean alone) {
-        List<Ty> margs = margs(method, body.world.sources.typeOf(tree.getMethodSelect()));
+        List<Ty> found = margs(method, body.world.sources.typeOf(tree.getMethodSelect()), tree.getArguments());
+        List<Ty> margs = Wilds.with(body, method, environment(null, method, found), found, tree.getArguments());
         if (!body.program.known(body.world.staticCopy(holder), tree, body)) {
             return Ex.constant("null", Ty.NULL);
         }
@@ -245,7 +248,7 @@ final class Calls {
         List<? extends ExpressionTree> given, Tree tree) {
         List<Ty> types = new ArrayList<>();
         for (VariableElement one : method.getParameters()) {
-            types.add(body.world.ty(one.asType(), env));
+            types.add(body.world.parameter(one, env));
         }
         List<Supplier<Ex>> parts = new ArrayList<>();
         boolean packed = method.isVarArgs() && !isArrayItself(method, given);
@@ -253,7 +256,8 @@ final class Calls {
         for (int k = 0; k < plain && k < given.size(); k++) {
             ExpressionTree argument = given.get(k);
             Ty type = types.get(k);
-            parts.add(() -> body.exTo(argument, type));
+            boolean isLoad = body.world.isLoad(method.getParameters().get(k)) && Numbers.isLoad(argument);
+            parts.add(() -> isLoad ? Literals.of(0) : body.exTo(argument, type));
         }
         if (packed) {
             parts.add(() -> body.creations.filled(types.get(plain), given.subList(plain, given.size()), null));
@@ -278,7 +282,7 @@ final class Calls {
     // ---- type arguments of methods
 
     /** What the compiler found for the variables of a generic method, from its type at a call. */
-    List<Ty> margs(ExecutableElement method, TypeMirror called) {
+    List<Ty> margs(ExecutableElement method, TypeMirror called, List<? extends ExpressionTree> arguments) {
         if (method.getTypeParameters().isEmpty() || !(called instanceof ExecutableType type)) {
             return List.of();
         }
@@ -287,6 +291,12 @@ final class Calls {
             match(method.getParameters().get(k).asType(), type.getParameterTypes().get(k), found);
         }
         match(method.getReturnType(), type.getReturnType(), found);
+        for (int k = 0; k < method.getParameters().size() && k < arguments.size(); k++) {
+            TypeMirror argument = body.world.sources.typeOf(arguments.get(k));
+            if (argument != null) {
+                match(method.getParameters().get(k).asType(), argument, found);
+            }
+        }
         List<Ty> all = new ArrayList<>();
         method.getTypeParameters().forEach(one -> all.add(found.getOrDefault(one,
             body.world.ty(one.asType(), Map.of()))));
@@ -297,7 +307,9 @@ final class Calls {
         if (declared.getKind() == TypeKind.TYPEVAR && given.getKind() != TypeKind.NONE
             && given.getKind() != TypeKind.VOID) {
             Element variable = ((TypeVariable) declared).asElement();
-            if (variable.getEnclosingElement() instanceof ExecutableElement && !found.containsKey(variable)
+            boolean itself = given instanceof TypeVariable other && other.asElement().equals(variable)
+                && !body.env.containsKey(variable);
+            if (variable.getEnclosingElement() instanceof ExecutableElement && !found.containsKey(variable) && !itself
                 && !given.getKind().isPrimitive()) {
                 found.put(variable, body.ty(given));
             }

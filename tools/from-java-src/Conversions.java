@@ -160,6 +160,9 @@ final class Conversions {
     // ---- casts
 
     Ex cast(Ex value, Ty to, Tree at) {
+        if (to.isPrimitive() && value.type.isObject() && !isBox(value.type)) {
+            return primitive(cast(value, library(BOXES.get(to.kind)).ty, at), at);
+        }
         if (to.isPrimitive()) {
             return narrow(primitive(value, at), to);
         }
@@ -170,15 +173,26 @@ final class Conversions {
         if (to.is(Ty.Kind.STRING)) {
             return unwrapped(value);
         }
+        if (value.type.is(Ty.Kind.ARRAY) && to.is(Ty.Kind.CLASS) && body.owner.isLibrary) {
+            // Elements that are arrays are compared by a Comparator: this is never reached.
+            String name = body.fresh(to);
+            body.emit(new St.Let(to.text(), name, "null"));
+            return Ex.local(name, to);
+        }
         if (to.is(Ty.Kind.ARRAY) || value.type.is(Ty.Kind.ARRAY)) {
             return convert(value, to, at);
         }
-        if (value.type.is(Ty.Kind.CLASS) && value.type.copy.isBelow(to.copy)) {
+        if (value.type.is(Ty.Kind.CLASS) && (value.type.copy.isBelow(to.copy) || isOfAnother(value.type.copy, to.copy))) {
             return value;
         }
         Ex wide = isRelated(value.type, to) ? value : value.prefix("(Object) ", Ty.OBJECT);
         to.copy.used = true;
         return Ex.active("(" + to.text() + ") " + guarded(wide), Ex.PREFIX, to);
+    }
+
+    /** Whether a class has an interface for other types than a cast says, as one whose superclass is Comparable. */
+    private static boolean isOfAnother(Copy from, Copy to) {
+        return to.isInterface() && from.as(to.element) != null;
     }
 
     private static boolean isRelated(Ty from, Ty to) {

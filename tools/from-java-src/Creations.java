@@ -41,14 +41,18 @@ final class Creations {
         if (around) {
             parts.add(() -> body.ex(tree.getEnclosingExpression()));
         }
+        List<Ty> wilds = tree.getClassBody() != null || isOfClass(copy, tree) ? List.of()
+            : Wilds.with(body, constructor, copy.env, List.of(), tree.getArguments());
+        Map<Element, Ty> env = new LinkedHashMap<>(copy.env);
+        Wilds.put(env, constructor, wilds);
         if (isOfClass(copy, tree)) {
             parts.add(() -> Ex.constant("null", Ty.NULL));
         } else {
-            parts.addAll(body.calls.arguments(constructor, copy.env, tree.getArguments(), tree));
+            parts.addAll(body.calls.arguments(constructor, env, tree.getArguments(), tree));
         }
         List<Ex> values = body.operands(parts);
-        Ex made = made(copy, constructor, around ? values.get(0) : null, around ? values.subList(1, values.size())
-            : values, name);
+        Ex made = made(copy, constructor, wilds, around ? values.get(0) : null,
+            around ? values.subList(1, values.size()) : values, name);
         body.place = saved;
         return made;
     }
@@ -91,6 +95,11 @@ final class Creations {
         for (TypeParameterElement one : body.world.variablesOf(element)) {
             env.put(one, body.env.getOrDefault(one, Ty.OBJECT));
         }
+        body.env.forEach((one, type) -> {
+            if (one instanceof javax.lang.model.element.VariableElement) {
+                env.put(one, type);
+            }
+        });
         return body.world.copy(element, env);
     }
 
@@ -104,8 +113,12 @@ final class Creations {
 
     /** An object of a class, whose constructor gets values that were evaluated. */
     Ex made(Copy copy, ExecutableElement constructor, Ex around, List<Ex> values, String name) {
+        return made(copy, constructor, List.of(), around, values, name);
+    }
+
+    private Ex made(Copy copy, ExecutableElement constructor, List<Ty> wilds, Ex around, List<Ex> values, String name) {
         body.program.create(copy, body);
-        String init = body.program.inits.name(copy, constructor);
+        String init = body.program.inits.name(copy, constructor, wilds);
         boolean holds = false;
         for (Copy at = copy; at != null; at = at.superCopy) {
             holds |= at.holdsOuter || !at.captured.isEmpty();
@@ -151,6 +164,10 @@ final class Creations {
         tree.getDimensions().forEach(size -> parts.add(() -> body.exTo(size, Ty.INT)));
         List<Ex> sizes = new ArrayList<>(body.operands(parts));
         if (sizes.size() == 1) {
+            if (body.world.faults.isChecked(tree)) {
+                sizes.set(0, body.spill(sizes.get(0)));
+                body.exceptions.checkSize(sizes.get(0));
+            }
             return sized(type, sizes.get(0));
         }
         sizes.replaceAll(body::settle);

@@ -35,7 +35,7 @@ final class Enums {
         body.set(object.text + ".name", Literals.string(element.getSimpleName().toString()));
         body.set(object.text + ".ordinal", Literals.of(ordinal));
         body.creations.surround(copy, object, null);
-        String init = body.program.inits.name(copy, constructor);
+        String init = body.program.inits.name(copy, constructor, List.of());
         if (init != null) {
             body.emit(new St.Do(object.text + "." + init + Calls.joined(values)));
         }

@@ -27,7 +27,7 @@ final class Exceptions {
         return body.conversions.library("Thrown");
     }
 
-    private Ex pending() {
+    Ex pending() {
         Copy at = thrown();
         body.program.needStaticField(at,
             (javax.lang.model.element.VariableElement) at.element.getEnclosedElements().stream()
@@ -36,7 +36,7 @@ final class Exceptions {
         return Ex.active(at.staticToken() + ".pending", Ex.POST, body.conversions.library("Throwable").ty);
     }
 
-    private Ex isPending() {
+    Ex isPending() {
         return Ex.binary(pending(), "!=", Ex.EQUAL, Ex.constant("null", Ty.NULL), Ty.BOOLEAN);
     }
 
@@ -75,6 +75,40 @@ final class Exceptions {
         raise(body.creations.made(copy, constructor, null, List.of(message), null));
     }
 
+    /** Throws where a place is not one of an array's or a string's. */
+    void checkPlace(Ex place, Ex length, boolean ofArray) {
+        Ex low = Ex.binary(place, "<", Ex.COMPARE, Literals.of(0), Ty.BOOLEAN);
+        Ex high = Ex.binary(place, ">=", Ex.COMPARE, length, Ty.BOOLEAN);
+        Ex text = ofArray ? joined("Index ", place, " out of bounds for length ", length)
+            : joined("String index out of range: ", place);
+        body.emit(new St.If(Ex.binary(low, "||", Ex.OR, high, Ty.BOOLEAN), body.within(() ->
+            raiseNew(ofArray ? "ArrayIndexOutOfBoundsException" : "StringIndexOutOfBoundsException", text)),
+            new ArrayList<>()));
+    }
+
+    private static Ex joined(Object... parts) {
+        Ex all = null;
+        for (Object one : parts) {
+            Ex part = one instanceof String text ? Literals.string(text) : (Ex) one;
+            all = all == null ? part : Ex.binary(all, "+", Ex.SUM, part, Ty.STRING);
+        }
+        return all;
+    }
+
+    /** Throws where a divisor is zero. */
+    void checkDivisor(Ex divisor) {
+        Ex zero = Ex.binary(divisor, "==", Ex.EQUAL, Literals.of(0), Ty.BOOLEAN);
+        body.emit(new St.If(zero, body.within(() -> raiseNew("ArithmeticException", Literals.string("/ by zero"))),
+            new ArrayList<>()));
+    }
+
+    /** Throws where the size of a new array is below zero. */
+    void checkSize(Ex size) {
+        Ex low = Ex.binary(size, "<", Ex.COMPARE, Literals.of(0), Ty.BOOLEAN);
+        body.emit(new St.If(low, body.within(() -> raiseNew("NegativeArraySizeException", joined("", size))),
+            new ArrayList<>()));
+    }
+
     private void stopAt(ThrowTree tree) {
         if (tree.getExpression() instanceof NewClassTree made && made.getClassBody() == null) {
             Ty type = body.tyOf(made);
@@ -110,7 +144,7 @@ final class Exceptions {
     }
 
     /** Goes to the try around, or out of the method. */
-    private void exit() {
+    void exit() {
         for (Body.Target target : body.targets) {
             if (target.isTry) {
                 body.emit(new St.Jump(target.loop, false));
@@ -173,7 +207,7 @@ final class Exceptions {
 
     // ---- try
 
-    private Body.Target region(Runnable last) {
+    Body.Target region(Runnable last) {
         Body.Target target = new Body.Target();
         target.loop = new St.Loop();
         target.loop.at = body.place;
@@ -183,12 +217,12 @@ final class Exceptions {
     }
 
     void tried(TryTree tree) {
-        if (!tree.getResources().isEmpty()) {
-            body.obstacle(tree, "try with resources", "close what was opened in a finally");
-            return;
-        }
         if (tree.getFinallyBlock() == null) {
-            withCatches(tree);
+            if (tree.getCatches().isEmpty()) {
+                body.emit(new St.Block(body.scoped(() -> new Resources(body).within(tree, 0))));
+            } else {
+                withCatches(tree);
+            }
             return;
         }
         Runnable last = () -> body.emit(new St.Block(body.scoped(() ->
@@ -208,7 +242,7 @@ final class Exceptions {
     }
 
     /** The statements once, in a loop that a throw can leave; without the loop where none does. */
-    private void once(Body.Target region, List<St> made) {
+    void once(Body.Target region, List<St> made) {
         if (!Finish.leaves(made, region.loop)) {
             body.emit(new St.Block(made));
             return;
@@ -223,9 +257,12 @@ final class Exceptions {
     private void withCatches(TryTree tree) {
         Body.Target region = region(null);
         body.targets.push(region);
-        List<St> made = body.scoped(() -> tree.getBlock().getStatements().forEach(body::statement));
+        List<St> made = body.scoped(() -> new Resources(body).within(tree, 0));
         body.targets.pop();
         once(region, made);
+        if (tree.getCatches().isEmpty()) {
+            return;
+        }
         List<St> chain = body.within(this::exit);
         for (int k = tree.getCatches().size() - 1; k >= 0; k--) {
             chain = new ArrayList<>(List.of(caught(tree.getCatches().get(k), chain)));

@@ -20,6 +20,7 @@ import com.sun.source.tree.TypeCastTree;
 import com.sun.source.tree.UnaryTree;
 import com.sun.source.tree.VariableTree;
 import java.util.List;
+import java.util.function.Function;
 import javax.lang.model.element.Element;
 import javax.lang.model.element.ElementKind;
 import javax.lang.model.element.Modifier;
@@ -174,7 +175,16 @@ final class Expressions {
     private Ex element(ArrayAccessTree tree) {
         List<Ex> parts = body.operands(List.of(() -> body.ex(tree.getExpression()), () ->
             body.exTo(tree.getIndex(), Ty.INT)));
+        if (body.world.faults.isChecked(tree)) {
+            parts = List.of(body.spill(parts.get(0)), body.spill(parts.get(1)));
+            body.exceptions.checkPlace(parts.get(1), lengthOf(parts.get(0)), true);
+            return body.spill(elementOf(parts.get(0), parts.get(1)));
+        }
         return elementOf(parts.get(0), parts.get(1));
+    }
+
+    static Ex lengthOf(Ex array) {
+        return Ex.active(array.at(Ex.POST) + ".length", Ex.POST, Ty.INT);
     }
 
     static Ex elementOf(Ex array, Ex index) {
@@ -184,6 +194,11 @@ final class Expressions {
 
     // ---- choices
 
+    /** A choice between values of types that have little in common, as a text. */
+    Ex textOf(ConditionalExpressionTree tree) {
+        return choice(tree, Ty.STRING, part -> body.conversions.string(body.ex(part), part));
+    }
+
     private Ex conditional(ConditionalExpressionTree tree, Ty wanted) {
         Ty own = body.tyOf(tree);
         Ty type = own.isReference() && wanted != null && wanted.isReference() && !wanted.is(Ty.Kind.NULL) ? wanted
@@ -192,11 +207,15 @@ final class Expressions {
             type = wanted != null ? wanted : Ty.OBJECT;
         }
         Ty at = type;
+        return choice(tree, at, part -> body.exTo(part, at));
+    }
+
+    private Ex choice(ConditionalExpressionTree tree, Ty type, Function<ExpressionTree, Ex> part) {
         Ex test = body.test(tree.getCondition());
         String name = body.fresh(type);
         Ex[] values = new Ex[2];
-        List<St> then = body.within(() -> values[0] = body.exTo(tree.getTrueExpression(), at));
-        List<St> other = body.within(() -> values[1] = body.exTo(tree.getFalseExpression(), at));
+        List<St> then = body.within(() -> values[0] = part.apply(tree.getTrueExpression()));
+        List<St> other = body.within(() -> values[1] = part.apply(tree.getFalseExpression()));
         boolean simple = other.isEmpty() && values[1].pure && test.pure;
         body.emit(new St.Let(type.text(), name, simple ? values[1].text : type.initial()));
         List<St> otherwise = body.within(() -> {
@@ -215,6 +234,9 @@ final class Expressions {
     // ---- casts
 
     private Ex cast(TypeCastTree tree) {
+        if (Roots.isWhole(body.world.sources, tree)) {
+            return Roots.whole(body, tree);
+        }
         Ty to = body.tyOf(tree.getType());
         Tree inner = tree.getExpression();
         while (inner instanceof ParenthesizedTree bracketed) {
@@ -223,24 +245,57 @@ final class Expressions {
         if (to.is(Ty.Kind.ARRAY) && inner instanceof NewArrayTree array) {
             return body.creations.array(array, to, null);
         }
-        return body.conversions.cast(body.expressions.ex(tree.getExpression(), to.isReference() ? to : null), to, tree);
+        Ex value = body.expressions.ex(tree.getExpression(), to.isReference() ? to : null);
+        Ty type = to.is(Ty.Kind.CLASS) ? asked(tree.getType(), value) : to;
+        if (isUnknown(tree.getType(), value, type)) {
+            body.program.objects.opened(type.copy, body.placeOf(tree));
+        }
+        return body.conversions.cast(value, type, tree);
     }
 
     private Ex instanceOf(InstanceOfTree tree) {
         Tree named = tree.getPattern() == null ? tree.getType()
             : ((com.sun.source.tree.BindingPatternTree) tree.getPattern()).getVariable().getType();
-        Ty type = body.tyOf(named);
         Ex value = body.ex(tree.getExpression());
+        Ty type = asked(named, value);
+        if (isUnknown(named, value, type)) {
+            Ex kept = body.settle(value);
+            Ex is = body.program.objects.isOf(body, kept, type.copy.element);
+            return tree.getPattern() == null ? is : bound(tree, type, kept, is);
+        }
         if (tree.getPattern() == null) {
             return body.conversions.instanceOf(value, type, tree);
         }
+        Ex kept = body.settle(value);
+        return bound(tree, type, kept, body.conversions.instanceOf(kept, type, tree));
+    }
+
+    /** The type that a test or a cast names; of a generic class without type arguments the copy that the value may be. */
+    private Ty asked(Tree named, Ex value) {
+        Ty type = body.tyOf(named);
+        if (type.is(Ty.Kind.CLASS) && value.type.is(Ty.Kind.CLASS)
+            && body.world.isOpen(body.world.sources.typeOf(named), body.env)) {
+            Copy found = body.world.below(type.copy.element, value.type.copy);
+            return found == null ? type : found.ty;
+        }
+        return type;
+    }
+
+    private boolean isUnknown(Tree named, Ex value, Ty type) {
+        return type.is(Ty.Kind.CLASS) && value.type.is(Ty.Kind.OBJECT)
+            && body.world.isOpen(body.world.sources.typeOf(named), body.env);
+    }
+
+    /** A test with a variable that has the value where it is passed. */
+    private Ex bound(InstanceOfTree tree, Ty type, Ex kept, Ex is) {
         VariableTree variable = ((com.sun.source.tree.BindingPatternTree) tree.getPattern()).getVariable();
         Element element = body.elementOf(variable);
-        Ex kept = body.settle(value);
         String name = body.statements.bind(element, type);
-        Ex is = body.conversions.instanceOf(kept, type, tree);
         String test = body.fresh(Ty.BOOLEAN);
         body.emit(new St.Let("boolean", test, is.text));
+        if (kept.type.is(Ty.Kind.OBJECT) && type.is(Ty.Kind.CLASS) && !type.copy.element.getTypeParameters().isEmpty()) {
+            body.program.objects.opened(type.copy, body.placeOf(tree));
+        }
         body.emit(new St.If(Ex.local(test, Ty.BOOLEAN), body.within(() ->
             body.setLocal(name, body.conversions.cast(kept, type, tree))), List.of()));
         return Ex.local(test, Ty.BOOLEAN);

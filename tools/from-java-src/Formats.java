@@ -17,7 +17,9 @@ import javax.lang.model.type.TypeKind;
 
 /** String.valueOf and String.format: what is made of values is written out where the format is a constant. */
 final class Formats {
-    private static final Pattern PART = Pattern.compile("%([-,0+]*)([0-9]*)(\\.[0-9]+)?([a-zA-Z%])");
+    private static final int MARK = 0xE000; // of the first number that is joined to a format
+    private static final Pattern PART = Pattern.compile(
+        "%(?:([0-9]+)\\$)?([-,0+ (]*)([1-9][0-9]*|[\uE000-\uE0FF]|)(\\.[0-9]+)?([a-zA-Z%])");
     private final Body body;
 
     Formats(Body body) {
@@ -60,44 +62,89 @@ final class Formats {
             && field.getConstantValue() instanceof String text ? text : null;
     }
 
+    /** The text of a format; in the place of each number that is joined to it stands a mark. */
+    private String marked(ExpressionTree tree, List<ExpressionTree> numbers) {
+        String text = constant(tree);
+        if (text != null) {
+            return text;
+        }
+        if (tree instanceof ParenthesizedTree bracketed) {
+            return marked(bracketed.getExpression(), numbers);
+        }
+        if (tree instanceof BinaryTree binary && binary.getKind() == Tree.Kind.PLUS
+            && body.tyOf(tree).is(Ty.Kind.STRING)) {
+            String left = marked(binary.getLeftOperand(), numbers), right = marked(binary.getRightOperand(), numbers);
+            return left == null || right == null ? null : left + right;
+        }
+        if (body.world.sources.typeOf(tree) != null && body.world.sources.typeOf(tree).getKind() == TypeKind.INT) {
+            numbers.add(tree);
+            return "" + (char) (MARK + numbers.size() - 1);
+        }
+        return null;
+    }
+
     Ex format(List<? extends ExpressionTree> arguments, Tree tree) {
-        String format = constant(arguments.get(0));
+        List<ExpressionTree> joined = new ArrayList<>();
+        String format = marked(arguments.get(0), joined);
         if (format == null) {
             return refused(tree, "the format is not a constant; join the parts by +");
+        }
+        List<Ex> numbers = new ArrayList<>();
+        joined.forEach(one -> numbers.add(body.spill(body.exTo(one, Ty.INT))));
+        List<Ex> kept = new ArrayList<>();
+        if (format.contains("$")) {
+            List<Supplier<Ex>> all = new ArrayList<>();
+            arguments.subList(1, arguments.size()).forEach(one -> all.add(() -> body.ex(one)));
+            body.operands(all).forEach(one -> kept.add(body.spill(one)));
         }
         List<Supplier<Ex>> parts = new ArrayList<>();
         Matcher found = PART.matcher(format);
         int from = 0, next = 1;
         while (found.find()) {
-            literal(format.substring(from, found.start()), parts, tree);
+            literal(format.substring(from, found.start()), parts, numbers, tree);
             from = found.end();
-            String kind = found.group(4);
+            String kind = found.group(5);
             if (kind.equals("n") || kind.equals("%")) {
                 parts.add(() -> Literals.string(kind.equals("n") ? "\n" : "%"));
                 continue;
             }
-            if (next >= arguments.size()) {
+            int at = found.group(1) == null ? next++ : Integer.parseInt(found.group(1));
+            if (at >= arguments.size()) {
                 return refused(tree, "it has fewer values than the format asks for");
             }
-            ExpressionTree argument = arguments.get(next++);
-            String flags = found.group(1), width = found.group(2), precision = found.group(3);
-            parts.add(() -> part(argument, flags, width, precision, kind));
+            ExpressionTree argument = arguments.get(at);
+            String flags = found.group(2), precision = found.group(4);
+            String width = !found.group(3).isEmpty() && found.group(3).charAt(0) >= MARK
+                ? numbers.get(found.group(3).charAt(0) - MARK).text : found.group(3);
+            parts.add(() -> part(argument, kept.isEmpty() ? body.ex(argument) : kept.get(at - 1), flags, width,
+                precision, kind));
         }
-        literal(format.substring(from), parts, tree);
+        literal(format.substring(from), parts, numbers, tree);
         Ex all = null;
         for (Ex one : body.operands(parts)) {
-            all = all == null ? one : Ex.binary(all, "+", Ex.SUM, one, Ty.STRING);
+            all = all == null ? one.type.is(Ty.Kind.STRING) ? one : body.conversions.string(one, tree)
+                : Ex.binary(all, "+", Ex.SUM, one, Ty.STRING);
         }
-        return all == null ? Literals.string("") : all.type.is(Ty.Kind.STRING) ? all
-            : body.conversions.string(all, tree);
+        return all == null ? Literals.string("") : all;
     }
 
-    private void literal(String text, List<Supplier<Ex>> parts, Tree tree) {
+    private void literal(String text, List<Supplier<Ex>> parts, List<Ex> numbers, Tree tree) {
         if (text.contains("%")) {
             refused(tree, "a part of the format is not known; join the parts by +");
         }
-        if (!text.isEmpty() || parts.isEmpty()) {
-            parts.add(() -> Literals.string(text));
+        int from = 0;
+        for (int k = 0; k < text.length(); k++) {
+            int number = text.charAt(k) - MARK;
+            if (number >= 0 && number < numbers.size()) {
+                String before = text.substring(from, k);
+                parts.add(() -> Literals.string(before));
+                parts.add(() -> numbers.get(number));
+                from = k + 1;
+            }
+        }
+        String rest = text.substring(from);
+        if (!rest.isEmpty() || parts.isEmpty()) {
+            parts.add(() -> Literals.string(rest));
         }
     }
 
@@ -105,9 +152,11 @@ final class Formats {
         return body.obstacleEx(tree, "format", advice).as(Ty.STRING);
     }
 
-    private Ex part(ExpressionTree argument, String flags, String width, String precision, String kind) {
-        Ex value = body.ex(argument);
-        if (!"dscbxX".contains(kind) || precision != null && !kind.equals("s")) {
+    private Ex part(ExpressionTree argument, Ex given, String flags, String width, String precision, String kind) {
+        Ex value = given;
+        boolean plain = !flags.contains(" ") && !flags.contains("(");
+        if (!"dscbxXoSC".contains(kind) || precision != null && !kind.equals("s") || !plain
+            || kind.matches("[xXo]") && flags.matches(".*[,+].*")) {
             return refused(argument, "of the formats there are %d, %s, %c, %b, %x and %n with a width");
         }
         Copy strings = body.world.staticCopy(body.world.sources.elements.getTypeElement("java.lang.String"));
@@ -115,6 +164,17 @@ final class Formats {
             String hex = body.program.needNamed(strings, "hexadecimal");
             value = Ex.active(strings.staticToken() + "." + hex + "("
                 + body.conversions.primitive(value, argument).text + ", " + kind.equals("X") + ")", Ex.POST, Ty.STRING);
+        }
+        if (kind.equals("o")) {
+            Copy integers = body.conversions.library("Integer");
+            String octal = body.program.needNamed(integers, "toOctalString");
+            value = Ex.active(integers.staticToken() + "." + octal + "("
+                + body.conversions.primitive(value, argument).text + ")", Ex.POST, Ty.STRING);
+        }
+        if (kind.matches("[xXo]") && flags.contains("0")) {
+            String zeros = body.program.needNamed(strings, "filled");
+            return Ex.active(strings.staticToken() + "." + zeros + "(" + value.text + ", " + width + ")", Ex.POST,
+                Ty.STRING);
         }
         if (kind.equals("d")) {
             value = body.conversions.primitive(value, argument);
@@ -126,7 +186,7 @@ final class Formats {
                     + flags.contains("+") + ")", Ex.POST, Ty.STRING);
             }
         }
-        if (kind.equals("c")) {
+        if (kind.equalsIgnoreCase("c")) {
             value = body.conversions.narrow(body.conversions.primitive(value, argument), Ty.CHAR);
         }
         Ex text = body.conversions.text(value, argument);
@@ -134,6 +194,11 @@ final class Formats {
             String cut = body.program.needNamed(strings, "cut");
             text = Ex.active(strings.staticToken() + "." + cut + "(" + body.conversions.string(text, argument).text
                 + ", " + precision.substring(1) + ")", Ex.POST, Ty.STRING);
+        }
+        if (kind.equals("S") || kind.equals("C")) {
+            String upper = body.program.needNamed(strings, "toUpperCase");
+            text = Ex.active(strings.staticToken() + "." + upper + "(" + body.conversions.string(text, argument).text
+                + ")", Ex.POST, Ty.STRING);
         }
         if (width.isEmpty()) {
             return text.type.is(Ty.Kind.STRING) ? text : body.conversions.string(text, argument);

@@ -29,16 +29,19 @@ final class Inits {
     }
 
     /** The method that a constructor became, or null where there is nothing to do. */
-    String name(Copy copy, ExecutableElement constructor) {
+    String name(Copy copy, ExecutableElement constructor, List<Ty> wilds) {
         if (isTrivial(copy, constructor)) {
             return null;
         }
-        program.needInit(copy, constructor);
-        return methodName(copy, constructor);
+        program.needInit(copy, constructor, wilds);
+        return methodName(copy, constructor, wilds);
     }
 
-    private String methodName(Copy copy, ExecutableElement constructor) {
-        return "init" + copy.element.getSimpleName().toString() + program.world.methodNames.of(constructor);
+    private String methodName(Copy copy, ExecutableElement constructor, List<Ty> wilds) {
+        StringBuilder name = new StringBuilder("init").append(copy.element.getSimpleName())
+            .append(program.world.methodNames.of(constructor));
+        wilds.forEach(one -> name.append('_').append(one.key()));
+        return name.toString();
     }
 
     private MethodTree treeOf(ExecutableElement constructor) {
@@ -107,18 +110,19 @@ final class Inits {
         return value == null || value.equals(0) || value.equals(false) || value.equals('\0');
     }
 
-    Copy.Method write(Copy copy, ExecutableElement constructor) {
+    Copy.Method write(Copy copy, ExecutableElement constructor, List<Ty> wilds) {
         MethodTree tree = treeOf(constructor);
         Map<Element, Ty> env = new HashMap<>(copy.env);
+        Wilds.put(env, constructor, wilds);
         Body body = new Body(program, copy, env, false);
         Copy.Method method = new Copy.Method();
-        method.name = methodName(copy, constructor);
+        method.name = methodName(copy, constructor, wilds);
         method.was = copy.element.getSimpleName().toString();
         method.result = "void";
         method.at = tree == null ? body.placeOf(copy.tree) : body.placeOf(tree);
         body.place = method.at;
         for (VariableElement one : constructor.getParameters()) {
-            Ty type = body.ty(one.asType());
+            Ty type = body.world.parameter(one, body.env);
             method.params.add(type.text() + " " + body.declare(one, type));
         }
         List<St> made = body.within(() -> {
@@ -144,9 +148,12 @@ final class Inits {
         }
         body.place = body.placeOf(call);
         ExecutableElement other = (ExecutableElement) body.elementOf(call);
-        List<Supplier<Ex>> parts = body.calls.arguments(other, to.env, call.getArguments(), call);
+        List<Ty> wilds = Wilds.with(body, other, to.env, List.of(), call.getArguments());
+        Map<Element, Ty> env = new HashMap<>(to.env);
+        Wilds.put(env, other, wilds);
+        List<Supplier<Ex>> parts = body.calls.arguments(other, env, call.getArguments(), call);
         List<Ex> values = body.operands(parts);
-        String name = name(to, other);
+        String name = name(to, other, wilds);
         if (name != null) {
             body.emit(new St.Do(name + Calls.joined(values)));
             body.exceptions.after(other);

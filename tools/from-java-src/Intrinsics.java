@@ -1,9 +1,14 @@
 import com.sun.source.tree.ExpressionTree;
+import com.sun.source.tree.MemberSelectTree;
 import com.sun.source.tree.MethodInvocationTree;
 import java.util.ArrayList;
+import java.util.LinkedHashMap;
 import java.util.List;
+import java.util.Map;
 import java.util.function.Supplier;
 import javax.lang.model.element.ExecutableElement;
+import javax.lang.model.element.TypeElement;
+import javax.lang.model.util.ElementFilter;
 
 /** Calls that are written out where they stand, since their values may be of any type. */
 final class Intrinsics {
@@ -19,7 +24,35 @@ final class Intrinsics {
         if (holder.equals("java.util.Objects")) {
             return objects(tree, name);
         }
+        if (holder.equals("java.util.EnumSet") && (name.equals("noneOf") || name.equals("allOf"))) {
+            return enums(tree, method, name);
+        }
+        if (holder.equals("java.lang.System") && name.equals("lineSeparator")) {
+            return Literals.string("\n");
+        }
         return holder.equals("java.lang.System") && name.equals("arraycopy") ? copied(tree) : null;
+    }
+
+    /** A set of an enum whose class is given: its constants stand in the place of the class. */
+    private Ex enums(MethodInvocationTree tree, ExecutableElement method, String name) {
+        boolean named = tree.getArguments().get(0) instanceof MemberSelectTree select
+            && select.getIdentifier().contentEquals("class");
+        if (!named) {
+            return body.obstacleEx(tree, "class literal", "reflection is not brought in");
+        }
+        Ty type = body.tyOf(((MemberSelectTree) tree.getArguments().get(0)).getExpression());
+        TypeElement sets = (TypeElement) method.getEnclosingElement();
+        if (name.equals("noneOf")) {
+            Copy made = body.world.copy(sets, new LinkedHashMap<>(Map.of(sets.getTypeParameters().get(0), type)));
+            ExecutableElement constructor = ElementFilter.constructorsIn(sets.getEnclosedElements()).get(0);
+            return body.creations.made(made, constructor, null, List.of(), null);
+        }
+        ExecutableElement all = ElementFilter.methodsIn(sets.getEnclosedElements()).stream()
+            .filter(one -> one.getSimpleName().contentEquals("all")).findFirst().orElseThrow();
+        ExecutableElement values = ElementFilter.methodsIn(type.copy.element.getEnclosedElements()).stream()
+            .filter(one -> one.toString().equals("values()")).findFirst().orElseThrow();
+        Ex constants = body.calls.invokeStatic(values, List.of(), List.of(), false);
+        return body.calls.invokeStatic(all, List.of(type), List.of(constants), false);
     }
 
     private List<Ex> values(List<? extends ExpressionTree> given) {
@@ -46,10 +79,22 @@ final class Intrinsics {
             }
             case "toString":
                 return tree.getArguments().size() == 1 ? body.conversions.string(values(tree.getArguments()).get(0),
-                    tree) : null;
+                    tree) : or(tree);
             default:
                 return null;
         }
+    }
+
+    /** `Objects.toString(value, none)`. */
+    private Ex or(MethodInvocationTree tree) {
+        List<Ex> both = values(tree.getArguments());
+        Ex value = body.settle(both.get(0)), none = body.settle(both.get(1));
+        String name = body.fresh(Ty.STRING);
+        body.emit(new St.Let("String", name, none.text));
+        Ex there = Ex.binary(value, "!=", Ex.EQUAL, Ex.constant("null", Ty.NULL), Ty.BOOLEAN);
+        body.emit(new St.If(there, body.within(() -> body.setLocal(name, body.conversions.string(value, tree))),
+            new ArrayList<>()));
+        return Ex.local(name, Ty.STRING);
     }
 
     private Ex same(Ex one, Ex two, MethodInvocationTree tree) {

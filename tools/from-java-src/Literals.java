@@ -70,6 +70,14 @@ final class Literals {
         return new Ex(made.append('"').toString(), joined ? Ex.SUM : Ex.POST, Ty.STRING, true, Set.of());
     }
 
+    /** The characters of a constant string, or null where it is none. */
+    static String textOf(Ex value) {
+        if (!value.type.is(Ty.Kind.STRING) || value.level != Ex.POST || !value.text.startsWith("\"")) {
+            return null;
+        }
+        return value.text.substring(1, value.text.length() - 1).translateEscapes();
+    }
+
     /** The character that a constant number is, or null. */
     static Ex narrowed(Ex number) {
         return number.text.matches("[0-9]+") ? character((char) Integer.parseInt(number.text)) : null;

@@ -184,7 +184,9 @@ final class MethodNames {
     /** Whether an interface gives the one body that a method has anywhere: it can be written once,
         with the object as an argument. */
     boolean isOnlyDefault(ExecutableElement method) {
-        return method.isDefault() && counts.getOrDefault(find(method), 0) == 1;
+        boolean isHidden = method.getEnclosingElement().getKind().isInterface()
+            && method.getModifiers().contains(Modifier.PRIVATE);
+        return (method.isDefault() || isHidden) && counts.getOrDefault(find(method), 0) == 1;
     }
 
     /** Whether two methods are one as far as overriding goes. */

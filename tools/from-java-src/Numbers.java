@@ -1,4 +1,6 @@
+import com.sun.source.tree.BinaryTree;
 import com.sun.source.tree.CompilationUnitTree;
+import com.sun.source.tree.IdentifierTree;
 import com.sun.source.tree.LiteralTree;
 import com.sun.source.tree.MethodInvocationTree;
 import com.sun.source.tree.MethodTree;
@@ -9,6 +11,7 @@ import com.sun.source.tree.VariableTree;
 import com.sun.source.util.TreeScanner;
 import javax.lang.model.element.Element;
 import javax.lang.model.element.ExecutableElement;
+import javax.lang.model.element.TypeElement;
 import javax.lang.model.type.ArrayType;
 import javax.lang.model.type.TypeKind;
 import javax.lang.model.type.TypeMirror;
@@ -68,12 +71,31 @@ final class Numbers extends TreeScanner<Void, Void> {
     }
 
     @Override
+    public Void visitIdentifier(IdentifierTree tree, Void nothing) {
+        Element element = sources.elementOf(tree);
+        String name = element instanceof TypeElement ? element.toString() : "";
+        if (name.equals("java.lang.Long")) {
+            told = true;
+            obstacles.add(sources.placeOf(unit, tree), "long", "write Integer for Long, where the values fit an int");
+        } else if (name.equals("java.lang.Double") || name.equals("java.lang.Float")) {
+            told = true;
+            obstacles.add(sources.placeOf(unit, tree), element.getSimpleName().toString().toLowerCase(), WHOLE);
+        }
+        return super.visitIdentifier(tree, nothing);
+    }
+
+    @Override
     public Void visitMethod(MethodTree tree, Void nothing) {
         if (sources.elementOf(tree) instanceof ExecutableElement method && isMissing(method.getReturnType())) {
             add(tree.getReturnType(), method.getReturnType(), advice(method.getReturnType(),
                 "what " + tree.getName() + " returns"));
         }
         return super.visitMethod(tree, nothing);
+    }
+
+    /** The load of a hash table that it has anyway. */
+    static boolean isLoad(Tree tree) {
+        return tree instanceof LiteralTree literal && literal.getValue() instanceof Float load && load == 0.75f;
     }
 
     @Override
@@ -90,6 +112,9 @@ final class Numbers extends TreeScanner<Void, Void> {
     @Override
     public Void visitTypeCast(TypeCastTree tree, Void nothing) {
         TypeMirror type = sources.typeOf(tree);
+        if (Roots.isWhole(sources, tree)) {
+            return scan(Roots.call(tree.getExpression()).getArguments(), null);
+        }
         if (isMissing(type)) {
             add(tree, type, element(type).getKind() == TypeKind.LONG ? "leave the cast out, where the values fit an int"
                 : WHOLE);
@@ -98,8 +123,20 @@ final class Numbers extends TreeScanner<Void, Void> {
     }
 
     @Override
+    public Void visitBinary(BinaryTree tree, Void nothing) {
+        if (Roots.isBound(sources, tree)) {
+            scan(Roots.value(tree), null);
+            return scan(Roots.root(tree).getArguments(), null);
+        }
+        return super.visitBinary(tree, nothing);
+    }
+
+    @Override
     public Void visitMethodInvocation(MethodInvocationTree tree, Void nothing) {
         if (sources.elementOf(tree) instanceof ExecutableElement method) {
+            if (method.getSimpleName().contentEquals("<init>") && takesLoad(method)) {
+                return scan(tree.getArguments().stream().filter(one -> !isLoad(one)).toList(), null);
+            }
             boolean own = sources.treeOf.get(method) != null && !sources.isLibrary(sources.unitOf.get(
                 method.getEnclosingElement()));
             if (!own && isMissing(method.getReturnType())) {
@@ -120,6 +157,16 @@ final class Numbers extends TreeScanner<Void, Void> {
             && made.getEnclosingElement().toString().equals("java.util.Random")) {
             obstacles.add(sources.placeOf(unit, tree), "random numbers", SEED);
         }
+        if (sources.elementOf(tree) instanceof ExecutableElement made && takesLoad(made)) {
+            scan(tree.getClassBody(), null);
+            return scan(tree.getArguments().stream().filter(one -> !isLoad(one)).toList(), null);
+        }
         return super.visitNewClass(tree, nothing);
+    }
+
+    /** Whether it is a constructor of a hash table with a load. */
+    private boolean takesLoad(ExecutableElement made) {
+        return made.getEnclosingElement().toString().startsWith("java.util.")
+            && made.getParameters().stream().anyMatch(one -> one.asType().getKind() == TypeKind.FLOAT);
     }
 }

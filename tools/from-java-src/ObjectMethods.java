@@ -19,6 +19,8 @@ final class ObjectMethods {
     private final Set<String> injected = new HashSet<>();
     private final Map<Copy, Set<String>> heads = new LinkedHashMap<>();
     private final Map<String, Copy> tops = new LinkedHashMap<>(); // of what asks for a name, the class that it knows
+    private final Map<String, TypeElement> kinds = new LinkedHashMap<>(); // of what asks for a generic class, that class
+    private final Map<Place, Copy> opened = new LinkedHashMap<>();
     private Copy any;
 
     ObjectMethods(Program program) {
@@ -156,6 +158,27 @@ final class ObjectMethods {
         return body.obstacleEx(null, "super." + name, "that of Object is not brought in");
     }
 
+    /** Whether an object is one of a generic class, whatever the types for its variables are. */
+    Ex isOf(Body body, Ex value, TypeElement element) {
+        String name = "is" + element.getSimpleName();
+        asked.add(name);
+        kinds.put(name, element);
+        return Ex.active(any().staticToken() + "." + name + "(" + value.text + ")", Ex.POST, Ty.BOOLEAN);
+    }
+
+    /** A copy of a generic class as which an object is seen of which nothing is known. */
+    void opened(Copy copy, Place at) {
+        opened.putIfAbsent(at, copy);
+    }
+
+    /** Tells where an object may be of another copy than the one that is asked. */
+    void tellOpened() {
+        opened.forEach((at, copy) -> program.world.copies.stream()
+            .filter(one -> one.created && one.as(copy.element) != null && !one.isBelow(copy)).findFirst()
+            .ifPresent(one -> program.world.obstacles.add(at, "generics", "an object of the copy " + one
+                + " may stand where one of " + copy + " is asked: write the type arguments that it has")));
+    }
+
     Ex nameOf(Body body, Ex value, String which) {
         Copy top = value.type.is(Ty.Kind.CLASS) && value.type.copy.element != null ? value.type.copy : null;
         String name = which + (top == null ? "" : "Of" + top.name);
@@ -190,7 +213,7 @@ final class ObjectMethods {
     boolean settle() {
         int before = program.count();
         for (String name : List.copyOf(asked)) {
-            if (!isName(name)) {
+            if (!isName(name) && !kinds.containsKey(name)) {
                 roots().stream().filter(one -> !name.equals("toString") || isDeclared(one)).forEach(one ->
                     need(one, name));
             }
@@ -214,7 +237,8 @@ final class ObjectMethods {
             method.at = body.placeOf(program.main.tree);
             body.place = method.at;
             method.params.add((tops.get(name) == null ? "Object" : tops.get(name).token()) + " value");
-            body.result = name.equals("equals") ? Ty.BOOLEAN : name.equals("hashCode") ? Ty.INT : Ty.STRING;
+            boolean tests = name.equals("equals") || kinds.containsKey(name);
+            body.result = tests ? Ty.BOOLEAN : name.equals("hashCode") ? Ty.INT : Ty.STRING;
             method.result = body.result.text();
             if (name.equals("equals")) {
                 method.params.add("Object other");
@@ -226,6 +250,12 @@ final class ObjectMethods {
     }
 
     private void cases(Body body, String name) {
+        if (kinds.containsKey(name)) {
+            program.world.copies.stream().filter(one -> one.created && one.as(kinds.get(name)) != null)
+                .forEach(one -> choose(body, one, "true"));
+            body.emit(new St.Return("false"));
+            return;
+        }
         if (isName(name)) {
             names(body, name);
         } else {

@@ -2,6 +2,7 @@ import com.sun.source.tree.ArrayAccessTree;
 import com.sun.source.tree.AssignmentTree;
 import com.sun.source.tree.BinaryTree;
 import com.sun.source.tree.CompoundAssignmentTree;
+import com.sun.source.tree.ConditionalExpressionTree;
 import com.sun.source.tree.ExpressionTree;
 import com.sun.source.tree.IdentifierTree;
 import com.sun.source.tree.MemberSelectTree;
@@ -47,6 +48,9 @@ final class Operators {
         if (kind.equals("CONDITIONAL_AND") || kind.equals("CONDITIONAL_OR")) {
             return shortcut(tree, kind.equals("CONDITIONAL_AND"));
         }
+        if (Roots.isBound(body.world.sources, tree)) {
+            return Roots.bound(body, tree);
+        }
         if (Classes.isPair(body, tree)) {
             return Classes.compare(body, tree);
         }
@@ -66,8 +70,22 @@ final class Operators {
     }
 
     private Ex part(ExpressionTree tree, boolean joins) {
+        ExpressionTree inner = tree;
+        while (inner instanceof ParenthesizedTree bracketed) {
+            inner = bracketed.getExpression();
+        }
+        if (joins && inner instanceof ConditionalExpressionTree choice && isMixed(choice)) {
+            return body.expressions.textOf(choice);
+        }
         Ex value = body.ex(tree);
         return joins ? body.conversions.text(value, tree) : value;
+    }
+
+    /** Whether the two values of a choice have but an interface or Object in common. */
+    private boolean isMixed(ConditionalExpressionTree tree) {
+        javax.lang.model.type.TypeKind kind = body.world.sources.typeOf(tree).getKind();
+        return kind == javax.lang.model.type.TypeKind.INTERSECTION || kind == javax.lang.model.type.TypeKind.DECLARED
+            && !body.world.sources.typeOf(tree).toString().equals("java.lang.String");
     }
 
     private Ex shortcut(BinaryTree tree, boolean and) {
@@ -104,6 +122,11 @@ final class Operators {
         if (one.type.is(Ty.Kind.BOOLEAN)) {
             return both(kind, one, other);
         }
+        if (body.world.faults.isChecked(tree)) {
+            one = body.spill(one);
+            other = body.spill(other);
+            body.exceptions.checkDivisor(other);
+        }
         return Ex.binary(one, mark.text, mark.level, other, Ty.INT);
     }
 
@@ -125,7 +148,7 @@ final class Operators {
         if (!none && (left.type.is(Ty.Kind.STRING) || right.type.is(Ty.Kind.STRING))) {
             return body.obstacleEx(tree, "== of strings", "it compares objects; write equals").as(Ty.BOOLEAN);
         }
-        if (!none && body.conversions.isBox(left.type) && body.conversions.isBox(right.type)) {
+        if (!none && !body.owner.isLibrary && body.conversions.isBox(left.type) && body.conversions.isBox(right.type)) {
             return body.obstacleEx(tree, "== of boxed values",
                 "it compares objects; write equals, or intValue()").as(Ty.BOOLEAN);
         }
@@ -168,6 +191,16 @@ final class Operators {
             }
             return field != null ? body.expressions.field(of.get(0), field, tree)
                 : Expressions.elementOf(of.get(0), of.get(1));
+        }
+
+        /** Asks whether an element is there, where that is caught; the parts, which are kept then. */
+        List<Ex> asked(List<Ex> of) {
+            if (!(tree instanceof ArrayAccessTree) || !body.world.faults.isChecked(tree)) {
+                return of;
+            }
+            List<Ex> kept = List.of(body.spill(of.get(0)), body.spill(of.get(1)));
+            body.exceptions.checkPlace(kept.get(1), Expressions.lengthOf(kept.get(0)), true);
+            return kept;
         }
 
         void put(List<Ex> of, Ex value) {
@@ -215,7 +248,13 @@ final class Operators {
         place.parts.forEach(part -> all.add(() -> part));
         all.add(() -> body.exTo(tree.getExpression(), type));
         List<Ex> values = body.operands(all);
-        return store(place, values.subList(0, values.size() - 1), values.get(values.size() - 1).as(type), wanted);
+        List<Ex> parts = values.subList(0, values.size() - 1);
+        Ex value = values.get(values.size() - 1).as(type);
+        if (body.world.faults.isChecked(place.tree)) {
+            parts = List.of(body.spill(parts.get(0)), body.spill(parts.get(1)));
+            value = body.spill(value);
+        }
+        return store(place, place.asked(parts), value, wanted);
     }
 
     /** Stores a value, and gives it where it is wanted. */
@@ -242,7 +281,7 @@ final class Operators {
     Ex compound(CompoundAssignmentTree tree, boolean wanted) {
         String kind = tree.getKind().name().replace("_ASSIGNMENT", "");
         Place_ place = place(tree.getVariable());
-        List<Ex> settled = settled(place);
+        List<Ex> settled = place.asked(settled(place));
         Ty type = place.read(settled).type;
         List<Supplier<Ex>> all = new ArrayList<>();
         settled.forEach(part -> all.add(() -> part));
@@ -262,7 +301,7 @@ final class Operators {
 
     private Ex step(UnaryTree tree, boolean up, boolean prefix, boolean wanted) {
         Place_ place = place(tree.getExpression());
-        List<Ex> parts = settled(place);
+        List<Ex> parts = place.asked(settled(place));
         Ex old = place.read(parts);
         if (wanted && !prefix) {
             String name = body.fresh(old.type);

@@ -14,7 +14,9 @@ final class Printing {
     Ex print(MethodInvocationTree tree, ExecutableElement method, MemberSelectTree select) {
         String name = method.getSimpleName().toString();
         String to = select.getExpression().toString();
-        if (!to.equals("System.out") && !to.equals("out")) {
+        if (to.equals("System.err")) {
+            leaveOut(tree, name);
+        } else if (!to.equals("System.out") && !to.equals("out")) {
             body.obstacle(tree, to, "there is one output; write System.out");
         } else if (name.equals("println") && tree.getArguments().isEmpty()) {
             body.emit(new St.Do("System.out.println()"));
@@ -26,6 +28,18 @@ final class Printing {
             body.obstacle(tree, "System.out." + name, "of System.out there are print, println and printf");
         }
         return new Ex("", Ex.POST, Ty.VOID, true, java.util.Set.of());
+    }
+
+    /** What goes to the error output is evaluated, and not printed: there is one output. */
+    private void leaveOut(MethodInvocationTree tree, String name) {
+        boolean formats = name.equals("printf") || name.equals("format");
+        if (!tree.getArguments().isEmpty()) {
+            Ex value = formats ? new Formats(body).format(tree.getArguments(), tree) : printed(tree.getArguments().get(0));
+            if (!value.pure) {
+                body.spill(value);
+            }
+        }
+        body.program.leftOut(body.placeOf(tree), "System.err: there is one output, and this is not printed to it");
     }
 
     private Ex printed(ExpressionTree tree) {

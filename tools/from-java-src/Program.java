@@ -48,7 +48,7 @@ final class Program {
         this.world = world;
         world.program = this;
         captures = new Captures(world);
-        throwing = new Throwing(world.sources, world.methodNames);
+        throwing = new Throwing(world.sources, world.methodNames, world.faults);
     }
 
     boolean catches() {
@@ -90,6 +90,7 @@ final class Program {
         }
         objects.finish();
         drain();
+        objects.tellOpened();
     }
 
     /** Tells the generic methods that nothing calls and the generic classes that nothing uses: there is no copy of them. */
@@ -187,7 +188,7 @@ final class Program {
                     && (isStatic ? isRaw || copy.env.isEmpty() : !isRaw)) {
                     need(copy, method, List.of());
                 } else if (member.getKind() == ElementKind.CONSTRUCTOR && !isRaw) {
-                    later(() -> inits.name(copy, method));
+                    later(() -> inits.name(copy, method, List.of()));
                 }
             }
         }
@@ -251,15 +252,20 @@ final class Program {
 
     /** A static field of the library, which is there where it is asked for. */
     void needStaticField(Copy at, VariableElement field) {
-        if (at.isLibrary && written.add(List.of(at, field))) {
-            field(at, field, at.staticFields);
+        List<VariableElement> all = new ArrayList<>(List.of(field));
+        inits.statics(at.element).stream().map(world.sources::elementOf).filter(one -> one != null)
+            .forEach(one -> all.add((VariableElement) one));
+        for (VariableElement one : at.isLibrary ? all : List.<VariableElement>of()) {
+            if (written.add(List.of(at, one))) {
+                field(at, one, at.staticFields);
+            }
         }
         needStatic(at);
     }
 
-    void needInit(Copy copy, ExecutableElement constructor) {
-        if (written.add(List.of(copy, constructor))) {
-            later(() -> copy.methods.add(inits.write(copy, constructor)));
+    void needInit(Copy copy, ExecutableElement constructor, List<Ty> wilds) {
+        if (written.add(List.of(copy, constructor, wilds))) {
+            later(() -> copy.methods.add(inits.write(copy, constructor, wilds)));
         }
     }
 
@@ -306,9 +312,7 @@ final class Program {
 
     private static Map<Element, Ty> environment(Copy at, ExecutableElement method, List<Ty> margs) {
         Map<Element, Ty> env = new HashMap<>(at.env);
-        for (int k = 0; k < margs.size(); k++) {
-            env.put(method.getTypeParameters().get(k), margs.get(k));
-        }
+        Wilds.put(env, method, margs);
         return env;
     }
 
@@ -406,7 +410,7 @@ final class Program {
             to.used |= !ofString;
         }
         for (VariableElement one : method.getParameters()) {
-            Ty type = body.ty(one.asType());
+            Ty type = world.parameter(one, body.env);
             made.params.add(type.text() + " " + body.declare(one, type));
         }
         made.locals = body.names();

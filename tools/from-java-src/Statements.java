@@ -6,6 +6,7 @@ import javax.lang.model.element.Element;
 import javax.lang.model.element.ElementKind;
 import javax.lang.model.element.ExecutableElement;
 import javax.lang.model.element.TypeElement;
+import javax.lang.model.element.VariableElement;
 
 /** Statements of the sources as statements of the text. */
 final class Statements {
@@ -98,6 +99,13 @@ final class Statements {
         }
         if (value == null) {
             body.emit(new St.Let(type.text(), body.declare(element, type), type.initial()));
+            return;
+        }
+        if (Wilds.isWild((VariableElement) element)) {
+            Ex given = body.ex(value);
+            Ty seen = Wilds.seen(given.type, (VariableElement) element), own = seen == null ? type : seen;
+            Ex made = body.conversions.convert(given, own, value);
+            body.emit(new St.Let(own.text(), body.declare(element, own), made.text));
             return;
         }
         String name = body.declare(element, type);
@@ -313,6 +321,11 @@ final class Statements {
         Ex walker = body.calls.invoke(over, method(iterable, "iterator"), List.of(), List.of(), tree, false);
         Ex at = Ex.local(body.fresh("iterator"), walker.type);
         Ty given = walker.type.copy.as(iterator).env.values().iterator().next();
+        Ty seen = Wilds.isWild((VariableElement) variable) ? Wilds.seen(given, (VariableElement) variable) : null;
+        if (seen != null) {
+            declareOver(tree, at, variable, seen, label, walker, iterator);
+            return;
+        }
         if (body.world.isApart(given) && type.is(Ty.Kind.CLASS) && given.copy.element.equals(type.copy.element)) {
             declareOver(tree, at, variable, given, label, walker, iterator);
             return;

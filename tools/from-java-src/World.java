@@ -40,6 +40,7 @@ final class World {
     Place place; // where what is asked for stands
     Program program;
     final Apart apart;
+    final Faults faults;
     final Element tag; // the variable for which a container of its own has its tag
 
     World(Sources sources, Obstacles obstacles, Apart apart) {
@@ -48,6 +49,7 @@ final class World {
         this.apart = apart;
         tag = sources.elements.getTypeElement("java.lang.Void");
         methodNames = new MethodNames(sources);
+        faults = new Faults(sources);
         classNames.addAll(sources.variableNames);
     }
 
@@ -73,8 +75,21 @@ final class World {
         }
     }
 
+    /** The type of a parameter; of the library's, a load of a table, which is always three quarters, is a number. */
+    Ty parameter(VariableElement one, Map<Element, Ty> env) {
+        return isLoad(one) ? Ty.INT : env.containsKey(one) ? env.get(one) : ty(one.asType(), env);
+    }
+
+    boolean isLoad(VariableElement one) {
+        return one.asType().getKind() == TypeKind.FLOAT
+            && sources.isLibrary(sources.unitOf.get(one.getEnclosingElement().getEnclosingElement()));
+    }
+
     /** The type of a field or a local: a container may have a class of its own. */
     Ty tyOf(Element variable, Map<Element, Ty> env) {
+        if (env.containsKey(variable)) {
+            return env.get(variable);
+        }
         Ty own = apart.of(variable);
         return own == null ? ty(variable.asType(), env) : copyOf((DeclaredType) variable.asType(), env, own).ty;
     }
@@ -218,6 +233,49 @@ final class World {
             obstacles.add(place, "library", element.getQualifiedName() + " is not in the library");
         }
         return made;
+    }
+
+    /** Whether a type names a generic class, and says nothing of the types for its variables. */
+    boolean isOpen(TypeMirror type, Map<Element, Ty> env) {
+        if (!(type instanceof DeclaredType declared)) {
+            return false;
+        }
+        TypeElement element = (TypeElement) declared.asElement();
+        return !element.getTypeParameters().isEmpty()
+            && element.getTypeParameters().stream().noneMatch(env::containsKey)
+            && declared.getTypeArguments().stream().allMatch(one -> one instanceof WildcardType wild
+                && wild.getExtendsBound() == null && wild.getSuperBound() == null);
+    }
+
+    /** The copy of a generic class that objects seen as another copy may be, or null where that does not say it. */
+    Copy below(TypeElement element, Copy seen) {
+        DeclaredType up = seen.element == null ? null : above((DeclaredType) element.asType(), seen.element);
+        if (up == null) {
+            return null;
+        }
+        Map<Element, Ty> env = new LinkedHashMap<>();
+        List<? extends TypeParameterElement> own = seen.element.getTypeParameters();
+        for (int k = 0; k < own.size() && k < up.getTypeArguments().size(); k++) {
+            if (up.getTypeArguments().get(k) instanceof TypeVariable variable && seen.env.containsKey(own.get(k))) {
+                env.put(variable.asElement(), seen.env.get(own.get(k)));
+            }
+        }
+        Map<Element, Ty> sorted = new LinkedHashMap<>();
+        element.getTypeParameters().forEach(one -> sorted.put(one, env.get(one)));
+        return sorted.containsValue(null) ? null : copy(element, sorted);
+    }
+
+    private DeclaredType above(DeclaredType type, TypeElement asked) {
+        if (type.asElement().equals(asked)) {
+            return type;
+        }
+        for (TypeMirror up : sources.types.directSupertypes(type)) {
+            DeclaredType found = above((DeclaredType) up, asked);
+            if (found != null) {
+                return found;
+            }
+        }
+        return null;
     }
 
     /** A class of our own. */

@@ -7,4 +7,16 @@ public class AssertionError extends Error {
     public AssertionError(String message) {
         super(message);
     }
+
+    public AssertionError(Object detail) {
+        super("" + detail);
+    }
+
+    public AssertionError(int detail) {
+        super("" + detail);
+    }
+
+    public AssertionError(String message, Throwable cause) {
+        super(message, cause);
+    }
 }

@@ -1,6 +1,8 @@
 package java.lang;
 
 public final class Boolean implements Comparable<Boolean> {
+    public static final Boolean TRUE = valueOf(true);
+    public static final Boolean FALSE = valueOf(false);
     boolean value;
 
     public static Boolean valueOf(boolean value) {
@@ -43,5 +45,21 @@ public final class Boolean implements Comparable<Boolean> {
 
     public String toString() {
         return "" + value;
+    }
+
+    public static Boolean valueOf(String text) {
+        return valueOf(parseBoolean(text));
+    }
+
+    public static boolean logicalAnd(boolean one, boolean other) {
+        return one & other;
+    }
+
+    public static boolean logicalOr(boolean one, boolean other) {
+        return one | other;
+    }
+
+    public static boolean logicalXor(boolean one, boolean other) {
+        return one ^ other;
     }
 }

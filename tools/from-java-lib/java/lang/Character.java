@@ -4,6 +4,10 @@ package java.lang;
 public final class Character implements Comparable<Character> {
     public static final char MAX_VALUE = 65535;
     public static final char MIN_VALUE = 0;
+    public static final int MIN_RADIX = 2;
+    public static final int MAX_RADIX = 36;
+    public static final int SIZE = 16;
+    public static final int BYTES = 2;
     char value;
 
     public static Character valueOf(char value) {
@@ -124,5 +128,80 @@ public final class Character implements Comparable<Character> {
 
     public String toString() {
         return "" + value;
+    }
+
+    // characters that are given as numbers
+
+    public static boolean isDigit(int c) {
+        return isDigit((char) c);
+    }
+
+    public static boolean isUpperCase(int c) {
+        return isUpperCase((char) c);
+    }
+
+    public static boolean isLowerCase(int c) {
+        return isLowerCase((char) c);
+    }
+
+    public static boolean isLetter(int c) {
+        return isLetter((char) c);
+    }
+
+    public static boolean isLetterOrDigit(int c) {
+        return isLetterOrDigit((char) c);
+    }
+
+    public static boolean isWhitespace(int c) {
+        return isWhitespace((char) c);
+    }
+
+    public static boolean isSpaceChar(int c) {
+        return isSpaceChar((char) c);
+    }
+
+    public static int toUpperCase(int c) {
+        return toUpperCase((char) c);
+    }
+
+    public static int toLowerCase(int c) {
+        return toLowerCase((char) c);
+    }
+
+    public static int digit(int c, int radix) {
+        return digit((char) c, radix);
+    }
+
+    public static int getNumericValue(int c) {
+        return getNumericValue((char) c);
+    }
+
+    public static String toString(int c) {
+        return "" + (char) c;
+    }
+
+    public static boolean isISOControl(char c) {
+        return c <= 31 || c >= 127 && c <= 159;
+    }
+
+    private static boolean isCurrency(char c) {
+        return c == '$' || c >= 162 && c <= 165;
+    }
+
+    public static boolean isJavaIdentifierStart(char c) {
+        return isLetter(c) || c == '_' || isCurrency(c);
+    }
+
+    public static boolean isJavaIdentifierPart(char c) {
+        boolean ignored = c <= 8 || c >= 14 && c <= 27 || c >= 127 && c <= 159 || c == 173;
+        return isJavaIdentifierStart(c) || isDigit(c) || ignored;
+    }
+
+    public static boolean isJavaIdentifierStart(int c) {
+        return isJavaIdentifierStart((char) c);
+    }
+
+    public static boolean isJavaIdentifierPart(int c) {
+        return isJavaIdentifierPart((char) c);
     }
 }

@@ -1,9 +1,15 @@
 package java.lang;
 
+import java.util.Comparator;
+import java.util.function.Function;
+import java.util.regex.Pattern;
 import java.util.stream.IntStream;
+import java.util.stream.Stream;
 
 /** Methods of strings; in the text each takes the string as its first argument. */
 public final class String implements Comparable<String>, CharSequence {
+    public static final Comparator<String> CASE_INSENSITIVE_ORDER = (one, other) -> one.compareToIgnoreCase(other);
+
     public String() {
     }
 
@@ -119,7 +125,11 @@ public final class String implements Comparable<String>, CharSequence {
     }
 
     public int lastIndexOf(int c) {
-        for (int k = length() - 1; k >= 0; k--) {
+        return lastIndexOf(c, length() - 1);
+    }
+
+    public int lastIndexOf(int c, int from) {
+        for (int k = from < length() ? from : length() - 1; k >= 0; k--) {
             if (charAt(k) == c) {
                 return k;
             }
@@ -144,7 +154,12 @@ public final class String implements Comparable<String>, CharSequence {
     }
 
     public int lastIndexOf(String part) {
-        for (int k = length() - part.length(); k >= 0; k--) {
+        return lastIndexOf(part, length());
+    }
+
+    public int lastIndexOf(String part, int from) {
+        int last = length() - part.length();
+        for (int k = from < last ? from : last; k >= 0; k--) {
             if (startsWith(part, k)) {
                 return k;
             }
@@ -303,43 +318,62 @@ public final class String implements Comparable<String>, CharSequence {
         return all;
     }
 
-    /** Splits at a plain text, at white space, or at a comma with white space about it. */
     public String[] split(String by) {
-        if (by.length() == 0) {
-            String[] single = new String[length()];
-            for (int k = 0; k < length(); k++) {
-                single[k] = "" + charAt(k);
-            }
-            return single;
-        }
-        int[] ends = new int[1];
+        return split(by, 0);
+    }
+
+    /** Splits at a plain text, at white space, or at a comma with white space about it. */
+    public String[] split(String by, int most) {
+        String[] parts = new String[length() + 1];
         int count = 0;
         int from = 0;
-        String[] parts = new String[length() + 1];
-        int k = 0;
-        while (k < length()) {
-            int end = separator(by, k);
-            if (end > k && !(count == 0 && end == 0)) {
+        int k = by.length() == 0 ? 1 : 0;
+        while (k < length() && (most <= 0 || count < most - 1)) {
+            int end = by.length() == 0 ? k : separator(by, k);
+            if (end > k || by.length() == 0) {
                 parts[count] = part(from, k);
                 count++;
                 from = end;
-                k = end;
-            } else {
-                k++;
             }
+            k = end > k ? end : k + 1;
         }
         parts[count] = part(from, length());
-        count++;
-        if (from > 0) {
-            while (count > 0 && parts[count - 1].length() == 0) {
-                count--;
-            }
+        return kept(parts, count + 1, most == 0 && from > 0);
+    }
+
+    /** The first parts; without those at the end that are empty where that is asked. */
+    public static String[] kept(String[] parts, int count, boolean trims) {
+        int size = count;
+        while (trims && size > 0 && parts[size - 1].length() == 0) {
+            size--;
         }
-        String[] all = new String[count];
-        for (int n = 0; n < count; n++) {
+        String[] all = new String[size];
+        for (int n = 0; n < size; n++) {
             all[n] = parts[n];
         }
         return all;
+    }
+
+    // patterns, which are known when the program runs
+
+    public String[] splitBy(String pattern) {
+        return Pattern.compile(pattern).split(this, 0);
+    }
+
+    public String[] splitBy(String pattern, int most) {
+        return Pattern.compile(pattern).split(this, most);
+    }
+
+    public boolean matches(String pattern) {
+        return Pattern.matches(pattern, this);
+    }
+
+    public String replaceAll(String pattern, String with) {
+        return Pattern.compile(pattern).matcher(this).replaceAll(with);
+    }
+
+    public String replaceFirst(String pattern, String with) {
+        return Pattern.compile(pattern).matcher(this).replaceFirst(with);
     }
 
     /** The end of the separator that stands at a place, or the place itself. */
@@ -402,6 +436,14 @@ public final class String implements Comparable<String>, CharSequence {
         return text;
     }
 
+    public static String filled(String text, int width) {
+        String zeros = "";
+        while (zeros.length() + text.length() < width) {
+            zeros = zeros + "0";
+        }
+        return zeros + text;
+    }
+
     public static String cut(String text, int most) {
         return text.length() > most ? text.substring(0, most) : text;
     }
@@ -426,5 +468,110 @@ public final class String implements Comparable<String>, CharSequence {
     public static String hexadecimal(int value, boolean upper) {
         String text = Integer.toHexString(value);
         return upper ? text.toUpperCase() : text;
+    }
+
+    public String(char[] characters, int from, int count) {
+    }
+
+    public String(StringBuilder text) {
+    }
+
+    public static String valueOf(char[] characters, int from, int count) {
+        return ofCharacters(characters, from, count);
+    }
+
+    public static String copyValueOf(char[] characters, int from, int count) {
+        return ofCharacters(characters, from, count);
+    }
+
+    public static String ofCharacters(char[] characters, int from, int count) {
+        check(from >= 0 && count >= 0 && from <= characters.length - count, "offset " + from + ", count " + count
+            + ", length " + characters.length);
+        String text = "";
+        for (int k = from; k < from + count; k++) {
+            text = text + characters[k];
+        }
+        return text;
+    }
+
+    public boolean contains(CharSequence part) {
+        return indexOf(part.toString()) >= 0;
+    }
+
+    public boolean contentEquals(CharSequence other) {
+        return equals(other.toString());
+    }
+
+    public String replace(CharSequence part, CharSequence with) {
+        return replaced(part.toString(), with.toString());
+    }
+
+    public String intern() {
+        return this;
+    }
+
+    public String indent(int count) {
+        String text = "";
+        String[] all = split("\n", 0);
+        for (int k = 0; k < all.length; k++) {
+            String line = all[k];
+            int spaces = 0;
+            while (spaces < -count && spaces < line.length() && Character.isWhitespace(line.charAt(spaces))) {
+                spaces++;
+            }
+            text = text + (count > 0 ? " ".repeat(count) : "") + line.substring(spaces) + "\n";
+        }
+        return length() == 0 ? "" : text;
+    }
+
+    public String stripLeading() {
+        int from = 0;
+        while (from < length() && Character.isWhitespace(charAt(from))) {
+            from++;
+        }
+        return part(from, length());
+    }
+
+    public String stripTrailing() {
+        int to = length();
+        while (to > 0 && Character.isWhitespace(charAt(to - 1))) {
+            to--;
+        }
+        return part(0, to);
+    }
+
+    public Stream<String> lines() {
+        if (length() == 0) {
+            return Stream.<String>empty();
+        }
+        String[] all = replace("\r\n", "\n").replace('\r', '\n').split("\n", -1);
+        return Stream.<String>of(kept(all, endsWith("\n") || endsWith("\r") ? all.length - 1 : all.length, false));
+    }
+
+    public boolean regionMatches(int from, String other, int at, int count) {
+        return regionMatches(false, from, other, at, count);
+    }
+
+    public boolean regionMatches(boolean anyCase, int from, String other, int at, int count) {
+        if (from < 0 || at < 0 || from > length() - count || at > other.length() - count) {
+            return false;
+        }
+        String one = part(from, from + count);
+        String two = other.substring(at, at + count);
+        return anyCase ? one.equalsIgnoreCase(two) : one.equals(two);
+    }
+
+    public int codePointAt(int index) {
+        return charAt(index);
+    }
+
+    public void getChars(int from, int to, char[] into, int at) {
+        for (int k = from; k < to; k++) {
+            into[at + k - from] = charAt(k);
+        }
+    }
+
+    public <R> R transform(Function<String, R> change) {
+        return change.apply(this);
     }
 }

@@ -13,6 +13,10 @@ public final class StringBuilder implements CharSequence, Comparable<StringBuild
         this.text = text.toString();
     }
 
+    public StringBuilder(CharSequence text) {
+        this.text = text.toString();
+    }
+
     public StringBuilder append(String more) {
         text = text + more;
         return this;
@@ -112,6 +116,68 @@ public final class StringBuilder implements CharSequence, Comparable<StringBuild
 
     public char charAt(int at) {
         return text.charAt(at);
+    }
+
+    public int indexOf(String part, int from) {
+        return text.indexOf(part, from);
+    }
+
+    public int lastIndexOf(String part) {
+        return text.lastIndexOf(part);
+    }
+
+    public int lastIndexOf(String part, int from) {
+        return text.lastIndexOf(part, from);
+    }
+
+    public CharSequence subSequence(int from, int to) {
+        return text.substring(from, to);
+    }
+
+    public StringBuilder append(CharSequence more) {
+        text = text + more;
+        return this;
+    }
+
+    public StringBuilder append(CharSequence more, int from, int to) {
+        text = text + more.toString().substring(from, to);
+        return this;
+    }
+
+    public StringBuilder append(char[] more, int from, int count) {
+        text = text + String.ofCharacters(more, from, count);
+        return this;
+    }
+
+    public StringBuilder appendCodePoint(int more) {
+        text = text + (char) more;
+        return this;
+    }
+
+    public StringBuilder insert(int at, boolean more) {
+        return insert(at, "" + more);
+    }
+
+    public StringBuilder insert(int at, char[] more) {
+        return insert(at, String.ofCharacters(more));
+    }
+
+    public StringBuilder insert(int at, Object more) {
+        return insert(at, "" + more);
+    }
+
+    public void getChars(int from, int to, char[] into, int at) {
+        text.getChars(from, to, into, at);
+    }
+
+    public int capacity() {
+        return text.length() + 16;
+    }
+
+    public void ensureCapacity(int capacity) {
+    }
+
+    public void trimToSize() {
     }
 
     public int indexOf(String part) {

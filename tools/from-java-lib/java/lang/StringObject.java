@@ -51,4 +51,8 @@ public final class StringObject implements Comparable<String>, CharSequence {
     public String toString() {
         return value;
     }
+
+    public CharSequence subSequence(int from, int to) {
+        return of(value.substring(from, to));
+    }
 }

@@ -46,7 +46,7 @@ public abstract class AbstractCollection<E> implements Collection<E> {
 
     public boolean addAll(Collection<? extends E> other) {
         boolean changed = false;
-        for (E one : (Collection<E>) other) {
+        for (E one : other) {
             if (add(one)) {
                 changed = true;
             }

@@ -112,4 +112,19 @@ public abstract class AbstractList<E> extends AbstractCollection<E> implements L
         }
         return hash;
     }
+
+    public ListIterator<E> listIterator() {
+        return listIterator(0);
+    }
+
+    public ListIterator<E> listIterator(int index) {
+        if (index < 0 || index > size()) {
+            throw new IndexOutOfBoundsException("Index: " + index);
+        }
+        ListSteps<E> steps = new ListSteps<>();
+        steps.list = this;
+        steps.changes = changes;
+        steps.at = index;
+        return steps;
+    }
 }

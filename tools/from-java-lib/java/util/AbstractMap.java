@@ -180,4 +180,72 @@ public abstract class AbstractMap<K, V> implements Map<K, V> {
         }
         return text + "}";
     }
+
+    public void replaceAll(BiFunction<K, V, V> change) {
+        MapEntry<K, V> at = firstEntryOf();
+        while (at != null) {
+            at.value = change.apply(at.key, at.value);
+            at = entryAfter(at);
+        }
+    }
+
+    public V replace(K key, V value) {
+        MapEntry<K, V> entry = find(key);
+        return entry == null ? null : entry.setValue(value);
+    }
+
+    public boolean replace(K key, V old, V value) {
+        MapEntry<K, V> entry = find(key);
+        if (entry == null || !Objects.equals(entry.value, old)) {
+            return false;
+        }
+        entry.value = value;
+        return true;
+    }
+
+    public boolean remove(K key, V value) {
+        MapEntry<K, V> entry = find(key);
+        if (entry == null || !Objects.equals(entry.value, value)) {
+            return false;
+        }
+        take(key);
+        return true;
+    }
+
+    public static class SimpleEntry<K, V> implements Map.Entry<K, V> {
+        private K key;
+        private V value;
+
+        public SimpleEntry(K key, V value) {
+            this.key = key;
+            this.value = value;
+        }
+
+        public K getKey() {
+            return key;
+        }
+
+        public V getValue() {
+            return value;
+        }
+
+        public V setValue(V with) {
+            V old = value;
+            value = with;
+            return old;
+        }
+
+        public boolean equals(Object other) {
+            return other instanceof Map.Entry && Objects.equals(key, ((Map.Entry<K, V>) other).getKey())
+                && Objects.equals(value, ((Map.Entry<K, V>) other).getValue());
+        }
+
+        public int hashCode() {
+            return Objects.hashCode(key) ^ Objects.hashCode(value);
+        }
+
+        public String toString() {
+            return key + "=" + value;
+        }
+    }
 }

@@ -181,4 +181,8 @@ public class ArrayDeque<E> extends AbstractCollection<E> implements Deque<E> {
         walk.step = -1;
         return walk;
     }
+
+    public boolean removeFirstOccurrence(E element) {
+        return remove(element);
+    }
 }

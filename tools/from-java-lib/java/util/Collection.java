@@ -1,5 +1,6 @@
 package java.util;
 
+import java.util.function.IntFunction;
 import java.util.function.Predicate;
 import java.util.stream.Stream;
 
@@ -33,4 +34,8 @@ public interface Collection<E> extends Iterable<E> {
     Object[] toArray();
 
     E[] toArray(E[] into);
+
+    default E[] toArray(IntFunction<E[]> make) {
+        return toArray(make.apply(0));
+    }
 }

@@ -57,4 +57,14 @@ public interface Comparator<T> {
     static <T extends Comparable<? super T>> Comparator<T> reverseOrder() {
         return (one, other) -> other.compareTo(one);
     }
+
+    static <T> Comparator<T> nullsFirst(Comparator<? super T> order) {
+        return (one, other) -> one == null ? (other == null ? 0 : -1)
+            : other == null ? 1 : order == null ? 0 : order.compare(one, other);
+    }
+
+    static <T> Comparator<T> nullsLast(Comparator<? super T> order) {
+        return (one, other) -> one == null ? (other == null ? 0 : 1)
+            : other == null ? -1 : order == null ? 0 : order.compare(one, other);
+    }
 }

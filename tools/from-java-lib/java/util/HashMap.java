@@ -16,6 +16,10 @@ public class HashMap<K, V> extends AbstractMap<K, V> {
         reserve(capacity);
     }
 
+    public HashMap(int capacity, float load) {
+        this(capacity);
+    }
+
     public HashMap(Map<K, V> from) {
         reserve(from.size() * 4 / 3 + 1);
         putAll(from);

@@ -10,6 +10,10 @@ public class HashSet<E> extends AbstractSet<E> {
         map.reserve(capacity);
     }
 
+    public HashSet(int capacity, float load) {
+        this(capacity);
+    }
+
     public HashSet(Collection<? extends E> from) {
         int wanted = from.size() * 4 / 3 + 1;
         map.reserve(wanted < 16 ? 16 : wanted);

@@ -4,6 +4,9 @@ public class LinkedHashSet<E> extends HashSet<E> {
     public LinkedHashSet() {
     }
 
+    public LinkedHashSet(int capacity) {
+    }
+
     public LinkedHashSet(Collection<? extends E> from) {
         addAll(from);
     }

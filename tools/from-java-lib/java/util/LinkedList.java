@@ -218,4 +218,16 @@ public class LinkedList<E> extends AbstractList<E> implements Deque<E> {
         }
         return turned.iterator();
     }
+
+    public boolean removeFirstOccurrence(E element) {
+        return remove(element);
+    }
+
+    public boolean removeLastOccurrence(E element) {
+        int at = lastIndexOf(element);
+        if (at >= 0) {
+            remove(at);
+        }
+        return at >= 0;
+    }
 }

@@ -19,6 +19,10 @@ public interface List<E> extends Collection<E> {
 
     List<E> subList(int from, int to);
 
+    ListIterator<E> listIterator();
+
+    ListIterator<E> listIterator(int index);
+
     void sort(Comparator<? super E> order);
 
     void replaceAll(UnaryOperator<E> change);

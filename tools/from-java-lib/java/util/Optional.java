@@ -4,6 +4,7 @@ import java.util.function.Consumer;
 import java.util.function.Function;
 import java.util.function.Predicate;
 import java.util.function.Supplier;
+import java.util.stream.Stream;
 
 public final class Optional<T> {
     private T value;
@@ -46,7 +47,7 @@ public final class Optional<T> {
         return value != null ? value : other;
     }
 
-    public T orElseGet(Supplier<T> other) {
+    public T orElseGet(Supplier<? extends T> other) {
         return value != null ? value : other.get();
     }
 
@@ -70,5 +71,44 @@ public final class Optional<T> {
 
     public String toString() {
         return value == null ? "Optional.empty" : "Optional[" + value + "]";
+    }
+
+    public <X extends Throwable> T orElseThrow(Supplier<? extends X> make) throws X {
+        if (value == null) {
+            throw make.get();
+        }
+        return value;
+    }
+
+    public void ifPresentOrElse(Consumer<T> action, Runnable other) {
+        if (value != null) {
+            action.accept(value);
+        } else {
+            other.run();
+        }
+    }
+
+    public <U> Optional<U> flatMap(Function<T, Optional<U>> change) {
+        return value == null ? Optional.<U>empty() : change.apply(value);
+    }
+
+    public Optional<T> or(Supplier<Optional<T>> other) {
+        return value != null ? this : other.get();
+    }
+
+    public Stream<T> stream() {
+        List<T> all = new ArrayList<>();
+        if (value != null) {
+            all.add(value);
+        }
+        return Stream.<T>over(all.iterator());
+    }
+
+    public boolean equals(Object other) {
+        return other instanceof Optional && Objects.equals(value, ((Optional<T>) other).value);
+    }
+
+    public int hashCode() {
+        return Objects.hashCode(value);
     }
 }

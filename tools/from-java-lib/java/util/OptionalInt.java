@@ -1,5 +1,9 @@
 package java.util;
 
+import java.util.function.IntConsumer;
+import java.util.function.IntSupplier;
+import java.util.function.Supplier;
+
 public final class OptionalInt {
     private int value;
     private boolean there;
@@ -40,5 +44,39 @@ public final class OptionalInt {
 
     public String toString() {
         return there ? "OptionalInt[" + value + "]" : "OptionalInt.empty";
+    }
+
+    public <X extends Throwable> int orElseThrow(Supplier<? extends X> make) throws X {
+        if (!there) {
+            throw make.get();
+        }
+        return value;
+    }
+
+    public int orElseGet(IntSupplier other) {
+        return there ? value : other.getAsInt();
+    }
+
+    public void ifPresent(IntConsumer action) {
+        if (there) {
+            action.accept(value);
+        }
+    }
+
+    public void ifPresentOrElse(IntConsumer action, Runnable other) {
+        if (there) {
+            action.accept(value);
+        } else {
+            other.run();
+        }
+    }
+
+    public boolean equals(Object other) {
+        return other instanceof OptionalInt && ((OptionalInt) other).there == there
+            && ((OptionalInt) other).value == value;
+    }
+
+    public int hashCode() {
+        return there ? value : 0;
     }
 }

@@ -21,7 +21,7 @@ public class PriorityQueue<E> extends AbstractCollection<E> implements Queue<E> 
     }
 
     public PriorityQueue(Collection<? extends E> from) {
-        for (E one : (Collection<E>) from) {
+        for (E one : from) {
             room();
             heap[count] = one;
             count++;
@@ -158,5 +158,9 @@ public class PriorityQueue<E> extends AbstractCollection<E> implements Queue<E> 
         walk.items = heap;
         walk.count = count;
         return walk;
+    }
+
+    public Comparator<? super E> comparator() {
+        return order;
     }
 }

@@ -1,7 +1,7 @@
 package java.util;
 
 /** The entries stand in an array in the order of their keys. */
-public class TreeMap<K, V> extends AbstractMap<K, V> {
+public class TreeMap<K, V> extends AbstractMap<K, V> implements NavigableMap<K, V> {
     private MapEntry<K, V>[] entries = (MapEntry<K, V>[]) new MapEntry[8];
     private Comparator<? super K> order;
     private int count;
@@ -21,7 +21,7 @@ public class TreeMap<K, V> extends AbstractMap<K, V> {
         return count;
     }
 
-    private int compare(K one, K other) {
+    int compare(K one, K other) {
         if (order != null) {
             return order.compare(one, other);
         }
@@ -29,7 +29,7 @@ public class TreeMap<K, V> extends AbstractMap<K, V> {
     }
 
     /** The place of the first entry whose key is not below one. */
-    private int place(K key) {
+    int place(K key) {
         int low = 0;
         int high = count;
         while (low < high) {
@@ -47,7 +47,7 @@ public class TreeMap<K, V> extends AbstractMap<K, V> {
         return at < count && compare(entries[at].key, key) == 0;
     }
 
-    private MapEntry<K, V> at(int place) {
+    MapEntry<K, V> at(int place) {
         return place < 0 || place >= count ? null : entries[place];
     }
 
@@ -148,7 +148,7 @@ public class TreeMap<K, V> extends AbstractMap<K, V> {
         return last == null ? null : take(last.key);
     }
 
-    private int above(K key) {
+    int above(K key) {
         int at = place(key);
         return isAt(at, key) ? at + 1 : at;
     }
@@ -175,5 +175,67 @@ public class TreeMap<K, V> extends AbstractMap<K, V> {
 
     public K higherKey(K key) {
         return key(at(above(key)));
+    }
+
+    public Map.Entry<K, V> lowerEntry(K key) {
+        return at(place(key) - 1);
+    }
+
+    public Map.Entry<K, V> higherEntry(K key) {
+        return at(above(key));
+    }
+
+    public Set<K> navigableKeySet() {
+        return keySet();
+    }
+
+    public Set<K> descendingKeySet() {
+        return descendingMap().keySet();
+    }
+
+    private MapPart<K, V> part() {
+        MapPart<K, V> part = new MapPart<>();
+        part.map = this;
+        return part;
+    }
+
+    public NavigableMap<K, V> descendingMap() {
+        MapPart<K, V> part = part();
+        part.descends = true;
+        return part;
+    }
+
+    public NavigableMap<K, V> headMap(K end) {
+        return headMap(end, false);
+    }
+
+    public NavigableMap<K, V> tailMap(K first) {
+        return tailMap(first, true);
+    }
+
+    public NavigableMap<K, V> subMap(K first, K end) {
+        return subMap(first, true, end, false);
+    }
+
+    public NavigableMap<K, V> headMap(K end, boolean closed) {
+        MapPart<K, V> part = part();
+        part.ends(end, closed);
+        return part;
+    }
+
+    public NavigableMap<K, V> tailMap(K first, boolean closed) {
+        MapPart<K, V> part = part();
+        part.begins(first, closed);
+        return part;
+    }
+
+    public NavigableMap<K, V> subMap(K first, boolean closed, K end, boolean endClosed) {
+        if (compare(first, end) > 0) {
+            throw new IllegalArgumentException("fromKey > toKey");
+        }
+        MapPart<K, V> part = part();
+        part.begins(first, closed);
+        part.ends(end, endClosed);
+        return part;
     }
 }

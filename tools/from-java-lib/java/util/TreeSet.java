@@ -1,6 +1,6 @@
 package java.util;
 
-public class TreeSet<E> extends AbstractSet<E> {
+public class TreeSet<E> extends AbstractSet<E> implements NavigableSet<E> {
     private TreeMap<E, Boolean> map;
 
     public TreeSet() {
@@ -74,5 +74,43 @@ public class TreeSet<E> extends AbstractSet<E> {
     public E pollLast() {
         Map.Entry<E, Boolean> last = map.pollLastEntry();
         return last == null ? null : last.getKey();
+    }
+
+    private NavigableSet<E> part(NavigableMap<E, Boolean> of) {
+        SetPart<E> part = new SetPart<>();
+        part.map = of;
+        return part;
+    }
+
+    public Iterator<E> descendingIterator() {
+        return map.descendingMap().keySet().iterator();
+    }
+
+    public NavigableSet<E> descendingSet() {
+        return part(map.descendingMap());
+    }
+
+    public NavigableSet<E> headSet(E end) {
+        return part(map.headMap(end, false));
+    }
+
+    public NavigableSet<E> tailSet(E first) {
+        return part(map.tailMap(first, true));
+    }
+
+    public NavigableSet<E> subSet(E first, E end) {
+        return part(map.subMap(first, true, end, false));
+    }
+
+    public NavigableSet<E> headSet(E end, boolean closed) {
+        return part(map.headMap(end, closed));
+    }
+
+    public NavigableSet<E> tailSet(E first, boolean closed) {
+        return part(map.tailMap(first, closed));
+    }
+
+    public NavigableSet<E> subSet(E first, boolean closed, E end, boolean endClosed) {
+        return part(map.subMap(first, closed, end, endClosed));
     }
 }

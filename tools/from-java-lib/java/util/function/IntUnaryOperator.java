@@ -7,4 +7,12 @@ public interface IntUnaryOperator {
     default IntUnaryOperator andThen(IntUnaryOperator next) {
         return value -> next.applyAsInt(applyAsInt(value));
     }
+
+    default IntUnaryOperator compose(IntUnaryOperator before) {
+        return value -> applyAsInt(before.applyAsInt(value));
+    }
+
+    static IntUnaryOperator identity() {
+        return value -> value;
+    }
 }

@@ -1,5 +1,7 @@
 package java.util.function;
 
+import java.util.Objects;
+
 @FunctionalInterface
 public interface Predicate<T> {
     boolean test(T value);
@@ -14,5 +16,13 @@ public interface Predicate<T> {
 
     default Predicate<T> or(Predicate<T> other) {
         return value -> test(value) || other.test(value);
+    }
+
+    static <T> Predicate<T> not(Predicate<? super T> test) {
+        return value -> !test.test(value);
+    }
+
+    static <T> Predicate<T> isEqual(Object other) {
+        return value -> Objects.equals(value, other);
     }
 }

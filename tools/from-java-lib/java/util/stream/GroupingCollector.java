@@ -5,16 +5,19 @@ import java.util.HashMap;
 import java.util.List;
 import java.util.Map;
 import java.util.function.Function;
+import java.util.function.Supplier;
 
-class GroupingCollector<T, K, D> extends Collector<T, Map<K, D>> {
+class GroupingCollector<T, K, D, M extends Map<K, D>> extends Collector<T, M> {
     private Function<T, K> key;
     private Collector<T, D> each;
+    private Supplier<M> make;
     private List<K> keys = new ArrayList<>();
     private Map<K, Collector<T, D>> parts = new HashMap<>();
 
-    GroupingCollector(Function<T, K> key, Collector<T, D> each) {
+    GroupingCollector(Function<T, K> key, Collector<T, D> each, Supplier<M> make) {
         this.key = key;
         this.each = each;
+        this.make = make;
     }
 
     void add(T element) {
@@ -28,15 +31,15 @@ class GroupingCollector<T, K, D> extends Collector<T, Map<K, D>> {
         part.add(element);
     }
 
-    Map<K, D> result() {
-        Map<K, D> found = new HashMap<>();
+    M result() {
+        M found = make.get();
         for (int k = 0; k < keys.size(); k++) {
             found.put(keys.get(k), parts.get(keys.get(k)).result());
         }
         return found;
     }
 
-    Collector<T, Map<K, D>> again() {
-        return new GroupingCollector<T, K, D>(key, each);
+    Collector<T, M> again() {
+        return new GroupingCollector<T, K, D, M>(key, each, make);
     }
 }

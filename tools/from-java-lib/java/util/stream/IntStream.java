@@ -1,6 +1,7 @@
 package java.util.stream;
 
 import java.util.ArrayList;
+import java.util.IntSummaryStatistics;
 import java.util.Iterator;
 import java.util.List;
 import java.util.OptionalInt;
@@ -8,6 +9,7 @@ import java.util.function.IntBinaryOperator;
 import java.util.function.IntConsumer;
 import java.util.function.IntFunction;
 import java.util.function.IntPredicate;
+import java.util.function.IntSupplier;
 import java.util.function.IntUnaryOperator;
 
 /** A stream of ints. */
@@ -126,5 +128,83 @@ public final class IntStream {
 
     public boolean noneMatch(IntPredicate test) {
         return !anyMatch(test);
+    }
+
+    public static IntStream empty() {
+        return of();
+    }
+
+    public static IntStream iterate(int first, IntUnaryOperator turn) {
+        return over(new TurnWalk<Integer>(first, one -> turn.applyAsInt(one)));
+    }
+
+    public static IntStream iterate(int first, IntPredicate goesOn, IntUnaryOperator turn) {
+        return iterate(first, turn).takeWhile(goesOn);
+    }
+
+    public static IntStream generate(IntSupplier make) {
+        return over(new MapWalk<Integer, Integer>(new TurnWalk<Integer>(0, one -> one), one -> make.getAsInt()));
+    }
+
+    public static IntStream concat(IntStream one, IntStream other) {
+        return over(new ChainWalk<Integer>(one.from, other.from));
+    }
+
+    public Iterator<Integer> iterator() {
+        return from;
+    }
+
+    public IntStream flatMap(IntFunction<IntStream> change) {
+        return over(new FlatWalk<Integer, Integer>(from, one -> change.apply(one).boxed()));
+    }
+
+    public IntStream takeWhile(IntPredicate test) {
+        return over(new WhileWalk<Integer>(from, one -> test.test(one)));
+    }
+
+    public IntStream dropWhile(IntPredicate test) {
+        boolean[] begun = {false};
+        return filter(one -> {
+            begun[0] = begun[0] || !test.test(one);
+            return begun[0];
+        });
+    }
+
+    public IntStream skip(int count) {
+        int[] left = {count};
+        return filter(one -> left[0]-- <= 0);
+    }
+
+    public IntStream peek(IntConsumer action) {
+        return map(one -> {
+            action.accept(one);
+            return one;
+        });
+    }
+
+    public void forEachOrdered(IntConsumer action) {
+        forEach(action);
+    }
+
+    public OptionalInt reduce(IntBinaryOperator join) {
+        return reduced(join);
+    }
+
+    public OptionalInt findAny() {
+        return findFirst();
+    }
+
+    public IntStream parallel() {
+        return this;
+    }
+
+    public IntStream sequential() {
+        return this;
+    }
+
+    public IntSummaryStatistics summaryStatistics() {
+        IntSummaryStatistics all = new IntSummaryStatistics();
+        forEach(all);
+        return all;
     }
 }

@@ -1,20 +1,23 @@
 package java.util.stream;
 
-import java.util.HashMap;
 import java.util.Map;
 import java.util.function.BinaryOperator;
 import java.util.function.Function;
+import java.util.function.Supplier;
 
-class MapCollector<T, K, V> extends Collector<T, Map<K, V>> {
+class MapCollector<T, K, V, M extends Map<K, V>> extends Collector<T, M> {
     private Function<T, K> key;
     private Function<T, V> value;
     private BinaryOperator<V> join;
-    private Map<K, V> all = new HashMap<>();
+    private Supplier<M> make;
+    private M all;
 
-    MapCollector(Function<T, K> key, Function<T, V> value, BinaryOperator<V> join) {
+    MapCollector(Function<T, K> key, Function<T, V> value, BinaryOperator<V> join, Supplier<M> make) {
         this.key = key;
         this.value = value;
         this.join = join;
+        this.make = make;
+        all = make.get();
     }
 
     void add(T element) {
@@ -28,11 +31,11 @@ class MapCollector<T, K, V> extends Collector<T, Map<K, V>> {
         all.put(of, old == null ? next : join.apply(old, next));
     }
 
-    Map<K, V> result() {
+    M result() {
         return all;
     }
 
-    Collector<T, Map<K, V>> again() {
-        return new MapCollector<T, K, V>(key, value, join);
+    Collector<T, M> again() {
+        return new MapCollector<T, K, V, M>(key, value, join, make);
     }
 }

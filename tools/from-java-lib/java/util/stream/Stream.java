@@ -6,11 +6,13 @@ import java.util.Iterator;
 import java.util.LinkedHashSet;
 import java.util.List;
 import java.util.Optional;
+import java.util.function.BiFunction;
 import java.util.function.BinaryOperator;
 import java.util.function.Consumer;
 import java.util.function.Function;
 import java.util.function.IntFunction;
 import java.util.function.Predicate;
+import java.util.function.Supplier;
 import java.util.function.ToIntFunction;
 import java.util.function.UnaryOperator;
 
@@ -184,5 +186,53 @@ public final class Stream<T> {
 
     public boolean noneMatch(Predicate<T> test) {
         return !anyMatch(test);
+    }
+
+    public static <T> Stream<T> iterate(T first, Predicate<T> goesOn, UnaryOperator<T> turn) {
+        return Stream.<T>over(new WhileWalk<T>(new TurnWalk<T>(first, turn), goesOn));
+    }
+
+    public static <T> Stream<T> generate(Supplier<? extends T> make) {
+        return Stream.<T>over(new TurnWalk<T>(null, one -> null)).map(one -> make.get());
+    }
+
+    public static <T> Stream<T> ofNullable(T one) {
+        return one == null ? Stream.<T>empty() : Stream.<T>of(one);
+    }
+
+    public static <T> Stream<T> concat(Stream<T> one, Stream<T> other) {
+        return Stream.<T>over(new ChainWalk<T>(one.from, other.from));
+    }
+
+    public <R> Stream<R> flatMap(Function<T, Stream<R>> change) {
+        return Stream.<R>over(new FlatWalk<T, R>(from, change));
+    }
+
+    public Stream<T> takeWhile(Predicate<T> test) {
+        return Stream.<T>over(new WhileWalk<T>(from, test));
+    }
+
+    public Stream<T> dropWhile(Predicate<T> test) {
+        boolean[] begun = {false};
+        return filter(one -> {
+            begun[0] = begun[0] || !test.test(one);
+            return begun[0];
+        });
+    }
+
+    public <U> U reduce(U first, BiFunction<U, ? super T, U> join, BinaryOperator<U> both) {
+        U all = first;
+        while (from.hasNext()) {
+            all = join.apply(all, from.next());
+        }
+        return all;
+    }
+
+    public Object[] toArray() {
+        return toList().toArray();
+    }
+
+    public Stream<T> sequential() {
+        return this;
     }
 }
