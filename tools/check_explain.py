@@ -39,6 +39,8 @@ NO_EDITS = [
     (b"drop n4294967296", "over 4294967295"),
     (b"drop n1;", "no edit ends with `;`"),
     (b"drop \xff", "not UTF-8"),
+    (b"undo n1", "too many words: this edit is written undo"),
+    (b"Undo", "small letters: undo"),
 ]
 
 # Edits on examples/Bases.java, each with a part of what is told, and the edits that would be made in its place.
@@ -56,6 +58,7 @@ REFUSED = [
     ("merge n2 n3", "two bodies of one method: c2 (body A.m, line 3) and c4 (body B.m, line 6)", "under n2 n3"),
     ("merge n9 n1", "there is no node n9: the greatest is n3", None),
     ("member c99 x", "there is no column c99", None),
+    ("undo", "nothing is left to undo", None),
 ]
 
 ESCAPES = 'class Main { static void main(String[] a) { /* \\u002a/ */ String s = "//"; } } // \\user\n'
@@ -93,7 +96,8 @@ def check_scripts(tests):
         tests.check(f"{line!r} is no edit", wanted in fault_in(line) and len(faults_in(line)) == 1, fault_in(line))
         status = kaba("edit", "examples/Bases.java", tests.file("line.edits", line))[0]
         tests.check(f"{line!r} is no edit to the program: {status}", status == 69)
-    for line in (b"merge n1  n2", b"merge n1 n1 n2", b"type n1 a,b", b"# merge", b"", b"move c0 n1", b"drop n4294967295"):
+    for line in (b"merge n1  n2", b"merge n1 n1 n2", b"type n1 a,b", b"# merge", b"", b"move c0 n1", b"drop n4294967295",
+                 b"undo"):
         status = kaba("edit", "examples/Bases.java", tests.file("line.edits", line))[0]
         tests.check(f"{line!r} is taken: {status}", status in (0, 4) and not faults_in(line))
     script = b"# one\nmerge n1 n2\n\ntype n1 New"

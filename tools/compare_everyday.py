@@ -114,7 +114,7 @@ class Everyday:
 def brought(programs, folder, apart=False):
     """Brings all programs in by one call of the Java half."""
     (folder / "bring").write_text("".join(program.job() + "\n" for program in programs))
-    words = [command("java"), "-XX:TieredStopAtLevel=1", *(["-Dapart=true"] if apart else []), "-cp",
+    words = [command("java"), "-XX:TieredStopAtLevel=1", "-XX:+UseSerialGC", *(["-Dapart=true"] if apart else []), "-cp",
         str(built()), "Batch", str(LIBRARY), str(folder / "bring")]
     done = subprocess.run(words, capture_output=True, text=True)
     if done.returncode:

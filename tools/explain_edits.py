@@ -94,6 +94,8 @@ def reason(case, after, names):
         there = [column_words(after, c) for c in node["columns"]] + [row_words(after, r) for r in node["rows"]]
         shown = ", ".join(there[:6]) + (" and more" if len(there) > 6 else "")
         return f"{node_words(after, n)} is not empty: {shown} stand there"
+    if refusal["why"] == "nothing to undo":
+        return "nothing is left to undo: no edit above it was made, or each that was made is taken back already"
     return f"breaks {refusal['obligation']}: {REASONS[refusal['obligation']](case, after, names)}"
 
 

@@ -73,7 +73,7 @@ def sources_of(paths):
 
 def brought(files, out="-", where="-", main="-", apart=False):
     """What the tool says of the files."""
-    java = [command("java"), "-Xshare:auto", "-XX:TieredStopAtLevel=1", *(["-Dapart=true"] if apart else []), "-cp",
+    java = [command("java"), "-Xshare:auto", "-XX:TieredStopAtLevel=1", "-XX:+UseSerialGC", *(["-Dapart=true"] if apart else []), "-cp",
         str(built()), "FromJava"]
     return subprocess.run([*java, str(LIBRARY), out, where, main, *files], stdin=subprocess.DEVNULL,
         capture_output=True)

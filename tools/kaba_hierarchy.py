@@ -21,6 +21,7 @@ NODE = re.compile(
 BROKEN = r"breaks (B\d) nodes ((?:n\d+ ?)*|-) ?row (r\d+|-) column (c\d+|-)"
 UNKNOWN = re.compile(r"edit (\d+): (unknown node|unknown member|not empty) (n|c)(\d+)")
 BREAKS = re.compile(rf"edit (\d+): {BROKEN}")
+NOTHING = re.compile(r"edit (\d+): (nothing to undo)")
 STEP = re.compile(r"tree n(\d+) n(\d+) n(\d+): (.+)")
 NO_TREE_LINE = re.compile(rf"kaba: no tree: n(\d+) n(\d+) n(\d+) {BROKEN}")
 
@@ -87,6 +88,11 @@ def refusals_in(text):
         if found:
             nodes, column = ([int(found[4])], None) if found[3] == "n" else ([], int(found[4]))
             place = {"obligation": None, "nodes": nodes, "row": None, "column": column}
+            refused.append({"line": int(found[1]), "why": found[2], **place})
+            continue
+        found = NOTHING.fullmatch(line)
+        if found:
+            place = {"obligation": None, "nodes": [], "row": None, "column": None}
             refused.append({"line": int(found[1]), "why": found[2], **place})
     return refused
 

@@ -1,8 +1,8 @@
-"""Scripts of edits: what stands on each line, and why a line is no edit."""
+"""Scripts of edits and undos: what stands on each line, and why a line is none of them."""
 import re
 from collections import namedtuple
 
-# Its line and that line's text; merge, under and so on; its nodes and columns as ("n", 1), in order; the new name.
+# Its line and that line's text; merge and so on, or undo; its nodes and columns as ("n", 1), in order; the new name.
 Edit = namedtuple("Edit", "line text word numbers name")
 
 FORMS = {
@@ -12,6 +12,7 @@ FORMS = {
     "type": "type n1 NAME",
     "member": "member c1 NAME",
     "drop": "drop n1",
+    "undo": "undo",
 }
 NODE, COLUMN, NAME = r"n(?:0|[1-9][0-9]*)", r"c(?:0|[1-9][0-9]*)", r"[^ ]+"
 WORDS = {
@@ -21,6 +22,7 @@ WORDS = {
     "type": re.compile(rf"{NODE} +{NAME}"),
     "member": re.compile(rf"{COLUMN} +{NAME}"),
     "drop": re.compile(NODE),
+    "undo": re.compile(""),
 }
 NAMED = ("type", "member")
 MOST_NUMBER = 4294967295
@@ -110,7 +112,8 @@ def fault_of_words(line):
 def fault_of_numbers(word, rest):
     """Why the words behind the name of an edit do not fit it."""
     form = f"this edit is written {FORMS[word]}"
-    kinds = {"under": "nn", "move": "cn", "type": "n", "member": "c", "drop": "n"}.get(word, "n" * max(2, len(rest)))
+    kinds = {"under": "nn", "move": "cn", "type": "n", "member": "c", "drop": "n", "undo": ""}
+    kinds = kinds.get(word, "n" * max(2, len(rest)))
     for it, kind in zip(rest, kinds):
         what = "node" if kind == "n" else "column"
         if re.fullmatch(r"[0-9]+", it):

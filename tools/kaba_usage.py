@@ -3,21 +3,25 @@ import difflib
 import re
 import sys
 
-MOST_STEPS, MOST_CONCEPTS, MOST_CLASSES = 1000000000, 16384, 100
+MOST_STEPS, MOST_CONCEPTS, MOST_CLASSES, MOST_ROWS = 1000000000, 16384, 100, 4294967295
 FORMS = {
     "run": "run FILE STEPS WORD..",
     "table": "table FILE",
     "lattice": "lattice [-j] [-c N] FILE",
     "base": "base FILE",
+    "why": "why FILE ROW COLUMN",
+    "same": "same FILE FILE",
     "edit": "edit [-c N] FILE SCRIPT",
     "regen": "regen [-c N] FILE SCRIPT",
     "make": "make [-p] NUMBER",
     "--help": "--help",
     "--version": "--version",
 }
-FILES = {"run": 1, "table": 1, "lattice": 1, "base": 1, "edit": 2, "regen": 2}
+FILES = {"run": 1, "table": 1, "lattice": 1, "base": 1, "why": 1, "same": 2, "edit": 2, "regen": 2}
+WORDS_BEHIND = {"run": 1, "make": 1, "why": 2}
 MEANT = {"-h": "--help", "-help": "--help", "help": "--help", "-v": "--version", "-V": "--version"}
 MEANT |= {"version": "--version", "implications": "base", "write": "regen", "split": "edit", "analyse": "lattice", "analyze": "lattice"}
+MEANT |= {"explain": "why", "diff": "same", "equal": "same"}
 
 
 def is_number(word, least, most):
@@ -55,7 +59,7 @@ def wrong_count(words, at):
     command, rest = words[0], words[at:]
     if command in ("--help", "--version"):
         return f"nothing stands behind {command}" if rest else None
-    wanted = FILES.get(command, 0) + (command in ("run", "make"))
+    wanted = FILES.get(command, 0) + WORDS_BEHIND.get(command, 0)
     names = FORMS[command].split("] ")[-1].split()[-wanted:] if command != "run" else ["FILE", "STEPS"]
     names = [name for name in names if name != command]
     if len(rest) < wanted:
@@ -84,6 +88,10 @@ def what_is_wrong(words):
         why = f"STEPS is a number from 0 to {MOST_STEPS} in digits alone, and `{words[2]}` is none"
     if not why and command == "make" and not is_number(words[at], 1, MOST_CLASSES):
         why = f"NUMBER is a number from 1 to {MOST_CLASSES}, and `{words[at]}` is none"
+    if not why and command == "why":
+        for name, letter, word in zip(("ROW", "COLUMN"), "rc", words[2:4]):
+            if not (word[:1] == letter and is_number(word[1:], 0, MOST_ROWS)):
+                why = why or f"{name} is `{letter}` and a number, as the table has them, and `{word}` is none"
     return why and f"{why}: {FORMS[command]}"
 
 

@@ -74,6 +74,8 @@ def told(refused, edit, names):
     if refused["why"] == "not empty":
         node = names.node(refused["nodes"][0])
         return f"{node} is not empty: only a type without members and variables can be dropped."
+    if refused["why"] == "nothing to undo":
+        return "Nothing is left to undo: each edit above it was refused, or is taken back already."
     return OF_RULE[refused["obligation"]](refused, edit, names)
 
 
