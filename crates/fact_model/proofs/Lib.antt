@@ -5,3 +5,4 @@ pub mod ShownLemmas
 pub mod EntryLemmas
 pub mod ChainLemmas
 pub mod NearestLemmas
+pub mod FreeLemmas

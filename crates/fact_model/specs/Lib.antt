@@ -6,3 +6,5 @@ pub mod Entries
 pub mod InOrder
 pub mod Concepts
 pub mod Closures
+pub mod FreeNames
+pub mod Taken

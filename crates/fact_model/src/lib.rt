@@ -3,6 +3,7 @@
 
 mod classes;
 mod facts;
+mod free_names;
 mod laws;
 mod sets;
 
@@ -12,5 +13,6 @@ pub use facts::{
     FlowInfo, LoadInfo, MakeInfo, MakerNames, NewInfo, RowInfo, SiteInfo, Spot, SpotKind,
     StoreInfo, SuperInfo, TestInfo, TieInfo,
 };
+pub use free_names::free_name;
 pub use laws::{classes_are_chains, sets_are_closed, table_is_closed};
 pub use sets::{Concept, Lattice, PointsTo, Table};

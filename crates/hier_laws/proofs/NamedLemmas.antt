@@ -27,14 +27,16 @@ use Rattle.fact_model.proofs.ChainLemmas.{chain}
 use Rattle.fact_model.proofs.RangeLemmas.{column-below}
 use Rattle.hier_model.specs.Hierarchies.{any_below}
 use Rattle.hier_model.proofs.AnyLemmas.{any_below_has}
-use Rattle.hier_model.specs.Names.{is_taken, free_name, is_field, is_strictly_above, is_namesake_above, is_shared, class_name, joined, named_member, member_names, naming_class, named_type, type_names}
+use Rattle.fact_model.proofs.FreeLemmas.{free_name-free}
+use Rattle.fact_model.specs.FreeNames.{is_taken, free_name}
+use Rattle.hier_model.specs.Names.{is_field, is_strictly_above, is_namesake_above, is_shared, class_name, joined, named_member, member_names, naming_class, named_type, type_names}
 use Rattle.hier_laws.specs.Starts.{AreNamed}
 use Rattle.hier_rules.specs.Names.{is_reserved, is_variable, known_names}
 use Rattle.fact_model.specs.declared.sets.PointsTo.{PointsTo}
 use Rattle.fact_model.specs.declared.sets.Table.{Table}
 use Rattle.fact_model.specs.Closures.{IsPlainClass}
 use Rattle.hier_laws.proofs.GivenLemmas.{given}
-use Rattle.hier_laws.proofs.WordLemmas.{free, not_taken, taken_left, has_mark, made_mark, known_unmarked, word_parts, made_name, decimal_parts}
+use Rattle.hier_laws.proofs.WordLemmas.{not_taken, taken_left, has_mark, made_mark, known_unmarked, word_parts, made_name, decimal_parts}
 
 pub field_is : (k : ColKind) → is_field k ≡ true → k ≡ Fld
 field_is Fld e = refl
@@ -108,7 +110,7 @@ module _ (F : Facts) where
     type_free : (k : ℕ) → (is_taken F.words.items (named_type F os (ms ++ ts k) k) ≡ false) × (is_taken ms (named_type F os (ms ++ ts k) k) ≡ false)
         × (is_taken (ts k) (named_type F os (ms ++ ts k) k) ≡ false)
     type_free k =
-        let a = taken_left F.words.items (ms ++ ts k) (named_type F os (ms ++ ts k) k) (free (F.words.items ++ (ms ++ ts k)) (type_word k)) in
+        let a = taken_left F.words.items (ms ++ ts k) (named_type F os (ms ++ ts k) k) (free_name-free (F.words.items ++ (ms ++ ts k)) (type_word k)) in
         let b = taken_left ms (ts k) (named_type F os (ms ++ ts k) k) a.1 in
         (a.0, b.0, b.1)
 
@@ -179,7 +181,7 @@ module _ (F : Facts) where
         (joined (name_of F c) (class_name F (column_class F c)))) ≡ false)
         × (is_taken (member_names F c) (free_name (F.words.items ++ member_names F c) (joined (name_of F c) (class_name F (column_class F c)))) ≡ false)
     made_free c = taken_left F.words.items (member_names F c) (free_name (F.words.items ++ member_names F c)
-        (joined (name_of F c) (class_name F (column_class F c)))) (free (F.words.items ++ member_names F c)
+        (joined (name_of F c) (class_name F (column_class F c)))) (free_name-free (F.words.items ++ member_names F c)
         (joined (name_of F c) (class_name F (column_class F c))))
 
     made_no_word : (c : ℕ) (x : List ℕ) → c < C → is_shared F c ≡ true → Contains F.words.items x → get_or (member_names F C) c [] ≢ x

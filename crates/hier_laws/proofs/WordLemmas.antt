@@ -17,33 +17,9 @@ use Rattle.kaba_base.specs.declared.words.Keyword.{Keyword}
 use Rattle.kaba_base.specs.declared.words.TheConstants.{KEYWORDS}
 use Rattle.kaba_base.proofs.Texts.{start_is_part}
 use Rattle.java_lex.proofs.Numbers.{digit_is_part, all_digits}
-use Rattle.hier_model.specs.Names.{is_taken, longest, lengthened, underscores, free_name, joined}
+use Rattle.fact_model.specs.FreeNames.{is_taken, longest, lengthened, underscores, free_name}
+use Rattle.hier_model.specs.Names.{joined}
 use Rattle.hier_rules.specs.Names.{known_names}
-use Rattle.hier_model.proofs.NameLemmas.{taken_short}
-
-long_free : (taken : List (List ℕ)) (name : List ℕ) → not (is_taken taken (lengthened name (longest taken + 1))) ≡ true
-long_free taken name =
-    ⊎_elim
-    (λ t. let short = taken_short taken (lengthened name (longest taken + 1)) t in
-    absurd (omega (arith, short, length-append name (replicate (longest taken + 1) 95), length-replicate {A = ℕ} (longest taken + 1) 95)))
-    (λ f. ap not f)
-    (cases_Bool (is_taken taken (lengthened name (longest taken + 1))))
-
-pub free : (taken : List (List ℕ)) (name : List ℕ) → is_taken taken (free_name taken name) ≡ false
-free taken name = at (first_below (longest taken + 2) f) refl
-  where
-    f : ℕ → Option ℕ
-    f k = when (not (is_taken taken (lengthened name k))) k
-
-    at : (o : Option ℕ) → first_below (longest taken + 2) f ≡ o → is_taken taken (lengthened name (unwrap_or (first_below (longest taken + 2) f) 0)) ≡ false
-    at (Some x) e =
-        let s = first_below_Some f (longest taken + 2) x e in
-        let w = when-Some (not (is_taken taken (lengthened name s.0))) s.0 x s.2 in
-        subst (λ o. is_taken taken (lengthened name (unwrap_or o 0)) ≡ false) (sym e)
-        (subst (λ k. is_taken taken (lengthened name k) ≡ false) w.1 (not-true (is_taken taken (lengthened name s.0)) w.0))
-    at None e =
-        let none = first_below_None f (longest taken + 2) (longest taken + 1) e (omega arith) in
-        absurd (cc (none, ap (λ b. when b (longest taken + 1)) (long_free taken name)))
 
 -- a name that is not taken is none of those that are
 pub not_taken : (taken : List (List ℕ)) (name x : List ℕ) → is_taken taken name ≡ false → Contains taken x → name ≢ x

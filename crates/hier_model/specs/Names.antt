@@ -1,11 +1,10 @@
 -- Believed. The names that a hierarchy starts with.
-use Rattle.std.specs.Prelude.{ℕ, suc, zero, ◌+◌, ◌==◌, ◌&&◌, max, Bool, true, false, not, if◌then◌else◌, List, [], ◌∷◌, ◌++◌, length, Option, Some, None, unwrap_or, slice_index_or, slice_get, replicate}
+use Rattle.std.specs.Prelude.{ℕ, suc, zero, ◌==◌, ◌&&◌, Bool, true, false, not, if◌then◌else◌, List, [], ◌∷◌, ◌++◌, length, Option, Some, None, slice_index_or, slice_get}
 use Rattle.std.specs.Option.{option_map_or}
-use Rattle.std.specs.List.{list_any}
 use Rattle.std.specs.Str.{bytes_eq}
 use Rattle.std.specs.Fmt.{decimal}
 use Rattle.kaba_base.specs.declared.ClassId.{ClassId}
-use Rattle.kaba_bits.specs.Sets.{first_below, when}
+use Rattle.fact_model.specs.FreeNames.{free_name}
 use Rattle.fact_model.specs.Items.{column_kind, column_class}
 use Rattle.fact_model.specs.Classes.{below}
 use Rattle.fact_model.specs.InOrder.{name_of}
@@ -13,27 +12,6 @@ use Rattle.fact_model.specs.declared.facts.Facts.{Facts}
 use Rattle.fact_model.specs.declared.facts.ColKind.{ColKind}
 use Rattle.fact_model.specs.declared.facts.ColKind.TheVariants.{Fld}
 use Rattle.hier_model.specs.Hierarchies.{any_below}
-
--- whether a name is one of a list
-abbrev pub is_taken : List (List ℕ) → List ℕ → Bool
-is_taken taken name = list_any (bytes_eq name) taken
-
--- the length of the longest of some names
-abbrev pub longest : List (List ℕ) → ℕ
-longest [] = 0
-longest (n ∷ ns) = max (length n) (longest ns)
-
--- a name with k underscores behind it
-abbrev pub lengthened : List ℕ → ℕ → List ℕ
-lengthened name k = name ++ replicate k 95
-
--- how many underscores a name needs to be none of those taken: the least number with which it is free
-abbrev pub underscores : List (List ℕ) → List ℕ → ℕ
-underscores taken name = unwrap_or (first_below (longest taken + 2) (λ k. when (not (is_taken taken (lengthened name k))) k)) 0
-
--- a name that is none of those taken, with as many underscores behind it as that takes
-abbrev pub free_name : List (List ℕ) → List ℕ → List ℕ
-free_name taken name = lengthened name (underscores taken name)
 
 -- whether a column of this kind is a field
 abbrev pub is_field : ColKind → Bool

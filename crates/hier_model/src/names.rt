@@ -5,12 +5,13 @@ ghost use Rattle.std.specs.Fmt.{decimal};
 ghost use Rattle.std.specs.Str.{chars, bytes_eq, encode_utf8_all};
 ghost use Rattle.fact_model.specs.InRange.{InRange, IsCol, IsClass};
 ghost use Rattle.hier_model.specs.Hierarchies.{any_below};
-ghost use Rattle.hier_model.specs.Taken.{texts, AreSame};
-ghost use Rattle.hier_model.specs.Names.{is_taken, free_name, joined, is_field, is_strictly_above, is_namesake_above, is_shared, class_name, named_member, member_names, naming_class, type_names};
+ghost use Rattle.fact_model.specs.Taken.{texts, AreSame};
+ghost use Rattle.fact_model.specs.FreeNames.{is_taken, free_name};
+ghost use Rattle.hier_model.specs.Names.{joined, is_field, is_strictly_above, is_namesake_above, is_shared, class_name, named_member, member_names, naming_class, type_names};
 
 use crate::column_at;
 use crate::moves::name_at;
-use fact_model::{ColKind, Facts, below, class_at};
+use fact_model::{ColKind, Facts, below, class_at, free_name};
 use indexmap::IndexSet;
 use kaba_base::{ClassId, ColId, Name};
 use std::alloc::{AllocError, Global};
@@ -117,18 +118,6 @@ fn joined(alloc: Global, a: &str, b: &str) -> Result<String, AllocError>
     text.push_str("_")?;
     text.push_str(b)?;
     Ok(text)
-}
-
-/// A name that is none of those taken, with as many `_` behind it as that takes.
-fn free_name(alloc: Global, taken: &IndexSet<String>, base: String) -> Result<Name, AllocError>
-    ensures { IfOk result (λ n. n ≡ free_name (texts taken.now.keys) (chars (string_bytes base))) }
-{
-    let mut text = base;
-    while taken.contains(text.as_str()) {
-        text.push('_')?;
-    }
-    let name = Name::new(alloc, text.as_str())?;
-    Ok(name)
 }
 
 /// The names of two lists.

@@ -2,8 +2,8 @@
 use Rattle.std.specs.Prelude.{◌≡◌, ℕ, List, length}
 use Rattle.fact_model.specs.declared.facts.Facts.{Facts}
 use Rattle.hier_model.specs.Hierarchies.{Hierarchy}
-use Rattle.hier_model.specs.Names.{is_taken}
-use Rattle.hier_model.specs.Taken.{texts}
+use Rattle.fact_model.specs.FreeNames.{is_taken}
+use Rattle.fact_model.specs.Taken.{texts}
 use Rattle.hier_rules.specs.Names.{is_reserved, is_variable, is_type}
 use Rattle.hier_rules.specs.Namesakes.{is_twice}
 use Rattle.hier_rules.specs.declared.taken.Taken.{Taken}

@@ -3,8 +3,8 @@
 ghost use Rattle.std.specs.Prelude.{◌≡◌, ℕ, ◌<◌, ◌&&◌, ◌||◌, List, length, IfOk, OnOk};
 ghost use Rattle.hier_rules.specs.Words.{list_any, bytes_eq, AreTaken, IsAsked};
 ghost use Rattle.fact_model.specs.declared.facts.ClassInfo.{ClassInfo};
-ghost use Rattle.hier_model.specs.Names.{is_taken};
-ghost use Rattle.hier_model.specs.Taken.{texts};
+ghost use Rattle.fact_model.specs.FreeNames.{is_taken};
+ghost use Rattle.fact_model.specs.Taken.{texts};
 ghost use Rattle.hier_rules.specs.Names.{known_names, is_reserved, is_variable, is_named};
 
 use crate::places::{Asked, is_live, node_count};

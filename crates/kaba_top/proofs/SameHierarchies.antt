@@ -17,7 +17,8 @@ use Rattle.fact_model.specs.Classes.{below}
 use Rattle.fact_model.specs.InOrder.{name_of}
 use Rattle.fact_model.specs.Concepts.{Pair}
 use Rattle.hier_model.specs.Hierarchies.{Hierarchy, node, place_of_row, origin_of, is_offered, any_below, is_of_class, has_class_member, has_object, is_class_node}
-use Rattle.hier_model.specs.Names.{free_name, is_field, is_strictly_above, is_namesake_above, is_shared, class_name, joined, named_member, member_names, naming_class, named_type, type_names}
+use Rattle.fact_model.specs.FreeNames.{free_name}
+use Rattle.hier_model.specs.Names.{is_field, is_strictly_above, is_namesake_above, is_shared, class_name, joined, named_member, member_names, naming_class, named_type, type_names}
 use Rattle.hier_model.specs.Start.{order_of, column_place, row_place, lowest, owners, start_origin, origins_of, start_of}
 use Rattle.hier_model.specs.Edits.{merged_order, least_of, first_between, all_there, merged_origin, merged_node, merged, is_column, moved, is_one_slot, renamed, first_unknown, is_placed, is_mark, unless, changed}
 use Rattle.hier_model.specs.declared.edits.Edit.{Edit}

@@ -1,6 +1,6 @@
 use Rattle.std.proofs.Common.{◌≡◌, ℕ, ◌||◌, List, take}
-use Rattle.hier_model.specs.Names.{is_taken}
-use Rattle.hier_model.specs.Taken.{texts}
+use Rattle.fact_model.specs.FreeNames.{is_taken}
+use Rattle.fact_model.specs.Taken.{texts}
 use Rattle.hier_model.proofs.names.add_names.Given as goal
 
 abbrev pub invariant-loop-k : goal.invariant-loop-k

@@ -1,7 +1,9 @@
 use Rattle.std.proofs.Common.{◌++◌, ◌∷◌, [], sym, ap, ◌∙◌, subst}
-use Rattle.hier_model.specs.Names.{is_taken, named_member, member_names}
-use Rattle.hier_model.specs.Taken.{texts, AreSame}
-use Rattle.hier_model.proofs.NameLemmas.{AreSame-more, grown}
+use Rattle.fact_model.specs.FreeNames.{is_taken}
+use Rattle.hier_model.specs.Names.{named_member, member_names}
+use Rattle.fact_model.specs.Taken.{texts, AreSame}
+use Rattle.fact_model.proofs.FreeLemmas.{AreSame-more}
+use Rattle.hier_model.proofs.NameLemmas.{grown}
 use Rattle.hier_model.proofs.names.member_names.Goals as goal
 
 pub loop-c-init : goal.loop-c-init

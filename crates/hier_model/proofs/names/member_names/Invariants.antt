@@ -1,6 +1,6 @@
 use Rattle.std.proofs.Common.{◌≡◌, ◌++◌}
 use Rattle.hier_model.specs.Names.{member_names}
-use Rattle.hier_model.specs.Taken.{texts, AreSame}
+use Rattle.fact_model.specs.Taken.{texts, AreSame}
 use Rattle.hier_model.proofs.names.member_names.Given as goal
 
 abbrev pub invariant-loop-c : goal.invariant-loop-c

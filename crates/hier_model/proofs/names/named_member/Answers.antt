@@ -1,6 +1,6 @@
 use Rattle.std.proofs.Common.{◌++◌, ◌∷◌, sym, ap, ◌∙◌}
 use Rattle.std.specs.Str.{encode_utf8_all}
-use Rattle.hier_model.specs.Taken.{texts}
+use Rattle.fact_model.specs.Taken.{texts}
 use Rattle.hier_model.proofs.NameLemmas.{named_shared}
 use Rattle.hier_model.proofs.names.named_member.Goals as goal
 

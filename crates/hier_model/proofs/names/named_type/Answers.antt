@@ -1,7 +1,7 @@
 use Rattle.std.proofs.Common.{◌++◌, ◌∷◌, ap, ◌∙◌, arith}
 use Rattle.std.specs.Str.{encode_utf8_all}
 use Rattle.hier_model.specs.Names.{class_name, naming_class}
-use Rattle.hier_model.specs.Taken.{texts}
+use Rattle.fact_model.specs.Taken.{texts}
 use Rattle.hier_model.proofs.NameLemmas.{typed_name}
 use Rattle.hier_model.proofs.names.named_type.Goals as goal
 

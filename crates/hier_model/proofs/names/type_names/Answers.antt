@@ -1,8 +1,10 @@
 use Rattle.std.proofs.Common.{◌++◌, ◌∷◌, [], sym, ap, ◌∙◌, subst, append_assoc}
 use Rattle.std.proofs.lemmas.List.{append-nil}
-use Rattle.hier_model.specs.Names.{is_taken, named_type, type_names}
-use Rattle.hier_model.specs.Taken.{texts, AreSame}
-use Rattle.hier_model.proofs.NameLemmas.{AreSame-more, grown}
+use Rattle.fact_model.specs.FreeNames.{is_taken}
+use Rattle.hier_model.specs.Names.{named_type, type_names}
+use Rattle.fact_model.specs.Taken.{texts, AreSame}
+use Rattle.fact_model.proofs.FreeLemmas.{AreSame-more}
+use Rattle.hier_model.proofs.NameLemmas.{grown}
 use Rattle.hier_model.proofs.names.type_names.Goals as goal
 
 pub loop-n-init : goal.loop-n-init

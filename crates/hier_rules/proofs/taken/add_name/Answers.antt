@@ -1,7 +1,7 @@
 use Rattle.std.proofs.Common.{ap, ◌∙◌, ◌||◌}
-use Rattle.hier_model.specs.Names.{is_taken}
-use Rattle.hier_model.specs.Taken.{texts}
-use Rattle.hier_model.proofs.NameLemmas.{key_added}
+use Rattle.fact_model.specs.FreeNames.{is_taken}
+use Rattle.fact_model.specs.Taken.{texts}
+use Rattle.fact_model.proofs.FreeLemmas.{key_added}
 use Rattle.hier_rules.proofs.TakenLemmas.{bytes_sym}
 use Rattle.hier_rules.proofs.taken.add_name.Goals as goal
 

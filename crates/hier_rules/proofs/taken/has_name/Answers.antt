@@ -1,9 +1,9 @@
 use Rattle.std.proofs.Common.{ap, ◌∙◌}
 use Rattle.std.proofs.lemmas.Str.{encodes-chars}
 use Rattle.kaba_base.proofs.Texts.{encodes-same}
-use Rattle.hier_model.specs.Names.{is_taken}
-use Rattle.hier_model.specs.Taken.{texts}
-use Rattle.hier_model.proofs.NameLemmas.{taken_by}
+use Rattle.fact_model.specs.FreeNames.{is_taken}
+use Rattle.fact_model.specs.Taken.{texts}
+use Rattle.fact_model.proofs.FreeLemmas.{taken_by}
 use Rattle.hier_rules.proofs.taken.has_name.Goals as goal
 
 pub returns : goal.returns

@@ -1,8 +1,8 @@
 use Rattle.std.proofs.Common.{◌≡◌, ℕ, ◌&&◌, List, take}
 use Rattle.std.specs.List.{list_any}
 use Rattle.std.specs.Str.{bytes_eq}
-use Rattle.hier_model.specs.Names.{is_taken}
-use Rattle.hier_model.specs.Taken.{texts}
+use Rattle.fact_model.specs.FreeNames.{is_taken}
+use Rattle.fact_model.specs.Taken.{texts}
 use Rattle.hier_rules.proofs.taken.holder_names.Given as goal
 
 abbrev pub invariant-loop-class : goal.invariant-loop-class

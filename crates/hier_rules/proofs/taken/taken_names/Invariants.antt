@@ -1,7 +1,7 @@
 use Rattle.std.proofs.Common.{◌≡◌, ℕ, List}
 use Rattle.hier_model.specs.Hierarchies.{any_below}
-use Rattle.hier_model.specs.Names.{is_taken}
-use Rattle.hier_model.specs.Taken.{texts}
+use Rattle.fact_model.specs.FreeNames.{is_taken}
+use Rattle.fact_model.specs.Taken.{texts}
 use Rattle.hier_rules.specs.Names.{is_named}
 use Rattle.hier_rules.specs.Namesakes.{is_twice}
 use Rattle.hier_rules.proofs.taken.taken_names.Given as goal

@@ -1,9 +1,9 @@
 use Rattle.std.proofs.Common.{◌+◌, ◌-◌, length, string_bytes}
 use Rattle.std.specs.Str.{chars}
-use Rattle.hier_model.specs.Names.{longest}
-use Rattle.hier_model.specs.Taken.{texts}
-use Rattle.hier_model.proofs.NameLemmas.{IsTried}
-use Rattle.hier_model.proofs.names.free_name.Given as goal
+use Rattle.fact_model.specs.FreeNames.{longest}
+use Rattle.fact_model.specs.Taken.{texts}
+use Rattle.fact_model.proofs.FreeLemmas.{IsTried}
+use Rattle.fact_model.proofs.free_names.free_name.Given as goal
 
 abbrev pub invariant-loop-text : goal.invariant-loop-text
 invariant-loop-text l = IsTried (texts l.taken.keys) (chars (string_bytes l.fn.base)) (chars (string_bytes l.text))

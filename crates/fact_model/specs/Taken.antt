@@ -2,7 +2,7 @@
 use Rattle.std.specs.Prelude.{◌≡◌, ℕ, List, map, String, string_bytes}
 use Rattle.std.specs.Str.{chars}
 use Rattle.std.specs.declared.alloc.Global.{Global}
-use Rattle.hier_model.specs.Names.{is_taken}
+use Rattle.fact_model.specs.FreeNames.{is_taken}
 
 -- texts, as names
 abbrev pub texts : List (String Global) → List (List ℕ)

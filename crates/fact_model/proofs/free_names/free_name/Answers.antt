@@ -1,10 +1,10 @@
 use Rattle.std.proofs.Common.{◌≡◌, ◌∷◌, [], ◌++◌, true, false, length, string_bytes, sym, ap, ◌∙◌, arith, lit<, length-append}
 use Rattle.std.specs.Str.{chars}
-use Rattle.hier_model.specs.Names.{is_taken}
-use Rattle.hier_model.specs.Taken.{texts}
-use Rattle.hier_model.proofs.NameLemmas.{taken_short, taken_by, underscored, tried_more, tried_free}
-use Rattle.hier_model.proofs.names.free_name.Goals as goal
-use Rattle.hier_model.proofs.names.free_name.Goals.{In_ok-push}
+use Rattle.fact_model.specs.FreeNames.{is_taken}
+use Rattle.fact_model.specs.Taken.{texts}
+use Rattle.fact_model.proofs.FreeLemmas.{taken_short, taken_by, underscored, tried_more, tried_free}
+use Rattle.fact_model.proofs.free_names.free_name.Goals as goal
+use Rattle.fact_model.proofs.free_names.free_name.Goals.{In_ok-push}
 
 -- the text of this turn is taken
 taken : (c : In_ok-push) → is_taken (texts c.args.taken.now.keys) (chars (string_bytes c.loop-text.text)) ≡ true
