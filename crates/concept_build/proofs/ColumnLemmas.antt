@@ -6,10 +6,10 @@ use Rattle.kaba_bits.specs.Sets.{bit, row, ListsBelow}
 use Rattle.kaba_bits.proofs.SetLemmas.{same_bits, bit-below}
 use Rattle.fact_model.specs.Concepts.{IsExtent}
 use Rattle.concept_build.specs.declared.columns.Columns.{Columns}
-use Rattle.concept_build.specs.Tables.{AreColumns, HaveAll, column}
+use Rattle.concept_build.specs.Tables.{AreColumnSets, HaveAllColumns, column}
 
 -- the set of a column is the column
-pub set-column : (T : List (List Bool)) (w : ℕ) (cs : Columns) → AreColumns T w cs → (c : ℕ) → c < w → row cs.sets.items c ≡ column T c
+pub set-column : (T : List (List Bool)) (w : ℕ) (cs : Columns) → AreColumnSets T w cs → (c : ℕ) → c < w → row cs.sets.items c ≡ column T c
 set-column T w cs are c lt =
     let len = length-map T (λ r. bit r c) in
     let wide : length (row cs.sets.items c) ≡ length T = are.widths c (omega (arith, lt, are.len)) in
@@ -18,7 +18,7 @@ set-column T w cs are c lt =
     are.bits c r ∙ sym (get_or-map (λ s. bit s c) T r [] false below))
 
 -- the places that have all columns of an intent are its extent
-pub IsExtent-all : (T : List (List Bool)) (w : ℕ) (cs : Columns) (A B : List Bool) → AreColumns T w cs → HaveAll cs A B → IsExtent T A B
+pub IsExtent-all : (T : List (List Bool)) (w : ℕ) (cs : Columns) (A B : List Bool) → AreColumnSets T w cs → HaveAllColumns cs A B → IsExtent T A B
 IsExtent-all T w cs A B are have = record {
   len = have.len ∙ are.all.len;
   rows = λ r lt. (
@@ -34,7 +34,7 @@ ListsBelow-below P n m xs le l k d lt =
 -- the places that are in each set of a list have all columns of it
 pub HaveAll-listed : (cs : Columns) (A B : List Bool) (xs : List ℕ) → length A ≡ length cs.all
     → ((p : ℕ) → ((bit A p ≡ true) ↔ ((bit cs.all p ≡ true) × All (λ c. bit (row cs.sets.items c) p ≡ true) xs)))
-    → ListsBelow (λ c. bit B c ≡ true) (length B) xs → HaveAll cs A B
+    → ListsBelow (λ c. bit B c ≡ true) (length B) xs → HaveAllColumns cs A B
 HaveAll-listed cs A B xs len bits l = record {
   len = len;
   places = λ p. (

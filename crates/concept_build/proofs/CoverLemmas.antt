@@ -5,13 +5,13 @@ use Rattle.std.proofs.lemmas.List.{length-map}
 use Rattle.std.proofs.lemmas.List.Elements.{All-contains, Contains-get_or}
 use Rattle.kaba_bits.specs.Sets.{bit, row, size, IsSubset}
 use Rattle.kaba_bits.proofs.SetLemmas.{bit-below, size-true, size-false, size-subset, subset-same}
-use Rattle.fact_model.specs.Concepts.{Pair, AreConcepts, IsWithin, IsUpperCover}
+use Rattle.fact_model.specs.Concepts.{Pair, AreConcepts, IsStrictSubset, IsUpperCover}
 use Rattle.concept_build.specs.Tables.{AreNear}
 use Rattle.concept_build.specs.Lists.{extents_of, IsClosure, AreCandidates, IsLeast}
 use Rattle.concept_build.proofs.MeetLemmas.{near-has}
 use Rattle.concept_build.proofs.ExtentLemmas.{nothing, row-extents_of}
 
-pub within_by : (a b : List Bool) → length a ≡ length b → IsSubset a b → (q : ℕ) → bit a q ≡ false → bit b q ≡ true → IsWithin a b
+pub within_by : (a b : List Bool) → length a ≡ length b → IsSubset a b → (q : ℕ) → bit a q ≡ false → bit b q ≡ true → IsStrictSubset a b
 within_by a b l s q lacks has =
     (⊎_elim (λ lt. lt) (λ ge. absurd (false≢true (sym lacks ∙ (ap (λ r. bit r q) (subset-same a b l s ge) ∙ has)))) (cases_lt (size a) (size b)), s)
 
@@ -32,20 +32,20 @@ module _ (E : List (List Bool)) (k : ℕ) where
       → AreCandidates E k n numbers → (j : ℕ) → j < length E → ((Contains numbers j × IsLeast E numbers j) ↔ IsUpperCover E k j)
   cover_is_least n numbers len same are j jlt = (
     λ h. record {
-      above = All-contains (λ i. IsWithin (row E k) (row E i)) numbers j are.above h.0;
+      above = All-contains (λ i. IsStrictSubset (row E k) (row E i)) numbers j are.above h.0;
       none = λ m mlt over under.
           let e = extra (row E k) (row E m) over.0 in
           let d = are.each e.0 (omega (arith, bit-below (row E m) e.0 e.2, len m mlt)) e.1 in
           let sub = d.2 m mlt over.1 e.2 in
-          let within : IsWithin (row E d.0) (row E j) = (omega (arith, size-subset (row E d.0) (row E m) sub, under.0), λ s b. under.1 s (sub s b)) in
-          All-contains (λ i. IsWithin (row E i) (row E j) → ⊥) numbers d.0 h.1 d.1 within;
+          let within : IsStrictSubset (row E d.0) (row E j) = (omega (arith, size-subset (row E d.0) (row E m) sub, under.0), λ s b. under.1 s (sub s b)) in
+          All-contains (λ i. IsStrictSubset (row E i) (row E j) → ⊥) numbers d.0 h.1 d.1 within;
     },
     λ u.
         let e = extra (row E k) (row E j) u.above.0 in
         let d = are.each e.0 (omega (arith, bit-below (row E j) e.0 e.2, len j jlt)) e.1 in
         let sub = d.2 j jlt u.above.1 e.2 in
         let below : d.0 < length E = All-contains (λ i. i < length E) numbers d.0 are.below d.1 in
-        let over = All-contains (λ i. IsWithin (row E k) (row E i)) numbers d.0 are.above d.1 in
+        let over = All-contains (λ i. IsStrictSubset (row E k) (row E i)) numbers d.0 are.above d.1 in
         let is : d.0 ≡ j =
         ⊎_elim
         (λ lt. absurd (u.none d.0 below over (lt, sub)))

@@ -8,28 +8,28 @@ use Rattle.kaba_bits.specs.Sets.{bit, row, rising}
 use Rattle.kaba_bits.proofs.RisingLemmas.{rising_from-same}
 use Rattle.fact_model.specs.Concepts.{Pair, IsConcept}
 use Rattle.concept_build.specs.Tables.{IsMeet, AreNear}
-use Rattle.concept_build.specs.Lists.{columns_of, pair_at, AreFound, Grows, HasMeet, IsNext, AreNext}
+use Rattle.concept_build.specs.Lists.{columns_of, pair_at, AreConceptsFound, GrowsList, HasMeet, IsNextConcept, AreNext}
 use Rattle.concept_build.proofs.MadeLemmas.{meet, IsMeet-meet}
 use Rattle.concept_build.proofs.ExtentLemmas.{nothing, column-columns_of}
 
-pub Grows-refl : (xs : List Pair) → Grows xs xs
+pub Grows-refl : (xs : List Pair) → GrowsList xs xs
 Grows-refl xs = record { len = omega arith; same = λ k lt. refl }
 
 -- the last concept has the columns of an intersection
 pub HasMeet-push : (xs : List Pair) (y : Pair) (B R : List Bool) → IsMeet y.1 B R → HasMeet (xs ++ y ∷ []) B R
 HasMeet-push xs y B R m = (length xs, omega (arith, length_push xs y), subst (λ p. IsMeet p.1 B R) (sym (get_or_push xs y nothing (length xs) refl)) m)
 
-pub Grows-trans : (a b c : List Pair) → Grows a b → Grows b c → Grows a c
+pub Grows-trans : (a b c : List Pair) → GrowsList a b → GrowsList b c → GrowsList a c
 Grows-trans a b c g h = record { len = omega (arith, g.len, h.len); same = λ k lt. h.same k (omega (arith, lt, g.len)) ∙ g.same k lt }
 
-pub HasMeet-grows : (a b : List Pair) (B R : List Bool) → Grows a b → HasMeet a B R → HasMeet b B R
+pub HasMeet-grows : (a b : List Pair) (B R : List Bool) → GrowsList a b → HasMeet a B R → HasMeet b B R
 HasMeet-grows a b B R g h = (h.0, omega (arith, h.1, g.len), subst (λ (x : Pair). IsMeet x.1 B R) (sym (g.same h.0 h.1)) h.2)
 
-pub AreNext-grows : (T : List (List Bool)) (a b : List Pair) (k : ℕ) → k < length a → Grows a b → AreNext T a k → AreNext T b k
+pub AreNext-grows : (T : List (List Bool)) (a b : List Pair) (k : ℕ) → k < length a → GrowsList a b → AreNext T a k → AreNext T b k
 AreNext-grows T a b k lt g next r rlt lacks =
     let e = g.same k lt in
     let n = next r rlt (subst (λ (x : Pair). bit x.0 r ≡ false) e lacks) in
-    subst (λ (x : Pair). IsNext T x.0 x.1 b r) (sym e) (record {
+    subst (λ (x : Pair). IsNextConcept T x.0 x.1 b r) (sym e) (record {
       q = n.q;
       below = n.below;
       lacks = n.lacks;
@@ -52,9 +52,9 @@ AreNext-near T xs k n near are len has r rlt lacks =
       has = subst (λ m. HasMeet xs (pair_at xs k).1 (row T m)) c.2 (has c.0 h.0 (omega (arith, c.1, len)));
     }
 
-module _ (T : List (List Bool)) (w : ℕ) (xs : List Pair) (keys : List (List ℕ)) (found : AreFound T w xs keys) where
+module _ (T : List (List Bool)) (w : ℕ) (xs : List Pair) (keys : List (List ℕ)) (found : AreConceptsFound T w xs keys) where
   pub AreFound-push : (y : Pair) (new : List (List ℕ)) → IsConcept T w y.0 y.1 → new ≡ keys ++ rising y.1 ∷ [] → (Contains keys (rising y.1) → ⊥)
-      → AreFound T w (xs ++ y ∷ []) new
+      → AreConceptsFound T w (xs ++ y ∷ []) new
   AreFound-push y new o e fresh =
       let more : columns_of (xs ++ y ∷ []) ≡ columns_of xs ++ rising y.1 ∷ [] = map-append (λ (x : Pair). rising x.1) xs (y ∷ []) in
       record {

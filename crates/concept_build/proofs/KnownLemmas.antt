@@ -10,7 +10,7 @@ use Rattle.std.proofs.lemmas.List.Elements.{Contains-append_right}
 use Rattle.std.proofs.lemmas.List.Quantifiers.{position-Some}
 use Rattle.indexmap.specs.IndexSet.{insert_key}
 use Rattle.kaba_bits.specs.Sets.{bit, rising, rising_from}
-use Rattle.concept_build.specs.Lists.{AreDifferent, IsAddition, IsFound}
+use Rattle.concept_build.specs.Lists.{AreDifferent, IsAddition, IsListFound}
 
 pub rising_from-below : (k : ℕ) (xs : List Bool) (i d : ℕ) → i < length (rising_from k xs) → get_or (rising_from k xs) i d < k + length xs
 rising_from-below k [] i d lt = absurd (omega (arith, lt))
@@ -61,7 +61,7 @@ module _ {K : Type 0} (f : K → List ℕ) (t : K → Bool) (y : List ℕ) (is :
   any-at (x ∷ xs) (suc k) lt e = ⊎_elim (λ h. rw h refl) (λ h. rw h (any-at xs k (omega (arith, lt)) e)) (cases_Bool (t x))
 
   -- what a look-up finds
-  pub IsFound-position : (ks : List K) (r : Option ℕ) → r ≡ position t ks → is_some r ≡ list_any t ks → IsFound (map f ks) y r
+  pub IsFound-position : (ks : List K) (r : Option ℕ) → r ≡ position t ks → is_some r ≡ list_any t ks → IsListFound (map f ks) y r
   IsFound-position ks None e h = λ c. absurd (false≢true (h ∙ any-at ks c.0 c.1 c.2))
   IsFound-position [] (Some i) e h = absurd (true≢false h)
   IsFound-position (x ∷ xs) (Some i) e h =

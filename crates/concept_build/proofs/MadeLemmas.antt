@@ -3,7 +3,7 @@ use Rattle.std.proofs.lemmas.Bool.{and_parts, and_from}
 use Rattle.kaba_bits.specs.Sets.{bit, row, IsSubset}
 use Rattle.kaba_bits.proofs.SetLemmas.{same_bits}
 use Rattle.fact_model.specs.Concepts.{IsExtent, IsConcept}
-use Rattle.concept_build.specs.Tables.{IsMeet, IsClosed, IsFull}
+use Rattle.concept_build.specs.Tables.{IsMeet, IsClosedRow, IsFull}
 
 pub meet-left : (B C R : List Bool) → IsMeet B C R → IsSubset B C
 meet-left B C R m = λ i h. (and_parts (bit C i) (bit R i) (sym (m.bits i) ∙ h)).0
@@ -11,7 +11,7 @@ meet-left B C R m = λ i h. (and_parts (bit C i) (bit R i) (sym (m.bits i) ∙ h
 pub meet-right : (B C R : List Bool) → IsMeet B C R → IsSubset B R
 meet-right B C R m = λ i h. (and_parts (bit C i) (bit R i) (sym (m.bits i) ∙ h)).1
 
-pub closed-meet : (T : List (List Bool)) (w i : ℕ) (B C : List Bool) → i < length T → IsClosed T w C → IsMeet B C (row T i) → IsClosed T w B
+pub closed-meet : (T : List (List Bool)) (w i : ℕ) (B C : List Bool) → i < length T → IsClosedRow T w C → IsMeet B C (row T i) → IsClosedRow T w B
 closed-meet T w i B C lt closed m = record {
   len = m.len ∙ closed.len;
   columns = λ c below h.
@@ -20,13 +20,13 @@ closed-meet T w i B C lt closed m = record {
       (h i lt (meet-right B C (row T i) m));
 }
 
-pub closed-concept : (T : List (List Bool)) (w : ℕ) (A B : List Bool) → IsConcept T w A B → IsClosed T w B
+pub closed-concept : (T : List (List Bool)) (w : ℕ) (A B : List Bool) → IsConcept T w A B → IsClosedRow T w B
 closed-concept T w A B k = record {
   len = k.intent.len;
   columns = λ c lt h. (k.intent.columns c lt).1 (λ r rlt a. h r rlt ((k.extent.rows r rlt).0 a));
 }
 
-pub concept-closed : (T : List (List Bool)) (w : ℕ) (A B : List Bool) → IsExtent T A B → IsClosed T w B → IsConcept T w A B
+pub concept-closed : (T : List (List Bool)) (w : ℕ) (A B : List Bool) → IsExtent T A B → IsClosedRow T w B → IsConcept T w A B
 concept-closed T w A B e closed = record {
   extent = e;
   intent = record {

@@ -10,7 +10,7 @@ use Rattle.kaba_base.specs.declared.RowId.{RowId}
 use Rattle.kaba_base.specs.declared.ColId.{ColId}
 use Rattle.kaba_bits.specs.Sets.{ListsBelow}
 use Rattle.fact_model.specs.declared.sets.Concept.{Concept}
-use Rattle.fact_model.specs.Concepts.{Pair, pair_of, IsExtent, IsConcept, AreConcepts, AreAllConcepts, IsUpperCover, RowStands, ColumnStands, IsPlaced}
+use Rattle.fact_model.specs.Concepts.{Pair, pair_of, IsExtent, IsConcept, AreConcepts, AreAllConcepts, IsUpperCover, RowStands, ColumnStands, IsConceptPlaced}
 use Rattle.concept_build.specs.Lists.{IsBefore}
 use Rattle.concept_build.specs.Laws.{told, OneLattice, NotBoth}
 use Rattle.concept_build.proofs.OrderLemmas.{concept_cmp-total}
@@ -40,7 +40,7 @@ module _ (T : List (List Bool)) (w : ℕ) where
       same_ordered IsBefore only_before xs ys a.concepts.ordered b.concepts.ordered (has_each xs ys a.concepts b) (has_each ys xs b.concepts a)
 
   -- the two sets of a concept and the extents of all fix what is told of it
-  same_told : (E : List (List Bool)) (k : ℕ) (x y : Concept) → pair_of x ≡ pair_of y → IsPlaced T w E k x → IsPlaced T w E k y → told x ≡ told y
+  same_told : (E : List (List Bool)) (k : ℕ) (x y : Concept) → pair_of x ≡ pair_of y → IsConceptPlaced T w E k x → IsConceptPlaced T w E k y → told x ≡ told y
   same_told E k x y e p q =
       let extents : y.extent ≡ x.extent = ap (λ (d : Pair). d.0) (sym e) in
       let intents : y.intent ≡ x.intent = ap (λ (d : Pair). d.1) (sym e) in
@@ -71,7 +71,7 @@ one_lattice T w xs ys a b =
     let y = get_or ys k d in
     let same : pair_of x ≡ pair_of y = sym (get_or-map pair_of xs k d (pair_of d) lt) ∙ (ap (λ (l : List Pair). get_or l k (pair_of d)) pairs
     ∙ get_or-map pair_of ys k d (pair_of d) klt) in
-    same_told T w E k x y same (a.placed k d lt) (subst (λ F. IsPlaced T w F k y) extents (b.placed k d klt)))
+    same_told T w E k x y same (a.placed k d lt) (subst (λ F. IsConceptPlaced T w F k y) extents (b.placed k d klt)))
 
 pub not_both : NotBoth
 not_both T w bound xs l within m =

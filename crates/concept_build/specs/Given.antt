@@ -8,13 +8,13 @@ use Rattle.concept_build.specs.declared.covers.Given.{Given}
 use Rattle.concept_build.specs.declared.intents.Source.{Source}
 
 -- the table is one of rows of the width, and is counted
-pub record IsSource (s : Source) : Type 0 where
+pub record IsTableSource (s : Source) : Type 0 where
   pub rows : length s.table.now < 2 ^ 32
   pub widths : HasWidth s.width s.table.now
   pub counts : IsCounted s.table.now s.width s.counts.now
 
 -- the table is counted, the concepts are all that it has, and the places tell where each stands
-pub record IsGiven (g : Given) : Type 0 where
+pub record IsBuilderInput (g : Given) : Type 0 where
   pub rows : length g.table.now < 2 ^ 32
   pub widths : HasWidth g.width g.table.now
   pub counts : IsCounted g.table.now g.width g.counts.now

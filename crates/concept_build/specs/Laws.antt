@@ -6,11 +6,11 @@ use Rattle.fact_model.specs.declared.sets.Concept.{Concept}
 use Rattle.fact_model.specs.Concepts.{Pair, pair_of, AreMoreThan, IsLattice}
 
 -- a concept as plain data: its two sets, the numbers of its upper covers, and the rows and the columns that stand there
-abbrev pub Told : Type 0
-Told = Pair × List ℕ × List RowId × List ColId
+abbrev pub ToldConcept : Type 0
+ToldConcept = Pair × List ℕ × List RowId × List ColId
 
 -- all that a concept of the program holds
-abbrev pub told : Concept → Told
+abbrev pub told : Concept → ToldConcept
 told x = (pair_of x, x.above.items, x.rows.items, x.columns.items)
 
 -- two lattices of one table have the same concepts in the same order, and each holds the same

@@ -15,7 +15,7 @@ pub record IsMeet (B C R : List Bool) : Type 0 where
   pub bits : (c : ℕ) → bit B c ≡ (bit C c && bit R c)
 
 -- every column that all rows with B have is in B
-pub record IsClosed (T : List (List Bool)) (w : ℕ) (B : List Bool) : Type 0 where
+pub record IsClosedRow (T : List (List Bool)) (w : ℕ) (B : List Bool) : Type 0 where
   pub len : length B ≡ w
   pub columns : (c : ℕ) → c < w → ((r : ℕ) → r < length T → IsSubset B (row T r) → bit (row T r) c ≡ true) → bit B c ≡ true
 
@@ -33,7 +33,7 @@ abbrev pub listed_rows : List (List Bool) → List ℕ → List (List Bool)
 listed_rows T xs = map (row T) xs
 
 -- for each column the set of the places in a list of rows that have it, and the set of all places
-pub record AreColumns (R : List (List Bool)) (w : ℕ) (cs : Columns) : Type 0 where
+pub record AreColumnSets (R : List (List Bool)) (w : ℕ) (cs : Columns) : Type 0 where
   pub small : length R < 2 ^ 32
   pub len : length cs.sets.items ≡ w
   pub widths : HasWidth (length R) cs.sets.items
@@ -41,7 +41,7 @@ pub record AreColumns (R : List (List Bool)) (w : ℕ) (cs : Columns) : Type 0 w
   pub all : IsFull (length R) cs.all
 
 -- exactly the places that have all columns of B
-pub record HaveAll (cs : Columns) (A B : List Bool) : Type 0 where
+pub record HaveAllColumns (cs : Columns) (A B : List Bool) : Type 0 where
   pub len : length A ≡ length cs.all
   pub places : (p : ℕ) → ((bit A p ≡ true) ↔ ((bit cs.all p ≡ true) × ((c : ℕ) → bit B c ≡ true → bit (row cs.sets.items c) p ≡ true)))
 
@@ -50,9 +50,9 @@ pub record IsCounted (T : List (List Bool)) (w : ℕ) (c : Counts) : Type 0 wher
   pub rows : c.rows.items ≡ map size T
   pub len : length c.columns.items ≡ w
   pub columns : (k d : ℕ) → k < w → slice_index_or c.columns.items k d ≡ size (column T k)
-  pub extents : AreColumns T w c.extents
+  pub extents : AreColumnSets T w c.extents
   pub examples : AreExamples T c.examples.items
-  pub shares : AreColumns (listed_rows T c.examples.items) w c.shares
+  pub shares : AreColumnSets (listed_rows T c.examples.items) w c.shares
 
 -- a row has no more columns of B than another
 abbrev pub IsNoMore : List Bool → List Bool → List Bool → Type 0

@@ -2,7 +2,7 @@
 
 ghost use Rattle.std.specs.Prelude.{◌≡◌, ◌≢◌, ℕ, ◌<◌, ◌^◌, false, length, All, IfOk};
 ghost use Rattle.kaba_bits.specs.Sets.{bit, row, HasWidth};
-ghost use Rattle.concept_build.specs.Tables.{AreColumns, listed_rows};
+ghost use Rattle.concept_build.specs.Tables.{AreColumnSets, listed_rows};
 
 use crate::Tried;
 use kaba_bits::{BitRow, empty_rows, row_at, set_at};
@@ -20,7 +20,7 @@ pub fn columns_in(alloc: Global, table: &[BitRow], rows: &[u32], width: u32) -> 
     requires small { length rows.now < 2 ^ 32 }
     requires widths { HasWidth width table.now }
     requires rows { All (λ q. q < length table.now) rows.now }
-    ensures { IfOk result (AreColumns (listed_rows table.now rows.now) width) }
+    ensures { IfOk result (AreColumnSets (listed_rows table.now rows.now) width) }
 {
     let mut sets = empty_rows(alloc, width as usize, rows.len() as u32)?;
     for p in 0..rows.len() {

@@ -4,7 +4,7 @@
 ghost use Rattle.std.specs.Prelude.{◌≡◌, ℕ, ◌<◌, ◌≤◌, ◌^◌, length, map, All, IfOk};
 ghost use Rattle.std.specs.List.Sorted.{IsPermutation};
 ghost use Rattle.kaba_bits.specs.Sets.{row, size, rising, HasWidth};
-ghost use Rattle.concept_build.specs.Tables.{AreColumns, AreExamples, IsCounted, listed_rows};
+ghost use Rattle.concept_build.specs.Tables.{AreColumnSets, AreExamples, IsCounted, listed_rows};
 ghost use Rattle.concept_build.specs.Lists.{lists_of};
 
 use crate::Tried;
@@ -60,7 +60,7 @@ fn sizes_of(alloc: Global, sets: &[BitRow]) -> Tried<Vec<u32>>
 fn extents_of(alloc: Global, table: &[BitRow], width: u32) -> Tried<Columns>
     requires rows { length table.now < 2 ^ 32 }
     requires widths { HasWidth width table.now }
-    ensures { IfOk result (AreColumns table.now width) }
+    ensures { IfOk result (AreColumnSets table.now width) }
 {
     let rows = every_row(alloc, table)?;
     let extents = columns_in(alloc, table, &rows, width)?;

@@ -2,8 +2,8 @@
 
 ghost use Rattle.std.specs.Prelude.{◌≡◌, ℕ, ◌<◌, ◌↔◌, length, All, Contains, IfOk, IsTrue};
 ghost use Rattle.kaba_bits.specs.Sets.{row, ListsBelow};
-ghost use Rattle.fact_model.specs.Concepts.{IsUpperCover, IsWithin};
-ghost use Rattle.concept_build.specs.Given.{IsGiven};
+ghost use Rattle.fact_model.specs.Concepts.{IsUpperCover, IsStrictSubset};
+ghost use Rattle.concept_build.specs.Given.{IsBuilderInput};
 ghost use Rattle.concept_build.specs.Lists.{extents_of, IsClosure, AreCandidates, IsLeast};
 
 use crate::Tried;
@@ -28,7 +28,7 @@ pub struct Given<'a> {
 
 /// The numbers of the upper covers of a concept, rising.
 pub fn above(given: &Given, k: usize) -> Tried<Vec<u32>>
-    requires given { IsGiven given.now }
+    requires given { IsBuilderInput given.now }
     requires k { k < length given.now.items.now }
     ensures { IfOk result (λ v. ListsBelow (IsUpperCover (extents_of given.now.items.now) k) (length given.now.items.now) v.items) }
 {
@@ -39,7 +39,7 @@ pub fn above(given: &Given, k: usize) -> Tried<Vec<u32>>
 
 /// The closures with rows that the extent lacks: for each such row one of them is within its closure.
 fn candidates(given: &Given, k: usize) -> Tried<Vec<u32>>
-    requires given { IsGiven given.now }
+    requires given { IsBuilderInput given.now }
     requires k { k < length given.now.items.now }
     ensures { IfOk result (λ v. AreCandidates (extents_of given.now.items.now) k (length given.now.table.now) v.items) }
 {
@@ -60,7 +60,7 @@ fn candidates(given: &Given, k: usize) -> Tried<Vec<u32>>
 /// The number of the least extent with the rows of the extent at `k`, and with the row `q`: that of the
 /// columns that the concept at `k` and the row have in common.
 fn closure_at(given: &Given, k: usize, q: usize) -> Tried<usize>
-    requires given { IsGiven given.now }
+    requires given { IsBuilderInput given.now }
     requires k { k < length given.now.items.now }
     requires q { q < length given.now.table.now }
     ensures { IfOk result (λ i. IsClosure (extents_of given.now.items.now) k q i) }
@@ -109,7 +109,7 @@ fn is_within(items: &[Item], i: usize, j: usize) -> bool
     requires i { i < length items.now }
     requires j { j < length items.now }
     requires widths { length (row (extents_of items.now) i) ≡ length (row (extents_of items.now) j) }
-    ensures { IsTrue result ↔ IsWithin (row (extents_of items.now) i) (row (extents_of items.now) j) }
+    ensures { IsTrue result ↔ IsStrictSubset (row (extents_of items.now) i) (row (extents_of items.now) j) }
 {
     item_at(items, i).is_within(item_at(items, j))
 }

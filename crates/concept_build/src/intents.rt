@@ -3,9 +3,9 @@
 ghost use Rattle.std.specs.Prelude.{◌≡◌, ℕ, ◌<◌, ◌≤◌, Bool, List, length, All, IfOk, OnOk, IfErr};
 ghost use Rattle.kaba_bits.specs.Sets.{row};
 ghost use Rattle.fact_model.specs.Concepts.{AreAllConcepts, IsConcept, HasIntent};
-ghost use Rattle.concept_build.specs.Given.{IsSource};
+ghost use Rattle.concept_build.specs.Given.{IsTableSource};
 ghost use Rattle.concept_build.specs.Tables.{IsFull};
-ghost use Rattle.concept_build.specs.Lists.{IsFaultOf, lists_of, columns_of, pair_at, AreFound, AreDifferent, Grows, HasMeet, AreNext};
+ghost use Rattle.concept_build.specs.Lists.{IsFaultOf, lists_of, columns_of, pair_at, AreConceptsFound, AreDifferent, GrowsList, HasMeet, AreNext};
 
 use crate::counts::Counts;
 use crate::item::{Item, common_columns, item_at, meet_of, sort_items};
@@ -28,7 +28,7 @@ pub struct Source<'a> {
 
 /// All concepts in their order, if there are no more than the bound.
 pub fn all_items(source: &Source) -> Result<Vec<Item>, LatticeFault>
-    requires source { IsSource source.now }
+    requires source { IsTableSource source.now }
     ensures all { IfOk result (λ v. AreAllConcepts source.now.table.now source.now.width v.items) }
     ensures within { IfOk result (λ v. length v.items ≤ source.now.bound) }
     ensures cause { IfErr result (λ e. IsFaultOf source.now.table.now source.now.width source.now.bound e) }
@@ -43,7 +43,7 @@ pub fn all_items(source: &Source) -> Result<Vec<Item>, LatticeFault>
 
 /// All concepts, or one more than the bound of them.
 fn found_items(source: &Source) -> Tried<Vec<Item>>
-    requires source { IsSource source.now }
+    requires source { IsTableSource source.now }
     ensures each { IfOk result (λ v. All (λ k. IsConcept source.now.table.now source.now.width k.0 k.1) v.items) }
     ensures differ { IfOk result (λ v. AreDifferent (columns_of v.items)) }
     ensures all { IfOk result (λ v. length v.items ≤ source.now.bound → (A B : List Bool)
@@ -61,7 +61,7 @@ fn found_items(source: &Source) -> Tried<Vec<Item>>
 
 /// The concept of all columns.
 fn first_items(source: &Source) -> Tried<Vec<Item>>
-    requires source { IsSource source.now }
+    requires source { IsTableSource source.now }
     ensures each { IfOk result (λ v. All (λ k. IsConcept source.now.table.now source.now.width k.0 k.1) v.items) }
     ensures one { IfOk result (λ v. length v.items ≡ 1) }
     ensures full { IfOk result (λ v. IsFull source.now.width (pair_at v.items 0).1) }
@@ -80,11 +80,11 @@ fn add_next(
     known: &mut IndexSet<Vec<u32>>,
     k: usize,
 ) -> Tried<()>
-    requires source { IsSource source.now }
+    requires source { IsTableSource source.now }
     requires k { k < length items.old.items }
-    requires found { AreFound source.now.table.now source.now.width items.old.items (lists_of known.old.keys) }
-    ensures found { OnOk result (AreFound source.now.table.now source.now.width items.new.items (lists_of known.new.keys)) }
-    ensures grows { OnOk result (Grows items.old.items items.new.items) }
+    requires found { AreConceptsFound source.now.table.now source.now.width items.old.items (lists_of known.old.keys) }
+    ensures found { OnOk result (AreConceptsFound source.now.table.now source.now.width items.new.items (lists_of known.new.keys)) }
+    ensures grows { OnOk result (GrowsList items.old.items items.new.items) }
     ensures next { OnOk result (length items.new.items ≤ source.now.bound → AreNext source.now.table.now items.new.items k) }
 {
     let near = near_rows(source.alloc, source.table, source.counts, item_at(items, k))?;
@@ -106,12 +106,12 @@ fn add_meet(
     k: usize,
     q: usize,
 ) -> Tried<()>
-    requires source { IsSource source.now }
+    requires source { IsTableSource source.now }
     requires k { k < length items.old.items }
     requires q { q < length source.now.table.now }
-    requires found { AreFound source.now.table.now source.now.width items.old.items (lists_of known.old.keys) }
-    ensures found { OnOk result (AreFound source.now.table.now source.now.width items.new.items (lists_of known.new.keys)) }
-    ensures grows { OnOk result (Grows items.old.items items.new.items) }
+    requires found { AreConceptsFound source.now.table.now source.now.width items.old.items (lists_of known.old.keys) }
+    ensures found { OnOk result (AreConceptsFound source.now.table.now source.now.width items.new.items (lists_of known.new.keys)) }
+    ensures grows { OnOk result (GrowsList items.old.items items.new.items) }
     ensures has { OnOk result (HasMeet items.new.items (pair_at items.old.items k).1 (row source.now.table.now q)) }
 {
     let columns = common_columns(source.alloc, item_at(items, k), row_at(source.table, q))?;

@@ -3,8 +3,8 @@
 ghost use Rattle.std.specs.Prelude.{◌≡◌, ℕ, ◌<◌, ◌↔◌, Bool, true, List, length, All, AllPairs, IfOk, OnOk, IsTrue, slice_index_or};
 ghost use Rattle.std.specs.List.Sorted.{IsPermutation};
 ghost use Rattle.kaba_bits.specs.Sets.{bit, row, size, rising, HasWidth};
-ghost use Rattle.fact_model.specs.Concepts.{Pair, concept_cmp, IsWithin};
-ghost use Rattle.concept_build.specs.Tables.{IsMeet, HaveAll};
+ghost use Rattle.fact_model.specs.Concepts.{Pair, concept_cmp, IsStrictSubset};
+ghost use Rattle.concept_build.specs.Tables.{IsMeet, HaveAllColumns};
 ghost use Rattle.concept_build.specs.Places.{AreInAll};
 ghost use Rattle.concept_build.specs.Lists.{extents_of, columns_of, AreDifferent, IsBefore};
 
@@ -43,7 +43,7 @@ impl Item {
         requires len { length intent ≡ length extents.now.sets.items }
         requires widths { HasWidth (length extents.now.all) extents.now.sets.items }
         ensures intent { IfOk result (λ k. k.1 ≡ intent) }
-        ensures extent { IfOk result (λ k. HaveAll extents.now k.0 k.1) }
+        ensures extent { IfOk result (λ k. HaveAllColumns extents.now k.0 k.1) }
     {
         let columns = intent.rising(alloc)?;
         let extent = extent_of(alloc, extents, &columns)?;
@@ -95,7 +95,7 @@ impl Item {
     /// Whether the extent is strictly within the other's.
     pub fn is_within(&self, other: &Item) -> bool
         requires { length self.now.0 ≡ length other.now.0 }
-        ensures { IsTrue result ↔ IsWithin self.now.0 other.now.0 }
+        ensures { IsTrue result ↔ IsStrictSubset self.now.0 other.now.0 }
     {
         self.rows < other.rows && self.extent.is_subset(&other.extent)
     }

@@ -4,8 +4,8 @@
 ghost use Rattle.std.specs.Prelude.{◌≡◌, ℕ, ◌-◌, ◌<◌, ◌≤◌, ◌^◌, length, map, IfOk, IfErr, slice_index_or};
 ghost use Rattle.kaba_bits.specs.Sets.{HasWidth};
 ghost use Rattle.fact_model.specs.declared.sets.Concept.{Concept};
-ghost use Rattle.fact_model.specs.Concepts.{Pair, pair_of, IsPlaced, IsLatticeOf};
-ghost use Rattle.concept_build.specs.Given.{IsGiven};
+ghost use Rattle.fact_model.specs.Concepts.{Pair, pair_of, IsConceptPlaced, IsLatticeOf};
+ghost use Rattle.concept_build.specs.Given.{IsBuilderInput};
 ghost use Rattle.concept_build.specs.Lists.{IsFaultOf, extents_of};
 ghost use Rattle.concept_build.specs.Laws.{OneLattice, NotBoth};
 
@@ -93,10 +93,10 @@ pub fn one_lattice()
 
 /// Each concept with what is told of it.
 fn placed_items(given: &Given) -> Tried<Vec<Concept>>
-    requires { IsGiven given.now }
+    requires { IsBuilderInput given.now }
     ensures pairs { IfOk result (λ v. map pair_of v.items ≡ given.now.items.now) }
     ensures placed { IfOk result (λ v. (k : ℕ) (d : Concept) → k < length given.now.items.now
-        → IsPlaced given.now.table.now given.now.width (extents_of given.now.items.now) k (slice_index_or v.items k d)) }
+        → IsConceptPlaced given.now.table.now given.now.width (extents_of given.now.items.now) k (slice_index_or v.items k d)) }
 {
     let mut concepts = Vec::new(given.alloc);
     for k in 0..given.items.len() {
@@ -107,10 +107,10 @@ fn placed_items(given: &Given) -> Tried<Vec<Concept>>
 
 /// One concept with what is told of it.
 fn placed_item(given: &Given, k: usize) -> Tried<Concept>
-    requires given { IsGiven given.now }
+    requires given { IsBuilderInput given.now }
     requires k { k < length given.now.items.now }
     ensures pair { IfOk result (λ x. (d : Pair) → pair_of x ≡ slice_index_or given.now.items.now k d) }
-    ensures placed { IfOk result (λ x. IsPlaced given.now.table.now given.now.width (extents_of given.now.items.now) k x) }
+    ensures placed { IfOk result (λ x. IsConceptPlaced given.now.table.now given.now.width (extents_of given.now.items.now) k x) }
 {
     let item = item_at(given.items, k);
     let extent = item.extent().copy(given.alloc)?;

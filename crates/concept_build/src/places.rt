@@ -1,7 +1,7 @@
 //! Lists of columns, each once: those that are known, and those of the concepts in their order.
 
 ghost use Rattle.std.specs.Prelude.{◌≡◌, IfOk};
-ghost use Rattle.concept_build.specs.Lists.{lists_of, columns_of, AreDifferent, IsAddition, IsFound};
+ghost use Rattle.concept_build.specs.Lists.{lists_of, columns_of, AreDifferent, IsAddition, IsListFound};
 
 use crate::Tried;
 use crate::item::Item;
@@ -32,7 +32,7 @@ pub fn places_of(alloc: Global, items: &[Item]) -> Tried<IndexSet<Vec<u32>>>
 
 /// Where a list of columns stands.
 pub fn place_of_columns(places: &IndexSet<Vec<u32>>, columns: &[u32]) -> Option<usize>
-    ensures { IsFound (lists_of places.now.keys) columns.now result }
+    ensures { IsListFound (lists_of places.now.keys) columns.now result }
 {
     places.get_index_of(columns)
 }

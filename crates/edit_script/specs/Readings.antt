@@ -11,9 +11,9 @@ use Rattle.edit_script.specs.declared.lines.Reading.TheVariants as readings
 use Rattle.edit_script.specs.Script.{node_word, column_word, IsId, IsNode, IsComment, IsActLine, IsBadLine, Writes, WritesAct}
 
 -- the edit that the words write, or none where they write none
-abbrev pub IsRead : List (List ℕ) → Option Edit → Type 0
-IsRead words (Some edit) = Writes words edit
-IsRead words None = (edit : Edit) → Writes words edit → ⊥
+abbrev pub IsEditRead : List (List ℕ) → Option Edit → Type 0
+IsEditRead words (Some edit) = Writes words edit
+IsEditRead words None = (edit : Edit) → Writes words edit → ⊥
 
 -- the act that the words write, or none where they write none
 abbrev pub IsActRead : List (List ℕ) → Option Act → Type 0
@@ -21,10 +21,10 @@ IsActRead words (Some act) = WritesAct words act
 IsActRead words None = (act : Act) → WritesAct words act → ⊥
 
 -- what a line is
-abbrev pub IsReading : List ℕ → Reading → Type 0
-IsReading line readings.Comment = IsComment line
-IsReading line (readings.Act act) = IsActLine line act
-IsReading line readings.Bad = IsBadLine line
+abbrev pub IsLineReading : List ℕ → Reading → Type 0
+IsLineReading line readings.Comment = IsComment line
+IsLineReading line (readings.Act act) = IsActLine line act
+IsLineReading line readings.Bad = IsBadLine line
 
 -- the first word is that of no node, or of no column
 abbrev pub NoNode : List (List ℕ) → Type 0

@@ -105,9 +105,9 @@ pub record IsBadLine (line : List ℕ) : Type 0 where
   pub no_act : (act : Act) → IsActLine line act → ⊥
 
 -- the next act is that of this line, which has the number k, and the further ones are as K says
-abbrev pub IsNext : ℕ → List ℕ → (List Line → Type 0) → List Line → Type 0
-IsNext k line K [] = ⊥
-IsNext k line K (e ∷ edits) = (e.number ≡ k) × IsActLine line e.act × K edits
+abbrev pub IsNextAct : ℕ → List ℕ → (List Line → Type 0) → List Line → Type 0
+IsNextAct k line K [] = ⊥
+IsNextAct k line K (e ∷ edits) = (e.number ≡ k) × IsActLine line e.act × K edits
 
 -- there is no further act
 abbrev pub IsNone : List Line → Type 0
@@ -117,7 +117,7 @@ IsNone (e ∷ edits) = ⊥
 -- the acts of these lines, the first of which has the number k; lines that say nothing are skipped
 abbrev pub AreEditsFrom : ℕ → List (List ℕ) → List Line → Type 0
 AreEditsFrom k [] edits = IsNone edits
-AreEditsFrom k (line ∷ lines) edits = (IsComment line × AreEditsFrom (k + 1) lines edits) ⊎ IsNext k line (AreEditsFrom (k + 1) lines) edits
+AreEditsFrom k (line ∷ lines) edits = (IsComment line × AreEditsFrom (k + 1) lines edits) ⊎ IsNextAct k line (AreEditsFrom (k + 1) lines) edits
 
 -- the edits and undos of a script, with the numbers of their lines, counted from 1
 abbrev pub AreEditsOf : List ℕ → List Line → Type 0

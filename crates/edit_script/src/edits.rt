@@ -5,7 +5,7 @@ ghost use Rattle.std.specs.Prelude.{◌≡◌, ◌∷◌, ◌↔◌, ℕ, true, 
 ghost use Rattle.std.specs.Str.{all_scalars, encode_utf8_all};
 ghost use Rattle.kaba_base.specs.declared.NodeId.{NodeId};
 ghost use Rattle.edit_script.specs.Script.{words_in, node_word, column_word, IsId, IsNode, Writes};
-ghost use Rattle.edit_script.specs.Readings.{IsRead, IsActRead, AreNodesIn, NoNodes, NoMerge, NoDrop};
+ghost use Rattle.edit_script.specs.Readings.{IsEditRead, IsActRead, AreNodesIn, NoNodes, NoMerge, NoDrop};
 
 use crate::words::{Words, node_in};
 use hier_model::{Act, Edit};
@@ -138,7 +138,7 @@ fn read_drop(alloc: Global, mut words: Words<'_>) -> Result<Option<Edit>, AllocE
 
 /// The edit that the words of the line write, or `None` where they write none.
 fn read_edit(alloc: Global, line: &str) -> Result<Option<Edit>, AllocError>
-    ensures { IfOk result (λ read. IsRead (words_in line.now) read) }
+    ensures { IfOk result (λ read. IsEditRead (words_in line.now) read) }
 {
     let mut words = Words { rest: line };
     match words.next() {

@@ -4,7 +4,7 @@
 ghost use Rattle.std.specs.Prelude.{◌≡◌, ◌∷◌, ◌<◌, ◌≤◌, ◌^◌, ◌↔◌, ℕ, List, [], Err, IfOk, IsTrue, MatchOption, length};
 ghost use Rattle.std.specs.List.{position};
 ghost use Rattle.edit_script.specs.Script.{is_line_end, lines_of, HasOuterSpace, IsSkipped, AreEditsOf, IsFirstBadLine, HasTooManyEdits, most_edits};
-ghost use Rattle.edit_script.specs.Readings.{IsReading};
+ghost use Rattle.edit_script.specs.Readings.{IsLineReading};
 ghost use Rattle.edit_script.specs.Lines.{left};
 ghost use Rattle.edit_script.specs.declared.lines.ScriptFault.TheVariants as ScriptFault;
 
@@ -99,7 +99,7 @@ fn has_outer_space(line: &str) -> bool
 
 /// What a line of characters is.
 fn read_text(alloc: Global, line: &str) -> Result<Reading, AllocError>
-    ensures { IfOk result (λ reading. IsReading line.now reading) }
+    ensures { IfOk result (λ reading. IsLineReading line.now reading) }
 {
     if is_skipped(line) {
         return Ok(Reading::Comment);
@@ -115,7 +115,7 @@ fn read_text(alloc: Global, line: &str) -> Result<Reading, AllocError>
 
 /// What a line is.
 fn read_line(alloc: Global, line: &[u8]) -> Result<Reading, AllocError>
-    ensures { IfOk result (λ reading. IsReading line.now reading) }
+    ensures { IfOk result (λ reading. IsLineReading line.now reading) }
 {
     match str::from_utf8(line) {
         Ok(text) => read_text(alloc, text),

@@ -16,7 +16,7 @@ use Rattle.std.proofs.lemmas.List.Quantifiers.{position-Some}
 use Rattle.fact_model.specs.Items.{column_at, column_kind, column_class, column_slot}
 use Rattle.fact_model.specs.declared.facts.ColKind.{ColKind}
 use Rattle.fact_model.specs.declared.facts.ColKind.TheVariants.{Fld, Dcl, Def, Is}
-use Rattle.fact_model.specs.Classes.{is_def, is_slot, is_body, parent_of, supers_of, IsBelow, same, through, IsStrictlyBelow, IsAcyclic, reaches, below, own_body, Finds, own, inherited, finds_within, finds}
+use Rattle.fact_model.specs.Classes.{is_def, is_slot, is_body, parent_of, supers_of, IsBelow, same, through, IsStrictSubclass, IsAcyclic, reaches, below, own_body, IsBodyFound, own, inherited, finds_within, finds}
 use Rattle.fact_model.specs.declared.facts.Facts.{Facts}
 use Rattle.fact_model.specs.declared.facts.ClassInfo.{ClassInfo}
 
@@ -29,14 +29,14 @@ module _ (F : Facts) where
   below-then same k = k
   below-then (through direct rest) k = through direct (below-then rest k)
 
-  pub strictly-below : {a b : ℕ} → IsStrictlyBelow F a b → IsBelow F a b
+  pub strictly-below : {a b : ℕ} → IsStrictSubclass F a b → IsBelow F a b
   strictly-below s = through s.direct s.rest
 
-  pub strictly-then : {a b c : ℕ} → IsStrictlyBelow F a b → IsBelow F b c → IsStrictlyBelow F a c
+  pub strictly-then : {a b c : ℕ} → IsStrictSubclass F a b → IsBelow F b c → IsStrictSubclass F a c
   strictly-then s k = record { by = s.by; direct = s.direct; rest = below-then s.rest k }
 
   -- at or below is equal or strictly below
-  pub below_cases : {a b : ℕ} → IsBelow F a b → (a ≡ b) ⊎ IsStrictlyBelow F a b
+  pub below_cases : {a b : ℕ} → IsBelow F a b → (a ≡ b) ⊎ IsStrictSubclass F a b
   below_cases same = inl refl
   below_cases (through {c = c} direct rest) = inr (record { by = c; direct = direct; rest = rest })
 
@@ -65,17 +65,17 @@ module _ (F : Facts) where
   -- classes passed on the way up to one: different ones, each strictly below it
   record ArePassed (seen : List ℕ) (a : ℕ) : Type 0 where
     distinct : IsDistinct eqb seen
-    each : AllByRecursion (λ q. (q < length F.classes.items) × IsStrictlyBelow F q a) seen
+    each : AllByRecursion (λ q. (q < length F.classes.items) × IsStrictSubclass F q a) seen
 
-  up : (a : ℕ) (c : ClassId) (seen : List ℕ) → Contains (supers_of F a) c → AllByRecursion (λ q. (q < length F.classes.items) × IsStrictlyBelow F q a)
-      seen → AllByRecursion (λ q. (q < length F.classes.items) × IsStrictlyBelow F q c.0) seen
+  up : (a : ℕ) (c : ClassId) (seen : List ℕ) → Contains (supers_of F a) c → AllByRecursion (λ q. (q < length F.classes.items) × IsStrictSubclass F q a)
+      seen → AllByRecursion (λ q. (q < length F.classes.items) × IsStrictSubclass F q c.0) seen
   up a c [] direct h = tt
   up a c (q ∷ seen) direct h = ((h.0.0, strictly-then h.0.1 (through direct same)), up a c seen direct h.1)
 
-  apart : IsAcyclic F → (a : ℕ) (seen : List ℕ) → AllByRecursion (λ q. (q < length F.classes.items) × IsStrictlyBelow F q a) seen
+  apart : IsAcyclic F → (a : ℕ) (seen : List ℕ) → AllByRecursion (λ q. (q < length F.classes.items) × IsStrictSubclass F q a) seen
       → AllByRecursion (λ y. eqb a y ≡ false) seen
   apart acyclic a [] h = tt
-  apart acyclic a (q ∷ seen) h = (ne_eqb a q (λ e. acyclic a (subst (λ x. IsStrictlyBelow F x a) (sym e) h.0.1)), apart acyclic a seen h.1)
+  apart acyclic a (q ∷ seen) h = (ne_eqb a q (λ e. acyclic a (subst (λ x. IsStrictSubclass F x a) (sym e) h.0.1)), apart acyclic a seen h.1)
 
   passed_more : IsAcyclic F → {a : ℕ} {c : ClassId} (seen : List ℕ) → Contains (supers_of F a) c → ArePassed seen a → ArePassed (a ∷ seen) c.0
   passed_more acyclic {a} {c} seen direct h = record {
@@ -83,7 +83,7 @@ module _ (F : Facts) where
     each = ((supers-within a c direct, record { by = c; direct = direct; rest = same }), up a c seen direct h.each);
   }
 
-  within : (a : ℕ) (seen : List ℕ) → AllByRecursion (λ q. (q < length F.classes.items) × IsStrictlyBelow F q a) seen → (q : ℕ)
+  within : (a : ℕ) (seen : List ℕ) → AllByRecursion (λ q. (q < length F.classes.items) × IsStrictSubclass F q a) seen → (q : ℕ)
       → list_any (eqb q) seen ≡ true → q < length F.classes.items
   within a [] h q e = absurd (false≢true e)
   within a (x ∷ seen) h q e = ⊎_elim (λ one. subst (λ y. y < length F.classes.items) (sym (eqb-true q x one)) h.0.0)
@@ -114,13 +114,13 @@ module _ (F : Facts) where
   )
 
   found_up : (n a x d : ℕ) (o : Option ℕ) (p : Option ClassId) → own_body F a x ≡ o → parent_of F a ≡ p
-      → ((p : ClassId) → finds_within F n p.0 x ≡ Some d → Finds F p.0 x d) → or_else o (option_and_then (λ p. finds_within F n p.0 x) p)
-      ≡ Some d → Finds F a x d
+      → ((p : ClassId) → finds_within F n p.0 x ≡ Some d → IsBodyFound F p.0 x d) → or_else o (option_and_then (λ p. finds_within F n p.0 x) p)
+      ≡ Some d → IsBodyFound F a x d
   found_up n a x d (Some y) p e f up h = own (e ∙ h)
   found_up n a x d None None e f up h = absurd (cc h)
   found_up n a x d None (Some p) e f up h = inherited e f (up p h)
 
-  pub finds-sound : (n a x d : ℕ) → finds_within F n a x ≡ Some d → Finds F a x d
+  pub finds-sound : (n a x d : ℕ) → finds_within F n a x ≡ Some d → IsBodyFound F a x d
   finds-sound zero a x d h = own h
   finds-sound (suc n) a x d h = found_up n a x d (own_body F a x) (parent_of F a) refl refl (λ p. finds-sound n p.0 x d) h
 
@@ -130,7 +130,7 @@ module _ (F : Facts) where
   finds_within-up zero a x k p lt none at e = absurd (omega (arith, lt))
   finds_within-up (suc n) a x k p lt none at e = let one : suc n - 1 ≡ n = omega arith in rw (none, at, e, one) refl
 
-  finds-all : IsAcyclic F → (n : ℕ) (seen : List ℕ) {a x d : ℕ} → Finds F a x d → n + length seen ≡ length F.classes.items → ArePassed seen a
+  finds-all : IsAcyclic F → (n : ℕ) (seen : List ℕ) {a x d : ℕ} → IsBodyFound F a x d → n + length seen ≡ length F.classes.items → ArePassed seen a
       → finds_within F n a x ≡ Some d
   finds-all acyclic zero seen (own e) k h = e
   finds-all acyclic (suc n) seen (own e) k h = rw e
@@ -140,16 +140,16 @@ module _ (F : Facts) where
       rw (none, e) (finds-all acyclic n (a ∷ seen) up (omega arith) (passed_more acyclic seen (parent-super a p e) h))
 
   -- the look-up is the relation
-  pub finds-exact : IsAcyclic F → (a x d : ℕ) → (finds F a x ≡ Some d → Finds F a x d) × (Finds F a x d → finds F a x ≡ Some d)
+  pub finds-exact : IsAcyclic F → (a x d : ℕ) → (finds F a x ≡ Some d → IsBodyFound F a x d) × (IsBodyFound F a x d → finds F a x ≡ Some d)
   finds-exact acyclic a x d = (
     λ h. finds-sound (length F.classes.items) a x d h,
     λ h. finds-all acyclic (length F.classes.items) [] h (omega arith) (start a),
   )
 
   -- strictly below is below and another
-  pub strictly-exact : IsAcyclic F → (a b : ℕ) → (IsStrictlyBelow F a b → (a ≢ b) × IsBelow F a b) × (a ≢ b → IsBelow F a b → IsStrictlyBelow F a b)
+  pub strictly-exact : IsAcyclic F → (a b : ℕ) → (IsStrictSubclass F a b → (a ≢ b) × IsBelow F a b) × (a ≢ b → IsBelow F a b → IsStrictSubclass F a b)
   strictly-exact acyclic a b = (
-    λ s. (λ e. acyclic a (subst (λ x. IsStrictlyBelow F a x) (sym e) s), strictly-below s),
+    λ s. (λ e. acyclic a (subst (λ x. IsStrictSubclass F a x) (sym e) s), strictly-below s),
     λ ne h. ⊎_elim (λ e. absurd (ne e)) (λ s. s) (below_cases h),
   )
 
@@ -184,7 +184,7 @@ module _ (F : Facts) where
     pub above : IsBelow F a class
     pub body : IsBodyOf class x d
 
-  pub Finds-found : {a x d : ℕ} → Finds F a x d → IsFound a x d
+  pub Finds-found : {a x d : ℕ} → IsBodyFound F a x d → IsFound a x d
   Finds-found {a} {x} {d} (own e) = record { class = a; above = same; body = own_body-Some a x d e }
   Finds-found {a} (inherited {p = p} none e up) =
       let f = Finds-found up in

@@ -15,7 +15,7 @@ use Rattle.kaba_base.proofs.Texts.{same_chars, bytes_exact}
 use Rattle.kaba_bits.specs.Sets.{first_below, when}
 use Rattle.kaba_bits.proofs.FirstLemmas.{first_below_None, first_below_Some, when-Some, cases_Option}
 use Rattle.fact_model.specs.FreeNames.{is_taken, longest, lengthened, underscores, free_name}
-use Rattle.fact_model.specs.Taken.{texts, AreSame}
+use Rattle.fact_model.specs.Taken.{texts, AreSameNames}
 
 -- a name that is taken is no longer than the longest
 pub taken_short : (t : List (List ℕ)) (x : List ℕ) → is_taken t x ≡ true → length x ≤ longest t
@@ -78,7 +78,7 @@ module _ (t : List (List ℕ)) (name : List ℕ) where
   free_name-before j lt = taken_before found.0 found.3 j (omega (arith, lt, found.4))
 
 -- two lists of the same names have the same free names
-pub free_name-same : (t s : List (List ℕ)) (name : List ℕ) → AreSame t s → free_name t name ≡ free_name s name
+pub free_name-same : (t s : List (List ℕ)) (name : List ℕ) → AreSameNames t s → free_name t name ≡ free_name s name
 free_name-same t s name same =
     sym (free_name-at s name (underscores t name) (λ j lt. sym (same (lengthened name j)) ∙ free_name-before t name j lt)
     (sym (same (free_name t name)) ∙ free_name-free t name))
@@ -93,8 +93,8 @@ lengthened-more name k = append_assoc name (replicate k 95) (95 ∷ []) ∙ ap (
         ∙ ap (λ (i : ℕ). let l : List ℕ = replicate i 95 in l) e
 
 -- names added to a list
-pub AreSame-more : (t u w g : List (List ℕ)) (name : List ℕ) → AreSame t (w ++ g) → ((x : List ℕ) → is_taken u x ≡ (is_taken t x || bytes_eq x name))
-    → AreSame u (w ++ (g ++ name ∷ []))
+pub AreSame-more : (t u w g : List (List ℕ)) (name : List ℕ) → AreSameNames t (w ++ g) → ((x : List ℕ) → is_taken u x ≡ (is_taken t x || bytes_eq x name))
+    → AreSameNames u (w ++ (g ++ name ∷ []))
 AreSame-more t u w g name same more x =
     more x ∙ ap (λ b. b || bytes_eq x name) (same x ∙ list_any-append (bytes_eq x) w g)
     ∙ sym (list_any-append (bytes_eq x) w (g ++ name ∷ []) ∙ ap (λ b. is_taken w x || b) (list_any-append (bytes_eq x) g (name ∷ []))

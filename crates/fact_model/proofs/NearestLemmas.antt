@@ -4,7 +4,7 @@ use Rattle.std.specs.List.{position, position_or_len}
 use Rattle.std.proofs.lemmas.Bool.{cases_Bool, lt-ltb, eq-eqb}
 use Rattle.kaba_base.specs.declared.ClassId.{ClassId}
 use Rattle.fact_model.specs.Items.{column_class}
-use Rattle.fact_model.specs.Classes.{parent_of, IsBelow, same, through, IsStrictlyBelow, is_interface, is_body, own_body, Finds, own, inherited, finds}
+use Rattle.fact_model.specs.Classes.{parent_of, IsBelow, same, through, IsStrictSubclass, is_interface, is_body, own_body, IsBodyFound, own, inherited, finds}
 use Rattle.std.proofs.lemmas.List.Elements.{All-get_or}
 use Rattle.fact_model.specs.InRange.{InRange, IsClass}
 use Rattle.fact_model.specs.InOrder.{InOrder}
@@ -46,7 +46,7 @@ module _ (F : Facts) (R : InRange F) (O : InOrder F) where
 
   -- what is strictly above a class is at or above its superclass, where it is a class
   pub above_parent : (a b : ℕ) (p : ClassId) → IsPlainClass F b → is_interface F p.0 ≡ false → p.0 < length F.classes.items → parent_of F a ≡ Some p
-      → IsStrictlyBelow F a b → IsBelow F p.0 b
+      → IsStrictSubclass F a b → IsBelow F p.0 b
   above_parent a b p k plain lt up s =
       ⊎_elim
       (λ e. let same : s.by ≡ p = cc (e, up) in subst (λ y. IsBelow F y.0 b) same s.rest)
@@ -75,7 +75,7 @@ module _ (F : Facts) (R : InRange F) (O : InOrder F) where
           (a, slice_get_within F.classes.items a k at, get_or_from_slice_get F.classes.items a k k at) in
           subst (λ o. IfSome o (IsClass F)) e all.0
 
-  nearest : {a x d : ℕ} → Finds F a x d → is_interface F a ≡ false → (e : ℕ) → IsBodyOf F (column_class F e) x e → IsBelow F a (column_class F e)
+  nearest : {a x d : ℕ} → IsBodyFound F a x d → is_interface F a ≡ false → (e : ℕ) → IsBodyOf F (column_class F e) x e → IsBelow F a (column_class F e)
       → IsBelow F (column_class F d) (column_class F e)
   nearest {a} {x} {d} (own h) plain e b up = subst (λ k. IsBelow F k (column_class F e)) (sym (own_body-Some F a x d h).class) up
   nearest {a} {x} {d} (inherited {p = p} none above rest) plain e b up =
@@ -87,7 +87,7 @@ module _ (F : Facts) (R : InRange F) (O : InOrder F) where
       (below_cases F up)
 
   -- above an interface there is only class 0
-  at_interface : {a x d : ℕ} → Finds F a x d → is_interface F a ≡ true → (e : ℕ) → IsBodyOf F (column_class F e) x e → IsBelow F a (column_class F e)
+  at_interface : {a x d : ℕ} → IsBodyFound F a x d → is_interface F a ≡ true → (e : ℕ) → IsBodyOf F (column_class F e) x e → IsBelow F a (column_class F e)
       → IsBelow F (column_class F d) (column_class F e)
   at_interface {a} {x} {d} f face e b up =
       let found = Finds-found F f in

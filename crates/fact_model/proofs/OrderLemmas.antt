@@ -7,8 +7,8 @@ use Rattle.kaba_derivations.proofs.Derivations.{derivable_by, derivable_least}
 use Rattle.kaba_base.specs.declared.ColId.{ColId}
 use Rattle.kaba_base.specs.declared.RowId.{RowId}
 use Rattle.fact_model.specs.Items.{site_at, site_class, site_row, row_class, row_this, is_object_row, column_class, column_kind}
-use Rattle.fact_model.specs.Classes.{IsBelow, same, IsStrictlyBelow, finds}
-use Rattle.fact_model.specs.Flowing.{Holds, in_point, Inclusion, by_this as flow_this, Runs, IsInRow, by_point}
+use Rattle.fact_model.specs.Classes.{IsBelow, same, IsStrictSubclass, finds}
+use Rattle.fact_model.specs.Flowing.{Holds, in_point, Inclusion, by_this as flow_this, CallRuns, IsInRow, by_point}
 use Rattle.fact_model.specs.Entries.{Entry, Entails, by_access, by_need, by_this, by_declared, by_body, by_super, by_tie, by_site, by_hiding, by_test, by_array, IsEntry}
 use Rattle.kaba_derivations.specs.Derivation.{IsDerivable}
 use Rattle.std.specs.Prelude.{is_some}
@@ -87,12 +87,12 @@ module _ (F : Facts) (R : InRange F) (O : InOrder F) where
   needed : (call : CallInfo) (o d : ℕ) → Contains F.calls.items call → Holds F (in_point call.receiver o) → finds F (site_class F o) call.slot
       ≡ Some d → (one : HasOneThis F d) → IsInRow F one.row o
   needed call o d is holds f one =
-      let runs : Runs F call o one.body = record { called = is; listed = one.listed; found = f ∙ ap Some (sym one.column) } in
+      let runs : CallRuns F call o one.body = record { called = is; listed = one.listed; found = f ∙ ap Some (sym one.column) } in
       subst (λ v. IsInRow F v o) one.point_is
       (by_point one.body.this o one.point (derivable_by (Inclusion F) (in_point call.receiver o ∷ []) (in_point one.body.this o)
       (flow_this call o one.body runs) (holds, tt)))
 
-  super_above : (a d : ℕ) → IsNearestAbove F a d → IsStrictlyBelow F a (column_class F d)
+  super_above : (a d : ℕ) → IsNearestAbove F a d → IsStrictSubclass F a (column_class F d)
   super_above a d n =
       let f = finds-found F n.parent.0 n.slot d n.found in
       record { by = n.parent; direct = parent-super F a n.parent n.above; rest = along f.above (sym f.body.class) }
@@ -120,7 +120,7 @@ module _ (F : Facts) (R : InRange F) (O : InOrder F) where
   own ps e (by_super x is) h d c o =
       let n = All-contains (λ y. (is_some (row_this F y.row.0) ≡ true) × IsDef F y.column.0 × IsNearestAbove F (row_class F y.row.0) y.column.0)
       F.supers.items x O.bodies.supers is in
-      absurd (O.classes.acyclic (row_class F x.row.0) (subst (λ a. IsStrictlyBelow F (row_class F x.row.0) a) c
+      absurd (O.classes.acyclic (row_class F x.row.0) (subst (λ a. IsStrictSubclass F (row_class F x.row.0) a) c
       (super_above (row_class F x.row.0) x.column.0 n.2)))
   own ps e (by_tie x k is) h d c o =
       let tie = All-contains (λ y. IsBelow F (row_class F y.lower.0) (row_class F y.upper.0)) F.ties.items x O.types.ties is in

@@ -5,7 +5,7 @@ use Rattle.kaba_derivations.proofs.Derivations.{derivable_by, each_weaker}
 use Rattle.kaba_bits.specs.Sets.{bit, row, IsSubset}
 use Rattle.fact_model.specs.Items.{cell_at, point_row, site_class}
 use Rattle.fact_model.specs.Classes.{IsBelow}
-use Rattle.fact_model.specs.Flowing.{Fact, in_point, in_cell, IsCell, Fits, Runs, point_at, Inclusion, by_new, by_flow, by_load, by_store, by_this, by_argument, by_result, by_cast, Holds, IsInRow, by_point, by_cell, AreSets}
+use Rattle.fact_model.specs.Flowing.{Fact, in_point, in_cell, IsCell, FitsStore, CallRuns, point_at, Inclusion, by_new, by_flow, by_load, by_store, by_this, by_argument, by_result, by_cast, Holds, IsInRow, by_point, by_cell, AreSets}
 use Rattle.fact_model.specs.Closures.{shown, ShownInRow, in_a_point, in_a_cell, AreClosedSets}
 use Rattle.fact_model.specs.declared.facts.Facts.{Facts}
 use Rattle.fact_model.specs.declared.facts.NewInfo.{NewInfo}
@@ -62,23 +62,23 @@ module _ (F : Facts) (t : PointsTo) (S : AreSets F t) where
       → IsSubset (row t.cells.items c) (row t.points.items x.into)
   load_shown x c o is cell base s h = included (in_point x.base o ∷ in_cell c s ∷ []) (in_point x.into s) (by_load x c o s is cell) (base, (h, tt))
 
-  pub store_shown : (x : StoreInfo) (c o s : ℕ) → Contains F.stores.items x → IsCell F c o x.column → Fits F x.column s o → InPoint x.base o
+  pub store_shown : (x : StoreInfo) (c o s : ℕ) → Contains F.stores.items x → IsCell F c o x.column → FitsStore F x.column s o → InPoint x.base o
       → InPoint x.value s → InCell c s
   store_shown x c o s is cell fits base h = included (in_point x.base o ∷ in_point x.value s ∷ []) (in_cell c s) (by_store x c o s is cell fits) (base, (h, tt))
 
   pub cast_shown : (x : CastInfo) (s : ℕ) → Contains F.casts.items x → IsBelow F (site_class F s) x.class.0 → InPoint x.from s → InPoint x.into s
   cast_shown x s is b h = included (in_point x.from s ∷ []) (in_point x.into s) (by_cast x s is b) (h, tt)
 
-  pub this_shown : (call : CallInfo) (o : ℕ) (body : BodyInfo) → Runs F call o body → InPoint call.receiver o → InPoint body.this o
+  pub this_shown : (call : CallInfo) (o : ℕ) (body : BodyInfo) → CallRuns F call o body → InPoint call.receiver o → InPoint body.this o
   this_shown call o body runs h = included (in_point call.receiver o ∷ []) (in_point body.this o) (by_this call o body runs) (h, tt)
 
-  pub argument_shown : (call : CallInfo) (o : ℕ) (body : BodyInfo) (k from to : ℕ) → Runs F call o body
+  pub argument_shown : (call : CallInfo) (o : ℕ) (body : BodyInfo) (k from to : ℕ) → CallRuns F call o body
       → point_at call.args.items k ≡ Some from → point_at body.params.items k ≡ Some to → InPoint call.receiver o
       → IsSubset (row t.points.items from) (row t.points.items to)
   argument_shown call o body k from to runs a b h s k2 =
       included (in_point call.receiver o ∷ in_point from s ∷ []) (in_point to s) (by_argument call o body k from to s runs a b) (h, (k2, tt))
 
-  pub result_shown : (call : CallInfo) (o : ℕ) (body : BodyInfo) (from to : ℕ) → Runs F call o body → body.result ≡ Some from
+  pub result_shown : (call : CallInfo) (o : ℕ) (body : BodyInfo) (from to : ℕ) → CallRuns F call o body → body.result ≡ Some from
       → call.result ≡ Some to → InPoint call.receiver o → IsSubset (row t.points.items from) (row t.points.items to)
   result_shown call o body from to runs a b h s k =
       included (in_point call.receiver o ∷ in_point from s ∷ []) (in_point to s) (by_result call o body from to s runs a b) (h, (k, tt))

@@ -27,14 +27,14 @@ pub data IsBelow (F : Facts) : ℕ → ℕ → Type 0 where
   through : {a b : ℕ} {c : ClassId} → Contains (supers_of F a) c → IsBelow F c.0 b → IsBelow F a b
 
 -- something directly above a is at or below b
-pub record IsStrictlyBelow (F : Facts) (a b : ℕ) : Type 0 where
+pub record IsStrictSubclass (F : Facts) (a b : ℕ) : Type 0 where
   pub by : ClassId
   pub direct : Contains (supers_of F a) by
   pub rest : IsBelow F by.0 b
 
 -- no class or interface is its own ancestor
 abbrev pub IsAcyclic : Facts → Type 0
-IsAcyclic F = (a : ℕ) → IsStrictlyBelow F a a → ⊥
+IsAcyclic F = (a : ℕ) → IsStrictSubclass F a a → ⊥
 
 -- whether b is reached from a in at most n steps upwards
 abbrev pub reaches : Facts → ℕ → ℕ → ℕ → Bool
@@ -70,9 +70,9 @@ abbrev pub own_body : Facts → ℕ → ℕ → Option ℕ
 own_body F a x = position (λ k. is_body a x k) F.columns.items
 
 -- d is the body that an object of class a runs for the slot x: its own, or where it has none that of its superclass
-pub data Finds (F : Facts) : ℕ → ℕ → ℕ → Type 0 where
-  own : {a x d : ℕ} → own_body F a x ≡ Some d → Finds F a x d
-  inherited : {a x d : ℕ} {p : ClassId} → own_body F a x ≡ None → parent_of F a ≡ Some p → Finds F p.0 x d → Finds F a x d
+pub data IsBodyFound (F : Facts) : ℕ → ℕ → ℕ → Type 0 where
+  own : {a x d : ℕ} → own_body F a x ≡ Some d → IsBodyFound F a x d
+  inherited : {a x d : ℕ} {p : ClassId} → own_body F a x ≡ None → parent_of F a ≡ Some p → IsBodyFound F p.0 x d → IsBodyFound F a x d
 
 -- the nearest body of the slot within n steps along the superclasses
 abbrev pub finds_within : Facts → ℕ → ℕ → ℕ → Option ℕ

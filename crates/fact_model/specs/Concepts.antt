@@ -60,13 +60,13 @@ pub record AreAllConcepts (T : List (List Bool)) (w : ℕ) (xs : List Pair) : Ty
   pub complete : (A B : List Bool) → IsConcept T w A B → HasIntent xs B
 
 -- a set is strictly within another
-abbrev pub IsWithin : List Bool → List Bool → Type 0
-IsWithin a b = (size a < size b) × IsSubset a b
+abbrev pub IsStrictSubset : List Bool → List Bool → Type 0
+IsStrictSubset a b = (size a < size b) × IsSubset a b
 
 -- the extent at b is strictly above that at a, and none is between
 pub record IsUpperCover (extents : List (List Bool)) (a b : ℕ) : Type 0 where
-  pub above : IsWithin (row extents a) (row extents b)
-  pub none : (k : ℕ) → k < length extents → IsWithin (row extents a) (row extents k) → IsWithin (row extents k) (row extents b) → ⊥
+  pub above : IsStrictSubset (row extents a) (row extents b)
+  pub none : (k : ℕ) → k < length extents → IsStrictSubset (row extents a) (row extents k) → IsStrictSubset (row extents k) (row extents b) → ⊥
 
 -- a row stands at the concept whose intent is the set of its columns
 abbrev pub RowStands : List (List Bool) → List Bool → ℕ → Type 0
@@ -78,7 +78,7 @@ pub record ColumnStands (T : List (List Bool)) (A : List Bool) (c : ℕ) : Type 
   pub rows : (r : ℕ) → r < length T → ((bit A r ≡ true) ↔ (bit (row T r) c ≡ true))
 
 -- what is told of the concept at k beside its two sets: its upper covers, and the rows and columns that stand there, each list rising
-pub record IsPlaced (T : List (List Bool)) (w : ℕ) (extents : List (List Bool)) (k : ℕ) (x : Concept) : Type 0 where
+pub record IsConceptPlaced (T : List (List Bool)) (w : ℕ) (extents : List (List Bool)) (k : ℕ) (x : Concept) : Type 0 where
   pub above : ListsBelow (IsUpperCover extents k) (length extents) x.above.items
   pub rows : ListsBelow (RowStands T x.intent) (length T) (map (λ r. r.0) x.rows.items)
   pub columns : ListsBelow (ColumnStands T x.extent) w (map (λ c. c.0) x.columns.items)
@@ -86,7 +86,7 @@ pub record IsPlaced (T : List (List Bool)) (w : ℕ) (extents : List (List Bool)
 -- the concept lattice of a table
 pub record IsLattice (T : List (List Bool)) (w : ℕ) (xs : List Concept) : Type 0 where
   pub all : AreAllConcepts T w (map pair_of xs)
-  pub placed : (k : ℕ) (d : Concept) → k < length xs → IsPlaced T w (map (λ x. x.extent) xs) k (slice_index_or xs k d)
+  pub placed : (k : ℕ) (d : Concept) → k < length xs → IsConceptPlaced T w (map (λ x. x.extent) xs) k (slice_index_or xs k d)
 
 -- the same of the types of the program
 abbrev pub IsLatticeOf : Table → Lattice → Type 0

@@ -4,7 +4,7 @@ use Rattle.kaba_bits.specs.Sets.{bit, row, HasWidth}
 use Rattle.kaba_derivations.specs.Derivation.{IsDerivable}
 use Rattle.kaba_base.specs.declared.ColId.{ColId}
 use Rattle.fact_model.specs.Items.{site_at, site_class, site_row, row_this, column_class, column_kind, column_slot, IsColumn}
-use Rattle.fact_model.specs.Classes.{IsStrictlyBelow, finds}
+use Rattle.fact_model.specs.Classes.{IsStrictSubclass, finds}
 use Rattle.fact_model.specs.Flowing.{Holds, in_point, IsInRow}
 use Rattle.fact_model.specs.declared.facts.Facts.{Facts}
 use Rattle.fact_model.specs.declared.facts.ColKind.TheVariants.{Dcl, Def, Is}
@@ -31,7 +31,7 @@ pub record Hides (F : Facts) (d c : ℕ) : Type 0 where
   pub method : (column_kind F d ≡ Def) ⊎ (column_kind F d ≡ Dcl)
   pub kind : column_kind F d ≡ column_kind F c
   pub slot : column_slot F d ≡ column_slot F c
-  pub class : IsStrictlyBelow F (column_class F d) (column_class F c)
+  pub class : IsStrictSubclass F (column_class F d) (column_class F c)
 
 -- an entry that follows from others by one rule
 pub data Entails (F : Facts) : List Entry → Entry → Type 0 where
@@ -77,17 +77,17 @@ abbrev pub IsEntry : Facts → ℕ → ℕ → Type 0
 IsEntry F r c = IsDerivable (Entails F) (r, c)
 
 -- a table of the rows and columns of the facts
-pub record IsSized (F : Facts) (t : Table) : Type 0 where
+pub record IsTableSized (F : Facts) (t : Table) : Type 0 where
   pub columns : t.width ≡ length F.columns.items
   pub rows : length t.rows.items ≡ length F.rows.items
   pub widths : HasWidth t.width t.rows.items
 
 -- the table whose entries are exactly those of the rules without premises
 pub record IsRawTable (F : Facts) (t : Table) : Type 0 where
-  pub sized : IsSized F t
+  pub sized : IsTableSized F t
   pub entries : (r c : ℕ) → (bit (row t.rows.items r) c ≡ true) ↔ IsRawEntry F r c
 
 -- the table whose entries are exactly those in which a derivation ends
 pub record IsTable (F : Facts) (t : Table) : Type 0 where
-  pub sized : IsSized F t
+  pub sized : IsTableSized F t
   pub entries : (r c : ℕ) → (bit (row t.rows.items r) c ≡ true) ↔ IsEntry F r c

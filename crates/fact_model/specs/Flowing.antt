@@ -27,12 +27,12 @@ pub record IsCell (F : Facts) (c o : ℕ) (column : Option ColId) : Type 0 where
   pub column_is : (cell_at F c).column ≡ column
 
 -- a store of an element keeps to the sites whose class is a subtype of the array's base; a store of a field takes all
-abbrev pub Fits : Facts → Option ColId → ℕ → ℕ → Type 0
-Fits F None s o = IsBelow F (site_class F s) (site_class F o)
-Fits F (Some column) s o = Unit {0}
+abbrev pub FitsStore : Facts → Option ColId → ℕ → ℕ → Type 0
+FitsStore F None s o = IsBelow F (site_class F s) (site_class F o)
+FitsStore F (Some column) s o = Unit {0}
 
 -- the call runs this body for an object of the site o
-pub record Runs (F : Facts) (call : CallInfo) (o : ℕ) (body : BodyInfo) : Type 0 where
+pub record CallRuns (F : Facts) (call : CallInfo) (o : ℕ) (body : BodyInfo) : Type 0 where
   pub called : Contains F.calls.items call
   pub listed : Contains F.bodies.items body
   pub found : finds F (site_class F o) call.slot ≡ Some body.column.0
@@ -53,17 +53,17 @@ pub data Inclusion (F : Facts) : List Fact → Fact → Type 0 where
   by_load : (x : LoadInfo) (c o s : ℕ) → Contains F.loads.items x → IsCell F c o x.column
       → Inclusion F (in_point x.base o ∷ in_cell c s ∷ []) (in_point x.into s)
   -- for a site o in the base, a store puts what fits of the value in its cell
-  by_store : (x : StoreInfo) (c o s : ℕ) → Contains F.stores.items x → IsCell F c o x.column → Fits F x.column s o
+  by_store : (x : StoreInfo) (c o s : ℕ) → Contains F.stores.items x → IsCell F c o x.column → FitsStore F x.column s o
       → Inclusion F (in_point x.base o ∷ in_point x.value s ∷ []) (in_cell c s)
   -- for a site o in the receiver and the body found for its class, o is in the body's `this`
-  by_this : (call : CallInfo) (o : ℕ) (body : BodyInfo) → Runs F call o body
+  by_this : (call : CallInfo) (o : ℕ) (body : BodyInfo) → CallRuns F call o body
       → Inclusion F (in_point call.receiver o ∷ []) (in_point body.this o)
   -- and the set of each argument is in that of the body's parameter
-  by_argument : (call : CallInfo) (o : ℕ) (body : BodyInfo) (k from to s : ℕ) → Runs F call o body
+  by_argument : (call : CallInfo) (o : ℕ) (body : BodyInfo) (k from to s : ℕ) → CallRuns F call o body
       → point_at call.args.items k ≡ Some from → point_at body.params.items k ≡ Some to
       → Inclusion F (in_point call.receiver o ∷ in_point from s ∷ []) (in_point to s)
   -- and the set of the body's result is in that of the call
-  by_result : (call : CallInfo) (o : ℕ) (body : BodyInfo) (from to s : ℕ) → Runs F call o body
+  by_result : (call : CallInfo) (o : ℕ) (body : BodyInfo) (from to s : ℕ) → CallRuns F call o body
       → body.result ≡ Some from → call.result ≡ Some to
       → Inclusion F (in_point call.receiver o ∷ in_point from s ∷ []) (in_point to s)
   -- a cast or instanceof has those sites whose class is a subtype of the one that it names

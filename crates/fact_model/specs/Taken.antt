@@ -9,5 +9,5 @@ abbrev pub texts : List (String Global) → List (List ℕ)
 texts keys = map (λ s. chars (string_bytes s)) keys
 
 -- two lists have the same names
-abbrev pub AreSame : List (List ℕ) → List (List ℕ) → Type 0
-AreSame t s = (x : List ℕ) → is_taken t x ≡ is_taken s x
+abbrev pub AreSameNames : List (List ℕ) → List (List ℕ) → Type 0
+AreSameNames t s = (x : List ℕ) → is_taken t x ≡ is_taken s x

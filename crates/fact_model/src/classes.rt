@@ -3,7 +3,7 @@
 ghost use Rattle.std.specs.Prelude.{◌≡◌, ℕ, ◌<◌, ◌↔◌, length, IsTrue, Some, slice_get, IfSome, IfNone, All};
 ghost use Rattle.std.specs.Option.{option_map};
 ghost use Rattle.std.specs.List.{list_any};
-ghost use Rattle.fact_model.specs.Classes.{reaches, below, IsBelow, own_body, finds_within, finds, Finds, is_def, is_slot, is_body};
+ghost use Rattle.fact_model.specs.Classes.{reaches, below, IsBelow, own_body, finds_within, finds, IsBodyFound, is_def, is_slot, is_body};
 ghost use Rattle.fact_model.specs.InRange.{InRange, IsClass};
 
 use crate::facts::{ClassInfo, ColKind, ColumnInfo, Facts};
@@ -70,8 +70,8 @@ pub fn finds(facts: &Facts, class: ClassId, slot: u32) -> Option<ColId>
     requires facts { InRange facts.now }
     requires class { IsClass facts.now class }
     ensures value { option_map (λ d. d.0) result ≡ finds facts.now class.0 slot }
-    ensures found { IfSome result (λ d. Finds facts.now class.0 slot d.0) }
-    ensures none { IfNone result ((d : ℕ) → Finds facts.now class.0 slot d → ⊥) }
+    ensures found { IfSome result (λ d. IsBodyFound facts.now class.0 slot d.0) }
+    ensures none { IfNone result ((d : ℕ) → IsBodyFound facts.now class.0 slot d → ⊥) }
 {
     finds_within(facts, class, slot, facts.classes.len())
 }

@@ -22,7 +22,7 @@ use Rattle.flow_rules.specs.Ordered.{by_place, once, each}
 use Rattle.flow_rules.specs.Lists.{Numbers}
 use Rattle.flow_facts.specs.Views.{outline_seen}
 use Rattle.flow_facts.proofs.Along.{map-by_place, once_as}
-use Rattle.flow_rules.specs.Numbered.{Body, Outline, bodies_of, field_rows, method_rows, field_columns, method_columns, form_sites, listed, static_points, outline_if, number_among, same_row, same_column, same_point, rows_of, columns_of, sites_of, points_of, row_number, column_number, site_number, point_number}
+use Rattle.flow_rules.specs.Numbered.{BodyParts, Outline, bodies_of, field_rows, method_rows, field_columns, method_columns, form_sites, listed, static_points, outline_if, number_among, same_row, same_column, same_point, rows_of, columns_of, sites_of, points_of, row_number, column_number, site_number, point_number}
 use Rattle.flow_rules.specs.Facts.{TooMany, over, too_many, numbers, FieldCell, fields_of, site_cells, cells_of, call_seen}
 use Rattle.flow_facts.specs.Seen.{call_at, calls_seen}
 
@@ -69,7 +69,7 @@ rows_numbered : (P : Plain) (keys : List RowItem) → keys ≡ map (λ r. r.item
 unfolding row_number
 rows_numbered P keys e = ap (number_among same_row) e
 
-pub sites_are : (P : Plain) (keys : List RowItem) (bs : List Body) (xs : List Site) → keys ≡ map (λ r. r.item) (rows_of P) → bs ≡ bodies_of P
+pub sites_are : (P : Plain) (keys : List RowItem) (bs : List BodyParts) (xs : List Site) → keys ≡ map (λ r. r.item) (rows_of P) → bs ≡ bodies_of P
     → xs ≡ flat_map (λ b. flat_map (form_sites (number_among same_row keys)) b.parts) bs
     → once nat_eq (λ s. s.number) (by_place (λ s. s.place.at) xs) ≡ sites_of P
 unfolding sites_of

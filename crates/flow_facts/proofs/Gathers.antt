@@ -6,7 +6,7 @@ use Rattle.std.proofs.lemmas.List.{append_assoc, append-nil, take_more, map-appe
 use Rattle.std.proofs.lemmas.Grind.{flat_map-append}
 use Rattle.java_core.specs.Programs.{Plain}
 use Rattle.flow_rules.specs.Lists.{Numbers, news_of, flows_of, loads_of, stores_of, calls_of, casts_of, tests_of, accesses_of, supers_of, ties_of}
-use Rattle.flow_rules.specs.Numbered.{Body}
+use Rattle.flow_rules.specs.Numbered.{BodyParts}
 use Rattle.flow_rules.specs.Parts.{Part}
 use Rattle.flow_facts.specs.declared.gathering.Lists.{Lists}
 use Rattle.flow_facts.specs.Gathered.{IsPartAdded, ArePartsAdded, AreGathered}
@@ -59,7 +59,7 @@ module _ (N : Numbers) (P : Plain) where
     calls = more (calls_of N) ps p _ a.calls b.calls;
   }
 
-  pub body_more : {bs : List Body} {b : Body} {mid new : Lists} → AreGathered N P bs mid → ArePartsAdded N P b.number b.slot b.parts mid new
+  pub body_more : {bs : List BodyParts} {b : BodyParts} {mid new : Lists} → AreGathered N P bs mid → ArePartsAdded N P b.number b.slot b.parts mid new
       → AreGathered N P (bs ++ b ∷ []) new
   body_more {bs} {b} g h =
       let c = g.unordered in

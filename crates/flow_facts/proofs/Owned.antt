@@ -18,7 +18,7 @@ use Rattle.flow_rules.specs.Facts.{FieldCell, field_cell}
 use Rattle.std.specs.declared.vec.Vec.{Vec}
 use Rattle.std.specs.declared.alloc.Global.{Global}
 use Rattle.flow_facts.specs.declared.cells.FieldCell as code
-use Rattle.flow_facts.specs.Owned.{IsHolder, AreListed, own_of, own_at, upwards, cell_of}
+use Rattle.flow_facts.specs.Owned.{IsHolder, AreFieldsListed, own_of, own_at, upwards, cell_of}
 use Rattle.flow_facts.specs.Seen.{field_cell_seen}
 
 -- tests and lists
@@ -52,12 +52,12 @@ module _ (P : Plain) where
   within (suc n) None o = false
   within (suc n) (Some c) o = reaches P n c.0 o
 
-  pub listed_lower : (m n : ℕ) (fs : List FieldCell) → m ≤ n → AreListed P n fs → AreListed P m fs
+  pub listed_lower : (m n : ℕ) (fs : List FieldCell) → m ≤ n → AreFieldsListed P n fs → AreFieldsListed P m fs
   listed_lower m n [] le h = tt
   listed_lower m n (f ∷ fs) le h = (omega (arith, le, h.0), h.1)
 
   -- one before all that are kept of later ones
-  first : (x : FieldCell) (r : FieldCell → Bool) (fs : List FieldCell) → AreListed P (x.column + 1) fs → put_in (λ f. f.column) x (filter r fs)
+  first : (x : FieldCell) (r : FieldCell → Bool) (fs : List FieldCell) → AreFieldsListed P (x.column + 1) fs → put_in (λ f. f.column) x (filter r fs)
       ≡ x ∷ filter r fs
   first x r [] h = refl
   first x r (g ∷ gs) h =
@@ -68,7 +68,7 @@ module _ (P : Plain) where
       ]
 
   -- later ones go behind one
-  behind : (x : FieldCell) (l : List FieldCell) (p : FieldCell → Bool) (fs : List FieldCell) → AreListed P (x.column + 1) fs
+  behind : (x : FieldCell) (l : List FieldCell) (p : FieldCell → Bool) (fs : List FieldCell) → AreFieldsListed P (x.column + 1) fs
       → put_all (filter p fs) (x ∷ l) ≡ x ∷ put_all (filter p fs) l
   behind x l p [] h = refl
   behind x l p (g ∷ gs) h =
@@ -81,7 +81,7 @@ module _ (P : Plain) where
       ]
 
   -- those kept by one test put among those kept by another
-  merged : (p q : FieldCell → Bool) (n : ℕ) (fs : List FieldCell) → AreListed P n fs → ((f : FieldCell) → IsHolder P f.owner → p f ≡ true → q f ≡ true → ⊥)
+  merged : (p q : FieldCell → Bool) (n : ℕ) (fs : List FieldCell) → AreFieldsListed P n fs → ((f : FieldCell) → IsHolder P f.owner → p f ≡ true → q f ≡ true → ⊥)
       → put_all (filter p fs) (filter q fs) ≡ filter (λ f. p f || q f) fs
   merged p q n [] h apart = refl
   merged p q n (f ∷ fs) h apart =
@@ -99,7 +99,7 @@ module _ (P : Plain) where
         ]
       ] refl
 
-  filter_as : (p q : FieldCell → Bool) (n : ℕ) (fs : List FieldCell) → AreListed P n fs → ((f : FieldCell) → IsHolder P f.owner → p f ≡ q f)
+  filter_as : (p q : FieldCell → Bool) (n : ℕ) (fs : List FieldCell) → AreFieldsListed P n fs → ((f : FieldCell) → IsHolder P f.owner → p f ≡ q f)
       → filter p fs ≡ filter q fs
   filter_as p q n [] h same = refl
   filter_as p q n (f ∷ fs) h same =
@@ -168,7 +168,7 @@ module _ (P : Plain) (formed : IsFormed P) (o : ℕ) (holder : IsHolder P o) whe
             (ap (λ x. reaches P n c.0 x) (eqb-true a o same) ∙ w);
       })
 
-module _ (P : Plain) (formed : IsFormed P) (fs : List FieldCell) (listed : AreListed P 0 fs) where
+module _ (P : Plain) (formed : IsFormed P) (fs : List FieldCell) (listed : AreFieldsListed P 0 fs) where
   all_above : (n : ℕ) (x : Option ClassId) → by_place (λ f. f.column) (upwards P (own_of fs) n x) ≡ filter (λ f. within P n x f.owner) fs
   all_above zero x = sym (filter_nothing fs)
   all_above (suc n) None = sym (filter_nothing fs)
@@ -200,14 +200,14 @@ kept_one k x r =
     elim (k == x.owner.0) as (λ b. cond b (field_cell_seen x ∷ own_of (map field_cell_seen r) k) (own_of (map field_cell_seen r) k)
     ≡ when b (field_cell_seen x ∷ []) ++ own_of (map field_cell_seen r) k) [ true ↦ refl | false ↦ refl ]
 
-within_at : (P : Plain) (n i : ℕ) (d : code.FieldCell) (xs : List code.FieldCell) → AreListed P n (map field_cell_seen xs) → i < length xs
+within_at : (P : Plain) (n i : ℕ) (d : code.FieldCell) (xs : List code.FieldCell) → AreFieldsListed P n (map field_cell_seen xs) → i < length xs
     → (get_or xs i d).owner.0 < length P.classes
 within_at P n i d [] h lt = absurd (omega (arith, lt))
 within_at P n zero d (x ∷ xs) h lt = h.1.0.within
 within_at P n (suc i) d (x ∷ xs) h lt = within_at P (x.column + 1) i d xs h.1.1 (omega (arith, lt))
 
 pub within_own : (P : Plain) (ys xs : List code.FieldCell) (i : ℕ) (d : code.FieldCell) (n m : ℕ) → ys ≡ xs → i < length ys
-    → AreListed P 0 (map field_cell_seen xs) → n ≡ m → m ≡ length P.classes → (get_or ys i d).owner.0 < n
+    → AreFieldsListed P 0 (map field_cell_seen xs) → n ≡ m → m ≡ length P.classes → (get_or ys i d).owner.0 < n
 within_own P ys xs i d n m s lt h e k =
     let w : (get_or ys i d).owner.0 < length P.classes = subst (λ l. (get_or l i d).owner.0 < length P.classes) (sym s)
     (within_at P 0 i d xs h (subst (λ l. i < length l) s lt)) in

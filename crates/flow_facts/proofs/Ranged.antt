@@ -18,7 +18,7 @@ use Rattle.flow_rules.specs.Parts.{Part, parts_of, a_load, an_element, a_creatio
 use Rattle.flow_rules.specs.Numbered.{same_column, mark, array_mark, form_columns, field_columns, method_columns, columns_of}
 use Rattle.flow_rules.specs.Lists.{Numbers}
 use Rattle.flow_rules.specs.Facts.{FieldCell, owner_of, field_if, field_at, fields_of}
-use Rattle.flow_facts.specs.Owned.{IsHolder, AreListed}
+use Rattle.flow_facts.specs.Owned.{IsHolder, AreFieldsListed}
 use Rattle.flow_facts.proofs.Owned.{listed_lower}
 
 module _ (count : ℕ) where
@@ -117,15 +117,15 @@ module _ (count : ℕ) where
       (of_fields 0 P.fields (omega (arith, h))) (of_methods P 0 P.methods)))
 
   module _ (N : Numbers) (P : Plain) (holder : (f : ℕ) → f < count → IsHolder P (owner_of P (column.Fld f))) where
-    one : (n : ℕ) (i : ColumnItem) (rest : List FieldCell) → Ranged i → AreListed P (n + 1) rest → AreListed P n (field_at N P n i ++ rest)
+    one : (n : ℕ) (i : ColumnItem) (rest : List FieldCell) → Ranged i → AreFieldsListed P (n + 1) rest → AreFieldsListed P n (field_at N P n i ++ rest)
     one n (column.Fld f) rest r h =
-        elim (N.row (row.Field f)) as (λ x. AreListed P n (field_if N P n (owner_of P (column.Fld f)) x ++ rest))
+        elim (N.row (row.Field f)) as (λ x. AreFieldsListed P n (field_if N P n (owner_of P (column.Fld f)) x ++ rest))
         [ None ↦ listed_lower P n (n + 1) rest (omega arith) h | Some y ↦ (omega arith, (holder f r, h)) ]
     one n (column.Dcl m) rest r h = listed_lower P n (n + 1) rest (omega arith) h
     one n (column.Def m) rest r h = listed_lower P n (n + 1) rest (omega arith) h
     one n (column.Is c) rest r h = listed_lower P n (n + 1) rest (omega arith) h
 
-    all : (n : ℕ) (ks : List Column) → AllRanged ks → AreListed P n (each (λ c k. field_at N P c k.item) n ks)
+    all : (n : ℕ) (ks : List Column) → AllRanged ks → AreFieldsListed P n (each (λ c k. field_at N P c k.item) n ks)
     all n [] h = tt
     all n (k ∷ ks) h = one n k.item (each (λ c k. field_at N P c k.item) (n + 1) ks) h.0 (all (n + 1) ks h.1)
 
@@ -140,11 +140,11 @@ holder_of P formed f g e =
     })
 
 pub fields_listed : (P : Plain) → IsFormed P → (N : Numbers) (ks : List Column) (fs : List FieldCell) → ks ≡ columns_of P → fs ≡ fields_of N P ks
-    → AreListed P 0 fs
+    → AreFieldsListed P 0 fs
 fields_listed P formed N ks fs e h =
     let count = length P.fields in
     let holder = λ (f : ℕ) (lt : f < count). let found = in_list P.fields f lt in holder_of P formed f found.0 found.1 in
-    subst (AreListed P 0) (sym (h ∙ ap (fields_of N P) e)) (all count N P holder 0 (columns_of P) (of_columns count P (omega arith)))
+    subst (AreFieldsListed P 0) (sym (h ∙ ap (fields_of N P) e)) (all count N P holder 0 (columns_of P) (of_columns count P (omega arith)))
   where
     in_list : (xs : List PlainField) (i : ℕ) → i < length xs → (x : PlainField) × (slice_get xs i ≡ Some x)
     in_list [] i h = absurd (omega (arith, h))

@@ -9,8 +9,8 @@ use Rattle.flow_rules.specs.declared.faults.Counted.TheVariants as counted_as
 use Rattle.flow_rules.specs.Numbered.{rows_of, columns_of, sites_of, points_of}
 use Rattle.flow_rules.specs.declared.faults.FactsFault.{FactsFault}
 use Rattle.flow_rules.specs.declared.faults.FactsFault.TheVariants as fault
-use Rattle.flow_rules.specs.Facts.{too_many, IsRefused, cells_of}
-use Rattle.flow_facts.specs.Stages.{IsAbove, IsListed}
+use Rattle.flow_rules.specs.Facts.{too_many, IsFactsRefusal, cells_of}
+use Rattle.flow_facts.specs.Stages.{IsCountOver, IsListed}
 use Rattle.flow_facts.proofs.Counts.{over_points, none_over}
 
 module _ {A : Type 0} {n : ℕ} {xs ys : List A} where
@@ -20,12 +20,12 @@ module _ {A : Type 0} {n : ℕ} {xs ys : List A} where
   pub at_most : {limit : ℕ} → n ≡ length xs → xs ≡ ys → n ≤ limit → length ys ≤ limit
   at_most {limit = limit} h e l = subst (λ k. k ≤ limit) (counted h e) l
 
-  pub above : (limit : ℕ) (what : Counted) (e : FactsFault) → n ≡ length xs → xs ≡ ys → IsAbove n limit what e → IsAbove (length ys) limit what e
-  above limit what e h s a = subst (λ k. IsAbove k limit what e) (counted h s) a
+  pub above : (limit : ℕ) (what : Counted) (e : FactsFault) → n ≡ length xs → xs ≡ ys → IsCountOver n limit what e → IsCountOver (length ys) limit what e
+  above limit what e h s a = subst (λ k. IsCountOver k limit what e) (counted h s) a
 
 -- more than a limit of what a program has
-pub refused : (P : Plain) (n limit : ℕ) (what : Counted) (e : FactsFault) → IsAbove n limit what e
-    → (limit < n → too_many P ≡ Some (record { what = what; number = limit + 1 })) → IsRefused P e
+pub refused : (P : Plain) (n limit : ℕ) (what : Counted) (e : FactsFault) → IsCountOver n limit what e
+    → (limit < n → too_many P ≡ Some (record { what = what; number = limit + 1 })) → IsFactsRefusal P e
 refused P n limit what (fault.TooMany kind k) a f =
     let e = f a.0 in
     let p = a.1 in
@@ -34,9 +34,9 @@ refused P n limit what (fault.TooMany kind k) a f =
 refused P n limit what fault.Memory a f = tt
 
 -- the same count, and the same list, under another name
-pub above_as : {T : Type 0} {xs ys : List T} (limit : ℕ) (what : Counted) (e : FactsFault) → xs ≡ ys → IsAbove (length xs) limit what e
-    → IsAbove (length ys) limit what e
-above_as limit what e h a = subst (λ l. IsAbove (length l) limit what e) h a
+pub above_as : {T : Type 0} {xs ys : List T} (limit : ℕ) (what : Counted) (e : FactsFault) → xs ≡ ys → IsCountOver (length xs) limit what e
+    → IsCountOver (length ys) limit what e
+above_as limit what e h a = subst (λ l. IsCountOver (length l) limit what e) h a
 
 pub listed_as : {T K : Type 0} {key : T → K} {limit : ℕ} {xs ys items : List T} {keys : List K} → xs ≡ ys → IsListed key limit xs items keys
     → IsListed key limit ys items keys
@@ -50,7 +50,7 @@ too_many_points P r c s h = over_points P r c s (omega (arith, h))
 -- the cells beside the flow points
 module _ (P : Plain) (r : length (rows_of P) ≤ 16384) (c : length (columns_of P) ≤ 8192) (s : length (sites_of P) ≤ 8192) {most : ℕ}
     (p : length (points_of P) + most ≡ 65536) {xs : List CellInfo} (e : xs ≡ cells_of P) where
-  pub too_many_cells : most < length xs → IsRefused P (fault.TooMany counted_as.Points 65537)
+  pub too_many_cells : most < length xs → IsFactsRefusal P (fault.TooMany counted_as.Points 65537)
   too_many_cells h = let k : most < length (cells_of P) = subst (λ l. most < length l) e h in over_points P r c s (omega (arith, k, p))
 
   pub all_counted : length xs ≤ most → too_many P ≡ None

@@ -19,7 +19,7 @@ use Rattle.flow_rules.specs.Types.{object_type, field_object, element_object}
 use Rattle.flow_rules.specs.Parts.{is_accessed, nothing, parts, a_load, an_element, a_creation, a_test, a_pair}
 use Rattle.flow_rules.specs.Parts as plain
 use Rattle.flow_facts.specs.Views.{parts_seen, part_seen, labelled_operand, load_operand, call_operand}
-use Rattle.flow_facts.specs.Walked.{IsAdded, IsMade, IsWalked, AreWalked, parts_from, call_from}
+use Rattle.flow_facts.specs.Walked.{IsAdded, IsOperandMade, IsWalked, AreWalked, parts_from, call_from}
 use Rattle.flow_facts.proofs.Composed.{then, then_at}
 
 pub if_ok : {A E : Type 0} {p q : A → Type 0} (r : Result A E) → ((a : A) → p a → q a) → IfOk r p → IfOk r q
@@ -32,7 +32,7 @@ seen-length xs = length-map xs part_seen
 -- a creation, and then the parts of what stands in it
 begun : {p : Place} {u : Bool} {made : Operand} {old mid new : List Part} {o : Operand} (s : ℕ) (rest : ℕ → List plain.Part)
     → IsAdded old mid 1 (a_creation p u o ∷ []) → o ≡ made → length new ≡ length mid + s → parts_seen new ≡ parts_seen mid ++ rest (length mid)
-    → IsMade old new (1 + s) (a_creation p u made ∷ rest (length old + 1)) o made
+    → IsOperandMade old new (1 + s) (a_creation p u made ∷ rest (length old + 1)) o made
 begun {p} {u} {made} {old} {mid} {new} s rest a eo g h = record {
   grown = omega (arith, a.grown, g);
   value = eo;
@@ -60,7 +60,7 @@ module _ (P : Plain) (m : ℕ) (k : PlainMethod) {u : Bool} {E : Ex} where
 
   pub field_walked : {t : Tag} {x : List ℕ} {B : Ex} {v : Bool} {old mid new : List Part} {b o : Operand} → E ≡ field t B x
       → v ≡ is_accessed (label (length old) B) → IsWalked P m k v B old mid b
-      → IsMade mid new 1 (a_load t.place b (object_field P b.ty x) (load_operand P m (length mid) b.ty x) ∷ []) o
+      → IsOperandMade mid new 1 (a_load t.place b (object_field P b.ty x) (load_operand P m (length mid) b.ty x) ∷ []) o
       (load_operand P m (length mid) b.ty x) → IsWalked P m k u E old new o
   field_walked {t} {x} {B} {v} {old} {mid} {new} {b} {o} is ev w h =
       let n = length old in
@@ -104,7 +104,7 @@ module _ (P : Plain) (m : ℕ) (k : PlainMethod) {u : Bool} {E : Ex} where
   this_walked {old = old} is e = as_form is (record { grown = sym (add-zero (length old)); value = e; parts = sym (append-nil (parts_seen old)) })
 
   pub call_walked : {t : Tag} {x : List ℕ} {es : Exs} {B : Ex} {old mid new : List Part} {b o : Operand} → E ≡ call t B x es → IsWalked P m k true B old mid b
-      → IsMade mid new (1 + sizes es) (call_from P m k t.place b x (length mid) es) o (call_operand P m (length mid) b.ty x) → IsWalked P m k u E old new o
+      → IsOperandMade mid new (1 + sizes es) (call_from P m k t.place b x (length mid) es) o (call_operand P m (length mid) b.ty x) → IsWalked P m k u E old new o
   call_walked {t} {x} {es} {B} {old} {mid} {new} {b} {o} is w h =
       let n = length old in
       let last : parts_seen new ≡ parts_seen mid ++ call_from P m k t.place (is_of P m k (label n B)) x (length mid) es =
@@ -117,7 +117,7 @@ module _ (P : Plain) (m : ℕ) (k : PlainMethod) {u : Bool} {E : Ex} where
       })
 
   pub made_walked : {F : Ex} {old new : List Part} {o : Operand} → E ≡ F
-      → IsMade old new (size F) (parts P (object_type P k) m k u (label (length old) F)) o (is_of P m k (label (length old) F)) → IsWalked P m k u E old new o
+      → IsOperandMade old new (size F) (parts P (object_type P k) m k u (label (length old) F)) o (is_of P m k (label (length old) F)) → IsWalked P m k u E old new o
   made_walked is h = as_form is (record { grown = h.grown; value = h.value; parts = h.parts })
 
   pub creation_walked : {t : Tag} {i c : ℕ} {es : Exs} {old mid new : List Part} {o : Operand} {os : List Operand} → E ≡ create t i c es

@@ -44,14 +44,14 @@ module _ (P : Plain) (d : Numbered) (n : IsNumbered P d) where
       ∙ ap (each (λ c k. column_body (numbers P) P c k.item) 0) n.columns
 
   -- what the parts of all bodies give
-  pub gathered_whole : {A : Type 0} (f : Numbers → numbered.Body → Part → List A) (xs : List A)
+  pub gathered_whole : {A : Type 0} (f : Numbers → numbered.BodyParts → Part → List A) (xs : List A)
       → xs ≡ flat_map (λ b. flat_map (f (numbers_seen d.numbering) b) b.parts) (map body_seen d.bodies.items)
       → xs ≡ gathered P (f (numbers P))
   gathered_whole f xs e =
       e ∙ ap (λ N. flat_map (λ b. flat_map (f N b) b.parts) (map body_seen d.bodies.items)) n.numbers
       ∙ ap (flat_map (λ b. flat_map (f (numbers P) b) b.parts)) n.bodies
 
-  pub set_whole : {A : Type 0} (f : Numbers → numbered.Body → Part → List A) (xs : List A)
+  pub set_whole : {A : Type 0} (f : Numbers → numbered.BodyParts → Part → List A) (xs : List A)
       → xs ≡ flat_map (λ b. flat_map (f (numbers_seen d.numbering) b) b.parts) (map body_seen d.bodies.items)
       → IsSameSet xs (gathered P (f (numbers P)))
   set_whole f xs e = same_set (gathered_whole f xs e)

@@ -3,7 +3,7 @@ use Rattle.std.specs.Prelude.{◌≡◌, ℕ, ◌++◌, List, Option}
 use Rattle.std.specs.List.{flat_map}
 use Rattle.java_core.specs.Programs.{Plain}
 use Rattle.flow_rules.specs.Lists.{Numbers, news_of, flows_of, loads_of, stores_of, calls_of, casts_of, tests_of, accesses_of, supers_of, ties_of}
-use Rattle.flow_rules.specs.Numbered.{Body}
+use Rattle.flow_rules.specs.Numbered.{BodyParts}
 use Rattle.flow_rules.specs.Parts.{Part}
 use Rattle.flow_facts.specs.declared.gathering.Lists.{Lists}
 use Rattle.flow_facts.specs.declared.stages.Unordered.{Unordered}
@@ -37,7 +37,7 @@ module _ (N : Numbers) (P : Plain) where
     pub calls : calls_seen new.calls.items ≡ calls_seen old.calls.items ++ flat_map (calls_of N) ps
 
   -- each list that is read as a set has what the parts of the bodies give to it
-  pub record AreUnordered (bs : List Body) (l : Unordered) : Type 0 where
+  pub record AreUnordered (bs : List BodyParts) (l : Unordered) : Type 0 where
     pub news : l.news.items ≡ flat_map (λ b. flat_map (news_of N b.number) b.parts) bs
     pub flows : l.flows.items ≡ flat_map (λ b. flat_map (flows_of N b.number) b.parts) bs
     pub loads : l.loads.items ≡ flat_map (λ b. flat_map (loads_of N) b.parts) bs
@@ -48,7 +48,7 @@ module _ (N : Numbers) (P : Plain) where
     pub ties : l.ties.items ≡ flat_map (λ b. flat_map (ties_of N P b.number b.slot) b.parts) bs
 
   -- so has each list
-  pub record AreGathered (bs : List Body) (l : Lists) : Type 0 where
+  pub record AreGathered (bs : List BodyParts) (l : Lists) : Type 0 where
     pub unordered : AreUnordered bs l.unordered
     pub tests : l.tests.items ≡ flat_map (λ b. flat_map (tests_of N) b.parts) bs
     pub calls : calls_seen l.calls.items ≡ flat_map (λ b. flat_map (calls_of N) b.parts) bs

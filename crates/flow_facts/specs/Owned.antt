@@ -18,9 +18,9 @@ pub record IsHolder (P : Plain) (o : ℕ) : Type 0 where
   pub within : o < length P.classes
 
 -- fields of such classes in the rising order of their columns, none of them below n
-abbrev pub AreListed : Plain → ℕ → List FieldCell → Type 0
-AreListed P n [] = Unit {0}
-AreListed P n (f ∷ fs) = (n ≤ f.column) × (IsHolder P f.owner × AreListed P (f.column + 1) fs)
+abbrev pub AreFieldsListed : Plain → ℕ → List FieldCell → Type 0
+AreFieldsListed P n [] = Unit {0}
+AreFieldsListed P n (f ∷ fs) = (n ≤ f.column) × (IsHolder P f.owner × AreFieldsListed P (f.column + 1) fs)
 
 -- the fields of one class itself
 abbrev pub own_of : List FieldCell → ℕ → List FieldCell

@@ -4,7 +4,7 @@ use Rattle.std.specs.List.{flat_map}
 use Rattle.std.specs.Str.{bytes_eq, encode_utf8_all}
 use Rattle.java_core.specs.Programs.{Plain}
 use Rattle.flow_rules.specs.Lists.{Numbers, calls_of, tests_of}
-use Rattle.flow_rules.specs.Numbered.{Body}
+use Rattle.flow_rules.specs.Numbered.{BodyParts}
 use Rattle.flow_rules.specs.Ordered.{by_place, once, each}
 use Rattle.flow_rules.specs.Facts.{row_info, column_info, site_info, column_body, class_seen, class_facts, all_names, all_variables, call_seen, body_seen as plain_body}
 use Rattle.fact_model.specs.declared.facts.CallInfo.{CallInfo}
@@ -18,7 +18,7 @@ use Rattle.flow_facts.specs.Seen.{numbers_seen}
 use Rattle.flow_facts.specs.Views.{body_seen}
 
 -- what each row, column, site and flow point is, and each body
-pub record AreTables (P : Plain) (d : Numbered) (t : Tables) : Type 0 where
+pub record AreFactTables (P : Plain) (d : Numbered) (t : Tables) : Type 0 where
   pub rows : t.rows.items ≡ map (row_info (numbers_seen d.numbering) P) d.rows.items
   pub columns : t.columns.items ≡ map (λ c. column_info P c.item) d.columns.items
   pub sites : t.sites.items ≡ map site_info d.sites.items
@@ -32,13 +32,13 @@ pub record AreTexts (P : Plain) (t : Texts) : Type 0 where
   pub variables : t.variables.items ≡ all_variables P
 
 -- what the parts of the bodies give to each list, the calls and the tests by their place
-pub record AreOrdered (N : Numbers) (P : Plain) (bs : List Body) (l : Lists) (listed : List CallInfo) : Type 0 where
+pub record AreOrderedLists (N : Numbers) (P : Plain) (bs : List BodyParts) (l : Lists) (listed : List CallInfo) : Type 0 where
   pub unordered : AreUnordered N P bs l.unordered
   pub calls : map call_seen listed ≡ map (λ c. c.item) (by_place (λ c. c.place.at) (flat_map (λ b. flat_map (calls_of N) b.parts) bs))
   pub tests : l.tests.items ≡ by_place (λ t. t.place.at) (flat_map (λ b. flat_map (tests_of N) b.parts) bs)
 
 -- all of it
 pub record IsSaid (P : Plain) (d : Numbered) (s : Said) : Type 0 where
-  pub tables : AreTables P d s.tables
+  pub tables : AreFactTables P d s.tables
   pub texts : AreTexts P s.texts
-  pub lists : AreOrdered (numbers_seen d.numbering) P (map body_seen d.bodies.items) s.lists s.calls.items
+  pub lists : AreOrderedLists (numbers_seen d.numbering) P (map body_seen d.bodies.items) s.lists s.calls.items

@@ -19,17 +19,17 @@ pub record IsListed {T K : Type 0} (key : T → K) (limit : ℕ) (wanted list : 
   pub few : length wanted ≤ limit
 
 -- what a fault says of a count and its limit
-abbrev pub IsAbove : ℕ → ℕ → Counted → FactsFault → Type 0
-IsAbove n limit what (fault.TooMany kind k) = (limit < n) × (kind ≡ what) × (k ≡ limit + 1)
-IsAbove n limit what fault.Memory = Unit {0}
+abbrev pub IsCountOver : ℕ → ℕ → Counted → FactsFault → Type 0
+IsCountOver n limit what (fault.TooMany kind k) = (limit < n) × (kind ≡ what) × (k ≡ limit + 1)
+IsCountOver n limit what fault.Memory = Unit {0}
 
 -- the rows and the columns, with their items
-pub record IsTable (P : Plain) (t : Table) : Type 0 where
+pub record IsFactTable (P : Plain) (t : Table) : Type 0 where
   pub rows : IsListed (λ r. r.item) 16384 (rows_of P) t.rows.items.items t.rows.keys.keys
   pub columns : IsListed (λ c. c.item) 8192 (columns_of P) t.columns.items.items t.columns.keys.keys
 
 -- the sites and the flow points, with their numbers and items
-pub record IsFlow (P : Plain) (f : Flow) : Type 0 where
+pub record HasFlowPoints (P : Plain) (f : Flow) : Type 0 where
   pub sites : IsListed (λ s. s.number) 8192 (sites_of P) f.sites.items.items f.sites.keys.keys
   pub points : IsListed (λ p. p.item) 65536 (points_of P) f.points.items.items f.points.keys.keys
 

@@ -65,7 +65,7 @@ abbrev pub static_place : Plain → ℕ → Operand
 static_place P f = record { point = Some (point.Static f); row = Some (row.Field f); ty = field_object P f; created = None }
 
 -- a body and its outline
-abbrev pub body_seen : Body → numbered.Body
+abbrev pub body_seen : Body → numbered.BodyParts
 body_seen b = record { number = b.number; slot = b.slot; parts = parts_seen b.parts.items }
 
 -- the place of a body and what may be its flow points, as plain data

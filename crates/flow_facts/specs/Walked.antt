@@ -31,7 +31,7 @@ abbrev pub IsGained : {X : Type 0} → Enclosing → List Part → List Part →
 IsGained w old new size ps label x = IsAdded old new (size x) (in_body w ps (label (length old) x))
 
 -- the same, and the operand that is given is the one that is wanted
-pub record IsMade (old new : List Part) (n : ℕ) (ps : List plain.Part) (given wanted : Operand) : Type 0 where
+pub record IsOperandMade (old new : List Part) (n : ℕ) (ps : List plain.Part) (given wanted : Operand) : Type 0 where
   pub grown : length new ≡ length old + n
   pub value : given ≡ wanted
   pub parts : parts_seen new ≡ parts_seen old ++ ps

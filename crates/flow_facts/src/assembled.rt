@@ -6,7 +6,7 @@ ghost use Rattle.flow_rules.specs.Lists.{Numbers};
 ghost use Rattle.flow_rules.specs.Numbered as numbered;
 ghost use Rattle.flow_rules.specs.Ordered.{by_place};
 ghost use Rattle.flow_facts.specs.Gathered.{AreGathered};
-ghost use Rattle.flow_facts.specs.Said.{AreTables, AreTexts, AreOrdered, IsSaid};
+ghost use Rattle.flow_facts.specs.Said.{AreFactTables, AreTexts, AreOrderedLists, IsSaid};
 ghost use Rattle.flow_facts.specs.Seen.{calls_seen};
 ghost use Rattle.flow_facts.specs.Stages.{IsNumbered};
 ghost use Rattle.flow_facts.specs.Words.{Plain, program_of, IsFormed, body_seen, numbers_seen};
@@ -42,7 +42,7 @@ fn calls_in_order(alloc: Global, calls: Vec<PlacedCall>) -> Tried<Vec<CallInfo>>
 /// Says what each row, column, site and flow point is, and each body.
 fn list_tables(alloc: Global, program: &Program, numbered: &Numbered) -> Tried<Tables>
     requires { length numbered.now.columns.items < 4294967295 }
-    ensures { IfOk result (λ t. AreTables (program_of program.now) numbered.now t) }
+    ensures { IfOk result (λ t. AreFactTables (program_of program.now) numbered.now t) }
 {
     let given = Given {
         alloc,
@@ -82,8 +82,8 @@ fn list_texts(alloc: Global, program: &Program) -> Tried<Texts>
 
 /// Puts the tests in the order of their places, and takes the calls out by theirs.
 fn put_in_order(alloc: Global, lists: &mut Lists) -> Tried<Vec<CallInfo>>
-    ensures { (N : Numbers) (P : Plain) (bs : List numbered.Body) → AreGathered N P bs lists.old
-        → IfOk result (λ calls. AreOrdered N P bs lists.new calls.items) }
+    ensures { (N : Numbers) (P : Plain) (bs : List numbered.BodyParts) → AreGathered N P bs lists.old
+        → IfOk result (λ calls. AreOrderedLists N P bs lists.new calls.items) }
 {
     let calls = replace(&mut lists.calls, Vec::new(alloc));
     let tests = replace(&mut lists.tests, Vec::new(alloc));

@@ -4,7 +4,7 @@ ghost use Rattle.std.specs.Prelude.{◌≡◌, ℕ, suc, ◌==◌, ◌<◌, ◌�
 ghost use Rattle.std.specs.List.{flat_map};
 ghost use Rattle.flow_rules.specs.Ordered.{when};
 ghost use Rattle.flow_rules.specs.Facts.{field_at, fields_of, site_cells};
-ghost use Rattle.flow_facts.specs.Owned.{AreListed, own_of, own_at, upwards, cell_of};
+ghost use Rattle.flow_facts.specs.Owned.{AreFieldsListed, own_of, own_at, upwards, cell_of};
 ghost use Rattle.flow_facts.specs.Seen.{field_cell_seen};
 ghost use Rattle.flow_facts.specs.Words.{program_of, IsFormed, each, numbers_seen, if_there};
 
@@ -85,7 +85,7 @@ fn fields_by_class(
     program: &Program,
     fields: &Vec<FieldCell>,
 ) -> Tried<Vec<Vec<FieldCell>>>
-    requires { AreListed (program_of program.now) 0 (map field_cell_seen fields.now.items) }
+    requires { AreFieldsListed (program_of program.now) 0 (map field_cell_seen fields.now.items) }
     ensures { IfOk result (λ v. (c : ℕ) → own_at v.items c ≡ own_of (map field_cell_seen fields.now.items) c) }
 {
     let mut own = made!(no_fields(alloc, program.classes.len()));
@@ -172,7 +172,7 @@ fn add_site_cells(
     cells: &mut Vec<CellInfo>,
 ) -> Tried<()>
     requires formed { IsFormed (program_of program.now) }
-    requires listed { AreListed (program_of program.now) 0 (map field_cell_seen fields.now.items) }
+    requires listed { AreFieldsListed (program_of program.now) 0 (map field_cell_seen fields.now.items) }
     requires own { (c : ℕ) → own_at own.now.items c ≡ own_of (map field_cell_seen fields.now.items) c }
     ensures value { OnOk result (cells.new.items ≡ cells.old.items ++ site_cells
         (program_of program.now) (map field_cell_seen fields.now.items) i site.now) }
@@ -197,7 +197,7 @@ pub fn cells_of(
     most: usize,
 ) -> Tried<Option<Vec<CellInfo>>>
     requires formed { IsFormed (program_of program.now) }
-    requires listed { AreListed (program_of program.now) 0 (map field_cell_seen fields.now.items) }
+    requires listed { AreFieldsListed (program_of program.now) 0 (map field_cell_seen fields.now.items) }
     requires few { length sites.now.items < 4294967295 }
     ensures over { IfOk result (λ o. MatchOption o
         (most < length (each (site_cells (program_of program.now)

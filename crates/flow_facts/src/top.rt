@@ -2,9 +2,9 @@
 
 ghost use Rattle.std.specs.Prelude.{◌≡◌, ◌+◌, ◌++◌, ◌<◌, ◌≤◌, None, IfOk, IfErr, OnOk, length, map};
 ghost use Rattle.flow_rules.specs.Numbered.{rows_of, columns_of, sites_of, points_of, bodies_of, field_rows, method_rows, field_columns, method_columns, static_points, outline_if};
-ghost use Rattle.flow_rules.specs.Facts.{AreNamesOf, IsFactsOf, IsRefused, IsWithin, numbers, cells_of, too_many};
+ghost use Rattle.flow_rules.specs.Facts.{AreNamesOf, IsFactsOf, IsFactsRefusal, IsWithinLimits, numbers, cells_of, too_many};
 ghost use Rattle.flow_rules.specs.Ordered.{by_place, once};
-ghost use Rattle.flow_facts.specs.Stages.{IsAbove, IsListed, IsTable, IsFlow, IsNumbered};
+ghost use Rattle.flow_facts.specs.Stages.{IsCountOver, IsListed, IsFactTable, HasFlowPoints, IsNumbered};
 ghost use Rattle.flow_facts.specs.Words.{program_of, IsFormed, each, body_seen, outline_seen, numbers_seen};
 
 use crate::assembled::facts_over;
@@ -27,7 +27,7 @@ use std::mem::drop;
 fn within(count: usize, limit: u32, what: Counted) -> Result<(), FactsFault>
     requires { limit < 65537 }
     ensures ok { OnOk result (count ≤ limit) }
-    ensures refused { IfErr result (IsAbove count limit what) }
+    ensures refused { IfErr result (IsCountOver count limit what) }
 {
     if count > limit as usize {
         return Err(FactsFault::TooMany(what, limit + 1));
@@ -44,7 +44,7 @@ fn number_by_place<K: Eq + Hash + Copy + Drop, T: HasPlace + HasKey<K> + Copy + 
 ) -> Result<Listed<T, K>, FactsFault>
     requires { limit < 65537 }
     ensures ok { IfOk result (λ l. IsListed T.key limit (once K.eq T.key (by_place T.at all.items)) l.items.items l.keys.keys) }
-    ensures refused { IfErr result (IsAbove (length (once K.eq T.key (by_place T.at all.items))) limit what) }
+    ensures refused { IfErr result (IsCountOver (length (once K.eq T.key (by_place T.at all.items))) limit what) }
 {
     let listed = made!(once_by_place(alloc, all) => FactsFault;);
     made!(within(listed.items.len(), limit, what); listed);
@@ -59,7 +59,7 @@ fn number_points(
     statics: Vec<PointAt>,
     outlines: Vec<Outline>,
 ) -> Result<Listed<Point, PointItem>, FactsFault>
-    requires table { IsTable (program_of program.now) table.now }
+    requires table { IsFactTable (program_of program.now) table.now }
     requires statics { statics.items ≡ each static_points 0 (program_of program.now).fields }
     requires outlines { map outline_seen outlines.items
         ≡ each (outline_if (program_of program.now)) 0
@@ -67,7 +67,7 @@ fn number_points(
     requires sites { length (sites_of (program_of program.now)) ≤ 8192 }
     ensures ok { IfOk result (λ l. IsListed (λ p. p.item) 65536
         (points_of (program_of program.now)) l.items.items l.keys.keys) }
-    ensures refused { IfErr result (λ e. IsRefused (program_of program.now) e) }
+    ensures refused { IfErr result (λ e. IsFactsRefusal (program_of program.now) e) }
 {
     let rows = &table.rows.keys;
     let statics = made!(by_place(statics) => FactsFault; outlines);
@@ -102,7 +102,7 @@ fn number_cells(
     requires points { length (points_of (program_of program.now)) + most ≡ 65536 }
     ensures items { IfOk result (λ v. v.items ≡ cells_of (program_of program.now)) }
     ensures counts { IfOk result (λ v. too_many (program_of program.now) ≡ None) }
-    ensures refused { IfErr result (λ e. IsRefused (program_of program.now) e) }
+    ensures refused { IfErr result (λ e. IsFactsRefusal (program_of program.now) e) }
 {
     let given = Given {
         alloc,
@@ -129,8 +129,8 @@ fn number_table(
     requires columns { columns.items ≡ each field_columns 0 (program_of program.now).fields
         ++ each (method_columns (program_of program.now)) 0
         (program_of program.now).methods }
-    ensures ok { IfOk result (λ t. IsTable (program_of program.now) t) }
-    ensures refused { IfErr result (λ e. IsRefused (program_of program.now) e) }
+    ensures ok { IfOk result (λ t. IsFactTable (program_of program.now) t) }
+    ensures refused { IfErr result (λ e. IsFactsRefusal (program_of program.now) e) }
 {
     let rows = made!(number_by_place(alloc, rows, 16384, Counted::Rows); columns);
     let columns = made!(number_by_place(alloc, columns, 8192, Counted::Columns); rows);
@@ -146,14 +146,14 @@ fn number_flow(
     statics: Vec<PointAt>,
     outlines: Vec<Outline>,
 ) -> Result<Flow, FactsFault>
-    requires table { IsTable (program_of program.now) table.now }
+    requires table { IsFactTable (program_of program.now) table.now }
     requires bodies { map body_seen bodies.now.items ≡ bodies_of (program_of program.now) }
     requires statics { statics.items ≡ each static_points 0 (program_of program.now).fields }
     requires outlines { map outline_seen outlines.items
         ≡ each (outline_if (program_of program.now)) 0
         (program_of program.now).methods }
-    ensures ok { IfOk result (λ f. IsFlow (program_of program.now) f) }
-    ensures refused { IfErr result (λ e. IsRefused (program_of program.now) e) }
+    ensures ok { IfOk result (λ f. HasFlowPoints (program_of program.now) f) }
+    ensures refused { IfErr result (λ e. IsFactsRefusal (program_of program.now) e) }
 {
     let sites = made!(
         all_sites(alloc, &table.rows.keys, bodies) => FactsFault;
@@ -176,11 +176,11 @@ fn number_whole(
     bodies: Vec<Body>,
 ) -> Result<Numbered, FactsFault>
     requires formed { IsFormed (program_of program.now) }
-    requires table { IsTable (program_of program.now) table }
-    requires flow { IsFlow (program_of program.now) flow }
+    requires table { IsFactTable (program_of program.now) table }
+    requires flow { HasFlowPoints (program_of program.now) flow }
     requires bodies { map body_seen bodies.items ≡ bodies_of (program_of program.now) }
     ensures ok { IfOk result (λ d. IsNumbered (program_of program.now) d) }
-    ensures refused { IfErr result (λ e. IsRefused (program_of program.now) e) }
+    ensures refused { IfErr result (λ e. IsFactsRefusal (program_of program.now) e) }
 {
     let (rows, columns) = (table.rows, table.columns);
     let (sites, points) = (flow.sites, flow.points);
@@ -219,7 +219,7 @@ fn number_whole(
 fn number_all(alloc: Global, program: &Program) -> Result<Numbered, FactsFault>
     requires { IsFormed (program_of program.now) }
     ensures ok { IfOk result (λ d. IsNumbered (program_of program.now) d) }
-    ensures refused { IfErr result (λ e. IsRefused (program_of program.now) e) }
+    ensures refused { IfErr result (λ e. IsFactsRefusal (program_of program.now) e) }
 {
     let surveyed = made!(survey(alloc, program) => FactsFault;);
     let (statics, outlines) = (surveyed.statics, surveyed.outlines);
@@ -243,8 +243,8 @@ pub fn facts(alloc: Global, program: &Program) -> Result<Facts, FactsFault>
     requires { IsFormed (program_of program.now) }
     ensures ok { IfOk result (λ f. IsFactsOf (program_of program.now) f) }
     ensures names { IfOk result (λ f. AreNamesOf (program_of program.now) f) }
-    ensures within { IfOk result (λ f. IsWithin (program_of program.now)) }
-    ensures refused { IfErr result (λ e. IsRefused (program_of program.now) e) }
+    ensures within { IfOk result (λ f. IsWithinLimits (program_of program.now)) }
+    ensures refused { IfErr result (λ e. IsFactsRefusal (program_of program.now) e) }
 {
     let numbered = made!(number_all(alloc, program));
     let facts = made!(facts_over(alloc, program, numbered) => FactsFault;);
@@ -261,7 +261,7 @@ pub fn numbering_of(alloc: Global, program: &Program) -> Result<Numbering, Facts
     requires { IsFormed (program_of program.now) }
     ensures ok { IfOk result (λ n. numbers_seen n ≡ numbers (program_of program.now)) }
     ensures columns { IfOk result (λ n. n.columns.keys ≡ map (λ c. c.item) (columns_of (program_of program.now))) }
-    ensures refused { IfErr result (λ e. IsRefused (program_of program.now) e) }
+    ensures refused { IfErr result (λ e. IsFactsRefusal (program_of program.now) e) }
 {
     let numbered = made!(number_all(alloc, program));
     Ok(numbered.numbering)

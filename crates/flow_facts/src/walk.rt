@@ -7,7 +7,7 @@ ghost use Rattle.flow_rules.specs.Labels.{size, sizes, label, label_all};
 ghost use Rattle.flow_rules.specs.Operands.{operand_of, operands_of, this_operand, class_object, variable_row, object_field, call_slot, call_declaration};
 ghost use Rattle.flow_rules.specs.Types.{object_type};
 ghost use Rattle.flow_facts.specs.Views.{load_operand, call_operand, static_operand, super_operand, variable_operand};
-ghost use Rattle.flow_facts.specs.Walked.{IsAdded, IsMade, IsWalked, AreWalked, args_from, parts_from, call_from};
+ghost use Rattle.flow_facts.specs.Walked.{IsAdded, IsOperandMade, IsWalked, AreWalked, args_from, parts_from, call_from};
 ghost use Rattle.flow_rules.specs.Parts as plain;
 ghost use Rattle.flow_facts.specs.Words.{program_of, method_seen, IsFormed, part_seen, parts_seen};
 
@@ -283,7 +283,7 @@ fn add_load(
     parts: &mut Vec<Part>,
 ) -> Tried<Operand>
     requires { IsFormed (program_of within.now.program.now) }
-    ensures { IfOk result (λ o. IsMade parts.old.items parts.new.items 1
+    ensures { IfOk result (λ o. IsOperandMade parts.old.items parts.new.items 1
         (plain.a_load place base (object_field (program_of within.now.program.now) base.ty name.now)
         (load_operand (program_of within.now.program.now) within.now.number (length parts.old.items) base.ty name.now) ∷ []) o
         (load_operand (program_of within.now.program.now) within.now.number (length parts.old.items) base.ty name.now)) }
@@ -332,7 +332,7 @@ fn add_call(
     parts: &mut Vec<Part>,
 ) -> Tried<Operand>
     requires { IsFormed (program_of within.now.program.now) }
-    ensures { IfOk result (λ o. IsMade parts.old.items parts.new.items (1 + sizes (exprs args.now.items))
+    ensures { IfOk result (λ o. IsOperandMade parts.old.items parts.new.items (1 + sizes (exprs args.now.items))
         (call_from (program_of within.now.program.now) within.now.number (method_seen within.now.method.now) place base name.now
         (length parts.old.items) (exprs args.now.items)) o
         (call_operand (program_of within.now.program.now) within.now.number (length parts.old.items) base.ty name.now)) }
@@ -376,7 +376,7 @@ fn add_static_call(
     parts: &mut Vec<Part>,
 ) -> Tried<Operand>
     requires { IsFormed (program_of within.now.program.now) }
-    ensures { IfOk result (λ o. IsMade parts.old.items parts.new.items (1 + sizes (exprs args.now.items))
+    ensures { IfOk result (λ o. IsOperandMade parts.old.items parts.new.items (1 + sizes (exprs args.now.items))
         (plain.a_static_call place callee (args_from (program_of within.now.program.now) within.now.number (method_seen within.now.method.now)
         (length parts.old.items + 1) (exprs args.now.items))
         (static_operand (program_of within.now.program.now) within.now.number (length parts.old.items) callee)
@@ -408,7 +408,7 @@ fn add_super_call(
     parts: &mut Vec<Part>,
 ) -> Tried<Operand>
     requires { IsFormed (program_of within.now.program.now) }
-    ensures { IfOk result (λ o. IsMade parts.old.items parts.new.items (1 + sizes (exprs args.now.items))
+    ensures { IfOk result (λ o. IsOperandMade parts.old.items parts.new.items (1 + sizes (exprs args.now.items))
         (plain.a_super_call place (super_method (program_of within.now.program.now) within.now.method.now.owner.0 name.now)
         (args_from (program_of within.now.program.now) within.now.number (method_seen within.now.method.now)
         (length parts.old.items + 1) (exprs args.now.items))

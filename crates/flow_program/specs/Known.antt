@@ -3,14 +3,14 @@ use Rattle.java_core.specs.Programs.{Plain}
 use Rattle.fact_model.specs.InOrder.{InOrder}
 use Rattle.fact_model.specs.InRange.{InRange}
 use Rattle.fact_model.specs.declared.facts.Facts.{Facts}
-use Rattle.flow_rules.specs.Facts.{AreNamesOf, IsFactsOf, IsWithin}
+use Rattle.flow_rules.specs.Facts.{AreNamesOf, IsFactsOf, IsWithinLimits}
 use Rattle.flow_laws.specs.cover.Covers.{CoversProgram}
 use Rattle.flow_program.specs.Solved.{HasCoveringSets}
 
 -- the facts are those of the program, in range and in order, and their points-to sets cover each run
 pub record AreProgramFacts (P : Plain) (F : Facts) : Type 0 where
   -- there is not too much of anything in the program
-  pub within : IsWithin P
+  pub within : IsWithinLimits P
   -- each list has what the text gives, in its order or as a set; there are no makers and no spots
   pub is : IsFactsOf P F
   pub names : AreNamesOf P F

@@ -4,7 +4,7 @@ use Rattle.fact_model.specs.declared.facts.Facts.{Facts}
 use Rattle.flow_rules.specs.Facts.{IsSameSet, body_seen, call_seen, class_seen}
 
 -- two answers have the same rows, columns, sites, classes, points, cells, bodies and further lists
-pub record AreSame (F G : Facts) : Type 0 where
+pub record AreSameFacts (F G : Facts) : Type 0 where
   pub rows : F.rows.items ≡ G.rows.items
   pub columns : F.columns.items ≡ G.columns.items
   pub sites : F.sites.items ≡ G.sites.items

@@ -6,9 +6,9 @@
 
 ghost use Rattle.std.specs.Prelude.{◌≡◌, ◌≢◌, ◌<◌, ◌↔◌, IfErr, IfOk, IsTrue, length};
 ghost use Rattle.java_core.specs.Programs.{Plain, program_of};
-ghost use Rattle.flow_rules.specs.Facts.{IsRefused, IsWithin};
+ghost use Rattle.flow_rules.specs.Facts.{IsFactsRefusal, IsWithinLimits};
 ghost use Rattle.flow_program.specs.Known.{AreProgramFacts};
-ghost use Rattle.flow_program.specs.Same.{AreSame};
+ghost use Rattle.flow_program.specs.Same.{AreSameFacts};
 
 use fact_model::Facts;
 pub use flow_facts::{Counted, FactsFault};
@@ -33,7 +33,7 @@ fn are_numbered(facts: &Facts) -> bool
 /// where memory is short, and where the calls or the `instanceof`s and casts are 4,294,967,295 or more.
 pub fn facts(alloc: Global, program: &Checked) -> Result<Facts, FactsFault>
     ensures ok { IfOk result (λ f. AreProgramFacts (program_of program.now) f) }
-    ensures refused { IfErr result (λ e. IsRefused (program_of program.now) e) }
+    ensures refused { IfErr result (λ e. IsFactsRefusal (program_of program.now) e) }
 {
     let plain = program.program();
     match flow_facts::facts(alloc, plain) {
@@ -51,8 +51,8 @@ pub fn facts(alloc: Global, program: &Checked) -> Result<Facts, FactsFault>
 /// A program has one answer, the order of what is read as a set and want of memory aside: two lists of facts that it
 /// may have are the same, so are two faults, and it has not both.
 pub fn one_answer()
-    ensures facts { (P : Plain) (F G : Facts) → AreProgramFacts P F → AreProgramFacts P G → AreSame F G }
-    ensures faults { (P : Plain) (e f : FactsFault) → IsRefused P e → IsRefused P f
+    ensures facts { (P : Plain) (F G : Facts) → AreProgramFacts P F → AreProgramFacts P G → AreSameFacts F G }
+    ensures faults { (P : Plain) (e f : FactsFault) → IsFactsRefusal P e → IsFactsRefusal P f
         → e ≢ FactsFault.Memory → f ≢ FactsFault.Memory → e ≡ f }
-    ensures apart { (P : Plain) (e : FactsFault) → IsWithin P → IsRefused P e → e ≡ FactsFault.Memory }
+    ensures apart { (P : Plain) (e : FactsFault) → IsWithinLimits P → IsFactsRefusal P e → e ≡ FactsFault.Memory }
 {}

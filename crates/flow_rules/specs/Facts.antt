@@ -34,7 +34,7 @@ use Rattle.flow_rules.specs.declared.items.Column.{Column}
 use Rattle.flow_rules.specs.declared.items.Site.{Site}
 use Rattle.flow_rules.specs.Ordered.{by_place, once, each, when}
 use Rattle.flow_rules.specs.Parts.{Part}
-use Rattle.flow_rules.specs.Numbered.{Body, bodies_of, rows_of, columns_of, sites_of, points_of, row_number, column_number, site_number, point_number}
+use Rattle.flow_rules.specs.Numbered.{BodyParts, bodies_of, rows_of, columns_of, sites_of, points_of, row_number, column_number, site_number, point_number}
 use Rattle.flow_rules.specs.Lists.{Numbers, PlainCall, news_of, flows_of, loads_of, stores_of, calls_of, casts_of, tests_of, accesses_of, supers_of, ties_of}
 
 -- what there is too much of, and the number one past the limit
@@ -265,7 +265,7 @@ module _ (P : Plain) where
   cells_of = each (site_cells P (fields_of numbers P (columns_of P))) 0 (sites_of P)
 
   -- what the parts of all bodies give
-  abbrev pub gathered : {A : Type 0} → (Body → Part → List A) → List A
+  abbrev pub gathered : {A : Type 0} → (BodyParts → Part → List A) → List A
   gathered f = flat_map (λ b. flat_map (f b) b.parts) (bodies_of P)
 
   -- the facts of a program
@@ -310,10 +310,10 @@ too_many P =
     (over 8192 (length (sites_of P)) counted.Sites (over 65536 (length (points_of P) + length (cells_of P)) counted.Points None)))
 
 -- what a fault says of the program
-abbrev pub IsRefused : Plain → FactsFault → Type 0
-IsRefused P (fault.TooMany what n) = too_many P ≡ Some (record { what = what; number = n })
-IsRefused P fault.Memory = Unit {0}
+abbrev pub IsFactsRefusal : Plain → FactsFault → Type 0
+IsFactsRefusal P (fault.TooMany what n) = too_many P ≡ Some (record { what = what; number = n })
+IsFactsRefusal P fault.Memory = Unit {0}
 
 -- a program of which the facts can be given: there is not too much of anything
-pub record IsWithin (P : Plain) : Type 0 where
+pub record IsWithinLimits (P : Plain) : Type 0 where
   pub counts : too_many P ≡ None

@@ -2,7 +2,7 @@
 -- stands before its arguments, a cast before
 -- its operand, an `instanceof` and an index after their left sides.
 use Rattle.std.specs.Prelude.{ℕ, ◌+◌, Option, Some, None}
-use Rattle.java_core.specs.Trees.{Tag, Ex, Exs, number, character, text, truth, null, this, local, static_field, no_ex, ex_then, own_field, field, index, call, static_call, super_call, create, create_array, cast, instance_of, unary, binary, Target, to_local, to_static, to_own, to_field, to_element, no_target, St, Sts, Arms, declare, block, assign, act, print, choose, loop, return, break, continue, no_st, st_then, no_other, otherwise, arm}
+use Rattle.java_core.specs.Trees.{Tag, Ex, Exs, number, character, text, truth, null, this, local, static_field, no_ex, ex_then, own_field, field, index, call, static_call, super_call, create, create_array, cast, instance_of, unary, binary, Target, to_local, to_static, to_own, to_field, to_element, no_target, St, Sts, IfArms, declare, block, assign, act, print, choose, loop, return, break, continue, no_st, st_then, no_other, otherwise, arm}
 
 -- how many labels an expression takes: a literal, `null`, `this`, a variable and a static field take none
 abbrev mutual
@@ -122,7 +122,7 @@ abbrev mutual
   size_sts (st_then x xs) = size_st x + size_sts xs
 
   -- the number of labels in the arms of an `if` and its `else`
-  pub size_arms : Arms → ℕ
+  pub size_arms : IfArms → ℕ
   size_arms no_other = 0
   size_arms (otherwise xs) = size_sts xs
   size_arms (arm e xs more) = size e + size_sts xs + size_arms more
@@ -150,7 +150,7 @@ abbrev mutual
   label_sts n (st_then x xs) = st_then (label_st n x) (label_sts (n + size_st x) xs)
 
   -- the arms of an `if` and its `else` with their labels from n on
-  pub label_arms : ℕ → Arms → Arms
+  pub label_arms : ℕ → IfArms → IfArms
   label_arms n no_other = no_other
   label_arms n (otherwise xs) = otherwise (label_sts n xs)
   label_arms n (arm e xs more) = arm (label n e) (label_sts (n + size e) xs) (label_arms (n + size e + size_sts xs) more)

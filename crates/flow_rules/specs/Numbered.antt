@@ -113,7 +113,7 @@ form_points (a_test p e o) = point_of_form p o
 form_points _ = []
 
 -- a method with the parts of its body
-pub record Body : Type 0 where
+pub record BodyParts : Type 0 where
   pub number : ℕ
   pub slot : Option ℕ
   pub parts : List Part
@@ -210,11 +210,11 @@ module _ (P : Plain) where
   column_number i = number_among same_column (map (λ c. c.item) columns_of) i
 
   -- the bodies in the order of the program, each with its parts
-  abbrev pub body_at : ℕ → PlainMethod → List Body
+  abbrev pub body_at : ℕ → PlainMethod → List BodyParts
   body_at m k = record { number = m; slot = k.slot; parts = parts_of P m k } ∷ []
 
   -- all bodies of the program
-  unfoldable pub bodies_of : List Body
+  unfoldable pub bodies_of : List BodyParts
   bodies_of = each body_at 0 P.methods
 
   -- the sites by their place

@@ -1,7 +1,7 @@
 -- The start meets B2 to B7, and offers no two fields of one name.
 use Rattle.std.proofs.Common.{◌≡◌, ◌≢◌, ⊎_elim, ℕ, List, Bool, true, false, Some, sym, ◌∙◌, subst}
 use Rattle.std.proofs.lemmas.Bool.{cases_eq, cases_Bool}
-use Rattle.hier_laws.specs.Shapes.{Given, Shape, Offers}
+use Rattle.hier_laws.specs.Shapes.{Given, Shape, OffersColumn}
 use Rattle.hier_laws.specs.Obligations.{IsOther, Half, Rest}
 use Rattle.hier_laws.specs.Starts.{Roles, IsClosed, AreInOrder, IsStart, AreNamed}
 
@@ -40,7 +40,7 @@ module _ (G : Given) (R : Roles) (T : IsClosed G R) (O : AreInOrder G R) (S : Sh
       let v = O.this_there e b in
       subst (λ x. G.below x (G.class_of d) ≡ true) (O.this_body v.0 e v.1).1 (T.above v.0 d (u v.0 (T.by_this v.0 e v.1)))
 
-  offers : (r c : ℕ) → G.has r c ≡ true → Offers S (S.row r) c
+  offers : (r c : ℕ) → G.has r c ≡ true → OffersColumn S (S.row r) c
   offers r c h =
       let n = B.there r c h in
       record { at = n.0; stands = n.1; above = (B.columns r c n.0 (T.rows r c h) n.1).1 h }
@@ -126,7 +126,7 @@ module _ (G : Given) (R : Roles) (T : IsClosed G R) (O : AreInOrder G R) (S : Sh
   start_rest = record { nearest = nearest; above = above; between = between; own = own; apart = apart; fails = fails }
 
   -- what a node offers some row has
-  pub offered_row : (n c d : ℕ) → Offers S n c → Offers S n d → (r : ℕ) × (G.has r c ≡ true) × (G.has r d ≡ true)
+  pub offered_row : (n c d : ℕ) → OffersColumn S n c → OffersColumn S n d → (r : ℕ) × (G.has r c ≡ true) × (G.has r d ≡ true)
   offered_row n c d f g =
       let r = B.extent n f.at f.above in (
         r.0,
@@ -137,7 +137,7 @@ module _ (G : Given) (R : Roles) (T : IsClosed G R) (O : AreInOrder G R) (S : Sh
 
   module _ (is_field is_made : ℕ → Bool) (old new : ℕ → List ℕ) (N : AreNamed G is_field is_made old new) where
     -- no node offers two fields of one name
-    pub start_fields : (n c d : ℕ) → is_field c ≡ true → is_field d ≡ true → Offers S n c → Offers S n d → new c ≡ new d → c ≡ d
+    pub start_fields : (n c d : ℕ) → is_field c ≡ true → is_field d ≡ true → OffersColumn S n c → OffersColumn S n d → new c ≡ new d → c ≡ d
     start_fields n c d fc fd oc od e =
         let r = offered_row n c d oc od in
         named_apart G is_field is_made old new N (G.row_class r.0) c d fc fd (T.above r.0 c r.1) (T.above r.0 d r.2) e

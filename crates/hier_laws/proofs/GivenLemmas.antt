@@ -13,7 +13,7 @@ use Rattle.fact_model.specs.Items.{site_at, site_class, site_row, row_class, row
 use Rattle.fact_model.specs.Classes.{IsBelow, below, is_def, is_slot, is_body, finds, own}
 use Rattle.fact_model.specs.InRange.{InRange, IsRow, IsClass, IsPoint}
 use Rattle.fact_model.specs.InOrder.{InOrder, IsDef, IsThisOf, IsNearestAbove, HasOneThis, HasCast, HasMark}
-use Rattle.fact_model.specs.Flowing.{AreSets, in_point, IsCell, Fits}
+use Rattle.fact_model.specs.Flowing.{AreSets, in_point, IsCell, FitsStore}
 use Rattle.fact_model.specs.Entries.{IsTable}
 use Rattle.fact_model.specs.declared.facts.Facts.{Facts}
 use Rattle.fact_model.specs.declared.facts.TieInfo.{TieInfo}
@@ -282,8 +282,8 @@ module _ (F : Facts) (pt : PointsTo) (t : Table) where
         let in_cell = store_shown F pt S h.store cell.cell h.array s h.listed is (fits_none h.store.column h.element s h.array fits) h.base h.held in
         subst (λ r. bit (row pt.rows.items r) s ≡ true) (cell.row ∙ h.target) (cell_row_shown F pt S cell.cell cell.below s in_cell)
       where
-        fits_none : (o : Option ColId) → o ≡ None → (s a : ℕ) → IsBelow F (site_class F s) (site_class F a) → Fits F o s a
-        fits_none o e s a h = subst (λ y. Fits F y s a) (sym e) h
+        fits_none : (o : Option ColId) → o ≡ None → (s a : ℕ) → IsBelow F (site_class F s) (site_class F a) → FitsStore F o s a
+        fits_none o e s a h = subst (λ y. FitsStore F y s a) (sym e) h
 
     marked_test : (s k : ℕ) → IsTested k s → (c : ℕ) × (bit (row t.rows.items k) c ≡ true) × (column_class F c ≡ row_class F k)
     marked_test s k h =

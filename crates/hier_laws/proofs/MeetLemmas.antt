@@ -16,7 +16,7 @@ use Rattle.fact_model.specs.declared.sets.Table.{Table}
 use Rattle.hier_model.specs.Hierarchies.{Hierarchy, place_of_column, place_of_row, is_above, is_at, stands_at, is_offered}
 use Rattle.hier_model.proofs.AnyLemmas.{any_below_some, any_below_has}
 use Rattle.hier_model.specs.Edits.{is_one_slot}
-use Rattle.hier_laws.specs.Shapes.{Given, Shape, Offers}
+use Rattle.hier_laws.specs.Shapes.{Given, Shape, OffersColumn}
 use Rattle.hier_laws.specs.Obligations.{IsOther, Half, Rest}
 use Rattle.hier_rules.specs.declared.broken.Rule.TheVariants.{B2, B3, B4, B5, B6, B7}
 use Rattle.hier_rules.specs.Asked.{is_tie, is_super, is_called, slots_of, is_other_body, meets, places_of}
@@ -45,13 +45,13 @@ module _ (F : Facts) (pt : PointsTo) (t : Table) (H : Hierarchy) (table : H.tabl
   abbrev S : Shape
   S = shape H
 
-  pub offers : (n c : ℕ) → Offers S n c → is_offered H n c ≡ true
+  pub offers : (n c : ℕ) → OffersColumn S n c → is_offered H n c ≡ true
   offers n c o = rw (placed H c o.at o.stands) o.above
 
-  pub offered_says : (n c : ℕ) → is_offered H n c ≡ true → Offers S n c
+  pub offered_says : (n c : ℕ) → is_offered H n c ≡ true → OffersColumn S n c
   offered_says n c h = at (place_of_column H c) refl h
     where
-      at : (o : Option NodeId) → place_of_column H c ≡ o → is_above H.order n o ≡ true → Offers S n c
+      at : (o : Option NodeId) → place_of_column H c ≡ o → is_above H.order n o ≡ true → OffersColumn S n c
       at None e k = absurd (false≢true k)
       at (Some p) e k = record { at = p.0; stands = ap (option_map (λ (p : NodeId). p.0)) e; above = k }
 

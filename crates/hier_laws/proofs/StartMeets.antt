@@ -25,7 +25,7 @@ use Rattle.hier_model.specs.Hierarchies.{Hierarchy, stands_at, is_offered, type_
 use Rattle.hier_model.proofs.AnyLemmas.{any_below_some}
 use Rattle.hier_model.specs.Start.{is_filled, start_origin, origins_of, start_from}
 use Rattle.hier_model.specs.Names.{is_field, is_shared}
-use Rattle.hier_laws.specs.Shapes.{Given, Offers}
+use Rattle.hier_laws.specs.Shapes.{Given, OffersColumn}
 use Rattle.hier_laws.specs.Starts.{IsClosed, AreInOrder, IsStart}
 use Rattle.hier_laws.proofs.Begins.{start_half, start_rest, offered_row, start_fields}
 use Rattle.hier_rules.specs.declared.broken.Rule.TheVariants.{B8}
@@ -152,7 +152,7 @@ module _ (F : Facts) (pt : PointsTo) (t : Table) (l : Lattice) (A : AreAnalysed 
   ordered : AreInOrder (given F pt t) (roles F pt t)
   ordered = in_order F pt t A.range A.order A.sets A.table
 
-  offers : (n c : ℕ) → is_offered H n c ≡ true → Offers (shape H) n c
+  offers : (n c : ℕ) → is_offered H n c ≡ true → OffersColumn (shape H) n c
   offers n c h = offered_says F pt t H refl n c h
 
   slots_apart : (n c d : ℕ) → c < C → d < C → is_offered H n c ≡ true → is_offered H n d ≡ true → member_name H c ≡ member_name H d

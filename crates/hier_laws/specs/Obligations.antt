@@ -1,6 +1,6 @@
 -- Mirror. The obligations B2 to B7. Each is split into the half that stays where an order grows, and the rest.
 use Rattle.std.specs.Prelude.{◌≡◌, ◌≢◌, ℕ, true, Some}
-use Rattle.hier_laws.specs.Shapes.{Given, Shape, Offers}
+use Rattle.hier_laws.specs.Shapes.{Given, Shape, OffersColumn}
 
 module _ (G : Given) (S : Shape) where
   -- the node of a site
@@ -20,7 +20,7 @@ module _ (G : Given) (S : Shape) where
 
   -- B2: each row is offered all its columns
   abbrev pub RowsAreOffered : Type 0
-  RowsAreOffered = (r c : ℕ) → G.has r c ≡ true → Offers S (S.row r) c
+  RowsAreOffered = (r c : ℕ) → G.has r c ≡ true → OffersColumn S (S.row r) c
 
   -- B3: for each tie the lower row stands at or below the upper
   abbrev pub TiesHold : Type 0
@@ -32,7 +32,7 @@ module _ (G : Given) (S : Shape) where
 
   -- B4: for each need the body is offered
   abbrev pub NeedsAreOffered : Type 0
-  NeedsAreOffered = (s x d : ℕ) → G.needs s x d ≡ true → Offers S (node_of s) d
+  NeedsAreOffered = (s x d : ℕ) → G.needs s x d ≡ true → OffersColumn S (node_of s) d
 
   -- B4: and no other body of the slot that is offered there stands at or below it
   abbrev pub NoneIsNearer : Type 0
@@ -40,7 +40,7 @@ module _ (G : Given) (S : Shape) where
 
   -- B5: the body that a super call in D.n runs is offered at the node of D.n
   abbrev pub SupersAreOffered : Type 0
-  SupersAreOffered = (r d : ℕ) → G.runs r d ≡ true → Offers S (S.row r) d
+  SupersAreOffered = (r d : ℕ) → G.runs r d ≡ true → OffersColumn S (S.row r) d
 
   -- B5: and does not stand there, so that it stands strictly above
   abbrev pub SupersStandAbove : Type 0

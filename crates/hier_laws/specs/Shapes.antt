@@ -33,7 +33,7 @@ pub record Shape : Type 0 where
   pub row : ℕ → ℕ
 
 -- a node offers what stands at it or above it
-pub record Offers (S : Shape) (n c : ℕ) : Type 0 where
+pub record OffersColumn (S : Shape) (n c : ℕ) : Type 0 where
   pub at : ℕ
   pub stands : S.column c ≡ Some at
   pub above : S.le n at ≡ true

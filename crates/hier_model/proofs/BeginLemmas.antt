@@ -22,7 +22,7 @@ use Rattle.kaba_bits.specs.Sets.{bit, row, HasWidth, rising, first_below, when}
 use Rattle.kaba_bits.proofs.SetLemmas.{same_bits, bit-below}
 use Rattle.kaba_bits.proofs.FirstLemmas.{first_below_same, cases_Option}
 use Rattle.kaba_order.specs.Orders.{Ordered, is_live, IsPartialOrder}
-use Rattle.fact_model.specs.Concepts.{Pair, pair_of, AreAllConcepts, IsPlaced, RowStands, ColumnStands, IsLattice}
+use Rattle.fact_model.specs.Concepts.{Pair, pair_of, AreAllConcepts, IsConceptPlaced, RowStands, ColumnStands, IsLattice}
 use Rattle.fact_model.specs.Entries.{IsTable}
 use Rattle.fact_model.specs.Items.{column_at, column_kind, column_slot}
 use Rattle.fact_model.specs.InRange.{InRange, IsClass, IsCol}
@@ -122,8 +122,8 @@ module _ (T : List (List Bool)) (w : ℕ) (cs : List Concept) (lattice : IsLatti
   count : length (map pair_of cs) ≡ length cs
   count = length-map cs pair_of
 
-  placed : (k : ℕ) (x : Concept) → k < length cs → get_or cs k x ≡ x → IsPlaced T w (map (λ y. y.extent) cs) k x
-  placed k x lt e = subst (IsPlaced T w (map (λ y. y.extent) cs) k) e (lattice.placed k x lt)
+  placed : (k : ℕ) (x : Concept) → k < length cs → get_or cs k x ≡ x → IsConceptPlaced T w (map (λ y. y.extent) cs) k x
+  placed k x lt e = subst (IsConceptPlaced T w (map (λ y. y.extent) cs) k) e (lattice.placed k x lt)
 
   lists-column : (k c : ℕ) (lt : k < length cs) → lists_column cs k c ≡ list_any (λ (d : ColId). d.0 == c) (concept-is cs k lt).0.columns.items
   lists-column k c lt = ap (λ o. option_map_or (λ (y : Concept). list_any (λ (d : ColId). d.0 == c) y.columns.items) o false) (concept-is cs k lt).1

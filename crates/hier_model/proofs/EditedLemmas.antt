@@ -16,7 +16,7 @@ use Rattle.fact_model.specs.declared.facts.Facts.{Facts}
 use Rattle.hier_model.specs.Hierarchies.{Hierarchy, place_of_column, type_name, origin_of, IsHierarchyOf}
 use Rattle.hier_model.specs.Edits.{under_order, dropped_order, least_of, first_between, merged_node, merged_origin, merged, moved, renamed, first_unknown, is_placed, is_mark, is_used, unless, changed, NamesSome}
 use Rattle.hier_model.specs.Alike.{AreAlike}
-use Rattle.hier_model.specs.Differences.{WasEdited}
+use Rattle.hier_model.specs.Differences.{IsOneEdit}
 use Rattle.hier_model.specs.declared.edits.Edit.{Edit}
 use Rattle.hier_model.specs.declared.edits.Edit.TheVariants as edit
 use Rattle.hier_model.specs.declared.edits.ChangeFault.TheVariants.{UnknownNode, UnknownMember, NotEmpty, Cycle}
@@ -117,7 +117,7 @@ module _ (F : Facts) (R : InRange F) (H : Hierarchy) (fit : IsHierarchyOf F H) w
       outside_as made h b.1 (order_outside (dropped_order H.order n.0)
       (λ k l. (and_parts (is_live H.order k) (not (k == n.0)) (sym ((dropped_made H.order fit.sized.order n.0).live k) ∙ l)).0))
 
-module _ (old new : Hierarchy) (was : WasEdited old new) where
+module _ (old new : Hierarchy) (was : IsOneEdit old new) where
   pub edited_outside : IsSameOutside old new
   edited_outside = changed_outside was.facts was.range old was.fits was.edit was.some new was.made
 

@@ -7,7 +7,7 @@ use Rattle.std.proofs.lemmas.Str.{encodes-append}
 use Rattle.fact_model.proofs.FreeLemmas.{text_is, free_name-same}
 use Rattle.fact_model.specs.FreeNames.{free_name}
 use Rattle.hier_model.specs.Names.{joined, class_name, is_shared, named_member}
-use Rattle.fact_model.specs.Taken.{AreSame}
+use Rattle.fact_model.specs.Taken.{AreSameNames}
 use Rattle.std.proofs.Common.{add-one, ◌^◌}
 use Rattle.std.specs.Fmt.{decimal}
 use Rattle.std.proofs.lemmas.Str.{encodes-IsAscii}
@@ -24,7 +24,7 @@ joined_text s a b e = text_is (joined a b) s (encodes-append a (95 ∷ b) ∙ sy
 
 -- the name of a field that shares its own with one above
 pub named_shared : (F : Facts) (given t : List (List ℕ)) (c : ℕ) (k : ColumnInfo) (base : String Global) (n : List ℕ) → k ≡ column_at F c → is_shared F c ≡ true
-    → string_bytes base ≡ encode_utf8_all k.name ++ 95 ∷ encode_utf8_all (class_name F k.class.0) → AreSame t (F.words.items ++ given)
+    → string_bytes base ≡ encode_utf8_all k.name ++ 95 ∷ encode_utf8_all (class_name F k.class.0) → AreSameNames t (F.words.items ++ given)
     → n ≡ free_name t (chars (string_bytes base)) → n ≡ named_member F given c
 named_shared F given t c k base n e shared b same is =
     let base_is : chars (string_bytes base) ≡ joined (name_of F c) (class_name F (column_class F c)) =
@@ -34,7 +34,7 @@ named_shared F given t c k base n e shared b same is =
 
 -- the name of a type
 pub typed_name : (F : Facts) (given t : List (List ℕ)) (class : List ℕ) (k : ℕ) (base : String Global) (n : List ℕ) → k < 2 ^ 64
-    → string_bytes base ≡ encode_utf8_all class ++ 95 ∷ decimal k → AreSame t (F.words.items ++ given) → n ≡ free_name t (chars (string_bytes base))
+    → string_bytes base ≡ encode_utf8_all class ++ 95 ∷ decimal k → AreSameNames t (F.words.items ++ given) → n ≡ free_name t (chars (string_bytes base))
     → n ≡ free_name (F.words.items ++ given) (joined class (decimal k))
 typed_name F given t class k base n fits b same is =
     let base_is : chars (string_bytes base) ≡ joined class (decimal k) = joined_text base class (decimal k) (b

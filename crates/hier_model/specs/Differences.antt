@@ -127,7 +127,7 @@ pub record HoldsChanges (old new : Hierarchy) (kept : Undo) : Type 0 where
   pub pairs : kept.pairs.items ≡ flat_map named_pair (changes old new)
 
 -- an edit made a hierarchy of another
-pub record WasEdited (old new : Hierarchy) : Type 0 where
+pub record IsOneEdit (old new : Hierarchy) : Type 0 where
   pub facts : Facts
   pub edit : Edit
   pub range : InRange facts
@@ -137,5 +137,5 @@ pub record WasEdited (old new : Hierarchy) : Type 0 where
 
 -- what is kept of the edit that made a hierarchy of another takes it back
 pub record IsUndoOf (old new : Hierarchy) (kept : Undo) : Type 0 where
-  pub edited : WasEdited old new
+  pub edited : IsOneEdit old new
   pub holds : HoldsChanges old new kept

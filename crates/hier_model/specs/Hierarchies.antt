@@ -99,7 +99,7 @@ abbrev pub is_class_node : Facts → Hierarchy → ℕ → Bool
 is_class_node F H n = has_class_member F H n || has_object F H n
 
 -- the nodes are ordered, and each list has its length
-pub record IsSized (F : Facts) (H : Hierarchy) : Type 0 where
+pub record IsHierarchySized (F : Facts) (H : Hierarchy) : Type 0 where
   pub order : IsPartialOrder H.order
   pub types : length H.types ≡ length H.order.live
   pub origins : length H.origins ≡ length H.order.live
@@ -133,7 +133,7 @@ pub record KeepsTable (F : Facts) (table : List (List Bool)) : Type 0 where
 
 -- a hierarchy over the rows and columns of the facts
 pub record IsHierarchyOf (F : Facts) (H : Hierarchy) : Type 0 where
-  pub sized : IsSized F H
+  pub sized : IsHierarchySized F H
   pub placed : ArePlaced F H
   pub names : SlotsHaveOneName F H
   pub origins : (n : ℕ) → is_live H.order n ≡ true → IfSome (origin_of H n) (IsClass F)

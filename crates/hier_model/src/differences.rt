@@ -3,7 +3,7 @@
 ghost use Rattle.std.specs.Prelude.{◌≡◌, ◌<◌, ◌&&◌, ◌++◌, length, IfOk, OnOk};
 ghost use Rattle.std.specs.List.{flat_map};
 ghost use Rattle.kaba_order.specs.Orders.{is_le, is_live, IsPartialOrder};
-ghost use Rattle.hier_model.specs.Differences.{WasEdited, HoldsChanges, changes, differ, is_same_origin, lives_on, node_change, pair_change, column_change, row_change, type_change, member_change, origin_change, each_below, node_changes, pair_changes, column_changes, row_changes, type_changes, member_changes, origin_changes, named_node, named_pair};
+ghost use Rattle.hier_model.specs.Differences.{IsOneEdit, HoldsChanges, changes, differ, is_same_origin, lives_on, node_change, pair_change, column_change, row_change, type_change, member_change, origin_change, each_below, node_changes, pair_changes, column_changes, row_changes, type_changes, member_changes, origin_changes, named_node, named_pair};
 ghost use Rattle.hier_model.specs.Alike.{AreAlike};
 
 use crate::Hier;
@@ -47,7 +47,7 @@ impl Hier {
     /// All differences between the hierarchy and one that an edit made of it. An error comes only for want of
     /// memory. The time is in proportion to the square of the number of nodes.
     pub fn changes(&self, alloc: Global, newer: &Hier) -> Result<Undo, AllocError>
-        requires { WasEdited self.now newer.now }
+        requires { IsOneEdit self.now newer.now }
         ensures { IfOk result (HoldsChanges self.now newer.now) }
     {
         let changes = self.all_changes(alloc, newer)?;

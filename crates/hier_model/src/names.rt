@@ -5,7 +5,7 @@ ghost use Rattle.std.specs.Fmt.{decimal};
 ghost use Rattle.std.specs.Str.{chars, bytes_eq, encode_utf8_all};
 ghost use Rattle.fact_model.specs.InRange.{InRange, IsCol, IsClass};
 ghost use Rattle.hier_model.specs.Hierarchies.{any_below};
-ghost use Rattle.fact_model.specs.Taken.{texts, AreSame};
+ghost use Rattle.fact_model.specs.Taken.{texts, AreSameNames};
 ghost use Rattle.fact_model.specs.FreeNames.{is_taken, free_name};
 ghost use Rattle.hier_model.specs.Names.{joined, is_field, is_strictly_above, is_namesake_above, is_shared, class_name, named_member, member_names, naming_class, type_names};
 
@@ -60,7 +60,7 @@ fn named_member(
 ) -> Result<Name, AllocError>
     requires range { InRange facts.now }
     requires column { IsCol facts.now c }
-    ensures { IfOk result (λ n. (given : List (List ℕ)) → AreSame (texts taken.now.keys) (facts.now.words.items ++ given) → n ≡ named_member facts.now given c.0) }
+    ensures { IfOk result (λ n. (given : List (List ℕ)) → AreSameNames (texts taken.now.keys) (facts.now.words.items ++ given) → n ≡ named_member facts.now given c.0) }
 {
     let column = column_at(facts, c);
     if is_shared(facts, c) {
@@ -81,7 +81,7 @@ fn named_type(
     origin: Option<ClassId>,
     n: usize,
 ) -> Result<Name, AllocError>
-    ensures { IfOk result (λ r. (given : List (List ℕ)) → AreSame (texts taken.now.keys) (facts.now.words.items ++ given) → r ≡ free_name (facts.now.words.items ++ given) (joined (class_name facts.now (naming_class origin)) (decimal n))) }
+    ensures { IfOk result (λ r. (given : List (List ℕ)) → AreSameNames (texts taken.now.keys) (facts.now.words.items ++ given) → r ≡ free_name (facts.now.words.items ++ given) (joined (class_name facts.now (naming_class origin)) (decimal n))) }
 {
     let class = class_text(facts, naming_class(origin));
     let number = format!(in alloc; "{n}")?;
@@ -122,7 +122,7 @@ fn joined(alloc: Global, a: &str, b: &str) -> Result<String, AllocError>
 
 /// The names of two lists.
 fn taken_names(alloc: Global, words: &[Name], more: &[Name]) -> Result<IndexSet<String>, AllocError>
-    ensures { IfOk result (λ t. AreSame (texts t.keys) (words.now ++ more.now)) }
+    ensures { IfOk result (λ t. AreSameNames (texts t.keys) (words.now ++ more.now)) }
 {
     let mut taken = IndexSet::new(alloc);
     add_names(alloc, &mut taken, words)?;

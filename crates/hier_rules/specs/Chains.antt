@@ -17,7 +17,7 @@ pub record AreClassNodes (F : Facts) (H : Hierarchy) (nodes : List Bool) : Type 
   pub exact : (n : ℕ) → bit nodes n ≡ is_class_node F H n
 
 -- a hierarchy, and the set of its class nodes
-pub record AreNodes (nodes : ClassNodes) : Type 0 where
+pub record HasClassNodes (nodes : ClassNodes) : Type 0 where
   pub hier : IsHierarchyOf nodes.facts.now nodes.hier.now
   pub classes : AreClassNodes nodes.facts.now nodes.hier.now nodes.classes.now
 

@@ -3,7 +3,7 @@ use Rattle.std.specs.Prelude.{◌≡◌, ℕ, Bool, List, length}
 use Rattle.kaba_bits.specs.Sets.{bit, row, HasWidth}
 
 -- so many rows of this width, which have the pairs that pass a test
-pub record ArePairs (count width : ℕ) (are : ℕ → ℕ → Bool) (rows : List (List Bool)) : Type 0 where
+pub record ArePairRows (count width : ℕ) (are : ℕ → ℕ → Bool) (rows : List (List Bool)) : Type 0 where
   pub len : length rows ≡ count
   pub widths : HasWidth width rows
   pub exact : (a b : ℕ) → bit (row rows a) b ≡ are a b

@@ -14,5 +14,5 @@ pub use Rattle.hier_model.specs.Hierarchies.{IsHierarchyOf, is_offered}
 pub use Rattle.hier_model.specs.Start.{start_from}
 pub use Rattle.hier_model.specs.Edits.{NamesSome}
 pub use Rattle.hier_rules.specs.First.{MeetsEdit, first_broken}
-pub use Rattle.hier_rules.specs.Given.{IsAsked}
+pub use Rattle.hier_rules.specs.Given.{IsObligationInput}
 pub use Rattle.hier_rules.specs.Takens.{AreTaken}

@@ -1,7 +1,7 @@
 //! What an edit can have broken of a hierarchy that met its obligations.
 
 ghost use Rattle.std.specs.Prelude.{◌≡◌, IfOk, Ok};
-ghost use Rattle.hier_rules.specs.Words.{or_else, IsAsked, IsHierarchyOf, NamesSome, MeetsEdit};
+ghost use Rattle.hier_rules.specs.Words.{or_else, IsObligationInput, IsHierarchyOf, NamesSome, MeetsEdit};
 ghost use Rattle.hier_model.specs.Edits.{changed};
 ghost use Rattle.hier_rules.specs.First.{first_changed_run, first_of_edit};
 ghost use Rattle.hier_rules.specs.Names.{first_confused};
@@ -28,7 +28,7 @@ pub fn first_broken_after(
     asked: &Asked,
     edit: &Edit,
 ) -> Result<Option<Broken>, AllocError>
-    requires asked { IsAsked asked.now }
+    requires asked { IsObligationInput asked.now }
     requires before { IsHierarchyOf asked.now.facts.now before.now }
     requires meets { MeetsEdit asked.now.facts.now asked.now.pt.now before.now }
     requires some { NamesSome edit.now }
@@ -52,7 +52,7 @@ fn first_after_join(
     asked: &Asked,
     joined: &[NodeId],
 ) -> Result<Option<Broken>, AllocError>
-    requires asked { IsAsked asked.now }
+    requires asked { IsObligationInput asked.now }
     requires others { AreApartOutside asked.now.facts.now asked.now.hier.now joined.now }
     ensures { IfOk result (λ b. b ≡ or_else (first_changed_run asked.now.facts.now asked.now.pt.now asked.now.hier.now)
         (first_confused asked.now.facts.now asked.now.hier.now)) }

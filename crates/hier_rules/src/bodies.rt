@@ -1,7 +1,7 @@
 //! B4, B5 and B6: the bodies that calls and super calls run, and bodies at one node.
 
 ghost use Rattle.std.specs.Prelude.{◌≡◌, ℕ, ◌<◌, ◌↔◌, ◌==◌, ◌++◌, ◌∷◌, [], true, cond, length, IfOk, OnOk, Contains};
-ghost use Rattle.hier_rules.specs.Words.{IsNonDecreasing, bit, row, first_below, is_live, IsAsked};
+ghost use Rattle.hier_rules.specs.Words.{IsNonDecreasing, bit, row, first_below, is_live, IsObligationInput};
 ghost use Rattle.std.specs.Option.{option_and_then};
 ghost use Rattle.kaba_order.specs.Orders.{is_among};
 ghost use Rattle.fact_model.specs.Items.{site_class, column_kind, column_class, column_slot, row_class};
@@ -76,7 +76,7 @@ fn is_other_body(facts: &Facts, d: u32, e: u32) -> bool
 
 /// Whether `e` is another body of the slot of `d`, is offered at a node, and stands at or below `d`.
 fn is_nearer(asked: &Asked, n: NodeId, d: u32, e: u32) -> bool
-    requires asked { IsAsked asked.now }
+    requires asked { IsObligationInput asked.now }
     requires node { is_live asked.now.hier.now.order n.0 ≡ true }
     requires body { d < length asked.now.facts.now.columns.items }
     requires other { e < length asked.now.facts.now.columns.items }
@@ -88,7 +88,7 @@ fn is_nearer(asked: &Asked, n: NodeId, d: u32, e: u32) -> bool
 /// Whether another body of the slot of `d` is offered at a node, and stands at or below `d`.
 #[tactic(auto, using(hier_model::proofs::AnyLemmas::any_below_found))]
 fn has_nearer(asked: &Asked, n: NodeId, d: u32) -> bool
-    requires asked { IsAsked asked.now }
+    requires asked { IsObligationInput asked.now }
     requires node { is_live asked.now.hier.now.order n.0 ≡ true }
     requires body { d < length asked.now.facts.now.columns.items }
     ensures { result ≡ has_nearer asked.now.facts.now asked.now.hier.now n.0 d }
@@ -98,7 +98,7 @@ fn has_nearer(asked: &Asked, n: NodeId, d: u32) -> bool
 
 /// Adds the slot of a call, if its receiver has a site.
 fn add_slot(asked: &Asked, s: u32, call: &CallInfo, slots: &mut Vec<u32>) -> Result<(), AllocError>
-    requires asked { IsAsked asked.now }
+    requires asked { IsObligationInput asked.now }
     requires site { s < length asked.now.facts.now.sites.items }
     requires call { Contains asked.now.facts.now.calls.items call.now }
     ensures { OnOk result (slots.new.items ≡ slots.old.items ++ cond (bit (row asked.now.pt.now.points.items call.now.receiver) s) (call.now.slot ∷ []) []) }
@@ -111,7 +111,7 @@ fn add_slot(asked: &Asked, s: u32, call: &CallInfo, slots: &mut Vec<u32>) -> Res
 
 /// The slots of the calls whose receiver has a site, rising. An error comes only for want of memory.
 fn called_slots(alloc: Global, asked: &Asked, s: u32) -> Result<Vec<u32>, AllocError>
-    requires asked { IsAsked asked.now }
+    requires asked { IsObligationInput asked.now }
     requires site { s < length asked.now.facts.now.sites.items }
     ensures sorted { IfOk result (λ v. IsNonDecreasing v.items) }
     ensures slots { IfOk result (λ v. (x : ℕ) → Contains v.items x ↔ (is_called asked.now.facts.now asked.now.pt.now s x ≡ true)) }
@@ -126,7 +126,7 @@ fn called_slots(alloc: Global, asked: &Asked, s: u32) -> Result<Vec<u32>, AllocE
 
 /// The instance of a site and the body that it runs, if it is one.
 fn wrong_body(asked: &Asked, s: u32, d: ColId) -> Option<Broken>
-    requires asked { IsAsked asked.now }
+    requires asked { IsObligationInput asked.now }
     requires site { s < length asked.now.facts.now.sites.items }
     requires body { d.0 < length asked.now.facts.now.columns.items }
     ensures { result ≡ wrong_body asked.now.facts.now asked.now.hier.now s d.0 }
@@ -141,7 +141,7 @@ fn wrong_body(asked: &Asked, s: u32, d: ColId) -> Option<Broken>
 
 /// The instance of a site and a slot that is called on it, if it is one.
 fn wrong_call(asked: &Asked, s: u32, x: u32) -> Option<Broken>
-    requires asked { IsAsked asked.now }
+    requires asked { IsObligationInput asked.now }
     requires site { s < length asked.now.facts.now.sites.items }
     ensures { result ≡ option_and_then (wrong_body asked.now.facts.now asked.now.hier.now s) (finds asked.now.facts.now (site_class asked.now.facts.now s) x) }
 {
@@ -153,7 +153,7 @@ fn wrong_call(asked: &Asked, s: u32, x: u32) -> Option<Broken>
 
 /// The first need of a site for which the wrong body is found. An error comes only for want of memory.
 fn first_wrong_need_of(alloc: Global, asked: &Asked, s: u32) -> Result<Option<Broken>, AllocError>
-    requires asked { IsAsked asked.now }
+    requires asked { IsObligationInput asked.now }
     requires site { s < length asked.now.facts.now.sites.items }
     ensures { IfOk result (λ b. b ≡ first_below (slots_of asked.now.facts.now) (wrong_need asked.now.facts.now asked.now.pt.now asked.now.hier.now s)) }
 {
@@ -163,7 +163,7 @@ fn first_wrong_need_of(alloc: Global, asked: &Asked, s: u32) -> Result<Option<Br
 
 /// The same, by the rising list of the slots that are called on the site.
 fn first_wrong_call(asked: &Asked, s: u32, slots: &[u32]) -> Option<Broken>
-    requires asked { IsAsked asked.now }
+    requires asked { IsObligationInput asked.now }
     requires site { s < length asked.now.facts.now.sites.items }
     requires sorted { IsNonDecreasing slots.now }
     requires slots { (x : ℕ) → Contains slots.now x ↔ (is_called asked.now.facts.now asked.now.pt.now s x ≡ true) }
@@ -180,7 +180,7 @@ fn first_wrong_call(asked: &Asked, s: u32, slots: &[u32]) -> Option<Broken>
 /// The first instance against B4. An error comes only for want of memory.
 #[tactic(auto, using(kaba_bits::proofs::FirstLemmas::first_below_found))]
 pub fn first_wrong_need(alloc: Global, asked: &Asked) -> Result<Option<Broken>, AllocError>
-    requires { IsAsked asked.now }
+    requires { IsObligationInput asked.now }
     ensures { IfOk result (λ b. b ≡ first_wrong_need asked.now.facts.now asked.now.pt.now asked.now.hier.now) }
 {
     first_found_below!(s < asked.facts.sites.len() as u32; first_wrong_need_of(alloc, asked, s)?)
@@ -198,7 +198,7 @@ fn is_of_class(facts: &Facts, r: u32, c: u32) -> bool
 
 /// Whether `e` is another body of the slot of `d`, stands strictly above the row `r`, and at or below `d` or in the class of `r`.
 fn is_between(asked: &Asked, r: u32, d: u32, e: u32) -> bool
-    requires asked { IsAsked asked.now }
+    requires asked { IsObligationInput asked.now }
     requires row { r < length asked.now.facts.now.rows.items }
     requires body { d < length asked.now.facts.now.columns.items }
     requires other { e < length asked.now.facts.now.columns.items }
@@ -212,7 +212,7 @@ fn is_between(asked: &Asked, r: u32, d: u32, e: u32) -> bool
 /// Whether another body of the slot of `d` stands so.
 #[tactic(auto, using(hier_model::proofs::AnyLemmas::any_below_found))]
 fn has_between(asked: &Asked, r: u32, d: u32) -> bool
-    requires asked { IsAsked asked.now }
+    requires asked { IsObligationInput asked.now }
     requires row { r < length asked.now.facts.now.rows.items }
     requires body { d < length asked.now.facts.now.columns.items }
     ensures { result ≡ has_between asked.now.facts.now asked.now.hier.now r d }
@@ -223,7 +223,7 @@ fn has_between(asked: &Asked, r: u32, d: u32) -> bool
 /// The first instance against B5. An error comes only for want of memory.
 #[tactic(auto, using(kaba_bits::proofs::FirstLemmas::first_below_found))]
 pub fn first_wrong_super(alloc: Global, asked: &Asked) -> Result<Option<Broken>, AllocError>
-    requires { IsAsked asked.now }
+    requires { IsObligationInput asked.now }
     ensures { IfOk result (λ b. b ≡ first_wrong_super asked.now.facts.now asked.now.hier.now) }
 {
     let supers = super_rows(alloc, asked.facts)?;
@@ -233,7 +233,7 @@ pub fn first_wrong_super(alloc: Global, asked: &Asked) -> Result<Option<Broken>,
 /// The first body that a super call of the method of a row runs and that stands wrong.
 #[tactic(auto, using(kaba_bits::proofs::FirstLemmas::first_below_found))]
 fn first_wrong_super_of(asked: &Asked, bodies: &BitRow, r: u32) -> Option<Broken>
-    requires asked { IsAsked asked.now }
+    requires asked { IsObligationInput asked.now }
     requires row { r < length asked.now.facts.now.rows.items }
     requires bodies { IsPairsRow (length asked.now.facts.now.columns.items) (is_super asked.now.facts.now r) bodies.now }
     ensures { result ≡ first_below (length asked.now.facts.now.columns.items) (wrong_super asked.now.facts.now asked.now.hier.now r) }
@@ -250,7 +250,7 @@ fn first_wrong_super_of(asked: &Asked, bodies: &BitRow, r: u32) -> Option<Broken
 /// The first instance against B6.
 #[tactic(auto, using(kaba_bits::proofs::FirstLemmas::first_below_found))]
 pub fn first_two_bodies(asked: &Asked) -> Option<Broken>
-    requires { IsAsked asked.now }
+    requires { IsObligationInput asked.now }
     ensures { result ≡ first_two_bodies asked.now.facts.now asked.now.hier.now }
 {
     first_below!(n < node_count(asked.hier); first_two_bodies_at(asked, n))
@@ -259,7 +259,7 @@ pub fn first_two_bodies(asked: &Asked) -> Option<Broken>
 /// The same, where no node outside a list has two bodies of one slot.
 #[tactic(auto, using(kaba_bits::proofs::FirstLemmas::first_below_found))]
 pub fn first_two_bodies_among(asked: &Asked, nodes: &[NodeId]) -> Option<Broken>
-    requires asked { IsAsked asked.now }
+    requires asked { IsObligationInput asked.now }
     requires others { AreApartOutside asked.now.facts.now asked.now.hier.now nodes.now }
     ensures { result ≡ first_two_bodies asked.now.facts.now asked.now.hier.now }
 {
@@ -268,7 +268,7 @@ pub fn first_two_bodies_among(asked: &Asked, nodes: &[NodeId]) -> Option<Broken>
 
 /// The first two bodies of one slot at a node, by whether it is one of a list outside of which no node has such.
 fn first_two_bodies_if(asked: &Asked, nodes: &[NodeId], n: u32) -> Option<Broken>
-    requires asked { IsAsked asked.now }
+    requires asked { IsObligationInput asked.now }
     requires others { AreApartOutside asked.now.facts.now asked.now.hier.now nodes.now }
     requires node { n < length asked.now.hier.now.order.live }
     ensures { result ≡ first_below (length asked.now.facts.now.columns.items)
@@ -290,7 +290,7 @@ fn is_among(nodes: &[NodeId], n: u32) -> bool
 /// The first two bodies of one slot at a node.
 #[tactic(auto, using(kaba_bits::proofs::FirstLemmas::first_below_found))]
 fn first_two_bodies_at(asked: &Asked, n: u32) -> Option<Broken>
-    requires { IsAsked asked.now }
+    requires { IsObligationInput asked.now }
     ensures { result ≡ first_below (length asked.now.facts.now.columns.items)
         (λ c. first_below (length asked.now.facts.now.columns.items) (two_bodies asked.now.facts.now asked.now.hier.now n c)) }
 {
@@ -299,7 +299,7 @@ fn first_two_bodies_at(asked: &Asked, n: u32) -> Option<Broken>
 
 /// Whether a body stands at a node.
 fn is_body_at(asked: &Asked, n: u32, c: u32) -> bool
-    requires asked { IsAsked asked.now }
+    requires asked { IsObligationInput asked.now }
     requires column { c < length asked.now.facts.now.columns.items }
     ensures { result ≡ is_body_at asked.now.facts.now asked.now.hier.now n c }
 {
@@ -309,7 +309,7 @@ fn is_body_at(asked: &Asked, n: u32, c: u32) -> bool
 /// The first body of the slot of `c` behind it at a node where `c` stands, if that is a body.
 #[tactic(auto, using(kaba_bits::proofs::FirstLemmas::first_below_found))]
 fn first_second_body(asked: &Asked, n: u32, c: u32) -> Option<Broken>
-    requires asked { IsAsked asked.now }
+    requires asked { IsObligationInput asked.now }
     requires column { c < length asked.now.facts.now.columns.items }
     ensures { result ≡ first_below (length asked.now.facts.now.columns.items) (two_bodies asked.now.facts.now asked.now.hier.now n c) }
 {

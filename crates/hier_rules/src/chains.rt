@@ -5,7 +5,7 @@ ghost use Rattle.hier_rules.specs.Words.{bit, first_below, is_le, InRange};
 ghost use Rattle.hier_model.specs.Hierarchies.{IsHierarchyOf, is_class_node, any_below};
 ghost use Rattle.hier_rules.specs.Instances.{of_three};
 ghost use Rattle.hier_rules.specs.Obligations.{is_class_above, unchained, first_unchained};
-ghost use Rattle.hier_rules.specs.Chains.{AreClassNodes, AreNodes, AreCounts, AreLooseNodes, is_over, class_count, is_next, is_loose, is_loose_above};
+ghost use Rattle.hier_rules.specs.Chains.{AreClassNodes, HasClassNodes, AreCounts, AreLooseNodes, is_over, class_count, is_next, is_loose, is_loose_above};
 
 use crate::broken::{Broken, Nodes, Rule};
 use crate::places::{is_le, is_live, node_count};
@@ -37,7 +37,7 @@ struct ClassNodes<'a> {
 
 /// Whether a class node is at or below another.
 fn class_le(nodes: &ClassNodes, a: u32, b: u32) -> bool
-    requires nodes { AreNodes nodes.now }
+    requires nodes { HasClassNodes nodes.now }
     requires lower { bit nodes.now.classes.now a ≡ true }
     requires upper { bit nodes.now.classes.now b ≡ true }
     ensures { result ≡ is_le nodes.now.hier.now.order a b }
@@ -82,7 +82,7 @@ fn class_nodes(alloc: Global, facts: &Facts, hier: &Hier) -> Result<BitRow, Allo
 
 /// Whether a class node is at or above another.
 fn is_class_above(nodes: &ClassNodes, n: u32, x: u32) -> bool
-    requires nodes { AreNodes nodes.now }
+    requires nodes { HasClassNodes nodes.now }
     requires lower { n < length nodes.now.hier.now.order.live }
     requires upper { x < length nodes.now.hier.now.order.live }
     ensures { result ≡ is_class_above nodes.now.facts.now nodes.now.hier.now n x }
@@ -92,7 +92,7 @@ fn is_class_above(nodes: &ClassNodes, n: u32, x: u32) -> bool
 
 /// Whether a class node is strictly above another.
 fn is_over(nodes: &ClassNodes, n: u32, x: u32) -> bool
-    requires nodes { AreNodes nodes.now }
+    requires nodes { HasClassNodes nodes.now }
     requires lower { n < length nodes.now.hier.now.order.live }
     requires upper { x < length nodes.now.hier.now.order.live }
     ensures { result ≡ is_over nodes.now.facts.now nodes.now.hier.now n x }
@@ -102,7 +102,7 @@ fn is_over(nodes: &ClassNodes, n: u32, x: u32) -> bool
 
 /// How many class nodes are strictly above a node.
 fn class_count(nodes: &ClassNodes, n: u32) -> u32
-    requires nodes { AreNodes nodes.now }
+    requires nodes { HasClassNodes nodes.now }
     requires node { n < length nodes.now.hier.now.order.live }
     ensures { result ≡ class_count nodes.now.facts.now nodes.now.hier.now n }
 {
@@ -117,7 +117,7 @@ fn class_count(nodes: &ClassNodes, n: u32) -> u32
 
 /// The same for each node. An error comes only for want of memory.
 fn class_counts(alloc: Global, nodes: &ClassNodes) -> Result<Vec<u32>, AllocError>
-    requires nodes { AreNodes nodes.now }
+    requires nodes { HasClassNodes nodes.now }
     ensures { IfOk result (λ v. AreCounts nodes.now.facts.now nodes.now.hier.now v.items) }
 {
     let mut counts = Vec::new(alloc);
@@ -136,7 +136,7 @@ fn is_one_fewer(a: u32, b: u32) -> bool
 
 /// Whether a class node is strictly above another, and has one fewer above it.
 fn is_next(nodes: &ClassNodes, counts: &[u32], n: u32, z: u32) -> bool
-    requires nodes { AreNodes nodes.now }
+    requires nodes { HasClassNodes nodes.now }
     requires counts { AreCounts nodes.now.facts.now nodes.now.hier.now counts.now }
     requires lower { n < length nodes.now.hier.now.order.live }
     requires upper { z < length nodes.now.hier.now.order.live }
@@ -148,7 +148,7 @@ fn is_next(nodes: &ClassNodes, counts: &[u32], n: u32, z: u32) -> bool
 /// Whether there is one.
 #[tactic(auto, using(hier_model::proofs::AnyLemmas::any_below_found))]
 fn has_next(nodes: &ClassNodes, counts: &[u32], n: u32) -> bool
-    requires nodes { AreNodes nodes.now }
+    requires nodes { HasClassNodes nodes.now }
     requires counts { AreCounts nodes.now.facts.now nodes.now.hier.now counts.now }
     requires node { n < length nodes.now.hier.now.order.live }
     ensures { result ≡ any_below (length nodes.now.hier.now.order.live) (is_next nodes.now.facts.now nodes.now.hier.now n) }
@@ -158,7 +158,7 @@ fn has_next(nodes: &ClassNodes, counts: &[u32], n: u32) -> bool
 
 /// Whether class nodes are above a node, and none of them has one fewer above it.
 fn is_loose(nodes: &ClassNodes, counts: &[u32], n: u32) -> bool
-    requires nodes { AreNodes nodes.now }
+    requires nodes { HasClassNodes nodes.now }
     requires counts { AreCounts nodes.now.facts.now nodes.now.hier.now counts.now }
     requires node { n < length nodes.now.hier.now.order.live }
     ensures { result ≡ is_loose nodes.now.facts.now nodes.now.hier.now n }
@@ -168,7 +168,7 @@ fn is_loose(nodes: &ClassNodes, counts: &[u32], n: u32) -> bool
 
 /// Adds a node, if it is loose.
 fn add_loose(nodes: &ClassNodes, counts: &[u32], n: u32, loose: &mut BitRow)
-    requires nodes { AreNodes nodes.now }
+    requires nodes { HasClassNodes nodes.now }
     requires counts { AreCounts nodes.now.facts.now nodes.now.hier.now counts.now }
     requires node { n < length nodes.now.hier.now.order.live }
     requires width { length loose.old ≡ length nodes.now.hier.now.order.live }
@@ -182,7 +182,7 @@ fn add_loose(nodes: &ClassNodes, counts: &[u32], n: u32, loose: &mut BitRow)
 
 /// The loose nodes. An error comes only for want of memory.
 fn loose_nodes(alloc: Global, nodes: &ClassNodes) -> Result<BitRow, AllocError>
-    requires nodes { AreNodes nodes.now }
+    requires nodes { HasClassNodes nodes.now }
     ensures { IfOk result (λ v. AreLooseNodes nodes.now.facts.now nodes.now.hier.now v) }
 {
     let counts = class_counts(alloc, nodes)?;
@@ -195,7 +195,7 @@ fn loose_nodes(alloc: Global, nodes: &ClassNodes) -> Result<BitRow, AllocError>
 
 /// Whether a loose class node is at or above another.
 fn is_loose_above(nodes: &ClassNodes, loose: &BitRow, n: u32, m: u32) -> bool
-    requires nodes { AreNodes nodes.now }
+    requires nodes { HasClassNodes nodes.now }
     requires loose { AreLooseNodes nodes.now.facts.now nodes.now.hier.now loose.now }
     requires lower { n < length nodes.now.hier.now.order.live }
     requires upper { m < length nodes.now.hier.now.order.live }
@@ -207,7 +207,7 @@ fn is_loose_above(nodes: &ClassNodes, loose: &BitRow, n: u32, m: u32) -> bool
 /// Whether there is one.
 #[tactic(auto, using(hier_model::proofs::AnyLemmas::any_below_found))]
 fn has_loose(nodes: &ClassNodes, loose: &BitRow, n: u32) -> bool
-    requires nodes { AreNodes nodes.now }
+    requires nodes { HasClassNodes nodes.now }
     requires loose { AreLooseNodes nodes.now.facts.now nodes.now.hier.now loose.now }
     requires node { n < length nodes.now.hier.now.order.live }
     ensures { result ≡ any_below (length nodes.now.hier.now.order.live) (is_loose_above nodes.now.facts.now nodes.now.hier.now n) }
@@ -239,7 +239,7 @@ pub fn first_unchained(
 
 /// The first two class nodes at or above a node that are not ordered: none, where no loose one is at or above it.
 fn first_unchained_above(nodes: &ClassNodes, loose: &BitRow, n: u32) -> Option<Broken>
-    requires nodes { AreNodes nodes.now }
+    requires nodes { HasClassNodes nodes.now }
     requires loose { AreLooseNodes nodes.now.facts.now nodes.now.hier.now loose.now }
     requires node { n < length nodes.now.hier.now.order.live }
     ensures { result ≡ first_below (length nodes.now.hier.now.order.live) (λ x. first_below (length nodes.now.hier.now.order.live)
@@ -254,7 +254,7 @@ fn first_unchained_above(nodes: &ClassNodes, loose: &BitRow, n: u32) -> Option<B
 /// The first two class nodes at or above a node that are not ordered.
 #[tactic(auto, using(kaba_bits::proofs::FirstLemmas::first_below_found))]
 fn first_unchained_at(nodes: &ClassNodes, n: u32) -> Option<Broken>
-    requires nodes { AreNodes nodes.now }
+    requires nodes { HasClassNodes nodes.now }
     requires node { n < length nodes.now.hier.now.order.live }
     ensures { result ≡ first_below (length nodes.now.hier.now.order.live) (λ x. first_below (length nodes.now.hier.now.order.live)
         (unchained nodes.now.facts.now nodes.now.hier.now n x)) }
@@ -265,7 +265,7 @@ fn first_unchained_at(nodes: &ClassNodes, n: u32) -> Option<Broken>
 /// The first class node at or above a node that is not ordered with one before it.
 #[tactic(auto, using(kaba_bits::proofs::FirstLemmas::first_below_found))]
 fn first_unchained_with(nodes: &ClassNodes, n: u32, x: u32) -> Option<Broken>
-    requires nodes { AreNodes nodes.now }
+    requires nodes { HasClassNodes nodes.now }
     requires node { n < length nodes.now.hier.now.order.live }
     requires first { x < length nodes.now.hier.now.order.live }
     ensures { result ≡ first_below (length nodes.now.hier.now.order.live) (unchained nodes.now.facts.now nodes.now.hier.now n x) }

@@ -1,7 +1,7 @@
 //! B8, part 4: no type offers two slots, or two fields, of one name.
 
 ghost use Rattle.std.specs.Prelude.{◌≡◌, ℕ, ◌<◌, ◌&&◌, ◌∷◌, ◌++◌, [], List, cond, length, true, Some, IfOk, OnOk};
-ghost use Rattle.hier_rules.specs.Words.{is_live, first_below, is_offered, IsAsked};
+ghost use Rattle.hier_rules.specs.Words.{is_live, first_below, is_offered, IsObligationInput};
 ghost use Rattle.std.specs.Str.{bytes_eq, encode_utf8_all};
 ghost use Rattle.indexmap.specs.IndexMap.{get_by_text};
 ghost use Rattle.hier_rules.specs.Asked.{are_two_slots};
@@ -49,7 +49,7 @@ fn are_two_slots(a: Option<u32>, b: Option<u32>) -> bool
 
 /// Whether two columns have one name, and are two fields or of two slots.
 fn clash(asked: &Asked, c: u32, d: u32) -> bool
-    requires asked { IsAsked asked.now }
+    requires asked { IsObligationInput asked.now }
     requires one { c < length asked.now.facts.now.columns.items }
     requires other { d < length asked.now.facts.now.columns.items }
     ensures { result ≡ clash asked.now.facts.now asked.now.hier.now c d }
@@ -65,7 +65,7 @@ fn clash(asked: &Asked, c: u32, d: u32) -> bool
 
 /// Adds two columns, if they clash.
 fn add_clash(asked: &Asked, c: u32, d: u32, clashes: &mut Vec<ClashPair>) -> Result<(), AllocError>
-    requires asked { IsAsked asked.now }
+    requires asked { IsObligationInput asked.now }
     requires one { c < length asked.now.facts.now.columns.items }
     requires other { d < length asked.now.facts.now.columns.items }
     ensures { OnOk result (clashes.new.items ≡ clashes.old.items ++ cond (clash asked.now.facts.now asked.now.hier.now c d)
@@ -98,7 +98,7 @@ fn put_last(
 
 /// For each column the last one before it of its name. An error comes only for want of memory.
 fn links(alloc: Global, asked: &Asked) -> Result<Vec<Option<u32>>, AllocError>
-    requires { IsAsked asked.now }
+    requires { IsObligationInput asked.now }
     ensures { IfOk result (λ v. AreLinks asked.now.hier.now (length asked.now.facts.now.columns.items) v.items) }
 {
     let mut links = Vec::new(alloc);
@@ -117,7 +117,7 @@ fn add_clashes(
     d: u32,
     clashes: &mut Vec<ClashPair>,
 ) -> Result<(), AllocError>
-    requires asked { IsAsked asked.now }
+    requires asked { IsObligationInput asked.now }
     requires links { AreLinks asked.now.hier.now (length asked.now.facts.now.columns.items) links.now }
     requires column { d < length asked.now.facts.now.columns.items }
     requires before { AreClashes asked.now.facts.now asked.now.hier.now d d clashes.old.items }
@@ -137,7 +137,7 @@ fn add_clashes(
 
 /// All clashes, by the greater of their columns. An error comes only for want of memory.
 fn all_clashes(alloc: Global, asked: &Asked) -> Result<Vec<ClashPair>, AllocError>
-    requires { IsAsked asked.now }
+    requires { IsObligationInput asked.now }
     ensures { IfOk result (λ v. AreClashes asked.now.facts.now asked.now.hier.now (length asked.now.facts.now.columns.items)
         (length asked.now.facts.now.columns.items) v.items) }
 {
@@ -151,7 +151,7 @@ fn all_clashes(alloc: Global, asked: &Asked) -> Result<Vec<ClashPair>, AllocErro
 
 /// Whether a live node offers both columns of a clash.
 fn offers_both(asked: &Asked, n: u32, x: ClashPair) -> bool
-    requires asked { IsAsked asked.now }
+    requires asked { IsObligationInput asked.now }
     requires node { is_live asked.now.hier.now.order n ≡ true }
     requires first { x.first < length asked.now.facts.now.columns.items }
     requires second { x.second < length asked.now.facts.now.columns.items }
@@ -162,7 +162,7 @@ fn offers_both(asked: &Asked, n: u32, x: ClashPair) -> bool
 
 /// The first column that a node offers with one before it that clashes with it.
 fn first_confused_at(asked: &Asked, clashes: &[ClashPair], n: u32) -> Option<Broken>
-    requires asked { IsAsked asked.now }
+    requires asked { IsObligationInput asked.now }
     requires clashes { AreClashes asked.now.facts.now asked.now.hier.now (length asked.now.facts.now.columns.items)
         (length asked.now.facts.now.columns.items) clashes.now }
     ensures { result ≡ first_below (length asked.now.facts.now.columns.items) (confused asked.now.facts.now asked.now.hier.now n) }
@@ -181,7 +181,7 @@ fn first_confused_at(asked: &Asked, clashes: &[ClashPair], n: u32) -> Option<Bro
 /// The first two members of one name that a type offers. An error comes only for want of memory.
 #[tactic(auto, using(kaba_bits::proofs::FirstLemmas::first_below_found))]
 pub fn first_confused(alloc: Global, asked: &Asked) -> Result<Option<Broken>, AllocError>
-    requires { IsAsked asked.now }
+    requires { IsObligationInput asked.now }
     ensures { IfOk result (λ b. b ≡ first_confused asked.now.facts.now asked.now.hier.now) }
 {
     let clashes = all_clashes(alloc, asked)?;

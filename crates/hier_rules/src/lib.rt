@@ -3,7 +3,7 @@
 #![tactic(auto)]
 
 ghost use Rattle.std.specs.Prelude.{◌≡◌, IfOk};
-ghost use Rattle.hier_rules.specs.Words.{IsAsked};
+ghost use Rattle.hier_rules.specs.Words.{IsObligationInput};
 ghost use Rattle.hier_rules.specs.First.{first_changed_run, first_of_edit, first_broken};
 
 /// Whether one of the numbers below a count passes a test.
@@ -67,7 +67,7 @@ use std::alloc::{AllocError, Global};
 /// The first instance of the first broken obligation of B2 to B9, by the numbers that each names in
 /// turn; `None` where all hold. The sets are those of the facts. An error comes only for want of memory.
 pub fn first_broken(alloc: Global, asked: &Asked) -> Result<Option<Broken>, AllocError>
-    requires { IsAsked asked.now }
+    requires { IsObligationInput asked.now }
     ensures first { IfOk result (λ b. b ≡ first_broken asked.now.facts.now asked.now.pt.now asked.now.hier.now) }
 {
     match first_of_edit(alloc, asked)? {
@@ -78,7 +78,7 @@ pub fn first_broken(alloc: Global, asked: &Asked) -> Result<Option<Broken>, Allo
 
 /// The same of B2 to B8, which an edit is tested for.
 pub fn first_of_edit(alloc: Global, asked: &Asked) -> Result<Option<Broken>, AllocError>
-    requires { IsAsked asked.now }
+    requires { IsObligationInput asked.now }
     ensures first { IfOk result (λ b. b ≡ first_of_edit asked.now.facts.now asked.now.pt.now asked.now.hier.now) }
 {
     if let Some(found) = first_unoffered(asked) {
@@ -95,7 +95,7 @@ pub fn first_of_edit(alloc: Global, asked: &Asked) -> Result<Option<Broken>, All
 
 /// The first instance against B4, B5, B6 and B7: of bodies and of outcomes.
 fn first_changed_run(alloc: Global, asked: &Asked) -> Result<Option<Broken>, AllocError>
-    requires { IsAsked asked.now }
+    requires { IsObligationInput asked.now }
     ensures { IfOk result (λ b. b ≡ first_changed_run asked.now.facts.now asked.now.pt.now asked.now.hier.now) }
 {
     if let Some(found) = first_wrong_need(alloc, asked)? {

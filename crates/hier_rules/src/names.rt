@@ -1,7 +1,7 @@
 //! B8, parts 1 to 3: names are identifiers, and apart from each other.
 
 ghost use Rattle.std.specs.Prelude.{◌≡◌, ℕ, ◌<◌, ◌&&◌, ◌∷◌, ◌++◌, [], Bool, true, cond, length, All, IfOk, OnOk};
-ghost use Rattle.hier_rules.specs.Words.{bytes_eq, or_else, first_below, is_live, AreTaken, IsAsked};
+ghost use Rattle.hier_rules.specs.Words.{bytes_eq, or_else, first_below, is_live, AreTaken, IsObligationInput};
 ghost use Rattle.kaba_base.specs.Words.{is_name};
 ghost use Rattle.hier_model.specs.Names.{is_field};
 ghost use Rattle.hier_rules.specs.Instances.{of_node};
@@ -60,7 +60,7 @@ fn is_member(kind: ColKind) -> bool
 
 /// The first column of a rising list that stands at a node.
 fn first_standing(asked: &Asked, list: &[u32], n: u32) -> Option<Broken>
-    requires asked { IsAsked asked.now }
+    requires asked { IsObligationInput asked.now }
     requires list { All (λ c. c < length asked.now.facts.now.columns.items) list.now }
     ensures { (p : ℕ → Bool) → ListsColumns asked.now.facts.now p list.now → result ≡ first_standing asked.now.facts.now asked.now.hier.now n p }
 {
@@ -74,7 +74,7 @@ fn first_standing(asked: &Asked, list: &[u32], n: u32) -> Option<Broken>
 
 /// Whether a column is a member whose name cannot be written.
 fn is_unwritable_member(asked: &Asked, c: u32) -> bool
-    requires asked { IsAsked asked.now }
+    requires asked { IsObligationInput asked.now }
     requires column { c < length asked.now.facts.now.columns.items }
     ensures { result ≡ is_unwritable_member asked.now.facts.now asked.now.hier.now c }
 {
@@ -94,7 +94,7 @@ fn add_if(list: &mut Vec<u32>, passes: bool, c: u32) -> Result<(), AllocError>
 
 /// The members whose names cannot be written. An error comes only for want of memory.
 fn unwritable_members(alloc: Global, asked: &Asked) -> Result<Vec<u32>, AllocError>
-    requires { IsAsked asked.now }
+    requires { IsObligationInput asked.now }
     ensures { IfOk result (λ v. ListsColumns asked.now.facts.now (is_unwritable_member asked.now.facts.now asked.now.hier.now) v.items) }
 {
     let mut list = Vec::new(alloc);
@@ -107,7 +107,7 @@ fn unwritable_members(alloc: Global, asked: &Asked) -> Result<Vec<u32>, AllocErr
 /// The first name of a type or of a member that cannot be written. An error comes only for want of memory.
 #[tactic(auto, using(kaba_bits::proofs::FirstLemmas::first_below_found))]
 fn first_unwritable(alloc: Global, asked: &Asked) -> Result<Option<Broken>, AllocError>
-    requires { IsAsked asked.now }
+    requires { IsObligationInput asked.now }
     ensures { IfOk result (λ b. b ≡ first_unwritable asked.now.facts.now asked.now.hier.now) }
 {
     let list = unwritable_members(alloc, asked)?;
@@ -116,7 +116,7 @@ fn first_unwritable(alloc: Global, asked: &Asked) -> Result<Option<Broken>, Allo
 
 /// The same at one node, by the members of which that is so.
 fn first_unwritable_at(asked: &Asked, list: &[u32], n: u32) -> Option<Broken>
-    requires asked { IsAsked asked.now }
+    requires asked { IsObligationInput asked.now }
     requires list { ListsColumns asked.now.facts.now (is_unwritable_member asked.now.facts.now asked.now.hier.now) list.now }
     requires node { n < length asked.now.hier.now.order.live }
     ensures { result ≡ or_else (unwritable_type asked.now.facts.now asked.now.hier.now n)
@@ -131,7 +131,7 @@ fn first_unwritable_at(asked: &Asked, list: &[u32], n: u32) -> Option<Broken>
 /// The first name of a type that another type, a class with static members, the language or a variable has.
 #[tactic(auto, using(kaba_bits::proofs::FirstLemmas::first_below_found))]
 fn first_taken_type(asked: &Asked, taken: &Taken) -> Option<Broken>
-    requires asked { IsAsked asked.now }
+    requires asked { IsObligationInput asked.now }
     requires taken { AreTaken asked.now.facts.now asked.now.hier.now taken.now }
     ensures { result ≡ first_taken_type asked.now.facts.now asked.now.hier.now }
 {
@@ -145,7 +145,7 @@ fn first_taken_type(asked: &Asked, taken: &Taken) -> Option<Broken>
 
 /// Whether the name of a live node's type is taken.
 fn is_taken_type(asked: &Asked, taken: &Taken, n: u32) -> bool
-    requires asked { IsAsked asked.now }
+    requires asked { IsObligationInput asked.now }
     requires taken { AreTaken asked.now.facts.now asked.now.hier.now taken.now }
     requires node { is_live asked.now.hier.now.order n ≡ true }
     ensures { result ≡ is_taken_type asked.now.facts.now asked.now.hier.now n }
@@ -159,7 +159,7 @@ fn is_taken_type(asked: &Asked, taken: &Taken, n: u32) -> bool
 
 /// Whether the name of a member is one of a type, or reserved.
 fn is_taken_name(asked: &Asked, taken: &Taken, c: u32) -> bool
-    requires asked { IsAsked asked.now }
+    requires asked { IsObligationInput asked.now }
     requires taken { AreTaken asked.now.facts.now asked.now.hier.now taken.now }
     requires column { c < length asked.now.facts.now.columns.items }
     ensures { result ≡ is_taken_name asked.now.facts.now asked.now.hier.now c }
@@ -170,7 +170,7 @@ fn is_taken_name(asked: &Asked, taken: &Taken, c: u32) -> bool
 
 /// Whether a column is a field whose name is taken.
 fn is_taken_field(asked: &Asked, taken: &Taken, c: u32) -> bool
-    requires asked { IsAsked asked.now }
+    requires asked { IsObligationInput asked.now }
     requires taken { AreTaken asked.now.facts.now asked.now.hier.now taken.now }
     requires column { c < length asked.now.facts.now.columns.items }
     ensures { result ≡ is_taken_field asked.now.facts.now asked.now.hier.now c }
@@ -180,7 +180,7 @@ fn is_taken_field(asked: &Asked, taken: &Taken, c: u32) -> bool
 
 /// The fields whose names are taken. An error comes only for want of memory.
 fn taken_fields(alloc: Global, asked: &Asked, taken: &Taken) -> Result<Vec<u32>, AllocError>
-    requires asked { IsAsked asked.now }
+    requires asked { IsObligationInput asked.now }
     requires taken { AreTaken asked.now.facts.now asked.now.hier.now taken.now }
     ensures { IfOk result (λ v. ListsColumns asked.now.facts.now (is_taken_field asked.now.facts.now asked.now.hier.now) v.items) }
 {
@@ -194,7 +194,7 @@ fn taken_fields(alloc: Global, asked: &Asked, taken: &Taken) -> Result<Vec<u32>,
 /// The first field whose name is taken, by the fields of which that is so.
 #[tactic(auto, using(kaba_bits::proofs::FirstLemmas::first_below_found))]
 fn first_taken_field(asked: &Asked, list: &[u32]) -> Option<Broken>
-    requires asked { IsAsked asked.now }
+    requires asked { IsObligationInput asked.now }
     requires list { ListsColumns asked.now.facts.now (is_taken_field asked.now.facts.now asked.now.hier.now) list.now }
     ensures { result ≡ first_taken_field asked.now.facts.now asked.now.hier.now }
 {
@@ -203,7 +203,7 @@ fn first_taken_field(asked: &Asked, list: &[u32]) -> Option<Broken>
 
 /// The first instance against the parts of B8 after the first, by the names that are taken.
 fn first_taken(alloc: Global, asked: &Asked, taken: &Taken) -> Result<Option<Broken>, AllocError>
-    requires asked { IsAsked asked.now }
+    requires asked { IsObligationInput asked.now }
     requires taken { AreTaken asked.now.facts.now asked.now.hier.now taken.now }
     ensures { IfOk result (λ b. b ≡ or_else (first_taken_type asked.now.facts.now asked.now.hier.now)
         (or_else (first_taken_field asked.now.facts.now asked.now.hier.now) (first_confused asked.now.facts.now asked.now.hier.now))) }
@@ -220,7 +220,7 @@ fn first_taken(alloc: Global, asked: &Asked, taken: &Taken) -> Result<Option<Bro
 
 /// The first instance against the parts of B8 after the first. An error comes only for want of memory.
 fn first_not_apart(alloc: Global, asked: &Asked) -> Result<Option<Broken>, AllocError>
-    requires { IsAsked asked.now }
+    requires { IsObligationInput asked.now }
     ensures { IfOk result (λ b. b ≡ or_else (first_taken_type asked.now.facts.now asked.now.hier.now)
         (or_else (first_taken_field asked.now.facts.now asked.now.hier.now) (first_confused asked.now.facts.now asked.now.hier.now))) }
 {
@@ -230,7 +230,7 @@ fn first_not_apart(alloc: Global, asked: &Asked) -> Result<Option<Broken>, Alloc
 
 /// The first instance against B8. An error comes only for want of memory.
 pub fn first_misnamed(alloc: Global, asked: &Asked) -> Result<Option<Broken>, AllocError>
-    requires { IsAsked asked.now }
+    requires { IsObligationInput asked.now }
     ensures { IfOk result (λ b. b ≡ first_misnamed asked.now.facts.now asked.now.hier.now) }
 {
     match first_unwritable(alloc, asked)? {

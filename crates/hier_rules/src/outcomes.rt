@@ -1,7 +1,7 @@
 //! B7: the outcomes of casts, `instanceof` and stores into arrays.
 
 ghost use Rattle.std.specs.Prelude.{◌≡◌, ℕ, ◌<◌, ◌↔◌, ◌==◌, ◌&&◌, ◌||◌, ◌++◌, true, map, filter, length, IfOk, Contains};
-ghost use Rattle.hier_rules.specs.Words.{list_any, IsNonDecreasing, bit, row, first_below, row_class, IsAsked};
+ghost use Rattle.hier_rules.specs.Words.{list_any, IsNonDecreasing, bit, row, first_below, row_class, IsObligationInput};
 ghost use Rattle.fact_model.specs.Classes.{below};
 ghost use Rattle.fact_model.specs.InRange.{InRange, IsClass};
 ghost use Rattle.hier_rules.specs.Asked.{is_element, is_array_at, has_array, is_test_at, is_store_at, is_target, is_tested, meets, is_asked};
@@ -65,7 +65,7 @@ fn asked_places(alloc: Global, facts: &Facts) -> Result<Vec<u32>, AllocError>
 
 /// Whether a site is an array site in the set of a point, of a row.
 fn is_array_at(asked: &Asked, base: u32, t: u32, a: u32) -> bool
-    requires asked { IsAsked asked.now }
+    requires asked { IsObligationInput asked.now }
     requires base { base < length asked.now.facts.now.points.items }
     requires site { a < length asked.now.facts.now.sites.items }
     ensures { result ≡ is_array_at asked.now.facts.now asked.now.pt.now base t a }
@@ -77,7 +77,7 @@ fn is_array_at(asked: &Asked, base: u32, t: u32, a: u32) -> bool
 /// Whether an array site in the set of a point has a row.
 #[tactic(auto, using(hier_model::proofs::AnyLemmas::any_below_found))]
 fn has_array(asked: &Asked, base: u32, t: u32) -> bool
-    requires asked { IsAsked asked.now }
+    requires asked { IsObligationInput asked.now }
     requires base { base < length asked.now.facts.now.points.items }
     ensures { result ≡ has_array asked.now.facts.now asked.now.pt.now base t }
 {
@@ -86,7 +86,7 @@ fn has_array(asked: &Asked, base: u32, t: u32) -> bool
 
 /// Adds the row of a site, if it is an array site in the set of a point.
 fn add_array(asked: &Asked, base: u32, a: u32, targets: &mut BitRow)
-    requires asked { IsAsked asked.now }
+    requires asked { IsObligationInput asked.now }
     requires base { base < length asked.now.facts.now.points.items }
     requires site { a < length asked.now.facts.now.sites.items }
     requires width { length targets.old ≡ length asked.now.facts.now.rows.items }
@@ -101,7 +101,7 @@ fn add_array(asked: &Asked, base: u32, a: u32, targets: &mut BitRow)
 
 /// Adds the rows of the array sites in the set of a point.
 fn add_arrays(asked: &Asked, base: u32, targets: &mut BitRow)
-    requires asked { IsAsked asked.now }
+    requires asked { IsObligationInput asked.now }
     requires base { base < length asked.now.facts.now.points.items }
     requires width { length targets.old ≡ length asked.now.facts.now.rows.items }
     ensures width { length targets.new ≡ length targets.old }
@@ -127,7 +127,7 @@ fn add_target(facts: &Facts, p: u32, x: TestInfo, targets: &mut BitRow)
 
 /// Adds the rows of the arrays of a store, if it is one of an element at a place.
 fn add_targets(asked: &Asked, p: u32, x: StoreInfo, targets: &mut BitRow)
-    requires asked { IsAsked asked.now }
+    requires asked { IsObligationInput asked.now }
     requires store { Contains asked.now.facts.now.stores.items x }
     requires width { length targets.old ≡ length asked.now.facts.now.rows.items }
     ensures width { length targets.new ≡ length targets.old }
@@ -153,7 +153,7 @@ fn test_targets(alloc: Global, facts: &Facts, p: u32) -> Result<BitRow, AllocErr
 
 /// The rows of the tests, and of the arrays that are stored into, at a place. An error comes only for want of memory.
 fn targets_at(alloc: Global, asked: &Asked, p: u32) -> Result<BitRow, AllocError>
-    requires { IsAsked asked.now }
+    requires { IsObligationInput asked.now }
     ensures width { IfOk result (λ v. length v ≡ length asked.now.facts.now.rows.items) }
     ensures targets { IfOk result (λ v. (t : ℕ) → bit v t ≡ is_target asked.now.facts.now asked.now.pt.now p t) }
 {
@@ -166,7 +166,7 @@ fn targets_at(alloc: Global, asked: &Asked, p: u32) -> Result<BitRow, AllocError
 
 /// Adds the sites in the operand of a test, if it is one of a row at a place.
 fn add_tested(asked: &Asked, p: u32, t: u32, x: TestInfo, sites: &mut BitRow)
-    requires asked { IsAsked asked.now }
+    requires asked { IsObligationInput asked.now }
     requires test { Contains asked.now.facts.now.tests.items x }
     requires width { length sites.old ≡ length asked.now.facts.now.sites.items }
     ensures width { length sites.new ≡ length sites.old }
@@ -179,7 +179,7 @@ fn add_tested(asked: &Asked, p: u32, t: u32, x: TestInfo, sites: &mut BitRow)
 
 /// Adds the sites in the value of a store, if it is one into an array of a row at a place.
 fn add_stored(asked: &Asked, p: u32, t: u32, x: StoreInfo, sites: &mut BitRow)
-    requires asked { IsAsked asked.now }
+    requires asked { IsObligationInput asked.now }
     requires store { Contains asked.now.facts.now.stores.items x }
     requires width { length sites.old ≡ length asked.now.facts.now.sites.items }
     ensures width { length sites.new ≡ length sites.old }
@@ -193,7 +193,7 @@ fn add_stored(asked: &Asked, p: u32, t: u32, x: StoreInfo, sites: &mut BitRow)
 
 /// The sites in the operands of the tests of a row at a place. An error comes only for want of memory.
 fn tested_sites(alloc: Global, asked: &Asked, p: u32, t: u32) -> Result<BitRow, AllocError>
-    requires { IsAsked asked.now }
+    requires { IsObligationInput asked.now }
     ensures width { IfOk result (λ v. length v ≡ length asked.now.facts.now.sites.items) }
     ensures sites { IfOk result (λ v. (s : ℕ) → bit v s ≡ is_tested asked.now.facts.now asked.now.pt.now p t s) }
 {
@@ -206,7 +206,7 @@ fn tested_sites(alloc: Global, asked: &Asked, p: u32, t: u32) -> Result<BitRow, 
 
 /// The sites that meet a target at a place. An error comes only for want of memory.
 fn sites_at(alloc: Global, asked: &Asked, p: u32, t: u32) -> Result<BitRow, AllocError>
-    requires { IsAsked asked.now }
+    requires { IsObligationInput asked.now }
     ensures width { IfOk result (λ v. length v ≡ length asked.now.facts.now.sites.items) }
     ensures sites { IfOk result (λ v. (s : ℕ) → bit v s ≡ meets asked.now.facts.now asked.now.pt.now p t s) }
 {
@@ -219,7 +219,7 @@ fn sites_at(alloc: Global, asked: &Asked, p: u32, t: u32) -> Result<BitRow, Allo
 
 /// Whether a site stands at or below a target's row where it should not, or does not where it should.
 fn is_wrong(asked: &Asked, r: u32, class: ClassId, t: u32) -> bool
-    requires asked { IsAsked asked.now }
+    requires asked { IsObligationInput asked.now }
     requires row { r < length asked.now.facts.now.rows.items }
     requires class { IsClass asked.now.facts.now class }
     requires target { t < length asked.now.facts.now.rows.items }
@@ -237,7 +237,7 @@ fn first_wrong_site(
     p: u32,
     t: u32,
 ) -> Result<Option<Broken>, AllocError>
-    requires asked { IsAsked asked.now }
+    requires asked { IsObligationInput asked.now }
     requires target { t < length asked.now.facts.now.rows.items }
     ensures { IfOk result (λ b. b ≡ first_below (length asked.now.facts.now.sites.items)
         (wrong_outcome asked.now.facts.now asked.now.pt.now asked.now.hier.now p t)) }
@@ -261,7 +261,7 @@ fn first_wrong_at(
     p: u32,
     t: u32,
 ) -> Result<Option<Broken>, AllocError>
-    requires asked { IsAsked asked.now }
+    requires asked { IsObligationInput asked.now }
     requires width { length targets.now ≡ length asked.now.facts.now.rows.items }
     requires targets { (k : ℕ) → bit targets.now k ≡ is_target asked.now.facts.now asked.now.pt.now p k }
     requires target { t < length asked.now.facts.now.rows.items }
@@ -277,7 +277,7 @@ fn first_wrong_at(
 /// The first target at a place that a site meets with another outcome. An error comes only for want of memory.
 #[tactic(auto, using(kaba_bits::proofs::FirstLemmas::first_below_found))]
 fn first_wrong_target(alloc: Global, asked: &Asked, p: u32) -> Result<Option<Broken>, AllocError>
-    requires { IsAsked asked.now }
+    requires { IsObligationInput asked.now }
     ensures { IfOk result (λ b. b ≡ first_wrong_of_place asked.now.facts.now asked.now.pt.now asked.now.hier.now p) }
 {
     let targets = targets_at(alloc, asked, p)?;
@@ -286,7 +286,7 @@ fn first_wrong_target(alloc: Global, asked: &Asked, p: u32) -> Result<Option<Bro
 
 /// The first instance against B7. An error comes only for want of memory.
 pub fn first_wrong_outcome(alloc: Global, asked: &Asked) -> Result<Option<Broken>, AllocError>
-    requires { IsAsked asked.now }
+    requires { IsObligationInput asked.now }
     ensures { IfOk result (λ b. b ≡ first_wrong_outcome asked.now.facts.now asked.now.pt.now asked.now.hier.now) }
 {
     let places = asked_places(alloc, asked.facts)?;
@@ -299,7 +299,7 @@ fn first_wrong_place(
     asked: &Asked,
     places: &[u32],
 ) -> Result<Option<Broken>, AllocError>
-    requires asked { IsAsked asked.now }
+    requires asked { IsObligationInput asked.now }
     requires sorted { IsNonDecreasing places.now }
     requires places { (p : ℕ) → Contains places.now p ↔ (is_asked asked.now.facts.now p ≡ true) }
     ensures { IfOk result (λ b. b ≡ first_wrong_outcome asked.now.facts.now asked.now.pt.now asked.now.hier.now) }

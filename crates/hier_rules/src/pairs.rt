@@ -3,7 +3,7 @@
 ghost use Rattle.std.specs.Prelude.{◌≡◌, ℕ, ◌<◌, ◌||◌, length, IfOk};
 ghost use Rattle.hier_rules.specs.Words.{bit, row, InRange};
 ghost use Rattle.hier_rules.specs.Asked.{is_pair, is_tie, is_super};
-ghost use Rattle.hier_rules.specs.Pairs.{ArePairs};
+ghost use Rattle.hier_rules.specs.Pairs.{ArePairRows};
 
 use fact_model::Facts;
 use kaba_bits::{BitRow, empty_rows, set_at};
@@ -23,7 +23,7 @@ macro_rules! rows_of_pairs {
 /// For each row the upper rows of its ties. An error comes only for want of memory.
 pub fn tie_rows(alloc: Global, facts: &Facts) -> Result<Vec<BitRow>, AllocError>
     requires { InRange facts.now }
-    ensures { IfOk result (λ v. ArePairs (length facts.now.rows.items) (length facts.now.rows.items) (is_tie facts.now) v.items) }
+    ensures { IfOk result (λ v. ArePairRows (length facts.now.rows.items) (length facts.now.rows.items) (is_tie facts.now) v.items) }
 {
     rows_of_pairs!(alloc, facts, facts.rows.len() as u32; x in &facts.ties => x.lower, x.upper)
 }
@@ -31,7 +31,7 @@ pub fn tie_rows(alloc: Global, facts: &Facts) -> Result<Vec<BitRow>, AllocError>
 /// For each row the bodies that super calls in its method run. An error comes only for want of memory.
 pub fn super_rows(alloc: Global, facts: &Facts) -> Result<Vec<BitRow>, AllocError>
     requires { InRange facts.now }
-    ensures { IfOk result (λ v. ArePairs (length facts.now.rows.items) (length facts.now.columns.items) (is_super facts.now) v.items) }
+    ensures { IfOk result (λ v. ArePairRows (length facts.now.rows.items) (length facts.now.columns.items) (is_super facts.now) v.items) }
 {
     rows_of_pairs!(alloc, facts, facts.columns.len() as u32; x in &facts.supers => x.row, x.column)
 }

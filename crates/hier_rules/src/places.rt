@@ -1,7 +1,7 @@
 //! Where rows and columns stand, and what is offered.
 
 ghost use Rattle.std.specs.Prelude.{◌≡◌, ◌<◌, true, length, IfSome};
-ghost use Rattle.hier_rules.specs.Words.{is_le, is_live, IsAsked};
+ghost use Rattle.hier_rules.specs.Words.{is_le, is_live, IsObligationInput};
 ghost use Rattle.hier_model.specs.Hierarchies.{place_of_column, place_of_row, is_offered, is_at, stands_at};
 ghost use Rattle.hier_rules.specs.Obligations.{is_below, row_le, column_le, is_above};
 
@@ -43,7 +43,7 @@ pub fn is_le(hier: &Hier, a: u32, b: u32) -> bool
 
 /// The node where a row stands.
 pub fn place_of_row(asked: &Asked, r: u32) -> NodeId
-    requires asked { IsAsked asked.now }
+    requires asked { IsObligationInput asked.now }
     requires row { r < length asked.now.facts.now.rows.items }
     ensures place { result.0 ≡ place_of_row asked.now.hier.now r }
     ensures live { is_live asked.now.hier.now.order result.0 ≡ true }
@@ -53,7 +53,7 @@ pub fn place_of_row(asked: &Asked, r: u32) -> NodeId
 
 /// The node where a column stands, if it stands anywhere.
 pub fn place_of_column(asked: &Asked, c: u32) -> Option<NodeId>
-    requires asked { IsAsked asked.now }
+    requires asked { IsObligationInput asked.now }
     requires column { c < length asked.now.facts.now.columns.items }
     ensures place { result ≡ place_of_column asked.now.hier.now c }
     ensures live { IfSome result (λ p. is_live asked.now.hier.now.order p.0 ≡ true) }
@@ -63,7 +63,7 @@ pub fn place_of_column(asked: &Asked, c: u32) -> Option<NodeId>
 
 /// Whether a row stands at or below another.
 pub fn row_le(asked: &Asked, r: u32, v: u32) -> bool
-    requires asked { IsAsked asked.now }
+    requires asked { IsObligationInput asked.now }
     requires lower { r < length asked.now.facts.now.rows.items }
     requires upper { v < length asked.now.facts.now.rows.items }
     ensures { result ≡ row_le asked.now.hier.now r v }
@@ -88,7 +88,7 @@ fn is_below(order: &Order, place: Option<NodeId>, other: Option<NodeId>) -> bool
 
 /// Whether a column stands at or below another.
 pub fn column_le(asked: &Asked, c: u32, d: u32) -> bool
-    requires asked { IsAsked asked.now }
+    requires asked { IsObligationInput asked.now }
     requires lower { c < length asked.now.facts.now.columns.items }
     requires upper { d < length asked.now.facts.now.columns.items }
     ensures { result ≡ column_le asked.now.hier.now c d }
@@ -102,7 +102,7 @@ pub fn column_le(asked: &Asked, c: u32, d: u32) -> bool
 
 /// Whether a column stands at a live node or above it.
 pub fn is_offered(asked: &Asked, n: NodeId, c: u32) -> bool
-    requires asked { IsAsked asked.now }
+    requires asked { IsObligationInput asked.now }
     requires node { is_live asked.now.hier.now.order n.0 ≡ true }
     requires column { c < length asked.now.facts.now.columns.items }
     ensures { result ≡ is_offered asked.now.hier.now n.0 c }
@@ -112,7 +112,7 @@ pub fn is_offered(asked: &Asked, n: NodeId, c: u32) -> bool
 
 /// Whether a column stands strictly above a live node.
 pub fn is_above(asked: &Asked, n: NodeId, c: u32) -> bool
-    requires asked { IsAsked asked.now }
+    requires asked { IsObligationInput asked.now }
     requires node { is_live asked.now.hier.now.order n.0 ≡ true }
     requires column { c < length asked.now.facts.now.columns.items }
     ensures { result ≡ is_above asked.now.hier.now n.0 c }
@@ -135,7 +135,7 @@ fn is_at(n: u32, place: Option<NodeId>) -> bool
 
 /// Whether a column stands at a node.
 pub fn stands_at(asked: &Asked, n: u32, c: u32) -> bool
-    requires asked { IsAsked asked.now }
+    requires asked { IsObligationInput asked.now }
     requires column { c < length asked.now.facts.now.columns.items }
     ensures { result ≡ stands_at asked.now.hier.now n c }
 {

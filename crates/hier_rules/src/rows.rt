@@ -2,9 +2,9 @@
 #![tactic(auto, using(kaba_bits::proofs::FirstLemmas::first_below_found))]
 
 ghost use Rattle.std.specs.Prelude.{◌≡◌, ℕ, ◌<◌, length, IfOk};
-ghost use Rattle.hier_rules.specs.Words.{first_below, IsAsked};
+ghost use Rattle.hier_rules.specs.Words.{first_below, IsObligationInput};
 ghost use Rattle.hier_rules.specs.Asked.{is_tie};
-ghost use Rattle.hier_rules.specs.Pairs.{ArePairs, IsPairsRow};
+ghost use Rattle.hier_rules.specs.Pairs.{ArePairRows, IsPairsRow};
 ghost use Rattle.hier_rules.specs.Instances.{of_both, of_row};
 ghost use Rattle.hier_rules.specs.Obligations.{unoffered, first_unoffered, untied, unheld, first_untied};
 
@@ -42,7 +42,7 @@ pub fn of_row(rule: Rule, n: NodeId, m: NodeId, r: u32) -> Broken
 
 /// The first instance against B2.
 pub fn first_unoffered(asked: &Asked) -> Option<Broken>
-    requires { IsAsked asked.now }
+    requires { IsObligationInput asked.now }
     ensures { result ≡ first_unoffered asked.now.facts.now asked.now.hier.now }
 {
     first_below!(r < asked.facts.rows.len() as u32; first_unoffered_of(asked, r))
@@ -50,7 +50,7 @@ pub fn first_unoffered(asked: &Asked) -> Option<Broken>
 
 /// The first column that a row has and is not offered.
 fn first_unoffered_of(asked: &Asked, r: u32) -> Option<Broken>
-    requires asked { IsAsked asked.now }
+    requires asked { IsObligationInput asked.now }
     requires row { r < length asked.now.facts.now.rows.items }
     ensures { result ≡ first_below (length asked.now.facts.now.columns.items) (unoffered asked.now.facts.now asked.now.hier.now r) }
 {
@@ -66,7 +66,7 @@ fn first_unoffered_of(asked: &Asked, r: u32) -> Option<Broken>
 
 /// The first instance against B3. An error comes only for want of memory.
 pub fn first_untied(alloc: Global, asked: &Asked) -> Result<Option<Broken>, AllocError>
-    requires { IsAsked asked.now }
+    requires { IsObligationInput asked.now }
     ensures { IfOk result (λ b. b ≡ first_untied asked.now.facts.now asked.now.pt.now asked.now.hier.now) }
 {
     let ties = tie_rows(alloc, asked.facts)?;
@@ -78,8 +78,8 @@ pub fn first_untied(alloc: Global, asked: &Asked) -> Result<Option<Broken>, Allo
 
 /// The first tie whose lower row does not stand at or below its upper.
 fn first_tie(asked: &Asked, ties: &[BitRow]) -> Option<Broken>
-    requires asked { IsAsked asked.now }
-    requires ties { ArePairs (length asked.now.facts.now.rows.items) (length asked.now.facts.now.rows.items) (is_tie asked.now.facts.now) ties.now }
+    requires asked { IsObligationInput asked.now }
+    requires ties { ArePairRows (length asked.now.facts.now.rows.items) (length asked.now.facts.now.rows.items) (is_tie asked.now.facts.now) ties.now }
     ensures { result ≡ first_below (length asked.now.facts.now.rows.items) (λ l. first_below (length asked.now.facts.now.rows.items)
         (untied asked.now.facts.now asked.now.hier.now l)) }
 {
@@ -88,7 +88,7 @@ fn first_tie(asked: &Asked, ties: &[BitRow]) -> Option<Broken>
 
 /// The first such tie of a lower row.
 fn first_tie_of(asked: &Asked, uppers: &BitRow, l: u32) -> Option<Broken>
-    requires asked { IsAsked asked.now }
+    requires asked { IsObligationInput asked.now }
     requires row { l < length asked.now.facts.now.rows.items }
     requires uppers { IsPairsRow (length asked.now.facts.now.rows.items) (is_tie asked.now.facts.now l) uppers.now }
     ensures { result ≡ first_below (length asked.now.facts.now.rows.items) (untied asked.now.facts.now asked.now.hier.now l) }
@@ -103,7 +103,7 @@ fn first_tie_of(asked: &Asked, uppers: &BitRow, l: u32) -> Option<Broken>
 
 /// The first site that does not stand at or below a row in whose set it is.
 fn first_unheld(asked: &Asked) -> Option<Broken>
-    requires { IsAsked asked.now }
+    requires { IsObligationInput asked.now }
     ensures { result ≡ first_below (length asked.now.facts.now.sites.items) (λ o. first_below (length asked.now.facts.now.rows.items)
         (unheld asked.now.facts.now asked.now.pt.now asked.now.hier.now o)) }
 {
@@ -112,7 +112,7 @@ fn first_unheld(asked: &Asked) -> Option<Broken>
 
 /// The first row in whose set a site is and at or below which it does not stand.
 fn first_unheld_of(asked: &Asked, o: u32) -> Option<Broken>
-    requires asked { IsAsked asked.now }
+    requires asked { IsObligationInput asked.now }
     requires site { o < length asked.now.facts.now.sites.items }
     ensures { result ≡ first_below (length asked.now.facts.now.rows.items) (unheld asked.now.facts.now asked.now.pt.now asked.now.hier.now o) }
 {

@@ -1,7 +1,7 @@
 //! The names that types and fields cannot have, as sets.
 
 ghost use Rattle.std.specs.Prelude.{◌≡◌, ℕ, ◌<◌, ◌&&◌, ◌||◌, List, length, IfOk, OnOk};
-ghost use Rattle.hier_rules.specs.Words.{list_any, bytes_eq, AreTaken, IsAsked};
+ghost use Rattle.hier_rules.specs.Words.{list_any, bytes_eq, AreTaken, IsObligationInput};
 ghost use Rattle.fact_model.specs.declared.facts.ClassInfo.{ClassInfo};
 ghost use Rattle.fact_model.specs.FreeNames.{is_taken};
 ghost use Rattle.fact_model.specs.Taken.{texts};
@@ -116,7 +116,7 @@ fn add_type(
     types: &mut IndexSet<String>,
     twice: &mut IndexSet<String>,
 ) -> Result<(), AllocError>
-    requires asked { IsAsked asked.now }
+    requires asked { IsObligationInput asked.now }
     requires node { n < length asked.now.hier.now.order.live }
     ensures types { OnOk result ((x : List ℕ) → is_taken (texts types.new.keys) x ≡ (is_taken (texts types.old.keys) x || is_named asked.now.hier.now x n)) }
     ensures twice { OnOk result ((x : List ℕ) → is_taken (texts twice.new.keys) x
@@ -136,7 +136,7 @@ fn add_type(
 
 /// The names that types and fields cannot have. An error comes only for want of memory.
 pub fn taken_names(alloc: Global, asked: &Asked) -> Result<Taken, AllocError>
-    requires { IsAsked asked.now }
+    requires { IsObligationInput asked.now }
     ensures { IfOk result (AreTaken asked.now.facts.now asked.now.hier.now) }
 {
     let reserved = reserved_names(alloc, asked.facts)?;

@@ -31,7 +31,7 @@ use Rattle.hier_edit.specs.declared.ApplyFault.{ApplyFault}
 use Rattle.hier_edit.specs.Applied.{outcome, unless_broken}
 use Rattle.hier_tree.specs.declared.Conflict.{Conflict}
 use Rattle.hier_tree.proofs.ConflictLemmas.{IsConflict, conflict_says, some_among, none_unknown, from_live, from_origin, from_has}
-use Rattle.hier_tree.specs.Trees.{Try, MakeOne, PutUnder, conflict_of, nodes_from, tries_of_one, tries_of_lower, tries_of_higher, tries_of_others, tries_by, tries_of, changed_by, Step, End, accepted_or, tried, first_accepted, Grows, done, stuck, step}
+use Rattle.hier_tree.specs.Trees.{Try, MakeOne, PutUnder, conflict_of, nodes_from, tries_of_one, tries_of_lower, tries_of_higher, tries_of_others, tries_by, tries_of, changed_by, GrowthStep, GrowthEnd, accepted_or, tried, first_accepted, Grows, done, stuck, step}
 use Rattle.hier_laws.proofs.GivenLemmas as facts
 use Rattle.hier_laws.proofs.GivenLemmas.{given, roles, in_order}
 use Rattle.hier_laws.specs.Starts.{AreInOrder}
@@ -204,7 +204,7 @@ module _ (F : Facts) (pt : PointsTo) (t : Table) (R : InRange F) (O : InOrder F)
             differ two e = false≢true (sym two ∙ eq-eqb k.0 l.0 (sym (number c.first.0 k ox) ∙ e ∙ number c.second.0 l oy))
 
   -- the steps end at a tree
-  pub found : {H : Hierarchy} {log : List Step} {end : End} → IsKept F pt t H → Grows F pt H log end → IsTree end
+  pub found : {H : Hierarchy} {log : List GrowthStep} {end : GrowthEnd} → IsKept F pt t H → Grows F pt H log end → IsTree end
   found K (done none) = tt
   found {H} K (stuck {b = b} conflict none last err) = let g = goes H K b conflict in absurd (cc (sym none ∙ g.first))
   found {H} K (step {K = New} {b = b} {t = u} conflict taken rest) =

@@ -10,14 +10,14 @@ use Rattle.hier_rules.specs.Obligations.{first_unchained}
 use Rattle.hier_edit.specs.declared.ApplyFault.{ApplyFault}
 use Rattle.hier_edit.specs.declared.ApplyFault.TheVariants.{Breaks}
 use Rattle.hier_tree.specs.declared.Conflict.{Conflict}
-use Rattle.hier_tree.specs.Trees.{Try, conflict_of, tries_of, Step, End, Stuck, tried, first_accepted, last_try, Grows, done, stuck, step, Leads, begun, taken, OneTree}
+use Rattle.hier_tree.specs.Trees.{Try, conflict_of, tries_of, GrowthStep, GrowthEnd, Stuck, tried, first_accepted, last_try, Grows, done, stuck, step, Leads, begun, taken, OneGrowth}
 
 module _ (F : Facts) (pt : PointsTo) where
   -- the steps made so far, and those from there to an end, are the steps to that end
-  pub goes_on : {H K : Hierarchy} {log rest : List Step} {end : End} → Leads F pt H log K → Grows F pt K rest end → Grows F pt H (log ++ rest) end
+  pub goes_on : {H K : Hierarchy} {log rest : List GrowthStep} {end : GrowthEnd} → Leads F pt H log K → Grows F pt K rest end → Grows F pt H (log ++ rest) end
   goes_on begun g = g
   goes_on {H} {K} {rest = rest} {end = end} (taken {b = b} {t = t} {log = log} before e f) g =
-      let s : Step = record { conflict = conflict_of b; try = t } in
+      let s : GrowthStep = record { conflict = conflict_of b; try = t } in
       subst (λ l. Grows F pt H l end) (sym (append_assoc log (s ∷ []) rest)) (goes_on before (step e f g))
 
   same_broken : (o : Option Broken) (b c : Broken) → o ≡ Some b → o ≡ Some c → b ≡ c
@@ -32,10 +32,10 @@ module _ (F : Facts) (pt : PointsTo) where
   same_fault H t u b c same e f =
       let both : ◌≡◌ {A = Result Hierarchy ApplyFault} (Err (Breaks b)) (Err (Breaks c)) = sym e ∙ ap (tried F pt H) same ∙ f in cc both
 
-  stuck_alike : (H : Hierarchy) (c d : Conflict) (b k : Broken) → c ≡ d → b ≡ k → ◌≡◌ {A = End} (Stuck H c b) (Stuck H d k)
+  stuck_alike : (H : Hierarchy) (c d : Conflict) (b k : Broken) → c ≡ d → b ≡ k → ◌≡◌ {A = GrowthEnd} (Stuck H c b) (Stuck H d k)
   stuck_alike H c d b k same alike = rw (same, alike) refl
 
-  pub one : {H : Hierarchy} {log others : List Step} {end other : End} → Grows F pt H log end → Grows F pt H others other
+  pub one : {H : Hierarchy} {log others : List GrowthStep} {end other : GrowthEnd} → Grows F pt H log end → Grows F pt H others other
       → (log ≡ others) × (end ≡ other)
   one (done none) (done again) = (refl, refl)
   one (done none) (stuck {b = b} conflict refused last err) = absurd (cc (sym none ∙ conflict))
@@ -61,5 +61,5 @@ module _ (F : Facts) (pt : PointsTo) where
       let tail = one (subst (λ z. Grows F pt z log end) both.1 rest) more in
       (rw (same, both.0, tail.0) refl, tail.1)
 
-pub one_tree : OneTree
+pub one_tree : OneGrowth
 one_tree F pt H log others end other g h = one F pt g h

@@ -1,10 +1,10 @@
 -- The steps towards a tree: they keep that the origins fit, and with that the obligations hold.
 use Rattle.std.proofs.Common.{◌≡◌, ◌≢◌, ◌⊎◌, inl, inr, ⊎_elim, ℕ, List, Bool, true, false, ◌||◌, ◌&&◌, cond, Option, Some, refl, sym, ap, ◌∙◌, subst}
 use Rattle.std.proofs.lemmas.Bool.{cases_Bool}
-use Rattle.hier_laws.specs.Shapes.{Given, Shape, Offers}
+use Rattle.hier_laws.specs.Shapes.{Given, Shape, OffersColumn}
 use Rattle.hier_laws.specs.Obligations.{IsOther, NoneIsOwn, Half, Rest}
 use Rattle.hier_laws.specs.Starts.{Roles, IsClosed, AreInOrder}
-use Rattle.hier_tree.specs.Origins.{AreOrdered, Keeps, AreNamesApart, IsPutUnder, becomes, IsMadeOne, AreOfOrigin}
+use Rattle.hier_tree.specs.Origins.{AreOrderedFacts, Keeps, AreNamesApart, IsPutUnder, becomes, IsMadeOne, AreOfOrigin}
 
 or_cases : (x y z : Bool) → (x || (y && z)) ≡ true → (x ≡ true) ⊎ ((y ≡ true) × (z ≡ true))
 or_cases true y z k = inl refl
@@ -12,18 +12,18 @@ or_cases false true true k = inr (refl, refl)
 or_cases false true false k = inl k
 or_cases false false z k = inl k
 
-module _ (G : Given) (R : Roles) (T : IsClosed G R) (O : AreInOrder G R) (W : AreOrdered G) (S : Shape) (o : ℕ → ℕ) (K : Keeps G S o) where
+module _ (G : Given) (R : Roles) (T : IsClosed G R) (O : AreInOrder G R) (W : AreOrderedFacts G) (S : Shape) (o : ℕ → ℕ) (K : Keeps G S o) where
   -- what stands at or above a node has a class at or above its origin
-  pub above_origin : (n c : ℕ) → Offers S n c → G.below (o n) (G.class_of c) ≡ true
+  pub above_origin : (n c : ℕ) → OffersColumn S n c → G.below (o n) (G.class_of c) ≡ true
   above_origin n c f = W.through (o n) (o f.at) (G.class_of c) (K.up n f.at f.above) (K.columns c f.at f.stands)
 
   -- no node offers two fields, or two slots, of one name
   pub fields_apart : (is_field : ℕ → Bool) (slot : ℕ → Option ℕ) (name : ℕ → List ℕ) → AreNamesApart G S is_field slot name
-      → (n c d : ℕ) → is_field c ≡ true → is_field d ≡ true → Offers S n c → Offers S n d → name c ≡ name d → c ≡ d
+      → (n c d : ℕ) → is_field c ≡ true → is_field d ≡ true → OffersColumn S n c → OffersColumn S n d → name c ≡ name d → c ≡ d
   fields_apart is_field slot name N n c d fc fd oc od e = N.fields (o n) c d oc.at od.at fc fd oc.stands od.stands (above_origin n c oc) (above_origin n d od) e
 
   pub slots_apart : (is_field : ℕ → Bool) (slot : ℕ → Option ℕ) (name : ℕ → List ℕ) → AreNamesApart G S is_field slot name
-      → (n c d x y : ℕ) → slot c ≡ Some x → slot d ≡ Some y → Offers S n c → Offers S n d → name c ≡ name d → x ≡ y
+      → (n c d x y : ℕ) → slot c ≡ Some x → slot d ≡ Some y → OffersColumn S n c → OffersColumn S n d → name c ≡ name d → x ≡ y
   slots_apart is_field slot name N n c d x y sc sd oc od e = N.slots (o n) c d oc.at od.at x y sc sd oc.stands od.stands (above_origin n c oc)
       (above_origin n d od) e
 
@@ -96,7 +96,7 @@ module _ (G : Given) (R : Roles) (T : IsClosed G R) (O : AreInOrder G R) (W : Ar
         (λ x. new_differs (S.row r) m x.0 x.1 (K.supers r d run ∙ sym same ∙ sym (K.bodies e m is.body at)))
         (split (S.row r) m (subst (λ x. New.le x m ≡ true) (U.row r) le))
 
-    offers : (n c : ℕ) → Offers S n c → Offers New n c
+    offers : (n c : ℕ) → OffersColumn S n c → OffersColumn New n c
     offers n c f = record { at = f.at; stands = U.column c ∙ f.stands; above = still n f.at f.above }
 
     pub under_half : Half G S → Half G New
@@ -144,7 +144,7 @@ module _ (G : Given) (R : Roles) (T : IsClosed G R) (O : AreInOrder G R) (W : Ar
       supers = λ r d h. row_origin r ∙ K.supers r d h;
     }
 
-    moved : (n c : ℕ) → Offers S n c → Offers New (becomes set m n) c
+    moved : (n c : ℕ) → OffersColumn S n c → OffersColumn New (becomes set m n) c
     moved n c f = record { at = becomes set m f.at; stands = M.column_holds c f.at f.stands; above = M.holds n f.at f.above }
 
     pub merge_half : Half G S → Half G New

@@ -34,7 +34,7 @@ use Rattle.hier_laws.proofs.GivenLemmas as facts
 use Rattle.hier_laws.proofs.GivenLemmas.{given, roles, is_closed, in_order}
 use Rattle.hier_laws.proofs.ShapeLemmas.{shape, placed}
 use Rattle.hier_laws.proofs.MeetLemmas.{none_both, run_none}
-use Rattle.hier_tree.specs.Origins.{AreOrdered, Keeps, AreNamesApart, IsMadeOne, AreOfOrigin}
+use Rattle.hier_tree.specs.Origins.{AreOrderedFacts, Keeps, AreNamesApart, IsMadeOne, AreOfOrigin}
 use Rattle.hier_tree.specs.Kept.{origin_at, field_at, slot_at, IsKept}
 use Rattle.hier_tree.proofs.GrownLemmas.{fields_apart, slots_apart, rest_of_half, under_keeps, under_own, under_half, under_names, merge_keeps, merge_half, merge_names, merge_own}
 use Rattle.hier_tree.proofs.ReadLemmas.{half_of, own_of}
@@ -65,7 +65,7 @@ module _ (F : Facts) (pt : PointsTo) (t : Table) (R : InRange F) (O : InOrder F)
   ordered : AreInOrder G Q
   ordered = in_order F pt t R O S T
 
-  pub orders : AreOrdered G
+  pub orders : AreOrderedFacts G
   orders = record {
     through = λ a b c x y. facts.le F pt t R O S T a c (below-then F (facts.is_le F pt t R O S T a b x) (facts.is_le F pt t R O S T b c y));
     super_row = λ r d run.

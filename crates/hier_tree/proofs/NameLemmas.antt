@@ -15,7 +15,7 @@ use Rattle.fact_model.specs.declared.sets.Table.{Table}
 use Rattle.hier_model.specs.Hierarchies.{Hierarchy, stands_at, is_offered, type_name, member_name, any_below}
 use Rattle.hier_model.specs.Names.{is_field}
 use Rattle.hier_model.proofs.AnyLemmas.{any_below_some, any_below_has}
-use Rattle.hier_laws.specs.Shapes.{Shape, Offers}
+use Rattle.hier_laws.specs.Shapes.{Shape, OffersColumn}
 use Rattle.hier_rules.specs.declared.broken.Rule.TheVariants.{B8}
 use Rattle.hier_rules.specs.Asked.{are_two_slots}
 use Rattle.hier_rules.specs.Instances.{of_node, of_column}
@@ -141,8 +141,8 @@ module _ (F : Facts) (pt : PointsTo) (t : Table) (H : Hierarchy) (table : H.tabl
   S = shape H
 
   -- where no node offers two fields, or two slots, of one name
-  pub confused_none : ((n c d : ℕ) → field_at F c ≡ true → field_at F d ≡ true → Offers S n c → Offers S n d → member_name H c ≡ member_name H d → c ≡ d)
-      → ((n c d x y : ℕ) → slot_at F c ≡ Some x → slot_at F d ≡ Some y → Offers S n c → Offers S n d → member_name H c ≡ member_name H d → x ≡ y)
+  pub confused_none : ((n c d : ℕ) → field_at F c ≡ true → field_at F d ≡ true → OffersColumn S n c → OffersColumn S n d → member_name H c ≡ member_name H d → c ≡ d)
+      → ((n c d x y : ℕ) → slot_at F c ≡ Some x → slot_at F d ≡ Some y → OffersColumn S n c → OffersColumn S n d → member_name H c ≡ member_name H d → x ≡ y)
       → first_confused F H ≡ None
   confused_none fields slots =
       first_below_clear (λ n. first_below (length F.columns.items) (confused F H n)) (length H.order.live) (λ n ln.

@@ -2,10 +2,10 @@
 use Rattle.std.proofs.Common.{◌≡◌, ⊎_elim, ℕ, List, Bool, true, Option, Some, sym, ap, ◌∙◌, subst}
 use Rattle.hier_laws.specs.Shapes.{Given, Shape}
 use Rattle.hier_laws.specs.Starts.{Roles, IsClosed, AreInOrder, IsStart}
-use Rattle.hier_tree.specs.Origins.{AreOrdered, Keeps, AreNamesApart, AreStartOrigins, IsWithout}
+use Rattle.hier_tree.specs.Origins.{AreOrderedFacts, Keeps, AreNamesApart, AreStartOrigins, IsWithout}
 use Rattle.hier_laws.proofs.Begins.{this_at, under_class}
 
-module _ (G : Given) (R : Roles) (T : IsClosed G R) (O : AreInOrder G R) (W : AreOrdered G) (S : Shape) (B : IsStart G S) (is_class : ℕ → Bool) (o : ℕ
+module _ (G : Given) (R : Roles) (T : IsClosed G R) (O : AreInOrder G R) (W : AreOrderedFacts G) (S : Shape) (B : IsStart G S) (is_class : ℕ → Bool) (o : ℕ
     → ℕ) (A : AreStartOrigins G S is_class o) where
   column_self : (c n : ℕ) → S.column c ≡ Some n → S.le n n ≡ true
   column_self c n at = (B.under c c n n at at).1 (λ r h. h)

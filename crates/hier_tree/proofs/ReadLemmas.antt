@@ -26,7 +26,7 @@ use Rattle.fact_model.specs.declared.facts.ColKind.TheVariants.{Def}
 use Rattle.hier_model.specs.Hierarchies.{Hierarchy, place_of_row, is_offered}
 use Rattle.hier_model.proofs.AnyLemmas.{any_below_some, any_below_has}
 use Rattle.hier_model.specs.Edits.{is_one_slot}
-use Rattle.hier_laws.specs.Shapes.{Given, Offers}
+use Rattle.hier_laws.specs.Shapes.{Given, OffersColumn}
 use Rattle.hier_laws.specs.Obligations.{NoneIsOwn, Half}
 use Rattle.hier_rules.specs.declared.broken.Rule.TheVariants.{B2, B3, B4, B5, B7}
 use Rattle.hier_rules.specs.Asked.{is_tie, is_super, is_called, bound_of, slots_of, is_other_body, meets, places_of}
@@ -79,7 +79,7 @@ module _ (F : Facts) (pt : PointsTo) (t : Table) (R : InRange F) (O : InOrder F)
 
   module _ (b2 : first_unoffered F H ≡ None) (b3 : first_untied F pt H ≡ None) (b4 : first_wrong_need F pt H ≡ None) (b5 : first_wrong_super F H
       ≡ None) (b7 : first_wrong_outcome F pt H ≡ None) where
-    offered : (r c : ℕ) → bit (row t.rows.items r) c ≡ true → Offers (shape H) (place_of_row H r) c
+    offered : (r c : ℕ) → bit (row t.rows.items r) c ≡ true → OffersColumn (shape H) (place_of_row H r) c
     offered r c h =
         let lr = row_below F pt t R O S T r c h in
         let one = first_below_None (λ r. first_below (length F.columns.items) (rule.unoffered F H r)) (length F.rows.items) r b2 lr in
@@ -129,7 +129,7 @@ module _ (F : Facts) (pt : PointsTo) (t : Table) (R : InRange F) (O : InOrder F)
         let rest = or_parts (not (is_offered H (place_of_site F H s) d)) (has_nearer F H (place_of_site F H s) d) no in
         (no_not (is_offered H (place_of_site F H s) d) rest.0, rest.1)
 
-    needed : (s x d : ℕ) → G.needs s x d ≡ true → Offers (shape H) (place_of_row H (site_row F s)) d
+    needed : (s x d : ℕ) → G.needs s x d ≡ true → OffersColumn (shape H) (place_of_row H (site_row F s)) d
     needed s x d h = offered_says F pt t H table (place_of_row H (site_row F s)) d (need_right s x d h).0
 
     pub super_right : (r d : ℕ) → is_super F r d ≡ true → (rule.is_above H (place_of_row H r) d ≡ true) × (has_between F H r d ≡ false)
@@ -144,7 +144,7 @@ module _ (F : Facts) (pt : PointsTo) (t : Table) (R : InRange F) (O : InOrder F)
         (asked_also (is_super F r d) (not (rule.is_above H (place_of_row H r) d) || has_between F H r d) no h) in
         (no_not (rule.is_above H (place_of_row H r) d) rest.0, rest.1)
 
-    ran : (r d : ℕ) → is_super F r d ≡ true → Offers (shape H) (place_of_row H r) d
+    ran : (r d : ℕ) → is_super F r d ≡ true → OffersColumn (shape H) (place_of_row H r) d
     ran r d h =
         let m = above_says F pt t H table (place_of_row H r) d (super_right r d h).0 in
         record { at = m.0; stands = m.1; above = m.2 }

@@ -4,7 +4,7 @@ use Rattle.std.specs.Prelude.{◌≡◌, ◌⊎◌, ℕ, Bool, true, Option, Som
 use Rattle.hier_laws.specs.Shapes.{Given, Shape}
 
 -- facts in order, as far as the steps ask it, beside what the start asks
-pub record AreOrdered (G : Given) : Type 0 where
+pub record AreOrderedFacts (G : Given) : Type 0 where
   pub through : (a b c : ℕ) → G.below a b ≡ true → G.below b c ≡ true → G.below a c ≡ true
   pub super_row : (r d : ℕ) → G.runs r d ≡ true → G.is_row r ≡ true
 

@@ -107,14 +107,14 @@ try_of (edit.MemberName c name) = MakeOne []
 try_of (edit.Drop n) = MakeOne []
 
 -- a step: the conflict of its moment, and the try that was taken
-pub record Step : Type 0 where
+pub record GrowthStep : Type 0 where
   pub conflict : Conflict
   pub try : Try
 
 -- where the steps end: at a tree, or at a conflict of which no try is accepted, with what its last try breaks
-pub data End : Type 0 where
-  Tree : Hierarchy → End
-  Stuck : Hierarchy → Conflict → Broken → End
+pub data GrowthEnd : Type 0 where
+  Tree : Hierarchy → GrowthEnd
+  Stuck : Hierarchy → Conflict → Broken → GrowthEnd
 
 -- a try that was accepted, or else what follows
 abbrev pub accepted_or : Try → Result Hierarchy ApplyFault → Option (Try × Hierarchy) → Option (Try × Hierarchy)
@@ -138,22 +138,22 @@ module _ (F : Facts) (pt : PointsTo) where
   first_accepted H (t ∷ ts) = accepted_or t (tried H t) (first_accepted H ts)
 
   -- the steps from a hierarchy: each takes the first conflict of its moment, and the first of its tries that is accepted
-  pub data Grows : Hierarchy → List Step → End → Type 0 where
+  pub data Grows : Hierarchy → List GrowthStep → GrowthEnd → Type 0 where
     done : {H : Hierarchy} → first_unchained F H ≡ None → Grows H [] (Tree H)
     stuck : {H : Hierarchy} {b broken : Broken} {t : Try} → first_unchained F H ≡ Some b → first_accepted H (tries_of F H (conflict_of b)) ≡ None
         → last_try (tries_of F H (conflict_of b)) ≡ Some t → tried H t ≡ Err (Breaks broken) → Grows H [] (Stuck H (conflict_of b) broken)
-    step : {H K : Hierarchy} {b : Broken} {t : Try} {log : List Step} {end : End} → first_unchained F H ≡ Some b
+    step : {H K : Hierarchy} {b : Broken} {t : Try} {log : List GrowthStep} {end : GrowthEnd} → first_unchained F H ≡ Some b
         → first_accepted H (tries_of F H (conflict_of b)) ≡ Some (t, K)
         → Grows K log end → Grows H (record { conflict = conflict_of b; try = t } ∷ log) end
 
   -- the same steps without their end: from a hierarchy to the one that they leave
-  pub data Leads : Hierarchy → List Step → Hierarchy → Type 0 where
+  pub data Leads : Hierarchy → List GrowthStep → Hierarchy → Type 0 where
     begun : {H : Hierarchy} → Leads H [] H
-    taken : {H K New : Hierarchy} {b : Broken} {t : Try} {log : List Step} → Leads H log K → first_unchained F K ≡ Some b
+    taken : {H K New : Hierarchy} {b : Broken} {t : Try} {log : List GrowthStep} → Leads H log K → first_unchained F K ≡ Some b
         → first_accepted K (tries_of F K (conflict_of b)) ≡ Some (t, New)
         → Leads H (log ++ record { conflict = conflict_of b; try = t } ∷ []) New
 
 -- two growths from one hierarchy have the same steps and the same end
-abbrev pub OneTree : Type 0
-OneTree = (F : Facts) (pt : PointsTo) (H : Hierarchy) (log others : List Step) (end other : End)
+abbrev pub OneGrowth : Type 0
+OneGrowth = (F : Facts) (pt : PointsTo) (H : Hierarchy) (log others : List GrowthStep) (end other : GrowthEnd)
     → Grows F pt H log end → Grows F pt H others other → (log ≡ others) × (end ≡ other)

@@ -3,7 +3,7 @@
 //! A tree of classes is always found where a script only drops nodes and gives fresh names: a law, and its lemmas.
 #![tactic(auto)]
 
-ghost use Rattle.hier_tree.specs.Trees.{OneTree};
+ghost use Rattle.hier_tree.specs.Trees.{OneGrowth};
 ghost use Rattle.hier_tree.specs.Laws.{TreeIsFound};
 
 use kaba_base::NodeId;
@@ -23,7 +23,7 @@ pub struct Conflict {
 /// The steps towards a tree are fixed by the hierarchy: two logs that meet the definition are equal,
 /// and so are their ends, with the hierarchy that each leaves.
 pub fn one_tree()
-    ensures { OneTree }
+    ensures { OneGrowth }
 {}
 
 /// For facts in order in which all types are classes, with their sets, their closed table and its lattice: the

@@ -5,7 +5,7 @@ use Rattle.fact_model.specs.declared.facts.Facts.{Facts}
 use Rattle.fact_model.specs.declared.sets.PointsTo.{PointsTo}
 use Rattle.hier_model.specs.Hierarchies.{Hierarchy, IsHierarchyOf}
 use Rattle.hier_model.specs.Edits.{changed, NamesSome}
-use Rattle.hier_model.specs.Differences.{WasEdited}
+use Rattle.hier_model.specs.Differences.{IsOneEdit}
 use Rattle.hier_model.specs.declared.edits.Edit.{Edit}
 use Rattle.hier_model.specs.declared.edits.ChangeFault.{ChangeFault}
 use Rattle.hier_rules.specs.First.{first_of_edit}
@@ -22,7 +22,7 @@ changed_of F pt (Ok H) h e = ap (λ (x : Hierarchy). let r : Result Hierarchy Ch
 changed_of F pt (Err fault) h e = absurd (cc e)
 
 pub was_edited : (F : Facts) (pt : PointsTo) (H h : Hierarchy) (e : Edit) → InRange F → IsHierarchyOf F H → NamesSome e → applied F pt H e ≡ Ok h
-    → WasEdited H h
+    → IsOneEdit H h
 was_edited F pt H h e range fits some made = record {
   facts = F;
   edit = e;

@@ -3,7 +3,7 @@
 
 ghost use Rattle.std.specs.Prelude.{◌≡◌, ◌≢◌, Ok, Err, length, IfErr, IfOk, OnErr};
 ghost use Rattle.hier_model.specs.Hierarchies.{Hierarchy};
-ghost use Rattle.hier_model.specs.Differences.{WasEdited, IsUndoOf};
+ghost use Rattle.hier_model.specs.Differences.{IsOneEdit, IsUndoOf};
 ghost use Rattle.hier_rules.specs.Words.{InRange, AreSets, IsHierarchyOf, NamesSome, MeetsEdit};
 ghost use Rattle.hier_edit.specs.Applied.{applied};
 ghost use Rattle.hier_edit.specs.declared.ApplyFault.TheVariants as ApplyFault;
@@ -43,7 +43,7 @@ pub fn apply_kept(
 
 /// Puts a hierarchy that an edit made in place of the old one, and gives what takes it back.
 fn replace(alloc: Global, hier: &mut Hier, made: Hier) -> Result<Undo, ApplyFault>
-    requires { WasEdited hier.old made }
+    requires { IsOneEdit hier.old made }
     ensures made { IfOk result (λ _. hier.new ≡ made) }
     ensures undo { IfOk result (IsUndoOf hier.old hier.new) }
     ensures refused { IfErr result (λ fault. fault ≡ ApplyFault.Memory) }

@@ -11,7 +11,7 @@ use Rattle.java_tree.specs.Formed.{IsReadAs, IsGiven}
 use Rattle.java_print.specs.Layout.{tree_text}
 
 -- some tree is what both texts are read as
-pub record IsSameProgram (first second : List ℕ) : Type 0 where
+pub record IsSameTree (first second : List ℕ) : Type 0 where
   pub tree : List DeclTree
   pub one : IsReadAs first tree
   pub other : IsReadAs second tree

@@ -3,7 +3,7 @@
 
 ghost use Rattle.std.specs.Prelude.{◌<◌, length, vec_len, IfOk, IfSome, IfNone};
 ghost use Rattle.java_tree.specs.Syntax.{tree_of};
-ghost use Rattle.java_again.specs.Again.{IsSameProgram, IsWrittenAgain, HasNoTree, OneText, TextsApart};
+ghost use Rattle.java_again.specs.Again.{IsSameTree, IsWrittenAgain, HasNoTree, OneText, TextsApart};
 
 use java_lex::{LexFault, lex};
 use java_parse::{ParseFault, parse};
@@ -16,7 +16,7 @@ use std::alloc::{AllocError, Global};
 #[tactic(auto, using(crate::proofs::Given::given, crate::proofs::Given::no_tokens, crate::proofs::Given::too_deep))]
 pub fn again(alloc: Global, text: &Vec<u8>) -> Result<Option<Vec<u8>>, AllocError>
     requires small { vec_len text.now < 4294967295 }
-    ensures same { IfOk result (λ written. IfSome written (λ v. IsSameProgram text.now.items v.items)) }
+    ensures same { IfOk result (λ written. IfSome written (λ v. IsSameTree text.now.items v.items)) }
     ensures layout { IfOk result (λ written. IfSome written (λ v. IsWrittenAgain text.now.items v.items)) }
     ensures none { IfOk result (λ written. IfNone written (HasNoTree text.now.items)) }
 {

@@ -14,7 +14,7 @@ use Rattle.java_core.specs.Classes.{below, nearest_declaration, has_body, is_int
 use Rattle.java_core.specs.Formed.{IsFormed}
 use Rattle.java_core.specs.Typing.{is_public_method}
 use Rattle.java_check.specs.ClassOutcome.{first_rule, below_rule, slot_rule, method_rule, class_rule, is_quiet}
-use Rattle.java_check.specs.SlotOutcome.{bit, word_at, batch_place, method_batch, AreListed, is_told, HasNearest, AreFound, are_apart, is_clear, IsFineFor, is_bare, has_bare}
+use Rattle.java_check.specs.SlotOutcome.{bit, word_at, batch_place, method_batch, AreMethodsListed, is_told, HasNearest, AreSlotsFound, are_apart, is_clear, IsFineFor, is_bare, has_bare}
 use Rattle.java_check.specs.declared.tables.Asked.{Asked}
 use Rattle.java_check.specs.declared.tables.Asked.TheVariants.{Bodied, Public}
 use Rattle.java_check.specs.declared.slots.Found.{Found}
@@ -80,7 +80,7 @@ module _ (P : Plain) where
       go None at = rw at refl
       go (Some k) at = rw at (named k k.is_interface refl (let f : k.is_interface ≡ is_interface P c = sym (rw at refl) in f ∙ e))
 
-  module _ (b : ℕ) (found : Found) (are : AreFound P b found) (c m i : ℕ) (k : PlainMethod) (at : slice_get P.methods m ≡ Some k) (lt : i < 64)
+  module _ (b : ℕ) (found : Found) (are : AreSlotsFound P b found) (c m i : ℕ) (k : PlainMethod) (at : slice_get P.methods m ≡ Some k) (lt : i < 64)
       (slot : k.slot ≡ Some (64 * b + i)) (bare : is_some k.body ≡ false) (up : below P c k.owner ≡ true) where
     abbrev s : ℕ
     s = 64 * b + i
@@ -144,7 +144,7 @@ module _ (P : Plain) where
         go true e = of_interface e
         go false e = of_class e clear
 
-  pub clear_rule : (b : ℕ) (found : Found) → AreFound P b found → (c : ℕ) → is_clear P found c ≡ true → IsFineFor P b c
+  pub clear_rule : (b : ℕ) (found : Found) → AreSlotsFound P b found → (c : ℕ) → is_clear P found c ≡ true → IsFineFor P b c
   clear_rule b found are c clear m i k at lt slot bare = ap (slot_rule P c k.owner) slot ∙ go (below P c k.owner) refl
     where
       go : (x : Bool) → below P c k.owner ≡ x → below_rule P c k.owner (64 * b + i) (below P c k.owner) ≡ None
@@ -152,7 +152,7 @@ module _ (P : Plain) where
       go true up = ap (below_rule P c k.owner (64 * b + i)) up ∙ clear_below b found are c m i k at lt slot bare up clear
 
   -- where none of the methods of 64 slots is without a body, no class breaks a rule for one
-  pub bodied_fine : (b : ℕ) (ms : List ℕ) → AreListed P b ms → has_bare P ms ≡ false → (c : ℕ) → IsFineFor P b c
+  pub bodied_fine : (b : ℕ) (ms : List ℕ) → AreMethodsListed P b ms → has_bare P ms ≡ false → (c : ℕ) → IsFineFor P b c
   bodied_fine b ms listed none c m i k at lt slot bare = absurd (one ms (listed m i k at lt slot) none)
     where
       one : (ms : List ℕ) → Contains ms m → has_bare P ms ≡ false → ⊥
@@ -176,7 +176,7 @@ module _ (P : Plain) where
 module _ (p : Program) where
   -- the lists have the methods of each 64 slots
   pub batch_listed : (lists : List (Vec ℕ Global)) → AreOwned (map (λ m. method_batch (length p.slots.items) m) p.methods.items) lists
-      → (b : ℕ) → AreListed (program_of p) b (listed lists b)
+      → (b : ℕ) → AreMethodsListed (program_of p) b (listed lists b)
   batch_listed lists owned b m i k at lt e =
       let x = map_at method_seen p.methods.items m k at in
       let slots = length p.slots.items in

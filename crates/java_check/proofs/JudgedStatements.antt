@@ -4,7 +4,7 @@ use Rattle.std.specs.Option.{is_some, is_none}
 use Rattle.std.proofs.lemmas.Bool.{and_parts}
 use Rattle.kaba_base.specs.declared.Place.{Place}
 use Rattle.java_core.specs.declared.Ty.{Ty}
-use Rattle.java_core.specs.Trees.{Tag, Ex, Target, to_local, to_static, to_own, to_field, to_element, no_target, St, Sts, Arms, declare, block, assign, act, print, choose, loop, return, break, continue, no_st, st_then, no_other, otherwise, arm}
+use Rattle.java_core.specs.Trees.{Tag, Ex, Target, to_local, to_static, to_own, to_field, to_element, no_target, St, Sts, IfArms, declare, block, assign, act, print, choose, loop, return, break, continue, no_st, st_then, no_other, otherwise, arm}
 use Rattle.java_core.specs.Programs.{Plain}
 use Rattle.java_core.specs.Types.{Env, or_nothing, element_of, is_numeric, is_boolean, is_printable, fits, fits_in, field_type, field_in, static, target_type}
 use Rattle.java_core.specs.Typing.{Typed, TypedTarget, t_to_local, t_to_static, t_to_own, t_to_field, t_to_element, TypedTest, t_always, t_test, TypedSt, TypedSts, TypedArms, t_declare, t_declare_as, t_block, t_assign, t_act, t_print_line, t_print, t_choose, t_loop, t_return_nothing, t_return, t_break, t_continue, t_no_st, t_st_then, t_no_other, t_otherwise, t_arm}
@@ -155,7 +155,7 @@ module _ (P : Plain) (g : Env) where
     judged_sts no_st = holds t_no_st
     judged_sts (st_then x xs) = then_right _ (judged_st x) (λ k p f. here f) (λ h. mapped (judged_sts xs) (λ k p f. later f) (λ k. t_st_then h k))
 
-    pub judged_arms : (xs : Arms) → Right (TypedArms P g xs) (FailsArms P g xs) (arms_answer P g xs)
+    pub judged_arms : (xs : IfArms) → Right (TypedArms P g xs) (FailsArms P g xs) (arms_answer P g xs)
     judged_arms no_other = holds t_no_other
     judged_arms (otherwise xs) = mapped (judged_sts xs) (λ k p f. in_else f) (λ h. t_otherwise h)
     judged_arms (arm e xs more) =

@@ -3,7 +3,7 @@ use Rattle.std.proofs.Common.{◌≡◌, ℕ, true, false, Some, None, sym, ap, 
 use Rattle.std.specs.Option.{is_some}
 use Rattle.kaba_base.specs.declared.Place.{Place}
 use Rattle.java_core.specs.declared.Ty.{Ty}
-use Rattle.java_core.specs.Trees.{Ex, Target, St, Sts, Arms}
+use Rattle.java_core.specs.Trees.{Ex, Target, St, Sts, IfArms}
 use Rattle.java_core.specs.Programs.{Plain}
 use Rattle.java_core.specs.Types.{Env, fits, static}
 use Rattle.java_core.specs.Typing.{Typed, TypedTarget, t_to_field, t_to_element, t_test, TypedSt, TypedSts, TypedArms, t_declare_as, t_block, t_assign, t_act, t_print, t_choose, t_loop, t_return_nothing, t_return, t_st_then, t_otherwise, t_arm}
@@ -55,7 +55,7 @@ module _ (P : Plain) (g : Env) where
     fails_sts_untyped (here f) (t_st_then h k) = fails_st_untyped f h
     fails_sts_untyped (later f) (t_st_then h k) = fails_sts_untyped f k
 
-    pub fails_arms_untyped : {xs : Arms} {k : Kind} {p : Place} → FailsArms P g xs k p → TypedArms P g xs → ⊥
+    pub fails_arms_untyped : {xs : IfArms} {k : Kind} {p : Place} → FailsArms P g xs k p → TypedArms P g xs → ⊥
     fails_arms_untyped (in_else f) (t_otherwise h) = fails_sts_untyped f h
     fails_arms_untyped (in_test f) (t_arm e b h k) = fails_untyped P g f e
     fails_arms_untyped (bad_test e f) (t_arm k b h m) = clash b f

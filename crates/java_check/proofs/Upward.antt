@@ -16,7 +16,7 @@ use Rattle.java_core.proofs.Subclasses.{ArePassed, one_left, passed_more, none_p
 use Rattle.java_core.proofs.Upwards.{super_cases}
 use Rattle.java_core.proofs.Positions.{position-passes, passes-position}
 use Rattle.java_core.proofs.SearchOrder.{slot_is}
-use Rattle.java_check.specs.SlotOutcome.{bit, IsWithin, is_within, has_faces, full, word_at, own_at, answers, says, AreListed, parent_word, IsNearestAt, IsAboveAt, is_nearest_at, is_above_at, is_told, HasNearest, HasAbove}
+use Rattle.java_check.specs.SlotOutcome.{bit, IsWordWithin, is_within, has_faces, full, word_at, own_at, answers, says, AreMethodsListed, parent_word, IsNearestAt, IsAboveAt, is_nearest_at, is_above_at, is_told, HasNearest, HasAbove}
 use Rattle.java_check.specs.declared.tables.Asked.{Asked}
 use Rattle.java_check.proofs.Words.{bit-or, bit-zero, bit-full, within-full, within-bits}
 
@@ -34,7 +34,7 @@ or_left_of false b h e = absurd (false≢true (sym e ∙ h))
 module _ (P : Plain) where
   pub nearest_past : (table having lacking : List ℕ) (none c : ℕ) → length table ≤ c → IsNearestAt P table having lacking none c
   nearest_past table having lacking none c past = record {
-    own = subst (IsWithin (own_at lacking c)) (sym (word_past table c past)) (within-full (own_at lacking c));
+    own = subst (IsWordWithin (own_at lacking c)) (sym (word_past table c past)) (within-full (own_at lacking c));
     above = λ i lt h. bit-or (word_at table c) (own_at having c) i ∙ ap (λ w. bit w i || bit (own_at having c) i) (word_past table c past)
         ∙ ap (λ x. x || bit (own_at having c) i) (bit-full i lt);
   }
@@ -46,15 +46,15 @@ module _ (P : Plain) where
     faces = λ k h. all (word_at table k.0);
   }
     where
-      all : (w : ℕ) → IsWithin w (word_at table c)
-      all w = subst (IsWithin w) (sym (word_past table c past)) (within-full w)
+      all : (w : ℕ) → IsWordWithin w (word_at table c)
+      all w = subst (IsWordWithin w) (sym (word_past table c past)) (within-full w)
 
   -- the words of the interfaces that a class names are within its own
-  pub faces_within : (table : List ℕ) (w : ℕ) (ks : List ClassId) → has_faces table w ks ≡ true → (k : ClassId) → Contains ks k → IsWithin (word_at table k.0) w
+  pub faces_within : (table : List ℕ) (w : ℕ) (ks : List ClassId) → has_faces table w ks ≡ true → (k : ClassId) → Contains ks k → IsWordWithin (word_at table k.0) w
   faces_within table w [] all k h = let lt : h.0 < 0 = h.1 in absurd (omega (arith, lt))
   faces_within table w (x ∷ ks) all k h =
       let parts = and_parts (is_within (word_at table x.0) w) (has_faces table w ks) all in
-      ⊎_elim (λ (e : x ≡ k). subst (λ (y : ClassId). IsWithin (word_at table y.0) w) e (within-bits (word_at table x.0) w parts.0))
+      ⊎_elim (λ (e : x ≡ k). subst (λ (y : ClassId). IsWordWithin (word_at table y.0) w) e (within-bits (word_at table x.0) w parts.0))
       (λ more. faces_within table w ks parts.1 k more) (contains_cases x ks k h)
 
   -- each class is right where those that have words are
@@ -109,7 +109,7 @@ module _ (P : Plain) where
       → answers P q k ≡ true → list_any (λ m. says P q c s m) ms ≡ true
   says_one q c s m k ms there at has having = list_any-from_Any (λ m. says P q c s m) ms (there.0, m, there.1, there.2, rw (at, has, having) refl)
 
-  module _ (formed : IsFormed P) (b : ℕ) (ms : List ℕ) (listed : AreListed P b ms) (count : ℕ) (many : length P.classes ≡ count) where
+  module _ (formed : IsFormed P) (b : ℕ) (ms : List ℕ) (listed : AreMethodsListed P b ms) (count : ℕ) (many : length P.classes ≡ count) where
     -- the bits of what the classes declare themselves
     abbrev pub AreBits : Asked → List ℕ → Type 0
     AreBits q own = (c i : ℕ) → c < count → i < 64 → bit (own_at own c) i ≡ list_any (λ m. says P q c (64 * b + i) m) ms

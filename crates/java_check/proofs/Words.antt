@@ -7,7 +7,7 @@ use Rattle.std.proofs.lemmas.Nat.Bits.{bit_at_or, bit_at_and, bit_at-lt, bit_at-
 use Rattle.std.proofs.lemmas.Bool.{cases_eq, eq-eqb, ne_eqb, eqb-true, false≢true}
 use Rattle.std.proofs.lemmas.Bool.Decides.{nat_tests}
 use Rattle.std.proofs.lemmas.List.{get_or-set_same, get_or-set_other}
-use Rattle.java_check.specs.SlotOutcome.{bit, own_at, full, IsWithin, is_within, are_apart}
+use Rattle.java_check.specs.SlotOutcome.{bit, own_at, full, IsWordWithin, is_within, are_apart}
 
 or_of_max : (a b : ℕ) → a < 2 → b < 2 → (max a b == 1) ≡ ((a == 1) || (b == 1))
 or_of_max a b la lb = grind (arith, nat_tests)
@@ -27,10 +27,10 @@ bit-zero i = ap (λ n. n == 1) (bit_at-zero i)
 pub bit-full : (i : ℕ) → i < 64 → bit full i ≡ true
 bit-full i lt = ap (λ n. n == 1) (bit_at_ones 64 i lt)
 
-pub within-bits : (a b : ℕ) → is_within a b ≡ true → IsWithin a b
+pub within-bits : (a b : ℕ) → is_within a b ≡ true → IsWordWithin a b
 within-bits a b e i lt h = ap (λ w. bit w i) (sym (eqb-true (bit_or a b) b e)) ∙ (bit-or a b i ∙ ap (λ x. x || bit b i) h)
 
-pub within-full : (a : ℕ) → IsWithin a full
+pub within-full : (a : ℕ) → IsWordWithin a full
 within-full a i lt h = bit-full i lt
 
 pub apart-bit : (a b i : ℕ) → are_apart a b ≡ true → bit a i ≡ true → bit b i ≡ false

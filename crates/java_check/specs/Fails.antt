@@ -5,7 +5,7 @@ use Rattle.kaba_base.specs.declared.Place.{Place}
 use Rattle.java_core.specs.declared.Ty.{Ty}
 use Rattle.java_core.specs.declared.UnOp.{UnOp}
 use Rattle.java_core.specs.declared.BinOp.{BinOp}
-use Rattle.java_core.specs.Trees.{Tag, Ex, Exs, no_ex, ex_then, number, character, text, truth, null, this, local, static_field, own_field, field, index, call, static_call, super_call, create, create_array, cast, instance_of, unary, binary, Target, to_local, to_field, to_element, no_target, St, Sts, Arms, declare, block, assign, act, print, choose, loop, return, st_then, otherwise, arm}
+use Rattle.java_core.specs.Trees.{Tag, Ex, Exs, no_ex, ex_then, number, character, text, truth, null, this, local, static_field, own_field, field, index, call, static_call, super_call, create, create_array, cast, instance_of, unary, binary, Target, to_local, to_field, to_element, no_target, St, Sts, IfArms, declare, block, assign, act, print, choose, loop, return, st_then, otherwise, arm}
 use Rattle.java_core.specs.Programs.{Plain, PlainClass, PlainMethod}
 use Rattle.java_core.specs.Classes.{super_method, has_body, is_concrete, is_interface, nearest_declaration}
 use Rattle.java_core.specs.Types.{Env, env_of, class_of, element_of, is_numeric, is_boolean, is_printable, fits, fits_in, Signature, call_signature, signature_of_method, access_type, field_in, static, target_type}
@@ -136,7 +136,7 @@ module _ (P : Plain) (g : Env) where
       itself_st : {x : St} {k : Kind} {p : Place} → BreaksSt x k p → FailsSt x k p
       in_ex : {x : St} {e : Ex} {k : Kind} {p : Place} → HasEx x e → Fails e k p → FailsSt x k p
       in_block : {t : Tag} {xs : Sts} {k : Kind} {p : Place} → FailsSts xs k p → FailsSt (block t xs) k p
-      in_choose : {t : Tag} {xs : Arms} {k : Kind} {p : Place} → FailsArms xs k p → FailsSt (choose t xs) k p
+      in_choose : {t : Tag} {xs : IfArms} {k : Kind} {p : Place} → FailsArms xs k p → FailsSt (choose t xs) k p
       in_first : {t : Tag} {is_while : Bool} {first step body : Sts} {test : Option Ex} {k : Kind} {p : Place} → FailsSts first k p
           → FailsSt (loop t is_while first test step body) k p
       in_step : {t : Tag} {is_while : Bool} {first step body : Sts} {test : Option Ex} {k : Kind} {p : Place} → FailsSts step k p
@@ -150,12 +150,12 @@ module _ (P : Plain) (g : Env) where
       later : {x : St} {xs : Sts} {k : Kind} {p : Place} → FailsSts xs k p → FailsSts (st_then x xs) k p
 
     -- the arms of an `if` break a rule: in a test or in a body
-    pub data FailsArms : Arms → Kind → Place → Type 0 where
+    pub data FailsArms : IfArms → Kind → Place → Type 0 where
       in_else : {xs : Sts} {k : Kind} {p : Place} → FailsSts xs k p → FailsArms (otherwise xs) k p
-      in_test : {e : Ex} {xs : Sts} {more : Arms} {k : Kind} {p : Place} → Fails e k p → FailsArms (arm e xs more) k p
-      bad_test : {e : Ex} {xs : Sts} {more : Arms} → Typed P g e → is_boolean (static P g e) ≡ false → FailsArms (arm e xs more) Condition (tag_of e).place
-      in_arm : {e : Ex} {xs : Sts} {more : Arms} {k : Kind} {p : Place} → FailsSts xs k p → FailsArms (arm e xs more) k p
-      in_more : {e : Ex} {xs : Sts} {more : Arms} {k : Kind} {p : Place} → FailsArms more k p → FailsArms (arm e xs more) k p
+      in_test : {e : Ex} {xs : Sts} {more : IfArms} {k : Kind} {p : Place} → Fails e k p → FailsArms (arm e xs more) k p
+      bad_test : {e : Ex} {xs : Sts} {more : IfArms} → Typed P g e → is_boolean (static P g e) ≡ false → FailsArms (arm e xs more) Condition (tag_of e).place
+      in_arm : {e : Ex} {xs : Sts} {more : IfArms} {k : Kind} {p : Place} → FailsSts xs k p → FailsArms (arm e xs more) k p
+      in_more : {e : Ex} {xs : Sts} {more : IfArms} {k : Kind} {p : Place} → FailsArms more k p → FailsArms (arm e xs more) k p
 
 -- the class or interface breaks a rule
 pub data BreaksClass (P : Plain) (c : ℕ) : Kind → Type 0 where

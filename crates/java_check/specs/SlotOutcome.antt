@@ -28,8 +28,8 @@ abbrev pub bit : ℕ → ℕ → Bool
 bit w i = bit_at w i == 1
 
 -- each of 64 bits that is set in one word is set in the other
-abbrev pub IsWithin : ℕ → ℕ → Type 0
-IsWithin a b = (i : ℕ) → i < 64 → bit a i ≡ true → bit b i ≡ true
+abbrev pub IsWordWithin : ℕ → ℕ → Type 0
+IsWordWithin a b = (i : ℕ) → i < 64 → bit a i ≡ true → bit b i ≡ true
 
 -- the same as a test of the whole words
 abbrev pub is_within : ℕ → ℕ → Bool
@@ -60,13 +60,13 @@ abbrev pub says : Plain → Asked → ℕ → ℕ → ℕ → Bool
 says P q c s m = option_map_or (λ k. has_slot c s k && answers P q k) (slice_get P.methods m) false
 
 -- the methods of 64 slots are among these
-abbrev pub AreListed : Plain → ℕ → List ℕ → Type 0
-AreListed P b ms = (m i : ℕ) (k : PlainMethod) → slice_get P.methods m ≡ Some k → i < 64 → k.slot ≡ Some (64 * b + i) → Contains ms m
+abbrev pub AreMethodsListed : Plain → ℕ → List ℕ → Type 0
+AreMethodsListed P b ms = (m i : ℕ) (k : PlainMethod) → slice_get P.methods m ≡ Some k → i < 64 → k.slot ≡ Some (64 * b + i) → Contains ms m
 
 -- a formed program, and each of its methods that has one of the 64 slots is listed
 pub record IsBatch (b : Batch) : Type 0 where
   pub formed : IsFormed (program_of b.p.now)
-  pub listed : AreListed (program_of b.p.now) b.number b.list.now
+  pub listed : AreMethodsListed (program_of b.p.now) b.number b.list.now
 
 -- the word of the superclass, or another one where there is none
 abbrev pub parent_word : Plain → List ℕ → ℕ → ℕ → ℕ
@@ -74,14 +74,14 @@ parent_word P table none c = option_map_or (λ p. word_at table p.0) (parent_of 
 
 -- the bits of c for what is nearest and not what is asked: of its own, and those of its superclass but where c has what is asked
 pub record IsNearestAt (P : Plain) (table having lacking : List ℕ) (none c : ℕ) : Type 0 where
-  pub own : IsWithin (own_at lacking c) (word_at table c)
-  pub above : IsWithin (parent_word P table none c) (bit_or (word_at table c) (own_at having c))
+  pub own : IsWordWithin (own_at lacking c) (word_at table c)
+  pub above : IsWordWithin (parent_word P table none c) (bit_or (word_at table c) (own_at having c))
 
 -- the bits of c for what stands at or above it
 pub record IsAboveAt (P : Plain) (table start : List ℕ) (c : ℕ) : Type 0 where
-  pub own : IsWithin (own_at start c) (word_at table c)
-  pub parent : IsWithin (parent_word P table 0 c) (word_at table c)
-  pub faces : (k : ClassId) → Contains (faces_of P c) k → IsWithin (word_at table k.0) (word_at table c)
+  pub own : IsWordWithin (own_at start c) (word_at table c)
+  pub parent : IsWordWithin (parent_word P table 0 c) (word_at table c)
+  pub faces : (k : ClassId) → Contains (faces_of P c) k → IsWordWithin (word_at table k.0) (word_at table c)
 
 -- whether a word has the bits of each of these interfaces
 abbrev pub has_faces : List ℕ → ℕ → List ClassId → Bool
@@ -113,7 +113,7 @@ HasAbove P q b table = (c i m : ℕ) (k : PlainMethod) → i < 64 → slice_get 
     → below P c k.owner ≡ true → bit (word_at table c) i ≡ true
 
 -- what the tables have of 64 slots
-pub record AreFound (P : Plain) (b : ℕ) (found : Found) : Type 0 where
+pub record AreSlotsFound (P : Plain) (b : ℕ) (found : Found) : Type 0 where
   pub bare : HasNearest P Bodied false b found.bare.items
   pub hidden : HasNearest P Public true b found.hidden.items
   pub offered : HasAbove P Bare b found.offered.items

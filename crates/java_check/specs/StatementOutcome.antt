@@ -3,7 +3,7 @@
 use Rattle.std.specs.Prelude.{ℕ, ◌&&◌, Option, Some, None, Result, Ok, slice_get}
 use Rattle.std.specs.Option.{is_some, is_none}
 use Rattle.java_core.specs.declared.Ty.{Ty}
-use Rattle.java_core.specs.Trees.{Tag, Ex, Target, to_local, to_static, to_own, to_field, to_element, no_target, St, Sts, Arms, declare, block, assign, act, print, choose, loop, return, break, continue, no_st, st_then, no_other, otherwise, arm}
+use Rattle.java_core.specs.Trees.{Tag, Ex, Target, to_local, to_static, to_own, to_field, to_element, no_target, St, Sts, IfArms, declare, block, assign, act, print, choose, loop, return, break, continue, no_st, st_then, no_other, otherwise, arm}
 use Rattle.java_core.specs.Programs.{Plain}
 use Rattle.java_core.specs.Types.{Static, Env, or_nothing, element_of, is_numeric, is_boolean, is_printable, fits, fits_in, field_type, field_in}
 use Rattle.java_core.specs.declared.statics.Static as declared
@@ -72,7 +72,7 @@ module _ (P : Plain) (g : Env) where
     sts_answer (st_then x xs) = and_then (st_answer x) (λ _. sts_answer xs)
 
     -- the answer for the arms of an `if`: the first refusal among them
-    pub arms_answer : Arms → Result (Unit {0}) CheckFault
+    pub arms_answer : IfArms → Result (Unit {0}) CheckFault
     arms_answer no_other = Ok tt
     arms_answer (otherwise xs) = sts_answer xs
     arms_answer (arm e xs more) = and_then (condition_answer e) (λ _. and_then (sts_answer xs) (λ _. arms_answer more))

@@ -5,7 +5,7 @@ ghost use Rattle.java_core.specs.Programs.{program_of};
 ghost use Rattle.java_core.specs.Owned.{AreOwned};
 ghost use Rattle.java_core.specs.Formed.{IsFormed};
 ghost use Rattle.java_check.specs.ClassOutcome.{class_rule};
-ghost use Rattle.java_check.specs.SlotOutcome.{batch_place, method_batch, AreListed, IsBatch, AreFound, are_apart, is_clear, IsFineFor, is_bare, has_bare};
+ghost use Rattle.java_check.specs.SlotOutcome.{batch_place, method_batch, AreMethodsListed, IsBatch, AreSlotsFound, are_apart, is_clear, IsFineFor, is_bare, has_bare};
 
 use crate::by_number::method_by_number;
 use crate::classes::is_interface;
@@ -78,7 +78,7 @@ fn has_bare(p: &Program, list: &[usize]) -> bool
 /// What the classes have of 64 slots; `AllocError` where memory is short.
 fn found_for(batch: &Batch) -> Result<Found, AllocError>
     requires { IsBatch batch.now }
-    ensures { IfOk result (λ found. AreFound (program_of batch.now.p.now) batch.now.number found) }
+    ensures { IfOk result (λ found. AreSlotsFound (program_of batch.now.p.now) batch.now.number found) }
 {
     Ok(Found {
         bare: nearest_table(batch, Asked::Bodied, Asked::Bare, false)?,
@@ -131,7 +131,7 @@ fn fine_for(
 ) -> Result<usize, AllocError>
     requires formed { IsFormed (program_of p.now) }
     requires few { until ≤ length p.now.classes.items }
-    requires listed { AreListed (program_of p.now) batch list.now }
+    requires listed { AreMethodsListed (program_of p.now) batch list.now }
     ensures within { IfOk result (λ n. n ≤ until) }
     ensures fine { IfOk result (λ n. (c : ℕ) → c < n → IsFineFor (program_of p.now) batch c) }
 {

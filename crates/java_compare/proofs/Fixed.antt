@@ -1,9 +1,9 @@
 -- Equality of trees has one answer.
 use Rattle.std.proofs.Common.{true, false, refl, sym}
 use Rattle.std.proofs.lemmas.Bool.{true≢false}
-use Rattle.java_compare.specs.Laws.{OneAnswer}
+use Rattle.java_compare.specs.Laws.{OneComparison}
 
-pub one_answer : OneAnswer
+pub one_answer : OneComparison
 one_answer a b true true s t = refl
 one_answer a b false false s t = refl
 one_answer a b true false s t = absurd (true≢false (sym (t.1 (s.0 refl))))

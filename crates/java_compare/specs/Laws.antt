@@ -9,5 +9,5 @@ abbrev pub Tells : Tree → Tree → Bool → Type 0
 Tells a b answer = IsTrue answer ↔ (unplaced (tree_of a) ≡ unplaced (tree_of b))
 
 -- two answers that tell it of the same trees are equal
-abbrev pub OneAnswer : Type 0
-OneAnswer = (a b : Tree) (x y : Bool) → Tells a b x → Tells a b y → x ≡ y
+abbrev pub OneComparison : Type 0
+OneComparison = (a b : Tree) (x y : Bool) → Tells a b x → Tells a b y → x ≡ y

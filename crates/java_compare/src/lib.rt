@@ -73,7 +73,7 @@ macro_rules! same_forms {
     };
 }
 
-ghost use Rattle.java_compare.specs.Laws.{OneAnswer};
+ghost use Rattle.java_compare.specs.Laws.{OneComparison};
 
 mod compare;
 mod compare_bodies;
@@ -85,5 +85,5 @@ pub use measure::size;
 
 /// The contract of `same` has one result: two answers that meet it for the same trees are equal.
 pub fn one_answer()
-    ensures value { OneAnswer }
+    ensures value { OneComparison }
 {}

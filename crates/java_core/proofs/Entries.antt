@@ -15,14 +15,14 @@ use Rattle.java_core.proofs.Subclasses.{supers-within}
 use Rattle.java_core.specs.Subtypes.{of_classes, subtype_rows}
 use Rattle.java_core.specs.Squares.{square, is_below}
 use Rattle.java_core.specs.Owned.{listed}
-use Rattle.java_core.specs.Subtypes.{supers_in, IsDirect, Entered, AreDirect, IsUnder, itself, under, AreInside, AllExact}
+use Rattle.java_core.specs.Subtypes.{supers_in, IsDirect, EnteredUnder, AreDirect, StandsUnder, itself, under, AreInside, AllExact}
 use Rattle.java_core.proofs.SquareLemmas.{square-same}
 use Rattle.java_core.proofs.Reached.{reaches-is}
 
 -- ---- what is entered
 
-pub entered-then : (x : ℕ) (first second : List ClassId) (a b c : List (Vec ℕ Global)) → Entered x first a b → Entered x second b c
-    → Entered x (first ++ second) a c
+pub entered-then : (x : ℕ) (first second : List ClassId) (a b c : List (Vec ℕ Global)) → EnteredUnder x first a b → EnteredUnder x second b c
+    → EnteredUnder x (first ++ second) a c
 entered-then x first second a b c g h = record {
   len = h.len ∙ g.len;
   kept = λ y z k. h.kept y z (g.kept y z k);
@@ -34,15 +34,15 @@ entered-then x first second a b c g h = record {
       (Contains-append_cases first second s k);
 }
 
-pub entered-more : (x : ℕ) (xs : List ClassId) (i : ℕ) (d : ClassId) (a b c : List (Vec ℕ Global)) → i < length xs → Entered x (take i xs) a b
-    → Entered x (get_or xs i d ∷ []) b c → Entered x (take (i + 1) xs) a c
-entered-more x xs i d a b c lt g h = subst (λ l. Entered x l a c) (sym (ap (λ k. take k xs) (add-one i) ∙ take-suc xs i d lt))
+pub entered-more : (x : ℕ) (xs : List ClassId) (i : ℕ) (d : ClassId) (a b c : List (Vec ℕ Global)) → i < length xs → EnteredUnder x (take i xs) a b
+    → EnteredUnder x (get_or xs i d ∷ []) b c → EnteredUnder x (take (i + 1) xs) a c
+entered-more x xs i d a b c lt g h = subst (λ l. EnteredUnder x l a c) (sym (ap (λ k. take k xs) (add-one i) ∙ take-suc xs i d lt))
     (entered-then x (take i xs) (get_or xs i d ∷ []) a b c g h)
 
 -- ---- all types
 
 pub direct-more : (all : List PlainClass) (x : ℕ) (k : PlainClass) (old new : List (Vec ℕ Global)) → slice_get all x ≡ Some k → AreDirect all x old
-    → Entered x (supers_in k) old new → AreDirect all (x + 1) new
+    → EnteredUnder x (supers_in k) old new → AreDirect all (x + 1) new
 direct-more all x k old new at d e = record {
   len = e.len ∙ d.len;
   sound = λ z y c. ⊎_elim (λ b. d.sound z y b)
@@ -63,7 +63,7 @@ direct-inside all count lists d = record { each = λ y x c. supers-within (of_cl
 -- ---- what stands under a type is its subtype
 
 module _ (all : List PlainClass) (lists : List (Vec ℕ Global)) (d : AreDirect all (length all) lists) where
-  pub under-subclass : {y b : ℕ} → IsUnder lists y b → IsSubclass (of_classes all) y b
+  pub under-subclass : {y b : ℕ} → StandsUnder lists y b → IsSubclass (of_classes all) y b
   under-subclass itself = same_class
   under-subclass (under {y = y} {x = x} direct rest) = through {c = class_id x} (d.sound y x direct) (under-subclass rest)
 
@@ -71,7 +71,7 @@ module _ (all : List PlainClass) (lists : List (Vec ℕ Global)) (d : AreDirect 
   subclass-within same_class lt = lt
   subclass-within (through {a = a} {c = c} direct rest) lt = supers-within (of_classes all) a c direct
 
-  pub subclass-under : {y b : ℕ} → b < length all → IsSubclass (of_classes all) y b → IsUnder lists y b
+  pub subclass-under : {y b : ℕ} → b < length all → IsSubclass (of_classes all) y b → StandsUnder lists y b
   subclass-under lt same_class = itself
   subclass-under lt (through {a = a} {c = c} direct rest) =
       under (d.whole a c.0 (supers-within (of_classes all) a c direct) (subclass-within rest lt) direct) (subclass-under lt rest)

@@ -21,7 +21,7 @@ use Rattle.java_core.specs.Subtypes.{of_classes}
 use Rattle.java_core.specs.Classes.{parent_of, first_or, nearest, nearest_of, is_slot}
 use Rattle.java_core.specs.Owned.{AreOwned, owned_from, listed, passes, first_among}
 use Rattle.java_core.specs.MemberKeys.{MemberKeys}
-use Rattle.java_core.specs.Nearest.{superclasses, parent_at, nearest_by, IsFirst, highest, lower, AreVersions, IsVersionAbove, IsAbove, IsNearestBy, numbered_among, has_name, name_number, number_of, name_numbers}
+use Rattle.java_core.specs.Nearest.{superclasses, parent_at, nearest_by, IsNearestOwn, highest, lower, AreVersions, IsVersionAbove, IsSuperclassVersion, IsNearestBy, numbered_among, has_name, name_number, number_of, name_numbers}
 use Rattle.java_core.proofs.Chains.{Chain, ends, goes_up, short}
 use Rattle.java_core.proofs.OwnedLemmas.{owned-position}
 use Rattle.java_core.proofs.Positions.{position-passes, position-map, passes-position}
@@ -34,9 +34,9 @@ or_none None = refl
 or_none (Some y) = refl
 
 module _ (parents : List (Option ClassId)) where
-  first-same : {f g : ℕ → Option ℕ} → ((k : ℕ) → f k ≡ g k) → {c : ℕ} {r : Option ℕ} → IsFirst parents f c r → IsFirst parents g c r
-  first-same {f} {g} e (highest {c = c} top) = subst (IsFirst parents g c) (sym (e c)) (highest top)
-  first-same {f} {g} e (lower {c = c} {p = p} {r = r} up rest) = subst (λ o. IsFirst parents g c (first_or o r)) (sym (e c)) (lower up (first-same e rest))
+  first-same : {f g : ℕ → Option ℕ} → ((k : ℕ) → f k ≡ g k) → {c : ℕ} {r : Option ℕ} → IsNearestOwn parents f c r → IsNearestOwn parents g c r
+  first-same {f} {g} e (highest {c = c} top) = subst (IsNearestOwn parents g c) (sym (e c)) (highest top)
+  first-same {f} {g} e (lower {c = c} {p = p} {r = r} up rest) = subst (λ o. IsNearestOwn parents g c (first_or o r)) (sym (e c)) (lower up (first-same e rest))
 
   module _ (own : ℕ → Option ℕ) where
     record Steps (c : ℕ) (r : Option ℕ) : Type 0 where
@@ -44,7 +44,7 @@ module _ (parents : List (Option ClassId)) where
       chain : Chain parents c count
       from : (n : ℕ) → count ≤ n → nearest_by parents own n c ≡ r
 
-    steps : {c : ℕ} {r : Option ℕ} → IsFirst parents own c r → Steps c r
+    steps : {c : ℕ} {r : Option ℕ} → IsNearestOwn parents own c r → Steps c r
     steps (highest {c = c} top) = record { count = 0; chain = ends top; from = λ n le. go n }
       where
         go : (n : ℕ) → nearest_by parents own n c ≡ own c
@@ -57,7 +57,7 @@ module _ (parents : List (Option ClassId)) where
         go s zero le = absurd (omega (arith, le))
         go s (suc n) le = rw (up, s.from n (omega (arith, le))) refl
 
-    first-nearest : {c : ℕ} {r : Option ℕ} → IsFirst parents own c r → nearest_by parents own (length parents) c ≡ r
+    first-nearest : {c : ℕ} {r : Option ℕ} → IsNearestOwn parents own c r → nearest_by parents own (length parents) c ≡ r
     first-nearest h = let s = steps h in s.from (length parents) (short parents s.chain)
 
     -- where no class has anything, nothing is nearest
@@ -71,9 +71,9 @@ module _ (parents : List (Option ClassId)) where
 
     -- where a class has nothing of its own, what is first from its superclass is nearest
     first-above : (f : ℕ → Option ℕ) → ((k : ℕ) → f k ≡ own k) → (c : ℕ) (p : ClassId) (r : Option ℕ) → own c ≡ None → parent_at parents c ≡ Some p
-        → ∥ IsFirst parents f p.0 r ∥₁ → nearest_by parents own (length parents) c ≡ r
+        → ∥ IsNearestOwn parents f p.0 r ∥₁ → nearest_by parents own (length parents) c ≡ r
     first-above f e c p r here up h =
-        ∥∥₁_elim h (hlevel props) (λ h. first-nearest (subst (λ o. IsFirst parents own c (first_or o r)) here (lower up (first-same e h))))
+        ∥∥₁_elim h (hlevel props) (λ h. first-nearest (subst (λ o. IsNearestOwn parents own c (first_or o r)) here (lower up (first-same e h))))
 
 -- what a program has nearest is what its list of superclasses has
 module _ (classes : List Class) where
@@ -140,20 +140,20 @@ module _ (parents : List (Option ClassId)) (numbers : List (Option ℕ)) (own : 
     (v : AreVersions parents numbers own all) (at : ℕ) (map : VersionMap) (h : ℕ → Option ℕ)
     (is : (i : ℕ) → holds map i ≡ first_or (numbered_among numbers i (listed own at)) (h i)) where
   first-entered : (o : Option ClassId) → parent_at parents at ≡ o → IsVersionAbove all o h → (i : ℕ)
-      → ∥ IsFirst parents (λ k. numbered_among numbers i (listed own k)) at (holds map i) ∥₁
+      → ∥ IsNearestOwn parents (λ k. numbered_among numbers i (listed own k)) at (holds map i) ∥₁
   first-entered None e above i =
       let f : ℕ → Option ℕ = λ k. numbered_among numbers i (listed own k) in
-      ∣ subst (IsFirst parents f at) (sym (is i ∙ ap (first_or (f at)) (above i) ∙ or_none (f at))) (highest e) ∣₁
+      ∣ subst (IsNearestOwn parents f at) (sym (is i ∙ ap (first_or (f at)) (above i) ∙ or_none (f at))) (highest e) ∣₁
   first-entered (Some p) e above i =
       let f : ℕ → Option ℕ = λ k. numbered_among numbers i (listed own k) in
       ∥∥₁_map (v.each p.0 above.of above.stands i)
-      (λ g. subst (IsFirst parents f at) (sym (is i ∙ ap (first_or (f at)) (above.same i))) (lower e g))
+      (λ g. subst (IsNearestOwn parents f at) (sym (is i ∙ ap (first_or (f at)) (above.same i))) (lower e g))
 
   pub versions-entered : IsVersionAbove all (parent_at parents at) h → AreVersions parents numbers own (set all at (Some map))
   versions-entered above = record {
     each = λ c m e i. ⊎_elim
-        (λ same. subst (λ z. ∥ IsFirst parents (λ k. numbered_among numbers i (listed own k)) z (holds m i) ∥₁) (sym same.0)
-        (subst (λ w. ∥ IsFirst parents (λ k. numbered_among numbers i (listed own k)) at (holds w i) ∥₁) (sym (some-one same.1))
+        (λ same. subst (λ z. ∥ IsNearestOwn parents (λ k. numbered_among numbers i (listed own k)) z (holds m i) ∥₁) (sym same.0)
+        (subst (λ w. ∥ IsNearestOwn parents (λ k. numbered_among numbers i (listed own k)) at (holds w i) ∥₁) (sym (some-one same.1))
         (first-entered (parent_at parents at) refl above i)))
         (λ old. v.each c m old i) (set_cases all at c (Some map) (Some m) e);
   }
@@ -229,7 +229,7 @@ module _ {A : Type 0} (keys : A → MemberKeys) (xs : List A) where
 
   -- what the version of the superclass has under the number of a name is nearest, where a class has nothing of its own
   pub numbered-nearest : (parents : List (Option ClassId)) (lists : List (Vec ℕ Global)) → AreOwned (map owner xs) lists
-      → (all : List (Option VersionMap)) → AreVersions parents (name_numbers keys xs) lists all → (c : ℕ) (m : VersionMap) → IsAbove parents all c m
+      → (all : List (Option VersionMap)) → AreVersions parents (name_numbers keys xs) lists all → (c : ℕ) (m : VersionMap) → IsSuperclassVersion parents all c m
       → (x : List ℕ) (o : Option ℕ) → o ≡ name_number keys xs x → (own : ℕ → Option ℕ)
       → ((k : ℕ) → position (λ a. (owner a == k) && has_name keys x a) xs ≡ own k)
       → IsNearestBy parents own c (option_and_then (holds m) o)

@@ -10,7 +10,7 @@ use Rattle.java_core.specs.declared.RStmt.{RStmt, If, For}
 use Rattle.java_core.specs.declared.RArm.{RArm}
 use Rattle.java_core.specs.declared.RExpr.TheBlock.{Row_of-RExpr, end_of-RExpr, more_of-RExpr, items-the_row-RExpr, hidden-the_row-RExpr-0, items_hidden-the_row-RExpr-0}
 use Rattle.java_core.specs.declared.RStmt.TheBlock.{Row_of-RStmt, end_of-RStmt, more_of-RStmt, items-the_row-RStmt, hidden-the_row-RStmt-0, items_hidden-the_row-RStmt-0, shown-the_row-RStmt-0, items_shown-the_row-RStmt-0, Row_of-RArm, end_of-RArm, more_of-RArm, items-the_row-RArm, hidden-the_row-RArm-1, items_hidden-the_row-RArm-1}
-use Rattle.java_core.specs.Trees.{at_place, ex_then, this, call, no_st, st_then, Arms, no_other, otherwise, arm, choose, loop, expr_of, exprs_of, exprs, value_of, stmt_of, stmts_of, stmts, arms_of, arms_seen, else_seen, step_seen, base_seen}
+use Rattle.java_core.specs.Trees.{at_place, ex_then, this, call, no_st, st_then, IfArms, no_other, otherwise, arm, choose, loop, expr_of, exprs_of, exprs, value_of, stmt_of, stmts_of, stmts, arms_of, arms_seen, else_seen, step_seen, base_seen}
 
 pub exprs-items : {n : _} (k : Row_of-RExpr n) → exprs_of k ≡ exprs (items-the_row-RExpr _ k)
 exprs-items end_of-RExpr = refl
@@ -29,13 +29,13 @@ stmts_vec v = stmts-items (hidden-the_row-RStmt-0 v) ∙ ap stmts (items_hidden-
 stmts_shown : (s : _) (k : _) → stmts_of k ≡ stmts (shown-the_row-RStmt-0 s k).items
 stmts_shown s k = stmts-items k ∙ sym (ap stmts (items_shown-the_row-RStmt-0 s k))
 
-pub arms-items : {n : _} (k : Row_of-RArm n) (other : Arms) → arms_of k other ≡ arms_seen (items-the_row-RArm _ k) other
+pub arms-items : {n : _} (k : Row_of-RArm n) (other : IfArms) → arms_of k other ≡ arms_seen (items-the_row-RArm _ k) other
 arms-items end_of-RArm other = refl
 arms-items (more_of-RArm t s body rest) other =
     ap (λ b. arm (expr_of t) b (arms_of rest other)) (stmts_shown s body)
     ∙ ap (arm (expr_of t) (stmts (shown-the_row-RStmt-0 s body).items)) (arms-items rest other)
 
-pub arms_vec : (v : Vec RArm Global) (other : Arms) → arms_of (hidden-the_row-RArm-1 v) other ≡ arms_seen v.items other
+pub arms_vec : (v : Vec RArm Global) (other : IfArms) → arms_of (hidden-the_row-RArm-1 v) other ≡ arms_seen v.items other
 arms_vec v other = arms-items (hidden-the_row-RArm-1 v) other ∙ ap (λ xs. arms_seen xs other) (items_hidden-the_row-RArm-1 v)
 
 pub call_as : (b : Option (Box RExpr Global)) (x : List ℕ) (v : Vec RExpr Global) (p : Place) → expr_of (Call b x v p)

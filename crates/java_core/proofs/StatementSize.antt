@@ -2,7 +2,7 @@
 use Rattle.std.proofs.Common.{◌≡◌, ℕ, zero, suc, ◌+◌, ◌<◌, ◌≤◌, List, [], ◌∷◌, length, get_or, sym, subst, arith}
 use Rattle.java_core.specs.declared.RStmt.{RStmt}
 use Rattle.java_core.specs.declared.RArm.{RArm}
-use Rattle.java_core.specs.Trees.{stmt_of, stmts, arms_seen, St, Sts, Arms, declare, block, assign, act, print, choose, loop, return, break, continue, no_st, st_then, no_other, otherwise, arm}
+use Rattle.java_core.specs.Trees.{stmt_of, stmts, arms_seen, St, Sts, IfArms, declare, block, assign, act, print, choose, loop, return, break, continue, no_st, st_then, no_other, otherwise, arm}
 
 abbrev mutual
   pub st_size : St → ℕ
@@ -21,7 +21,7 @@ abbrev mutual
   sts_size no_st = 0
   sts_size (st_then x xs) = 1 + (st_size x + sts_size xs)
 
-  pub arms_size : Arms → ℕ
+  pub arms_size : IfArms → ℕ
   arms_size no_other = 0
   arms_size (otherwise xs) = sts_size xs
   arms_size (arm e xs more) = sts_size xs + arms_size more
@@ -34,21 +34,21 @@ at_smaller (x ∷ xs) (suc i) d h = omega (arith, at_smaller xs i d (omega (arit
 pub stmt_smaller : (xs : List RStmt) (i : ℕ) (d : RStmt) → i < length xs → d ≡ get_or xs i d → st_size (stmt_of d) < sts_size (stmts xs)
 stmt_smaller xs i d h e = subst (λ x. st_size (stmt_of x) < sts_size (stmts xs)) (sym e) (at_smaller xs i d h)
 
-pub else_smaller : (xs : List RArm) (other : Arms) → arms_size other ≤ arms_size (arms_seen xs other)
+pub else_smaller : (xs : List RArm) (other : IfArms) → arms_size other ≤ arms_size (arms_seen xs other)
 else_smaller [] other = omega arith
 else_smaller (x ∷ xs) other = omega (arith, else_smaller xs other)
 
-pub arms_within : (xs : List RArm) (other : Arms) → arms_size (arms_seen xs no_other) ≤ arms_size (arms_seen xs other)
+pub arms_within : (xs : List RArm) (other : IfArms) → arms_size (arms_seen xs no_other) ≤ arms_size (arms_seen xs other)
 arms_within [] other = omega arith
 arms_within (x ∷ xs) other = omega (arith, arms_within xs other)
 
-body_smaller : (xs : List RArm) (other : Arms) (i : ℕ) (d : RArm) → i < length xs
+body_smaller : (xs : List RArm) (other : IfArms) (i : ℕ) (d : RArm) → i < length xs
     → sts_size (stmts (get_or xs i d).body.items) ≤ arms_size (arms_seen xs other)
 body_smaller [] other i d h = absurd (omega (arith, h))
 body_smaller (x ∷ xs) other zero d h = omega arith
 body_smaller (x ∷ xs) other (suc i) d h = omega (arith, body_smaller xs other i d (omega (arith, h)))
 
-pub arm_smaller : (xs : List RArm) (other : Arms) (i : ℕ) (d : RArm) → i < length xs → d ≡ get_or xs i d
+pub arm_smaller : (xs : List RArm) (other : IfArms) (i : ℕ) (d : RArm) → i < length xs → d ≡ get_or xs i d
     → sts_size (stmts d.body.items) ≤ arms_size (arms_seen xs other)
 arm_smaller xs other i d h e = subst (λ (x : RArm). sts_size (stmts x.body.items) ≤ arms_size (arms_seen xs other)) (sym e)
     (body_smaller xs other i d h)

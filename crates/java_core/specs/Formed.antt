@@ -10,7 +10,7 @@ use Rattle.java_core.specs.declared.TyBase.{TyBase}
 use Rattle.java_core.specs.declared.TyBase.TheVariants.{Int, Boolean, Char, Str, Class}
 use Rattle.java_core.specs.declared.UnOp.{UnOp}
 use Rattle.java_core.specs.declared.BinOp.{BinOp}
-use Rattle.java_core.specs.Trees.{Tag, Ex, Exs, no_ex, ex_then, number, character, text, truth, null, this, local, static_field, own_field, field, index, call, static_call, super_call, create, create_array, cast, instance_of, unary, binary, Target, to_local, to_static, to_own, to_field, to_element, no_target, St, Sts, Arms, declare, block, assign, act, print, choose, loop, return, break, continue, no_st, st_then, no_other, otherwise, arm}
+use Rattle.java_core.specs.Trees.{Tag, Ex, Exs, no_ex, ex_then, number, character, text, truth, null, this, local, static_field, own_field, field, index, call, static_call, super_call, create, create_array, cast, instance_of, unary, binary, Target, to_local, to_static, to_own, to_field, to_element, no_target, St, Sts, IfArms, declare, block, assign, act, print, choose, loop, return, break, continue, no_st, st_then, no_other, otherwise, arm}
 use Rattle.java_core.specs.Plain.{Plain, PlainClass, PlainField, PlainMethod, PlainLocal, PlainSlot}
 use Rattle.java_core.specs.Classes.{IsSubclass, IsProperSubclass, field_of}
 use Rattle.java_core.specs.Types.{types_of}
@@ -33,8 +33,8 @@ IsKnownBase P Char = Unit {0}
 IsKnownBase P Str = Unit {0}
 
 -- a type whose class is one of the program
-abbrev pub IsType : Plain → Ty → Type 0
-IsType P t = IsKnownBase P t.base
+abbrev pub IsProgramType : Plain → Ty → Type 0
+IsProgramType P t = IsKnownBase P t.base
 
 -- what a cast may be to: int, char, a class or an interface
 pub data IsCastType (P : Plain) : Ty → Type 0 where
@@ -101,9 +101,9 @@ is_at_most_one p (st_then x no_st) = p x
 is_at_most_one p (st_then x (st_then y ys)) = false
 
 -- what a loop may have before its body: a `while` has a test and neither first nor last part, a `for` may have each of them
-pub data IsHead : Bool → Sts → Option Ex → Sts → Type 0 where
-  of_while : {e : Ex} → IsHead true no_st (Some e) no_st
-  of_for : {first step : Sts} {test : Option Ex} → IsHead false first test step
+pub data IsLoopHead : Bool → Sts → Option Ex → Sts → Type 0 where
+  of_while : {e : Ex} → IsLoopHead true no_st (Some e) no_st
+  of_for : {first step : Sts} {test : Option Ex} → IsLoopHead false first test step
 
 -- what is a statement by itself: a call or a creation
 abbrev pub is_call : Ex → Bool
@@ -133,7 +133,7 @@ module _ (P : Plain) (k : PlainMethod) where
       f_static_call : {t : Tag} {m : ℕ} {es : Exs} → IsStaticMethod P m → FormedExs scope es → FormedEx scope (static_call t m es)
       f_super_call : {t : Tag} {x : List ℕ} {es : Exs} → k.is_static ≡ false → IsName x → FormedExs scope es → FormedEx scope (super_call t x es)
       f_create : {t : Tag} {n c : ℕ} {es : Exs} → IsClass P c → FormedExs scope es → FormedEx scope (create t n c es)
-      f_create_array : {t : Tag} {n : ℕ} {u : Ty} {e : Ex} → IsType P u → 0 < u.dim → FormedEx scope e → FormedEx scope (create_array t n u e)
+      f_create_array : {t : Tag} {n : ℕ} {u : Ty} {e : Ex} → IsProgramType P u → 0 < u.dim → FormedEx scope e → FormedEx scope (create_array t n u e)
       f_cast : {t : Tag} {n : ℕ} {u : Ty} {e : Ex} → IsCastType P u → FormedEx scope e → FormedEx scope (cast t n u e)
       f_instance_of : {t : Tag} {n c : ℕ} {e : Ex} → FormedEx scope e → IsClass P c → FormedEx scope (instance_of t n e c)
       f_unary : {t : Tag} {o : UnOp} {e : Ex} → FormedEx scope e → FormedEx scope (unary t o e)
@@ -168,9 +168,9 @@ module _ (P : Plain) (k : PlainMethod) where
       f_act : {in_loop : Bool} {scope : List ℕ} {t : Tag} {e : Ex} → is_call e ≡ true → FormedEx scope e → FormedSt in_loop scope (act t e)
       f_print : {in_loop : Bool} {scope : List ℕ} {t : Tag} {n : Bool} {e : Option Ex} → n || is_some e ≡ true → FormedOption scope e
           → FormedSt in_loop scope (print t n e)
-      f_choose : {in_loop : Bool} {scope : List ℕ} {t : Tag} {e : Ex} {xs : Sts} {more : Arms} → FormedArms in_loop scope (arm e xs more)
+      f_choose : {in_loop : Bool} {scope : List ℕ} {t : Tag} {e : Ex} {xs : Sts} {more : IfArms} → FormedArms in_loop scope (arm e xs more)
           → FormedSt in_loop scope (choose t (arm e xs more))
-      f_loop : {in_loop is_while : Bool} {scope : List ℕ} {t : Tag} {first step body : Sts} {test : Option Ex} → IsHead is_while first test step
+      f_loop : {in_loop is_while : Bool} {scope : List ℕ} {t : Tag} {first step body : Sts} {test : Option Ex} → IsLoopHead is_while first test step
           → is_at_most_one is_first first ≡ true → is_at_most_one is_act step ≡ true
           → FormedSts in_loop scope first → FormedOption (scope_after_all scope first) test → FormedSts in_loop (scope_after_all scope first) step
           → FormedSts true (scope_after_all scope first) body → FormedSt in_loop scope (loop t is_while first test step body)
@@ -185,10 +185,10 @@ module _ (P : Plain) (k : PlainMethod) where
           → FormedSts in_loop scope (st_then x xs)
 
     -- the arms of an `if` are well formed: their tests and their bodies
-    pub data FormedArms : Bool → List ℕ → Arms → Type 0 where
+    pub data FormedArms : Bool → List ℕ → IfArms → Type 0 where
       f_no_other : {in_loop : Bool} {scope : List ℕ} → FormedArms in_loop scope no_other
       f_otherwise : {in_loop : Bool} {scope : List ℕ} {xs : Sts} → FormedSts in_loop scope xs → FormedArms in_loop scope (otherwise xs)
-      f_arm : {in_loop : Bool} {scope : List ℕ} {e : Ex} {xs : Sts} {more : Arms} → FormedEx scope e → FormedSts in_loop scope xs
+      f_arm : {in_loop : Bool} {scope : List ℕ} {e : Ex} {xs : Sts} {more : IfArms} → FormedEx scope e → FormedSts in_loop scope xs
           → FormedArms in_loop scope more → FormedArms in_loop scope (arm e xs more)
 
 -- the numbers of the creations, casts and instanceof of trees
@@ -255,7 +255,7 @@ abbrev mutual
   numbers_sts (st_then x xs) = numbers_st x ++ numbers_sts xs
 
   -- the same of the arms of an `if`
-  pub numbers_arms : Arms → List ℕ
+  pub numbers_arms : IfArms → List ℕ
   numbers_arms no_other = []
   numbers_arms (otherwise xs) = numbers_sts xs
   numbers_arms (arm e xs more) = numbers e ++ numbers_sts xs ++ numbers_arms more
@@ -308,7 +308,7 @@ pub record IsFormedClass (P : Plain) (k : PlainClass) : Type 0 where
 -- a field of a class, whose name no other field of the class has
 pub record IsFormedField (P : Plain) (f : PlainField) : Type 0 where
   pub name : IsVariableName P f.name
-  pub type : IsType P f.ty
+  pub type : IsProgramType P f.ty
   pub no_object : f.owner ≢ 0
   pub holder : PlainClass
   pub stands : slice_get P.classes f.owner ≡ Some holder
@@ -317,7 +317,7 @@ pub record IsFormedField (P : Plain) (f : PlainField) : Type 0 where
 -- a parameter or local has a variable's name and a type of the program
 pub record IsFormedLocal (P : Plain) (v : PlainLocal) : Type 0 where
   pub name : IsVariableName P v.name
-  pub type : IsType P v.ty
+  pub type : IsProgramType P v.ty
 
 -- the methods of the slot s are the instance methods of its name, parameter types and result
 pub record IsInSlot (P : Plain) (s : ℕ) (k : PlainMethod) : Type 0 where
@@ -331,7 +331,7 @@ pub record IsInSlot (P : Plain) (s : ℕ) (k : PlainMethod) : Type 0 where
 -- the result of a method is void or a type of the program
 abbrev pub IsKnownResult : Plain → Option Ty → Type 0
 IsKnownResult P None = Unit {0}
-IsKnownResult P (Some t) = IsType P t
+IsKnownResult P (Some t) = IsProgramType P t
 
 -- the numbers of the parameters
 abbrev pub numbers_below : ℕ → List ℕ
@@ -370,7 +370,7 @@ pub record IsMain (k : PlainMethod) : Type 0 where
   pub result : k.result ≡ None
 
 -- each class, field, method and slot has a number of 32 bits
-pub record AreCounted (P : Plain) : Type 0 where
+pub record HasSmallNumbers (P : Plain) : Type 0 where
   pub classes : length P.classes < 4294967295
   pub fields : length P.fields < 4294967295
   pub methods : length P.methods < 4294967295
@@ -397,4 +397,4 @@ pub record IsFormed (P : Plain) : Type 0 where
   pub main_stands : slice_get P.methods P.main ≡ Some main
   pub main_is : IsMain main
   pub main_first : (m : ℕ) (k : PlainMethod) → slice_get P.methods m ≡ Some k → IsMain k → main.owner ≤ k.owner
-  pub counted : AreCounted P
+  pub counted : HasSmallNumbers P

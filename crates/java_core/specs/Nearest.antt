@@ -50,14 +50,14 @@ nearest_by parents f zero c = f c
 nearest_by parents f (suc n) c = first_or (f c) (option_and_then (λ p. nearest_by parents f n p.0) (parent_at parents c))
 
 -- r is what a class itself has, or where it has nothing what is so found from its superclass
-pub data IsFirst (parents : List (Option ClassId)) (own : ℕ → Option ℕ) : ℕ → Option ℕ → Type 0 where
-  highest : {c : ℕ} → parent_at parents c ≡ None → IsFirst parents own c (own c)
-  lower : {c : ℕ} {p : ClassId} {r : Option ℕ} → parent_at parents c ≡ Some p → IsFirst parents own p.0 r → IsFirst parents own c (first_or (own c) r)
+pub data IsNearestOwn (parents : List (Option ClassId)) (own : ℕ → Option ℕ) : ℕ → Option ℕ → Type 0 where
+  highest : {c : ℕ} → parent_at parents c ≡ None → IsNearestOwn parents own c (own c)
+  lower : {c : ℕ} {p : ClassId} {r : Option ℕ} → parent_at parents c ≡ Some p → IsNearestOwn parents own p.0 r → IsNearestOwn parents own c (first_or (own c) r)
 
 -- the versions that are there have under each number what is first along the superclasses
 pub record AreVersions (parents : List (Option ClassId)) (numbers : List (Option ℕ)) (own : List (Vec ℕ Global)) (all : List (Option VersionMap)) : Type 0 where
   pub each : (c : ℕ) (m : VersionMap) → slice_get all c ≡ Some (Some m) → (i : ℕ)
-      → ∥ IsFirst parents (λ k. numbered_among numbers i (listed own k)) c (holds m i) ∥₁
+      → ∥ IsNearestOwn parents (λ k. numbered_among numbers i (listed own k)) c (holds m i) ∥₁
 
 -- a map has what the version of a class has
 pub record IsVersion (all : List (Option VersionMap)) (c : ℕ) (h : ℕ → Option ℕ) : Type 0 where
@@ -71,7 +71,7 @@ IsVersionAbove all None h = (i : ℕ) → h i ≡ None
 IsVersionAbove all (Some p) h = IsVersion all p.0 h
 
 -- a map is the version of the superclass of a class
-pub record IsAbove (parents : List (Option ClassId)) (all : List (Option VersionMap)) (c : ℕ) (m : VersionMap) : Type 0 where
+pub record IsSuperclassVersion (parents : List (Option ClassId)) (all : List (Option VersionMap)) (c : ℕ) (m : VersionMap) : Type 0 where
   pub by : ClassId
   pub parent : parent_at parents c ≡ Some by
   pub stands : slice_get all by.0 ≡ Some (Some m)

@@ -39,7 +39,7 @@ pub record AreEmpty (count : ℕ) (lists : List (Vec ℕ Global)) : Type 0 where
   pub none : (y : ℕ) → listed lists y ≡ []
 
 -- x stands under each of these, and nothing else has changed
-pub record Entered (x : ℕ) (supers : List ClassId) (old new : List (Vec ℕ Global)) : Type 0 where
+pub record EnteredUnder (x : ℕ) (supers : List ClassId) (old new : List (Vec ℕ Global)) : Type 0 where
   pub len : length new ≡ length old
   pub kept : (y z : ℕ) → Contains (listed old y) z → Contains (listed new y) z
   pub news : (y z : ℕ) → Contains (listed new y) z → Contains (listed old y) z ⊎ (Contains supers (class_id y) × (z ≡ x))
@@ -54,9 +54,9 @@ pub record AreDirect (all : List PlainClass) (count : ℕ) (lists : List (Vec �
 -- ---- a walk downwards
 
 -- y is b, or stands under something that is at or below b
-pub data IsUnder (lists : List (Vec ℕ Global)) : ℕ → ℕ → Type 0 where
-  itself : {b : ℕ} → IsUnder lists b b
-  under : {y x b : ℕ} → Contains (listed lists x) y → IsUnder lists x b → IsUnder lists y b
+pub data StandsUnder (lists : List (Vec ℕ Global)) : ℕ → ℕ → Type 0 where
+  itself : {b : ℕ} → StandsUnder lists b b
+  under : {y x b : ℕ} → Contains (listed lists x) y → StandsUnder lists x b → StandsUnder lists y b
 
 -- what stands in the lists is below n
 pub record AreInside (n : ℕ) (lists : List (Vec ℕ Global)) : Type 0 where
@@ -69,23 +69,23 @@ pub record IsOwnRow (n b : ℕ) (r : List Bool) : Type 0 where
   pub own : bit r b ≡ true
 
 -- the row of b has what is at or below b
-pub record IsExact (lists : List (Vec ℕ Global)) (n b : ℕ) (r : List Bool) : Type 0 where
+pub record IsExactRow (lists : List (Vec ℕ Global)) (n b : ℕ) (r : List Bool) : Type 0 where
   pub wide : (length r ≡ 0) ⊎ (length r ≡ n)
-  pub sound : (y : ℕ) → in_row r y b ≡ true → IsUnder lists y b
-  pub whole : (y : ℕ) → IsUnder lists y b → in_row r y b ≡ true
+  pub sound : (y : ℕ) → in_row r y b ≡ true → StandsUnder lists y b
+  pub whole : (y : ℕ) → StandsUnder lists y b → in_row r y b ≡ true
 
 -- the rows of the types that are known have what is at or below each
 pub record AreExact (lists : List (Vec ℕ Global)) (n : ℕ) (known : List Bool) (rows : List (List Bool)) : Type 0 where
   pub len : length rows ≡ n
   pub wide : length known ≡ n
   pub formed : AreRows n rows
-  pub each : (b : ℕ) → bit known b ≡ true → IsExact lists n b (row rows b)
+  pub each : (b : ℕ) → bit known b ≡ true → IsExactRow lists n b (row rows b)
 
 -- the rows have for each type what is at or below it
 pub record AllExact (lists : List (Vec ℕ Global)) (n : ℕ) (rows : List (List Bool)) : Type 0 where
   pub len : length rows ≡ n
   pub formed : AreRows n rows
-  pub each : (b : ℕ) → b < n → IsExact lists n b (row rows b)
+  pub each : (b : ℕ) → b < n → IsExactRow lists n b (row rows b)
 
 -- the type of a number is known now, if there is one
 pub record Filled (lists : List (Vec ℕ Global)) (n at : ℕ) (old new : List Bool) (rows : List (List Bool)) : Type 0 where
@@ -99,7 +99,7 @@ pub record FilledTo (lists : List (Vec ℕ Global)) (n count : ℕ) (known : Lis
   pub first : (b : ℕ) → b < count → bit known b ≡ true
 
 -- a row with all that is at or below another type whose row is known, y among it
-pub record IsHeld (rows : List (List Bool)) (known r : List Bool) (y : ℕ) : Type 0 where
+pub record HoldsRow (rows : List (List Bool)) (known r : List Bool) (y : ℕ) : Type 0 where
   pub by : ℕ
   pub known_by : bit known by ≡ true
   pub inside : by < length r
@@ -107,20 +107,20 @@ pub record IsHeld (rows : List (List Bool)) (known r : List Bool) (y : ℕ) : Ty
   pub all : (z : ℕ) → z < length r → is_below rows z by ≡ true → bit r z ≡ true
 
 -- a row has gained these types: with all below it where its row is known, else it waits
-pub record Gained (rows : List (List Bool)) (known : List Bool) (more : List ℕ) (old new : List Bool) (before after : List ℕ) : Type 0 where
+pub record GainedTypes (rows : List (List Bool)) (known : List Bool) (more : List ℕ) (old new : List Bool) (before after : List ℕ) : Type 0 where
   pub len : length new ≡ length old
   pub kept : (y : ℕ) → bit old y ≡ true → bit new y ≡ true
   pub news : (y : ℕ) → bit new y ≡ true → (bit old y ≡ true) ⊎ ((x : ℕ) × Contains more x × ((y ≡ x) ⊎ ((bit known x ≡ true) × (is_below rows y x ≡ true))))
-  pub settled : (y : ℕ) → bit new y ≡ true → (bit old y ≡ true) ⊎ (Contains after y ⊎ IsHeld rows known new y)
+  pub settled : (y : ℕ) → bit new y ≡ true → (bit old y ≡ true) ⊎ (Contains after y ⊎ HoldsRow rows known new y)
   pub told : (x : ℕ) → Contains more x → bit new x ≡ true
   pub waits : (y : ℕ) → Contains before y → Contains after y
   pub comes : (y : ℕ) → Contains after y → Contains before y ⊎ Contains more y
   pub work : length after + size old ≤ length before + size new
 
 -- the walk so far: what is in the row is at or below b, and what stands under that is in the row too, or it waits
-pub record Walked (lists : List (Vec ℕ Global)) (n b : ℕ) (r : List Bool) (waiting : List ℕ) : Type 0 where
+pub record WalkedBelow (lists : List (Vec ℕ Global)) (n b : ℕ) (r : List Bool) (waiting : List ℕ) : Type 0 where
   pub len : length r ≡ n
   pub start : bit r b ≡ true
-  pub sound : (y : ℕ) → bit r y ≡ true → IsUnder lists y b
+  pub sound : (y : ℕ) → bit r y ≡ true → StandsUnder lists y b
   pub settled : (y : ℕ) → bit r y ≡ true → Contains waiting y ⊎ ((x : ℕ) → Contains (listed lists y) x → bit r x ≡ true)
-  pub from : (y : ℕ) → Contains waiting y → IsUnder lists y b
+  pub from : (y : ℕ) → Contains waiting y → StandsUnder lists y b

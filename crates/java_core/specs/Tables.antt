@@ -62,7 +62,7 @@ pub record AreMethodTables (parents : List (Option ClassId)) (methods : List Met
   pub by_slot : AreMembersBy method_keys key.OwnerAndSlot methods t.by_slot.items
 
 -- the tables of a program have its superclasses, and each field and method where it belongs
-pub record AreTables (cs : List Class) (fs : List Field) (ms : List Method) (t : Tables) : Type 0 where
+pub record HaveMemberTables (cs : List Class) (fs : List Field) (ms : List Method) (t : Tables) : Type 0 where
   pub parents : t.parents.items ≡ superclasses cs
   pub fields : AreFieldTables t.parents.items fs t.fields
   pub methods : AreMethodTables t.parents.items ms t.methods

@@ -70,7 +70,7 @@ mutual
     assign : Tag → Target → Ex → St
     act : Tag → Ex → St
     print : Tag → Bool → Option Ex → St
-    choose : Tag → Arms → St
+    choose : Tag → IfArms → St
     loop : Tag → Bool → Sts → Option Ex → Sts → Sts → St
     return : Tag → Option Ex → St
     break : Tag → St
@@ -82,10 +82,10 @@ mutual
     st_then : St → Sts → Sts
 
   -- the arms of an `if`, and behind them its `else`, which may have no statement, or none
-  pub data Arms : Type 0 where
-    no_other : Arms
-    otherwise : Sts → Arms
-    arm : Ex → Sts → Arms → Arms
+  pub data IfArms : Type 0 where
+    no_other : IfArms
+    otherwise : Sts → IfArms
+    arm : Ex → Sts → IfArms → IfArms
 
 -- the tag of a form at a place: a program numbers none of its forms
 abbrev pub at_place : Place → Tag
@@ -156,7 +156,7 @@ abbrev mutual
   stmt_of (st.Continue p) = continue (at_place p)
 
   -- the last arm of an `if`: its `else`, where it has one
-  pub else_of : st.Held-RStmt-If-1 → Arms
+  pub else_of : st.Held-RStmt-If-1 → IfArms
   else_of st.RStmt-If-1-None' = no_other
   else_of (st.RStmt-If-1-Some' s body) = otherwise (stmts_of body)
 
@@ -171,7 +171,7 @@ abbrev mutual
   stmts_of (st.more_of-RStmt s rest) = st_then (stmt_of s) (stmts_of rest)
 
   -- the arms that a row of arms of the code stands for, with those that come behind them
-  pub arms_of : {n : _} → st.Row_of-RArm n → Arms → Arms
+  pub arms_of : {n : _} → st.Row_of-RArm n → IfArms → IfArms
   arms_of st.end_of-RArm other = other
   arms_of (st.more_of-RArm t s body rest) other = arm (expr_of t) (stmts_of body) (arms_of rest other)
 
@@ -186,12 +186,12 @@ stmts [] = no_st
 stmts (s ∷ ss) = st_then (stmt_of s) (stmts ss)
 
 -- the arms that a vector of the code stands for, with those that come behind them
-abbrev pub arms_seen : List RArm → Arms → Arms
+abbrev pub arms_seen : List RArm → IfArms → IfArms
 arms_seen [] other = other
 arms_seen (a ∷ more) other = arm (expr_of a.test) (stmts a.body.items) (arms_seen more other)
 
 -- the `else` of an `if`
-abbrev pub else_seen : Option (Vec RStmt Global) → Arms
+abbrev pub else_seen : Option (Vec RStmt Global) → IfArms
 else_seen None = no_other
 else_seen (Some v) = otherwise (stmts v.items)
 

@@ -7,7 +7,7 @@ use Rattle.java_core.specs.declared.UnOp.{UnOp}
 use Rattle.java_core.specs.declared.UnOp.TheVariants as un
 use Rattle.java_core.specs.declared.BinOp.{BinOp}
 use Rattle.java_core.specs.declared.BinOp.TheVariants as bin
-use Rattle.java_core.specs.Trees.{Tag, Ex, Exs, no_ex, ex_then, number, character, text, truth, null, this, local, static_field, own_field, field, index, call, static_call, super_call, create, create_array, cast, instance_of, unary, binary, Target, to_local, to_static, to_own, to_field, to_element, St, Sts, Arms, declare, block, assign, act, print, choose, loop, return, break, continue, no_st, st_then, no_other, otherwise, arm}
+use Rattle.java_core.specs.Trees.{Tag, Ex, Exs, no_ex, ex_then, number, character, text, truth, null, this, local, static_field, own_field, field, index, call, static_call, super_call, create, create_array, cast, instance_of, unary, binary, Target, to_local, to_static, to_own, to_field, to_element, St, Sts, IfArms, declare, block, assign, act, print, choose, loop, return, break, continue, no_st, st_then, no_other, otherwise, arm}
 use Rattle.java_core.specs.Plain.{Plain, PlainClass, PlainMethod}
 use Rattle.java_core.specs.Classes.{below, is_interface, is_concrete, super_method, has_body, nearest_declaration}
 use Rattle.java_core.specs.Types.{Static, a_value, Env, env_of, class_in, class_of, element_of, is_numeric, is_boolean, is_string, is_printable, fits, fits_in, are_comparable, Signature, call_signature, super_signature, signature_of_method, access_type, field_in, is_plus, static, target_type}
@@ -102,7 +102,7 @@ module _ (P : Plain) (g : Env) where
       t_act : {t : Tag} {e : Ex} → Typed e → TypedSt (act t e)
       t_print_line : {t : Tag} {n : Bool} → TypedSt (print t n None)
       t_print : {t : Tag} {n : Bool} {e : Ex} → Typed e → is_printable (static P g e) ≡ true → TypedSt (print t n (Some e))
-      t_choose : {t : Tag} {xs : Arms} → TypedArms xs → TypedSt (choose t xs)
+      t_choose : {t : Tag} {xs : IfArms} → TypedArms xs → TypedSt (choose t xs)
       t_loop : {t : Tag} {is_while : Bool} {first step body : Sts} {test : Option Ex} → TypedSts first → TypedTest test → TypedSts step
           → TypedSts body → TypedSt (loop t is_while first test step body)
       t_return_nothing : {t : Tag} → g.result ≡ None → TypedSt (return t None)
@@ -116,10 +116,10 @@ module _ (P : Plain) (g : Env) where
       t_st_then : {x : St} {xs : Sts} → TypedSt x → TypedSts xs → TypedSts (st_then x xs)
 
     -- the arms of an `if` are typed, and each test is a boolean
-    pub data TypedArms : Arms → Type 0 where
+    pub data TypedArms : IfArms → Type 0 where
       t_no_other : TypedArms no_other
       t_otherwise : {xs : Sts} → TypedSts xs → TypedArms (otherwise xs)
-      t_arm : {e : Ex} {xs : Sts} {more : Arms} → Typed e → is_boolean (static P g e) ≡ true → TypedSts xs → TypedArms more → TypedArms (arm e xs more)
+      t_arm : {e : Ex} {xs : Sts} {more : IfArms} → Typed e → is_boolean (static P g e) ≡ true → TypedSts xs → TypedArms more → TypedArms (arm e xs more)
 
 -- the method m stands at or above class c and is of slot s: the class offers the slot
 pub record Offers (P : Plain) (c s m : ℕ) : Type 0 where

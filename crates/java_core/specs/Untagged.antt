@@ -1,7 +1,7 @@
 -- Believed. A program without the tags of its forms: trees whose forms all have one tag. Two programs that are one so
 -- are one, places aside.
 use Rattle.std.specs.Prelude.{Option, Some, None, map}
-use Rattle.java_core.specs.Trees.{Tag, Ex, Exs, no_ex, ex_then, number, character, text, truth, null, this, local, static_field, own_field, field, index, call, static_call, super_call, create, create_array, cast, instance_of, unary, binary, Target, to_local, to_static, to_own, to_field, to_element, no_target, St, Sts, Arms, declare, block, assign, act, print, choose, loop, return, break, continue, no_st, st_then, no_other, otherwise, arm}
+use Rattle.java_core.specs.Trees.{Tag, Ex, Exs, no_ex, ex_then, number, character, text, truth, null, this, local, static_field, own_field, field, index, call, static_call, super_call, create, create_array, cast, instance_of, unary, binary, Target, to_local, to_static, to_own, to_field, to_element, no_target, St, Sts, IfArms, declare, block, assign, act, print, choose, loop, return, break, continue, no_st, st_then, no_other, otherwise, arm}
 use Rattle.java_core.specs.Plain.{Plain, PlainClass, PlainField, PlainMethod, PlainLocal}
 
 -- the tag of each form of a program without places
@@ -72,7 +72,7 @@ abbrev mutual
   bare_sts (st_then x xs) = st_then (bare_st x) (bare_sts xs)
 
   -- the arms of an `if` with the same tag everywhere
-  pub bare_arms : Arms → Arms
+  pub bare_arms : IfArms → IfArms
   bare_arms no_other = no_other
   bare_arms (otherwise xs) = otherwise (bare_sts xs)
   bare_arms (arm e xs more) = arm (bare e) (bare_sts xs) (bare_arms more)

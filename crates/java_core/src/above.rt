@@ -5,7 +5,7 @@ ghost use Rattle.std.specs.Prelude.{◌≡◌, ℕ, ◌<◌, ◌&&◌, ◌==◌,
 ghost use Rattle.kaba_versions.specs.Held.{holds};
 ghost use Rattle.java_core.specs.MemberKeys.{MemberKeys};
 ghost use Rattle.java_core.specs.Tables.{AreMemberTables};
-ghost use Rattle.java_core.specs.Nearest.{has_name, IsAbove, IsNearestBy};
+ghost use Rattle.java_core.specs.Nearest.{has_name, IsSuperclassVersion, IsNearestBy};
 
 use crate::nearest::{MANY, name_number, parent_at};
 use crate::tables::{Member, MemberTables};
@@ -18,7 +18,7 @@ fn version_above<'a>(
     parents: &[Option<ClassId>],
     class: usize,
 ) -> Option<&'a VersionMap>
-    ensures { IfSome result (λ m. IsAbove parents.now all.now.items class m.now) }
+    ensures { IfSome result (λ m. IsSuperclassVersion parents.now all.now.items class m.now) }
 {
     match parent_at(parents, class) {
         Some(parent) => match all.get(parent.0 as usize) {

@@ -4,7 +4,7 @@
 ghost use Rattle.std.specs.Prelude.{◌≡◌, ◌∷◌, [], length, map, IfOk};
 ghost use Rattle.std.specs.Option.{option_to_list};
 ghost use Rattle.java_core.specs.Plain.{class_seen};
-ghost use Rattle.java_core.specs.Subtypes.{supers_in, Entered, AreEmpty, AreDirect};
+ghost use Rattle.java_core.specs.Subtypes.{supers_in, EnteredUnder, AreEmpty, AreDirect};
 ghost use Rattle.java_core.specs.Owned.{listed};
 
 use crate::{Class, Tried};
@@ -23,7 +23,7 @@ pub fn listed(lists: &[Vec<u32>], y: u32) -> &[u32]
 
 /// Enters `x` directly below a type.
 fn enter(lists: &mut [Vec<u32>], x: u32, class: ClassId) -> Tried<()>
-    ensures { IfOk result (λ _. Entered x (class ∷ []) lists.old lists.new) }
+    ensures { IfOk result (λ _. EnteredUnder x (class ∷ []) lists.old lists.new) }
 {
     let at = class.0 as usize;
     if at < lists.len() {
@@ -34,7 +34,7 @@ fn enter(lists: &mut [Vec<u32>], x: u32, class: ClassId) -> Tried<()>
 
 /// Enters `x` directly below these.
 fn enter_all(lists: &mut [Vec<u32>], x: u32, classes: &[ClassId]) -> Tried<()>
-    ensures { IfOk result (λ _. Entered x classes.now lists.old lists.new) }
+    ensures { IfOk result (λ _. EnteredUnder x classes.now lists.old lists.new) }
 {
     for class in classes {
         enter(lists, x, *class)?;
@@ -44,7 +44,7 @@ fn enter_all(lists: &mut [Vec<u32>], x: u32, classes: &[ClassId]) -> Tried<()>
 
 /// Enters `x` directly below its superclass, if it has one.
 fn enter_parent(lists: &mut [Vec<u32>], x: u32, parent: Option<ClassId>) -> Tried<()>
-    ensures { IfOk result (λ _. Entered x (option_to_list parent) lists.old lists.new) }
+    ensures { IfOk result (λ _. EnteredUnder x (option_to_list parent) lists.old lists.new) }
 {
     match parent {
         Some(class) => enter(lists, x, class)?,
@@ -55,7 +55,7 @@ fn enter_parent(lists: &mut [Vec<u32>], x: u32, parent: Option<ClassId>) -> Trie
 
 /// Enters the class `x` directly below its superclass and its interfaces.
 fn enter_class(lists: &mut [Vec<u32>], x: u32, class: &Class) -> Tried<()>
-    ensures { IfOk result (λ _. Entered x (supers_in (class_seen class.now)) lists.old lists.new) }
+    ensures { IfOk result (λ _. EnteredUnder x (supers_in (class_seen class.now)) lists.old lists.new) }
 {
     enter_parent(lists, x, class.parent)?;
     enter_all(lists, x, class.faces.as_slice())?;

@@ -3,7 +3,7 @@
 
 ghost use Rattle.std.specs.Prelude.{◌≡◌, map};
 ghost use Rattle.java_core.specs.Plain.{class_seen};
-ghost use Rattle.java_core.specs.Tables.{AreTables};
+ghost use Rattle.java_core.specs.Tables.{HaveMemberTables};
 ghost use Rattle.java_core.specs.Subtypes.{subtype_rows};
 
 mod above;
@@ -411,6 +411,6 @@ pub struct Program {
     tables: Tables,
     /// Which classes and interfaces are above which.
     above: Hierarchy,
-    ghost tables_shown: { AreTables classes.items fields.items methods.items tables },
+    ghost tables_shown: { HaveMemberTables classes.items fields.items methods.items tables },
     ghost above_shown: { above ≡ subtype_rows (map class_seen classes.items) },
 }

@@ -7,7 +7,7 @@ ghost use Rattle.kaba_bits.specs.Sets.{bit, size, IsEmpty, IsLeastFrom};
 ghost use Rattle.java_core.specs.Plain.{class_seen};
 ghost use Rattle.java_core.specs.Squares.{meet};
 ghost use Rattle.java_core.specs.Squares.{in_row, AreRows};
-ghost use Rattle.java_core.specs.Subtypes.{Share, IsOwnRow, AreInside, IsExact, AreExact, Gained, Filled, AllExact, subtype_rows};
+ghost use Rattle.java_core.specs.Subtypes.{Share, IsOwnRow, AreInside, IsExactRow, AreExact, GainedTypes, Filled, AllExact, subtype_rows};
 ghost use Rattle.java_core.specs.Squares.{is_above};
 
 use crate::direct::{direct_of, listed};
@@ -168,7 +168,7 @@ fn reach(
     requires known { length known.now ≡ length row.old }
     requires len { length rows.now ≡ length row.old }
     requires wide { AreRows (length row.old) rows.now }
-    ensures { IfOk result (λ _. Gained rows.now known.now (x ∷ []) row.old row.new waiting.old.items waiting.new.items) }
+    ensures { IfOk result (λ _. GainedTypes rows.now known.now (x ∷ []) row.old row.new waiting.old.items waiting.new.items) }
 {
     if row.has(x) {
         return Ok(());
@@ -194,7 +194,7 @@ fn reach_all(
     requires known { length known.now ≡ length row.old }
     requires len { length rows.now ≡ length row.old }
     requires wide { AreRows (length row.old) rows.now }
-    ensures { IfOk result (λ _. Gained rows.now known.now more.now row.old row.new waiting.old.items waiting.new.items) }
+    ensures { IfOk result (λ _. GainedTypes rows.now known.now more.now row.old row.new waiting.old.items waiting.new.items) }
 {
     for x in more {
         reach(rows, known, row, waiting, *x)?;
@@ -225,7 +225,7 @@ fn row_below(graph: &Graph, rows: &[BitRow], known: &BitRow, b: u32) -> Tried<Bi
     requires b { b < graph.now.count }
     requires inside { AreInside graph.now.count graph.now.lists.now }
     requires others { AreExact graph.now.lists.now graph.now.count known.now rows.now }
-    ensures { IfOk result (λ r. IsExact graph.now.lists.now graph.now.count b r) }
+    ensures { IfOk result (λ r. IsExactRow graph.now.lists.now graph.now.count b r) }
 {
     if listed(graph.lists, b).is_empty() {
         return BitRow::new(graph.alloc, 0);

@@ -11,7 +11,7 @@ use Rattle.kaba_base.specs.Words.{key_text}
 use Rattle.java_lex.specs.declared.Mark.TheVariants as marks
 use Rattle.java_lex.specs.Spelling.{mark_text}
 use Rattle.java_lex.specs.Piece.{piece_of}
-use Rattle.java_lex.specs.Lexing.{Outcome, lexed, start, tokens_of}
+use Rattle.java_lex.specs.Lexing.{LexOutcome, lexed, start, tokens_of}
 use Rattle.java_lex.specs.Laws.{MarksAreRead, KeywordsAreRead}
 use Rattle.java_lex.proofs.Reading.{tokens_ok}
 
@@ -23,7 +23,7 @@ small_ascii [] h = IsAscii-nil
 small_ascii (b ∷ bs) h = let q = and_parts (is_small b) (list_all is_small bs) h in IsAscii-cons b bs (ltb-true b 128 q.0) (small_ascii bs q.1)
 
 -- an ASCII text is read character by character
-ascii_read : (bs : List ℕ) (o : Outcome) → list_all is_small bs ≡ true → lexed bs 0 start ≡ o → tokens_of bs ≡ o
+ascii_read : (bs : List ℕ) (o : LexOutcome) → list_all is_small bs ≡ true → lexed bs 0 start ≡ o → tokens_of bs ≡ o
 ascii_read bs o h e = let a = small_ascii bs h in tokens_ok bs (IsUtf8-from_ascii bs a) ∙ ap (λ cs. lexed cs 0 start) (chars-IsAscii bs a) ∙ e
 
 pub marks_are_read : MarksAreRead

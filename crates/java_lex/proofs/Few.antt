@@ -7,22 +7,22 @@ use Rattle.java_lex.specs.declared.Token.{Token}
 use Rattle.java_lex.specs.declared.scan.Piece.{Piece}
 use Rattle.java_lex.specs.declared.scan.Piece.TheVariants.{Gap, Part, Fault}
 use Rattle.java_lex.specs.Piece.{piece_of}
-use Rattle.java_lex.specs.Lexing.{Outcome, lexed, past, led, token, from_piece, start, tokens_of}
+use Rattle.java_lex.specs.Lexing.{LexOutcome, lexed, past, led, token, from_piece, start, tokens_of}
 use Rattle.java_lex.proofs.Reading.{tokens_ok, length-le-width, width-chars}
 
-abbrev pub AtMost : Outcome → ℕ → Type 0
+abbrev pub AtMost : LexOutcome → ℕ → Type 0
 AtMost (Ok ts) n = length ts ≤ n
 AtMost (Err f) n = Unit {0}
 
-one_more : (t : Token) (o : Outcome) (n : ℕ) → AtMost o n → AtMost (led (t ∷ []) o) (suc n)
+one_more : (t : Token) (o : LexOutcome) (n : ℕ) → AtMost o n → AtMost (led (t ∷ []) o) (suc n)
 one_more t (Ok ts) n h = omega (arith, h)
 one_more t (Err f) n h = tt
 
-grown : (o : Outcome) (n : ℕ) → AtMost o n → AtMost o (suc n)
+grown : (o : LexOutcome) (n : ℕ) → AtMost o n → AtMost o (suc n)
 grown (Ok ts) n h = omega (arith, h)
 grown (Err f) n h = tt
 
-after : (q : Piece) (p : Place) (cs : List ℕ) (next : ℕ → Outcome) (n : ℕ) → ((m : ℕ) → AtMost (next m) n) → AtMost (from_piece q p cs next) (suc n)
+after : (q : Piece) (p : Place) (cs : List ℕ) (next : ℕ → LexOutcome) (n : ℕ) → ((m : ℕ) → AtMost (next m) n) → AtMost (from_piece q p cs next) (suc n)
 after (Gap m) p cs next n h = grown (next m) n (h m)
 after (Part k m) p cs next n h = one_more (token k p) (next m) n (h m)
 after (Fault f m) p cs next n h = tt

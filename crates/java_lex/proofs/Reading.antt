@@ -17,7 +17,7 @@ use Rattle.java_lex.specs.declared.LexFault.{LexFault}
 use Rattle.java_lex.specs.declared.scan.Piece.{Piece}
 use Rattle.java_lex.specs.declared.scan.Piece.TheVariants.{Gap, Part, Fault}
 use Rattle.java_lex.specs.Piece.{piece_of, piece_at, reach}
-use Rattle.java_lex.specs.Lexing.{Outcome, lexed, moved, past, width, led, token, from_piece, fault_at, tokens_of, start, byte_place, Gives}
+use Rattle.java_lex.specs.Lexing.{LexOutcome, lexed, moved, past, width, led, token, from_piece, fault_at, tokens_of, start, byte_place, GivesTokens}
 use Rattle.java_lex.proofs.Skips.{skipped}
 
 pub skip : (n : ℕ) (xs : List ℕ) (p : Place) → n ≤ length xs → lexed xs n p ≡ lexed (drop n xs) 0 (moved p (take n xs))
@@ -26,7 +26,7 @@ skip n xs p h =
     ∙ ap (λ m. lexed (take n xs ++ drop n xs) m p) (sym (length-take-le n xs h))
     ∙ skipped (take n xs) (drop n xs) p
 
-pub led_led : (us vs : List Token) (o : Outcome) → led us (led vs o) ≡ led (us ++ vs) o
+pub led_led : (us vs : List Token) (o : LexOutcome) → led us (led vs o) ≡ led (us ++ vs) o
 led_led us vs (Ok ws) = ap Ok (sym (append_assoc us vs ws))
 led_led us vs (Err f) = refl
 
@@ -51,7 +51,7 @@ part_step all rest c n p ts us k g e f h =
     ∙ ap (λ q. led ts (from_piece q p (c ∷ rest) (λ m. lexed rest m (past p c)))) f
     ∙ ap (λ xs. led ts (lexed xs 0 p)) (sym e)
 
-abbrev pub fails : LexFault → Outcome
+abbrev pub fails : LexFault → LexOutcome
 fails f = Err f
 
 pub fault_step : (all rest : List ℕ) (c n : ℕ) (p : Place) (ts : List Token) (k : FaultKind) → all ≡ c ∷ rest → Fault k n ≡ piece_of c rest
@@ -111,12 +111,12 @@ module _ (n : ℕ) (p r : Place) (all : List ℕ) where
   pub cut_size : r.at ≡ p.at + width (take (n + 1) all) → r.at + width (take (length all - (n + 1)) (drop (n + 1) all)) ≡ p.at + width all
   cut_size h = ap (λ ys. r.at + width ys) (take_rest all (n + 1)) ∙ omega (arith, h, width_split (n + 1) all)
 
-  pub gap_cut : (ts : List Token) (q : Piece) (o : Outcome) → r ≡ moved p (take (n + 1) all) → q ≡ Gap n → q ≡ piece_at all → reach q < length all
+  pub gap_cut : (ts : List Token) (q : Piece) (o : LexOutcome) → r ≡ moved p (take (n + 1) all) → q ≡ Gap n → q ≡ piece_at all → reach q < length all
       → led ts (lexed all 0 p) ≡ o → led ts (lexed (take (length all - (n + 1)) (drop (n + 1) all)) 0 r) ≡ o
   gap_cut ts q o h e f g s = ap (λ ys. led ts (lexed ys 0 r)) (take_rest all (n + 1)) ∙ ap (λ t. led ts (lexed (drop (n + 1) all) 0 t)) h
       ∙ gap_more n p ts all q e f g ∙ s
 
-  pub part_cut : (ts us : List Token) (k : TokenKind) (q : Piece) (o : Outcome) → us ≡ ts ++ token k p ∷ [] → r ≡ moved p (take (n + 1) all)
+  pub part_cut : (ts us : List Token) (k : TokenKind) (q : Piece) (o : LexOutcome) → us ≡ ts ++ token k p ∷ [] → r ≡ moved p (take (n + 1) all)
       → q ≡ Part k n → q ≡ piece_at all → reach q < length all → led ts (lexed all 0 p) ≡ o
       → led us (lexed (take (length all - (n + 1)) (drop (n + 1) all)) 0 r) ≡ o
   part_cut ts us k q o w h e f g s = ap (λ ys. led us (lexed ys 0 r)) (take_rest all (n + 1)) ∙ ap (λ t. led us (lexed (drop (n + 1) all) 0 t)) h
@@ -132,5 +132,5 @@ pub tokens_err : (bs : List ℕ) (n : ℕ) → ¬ (IsUtf8 bs) → n ≡ utf8_val
 tokens_err bs n u e = cond-false (is_utf8 bs) _ _ (false_from_ne_true (is_utf8 bs) (λ h. u (IsUtf8-from_is_utf8 bs h)))
     ∙ ap (λ m. fails (faults.BadByte (byte_place bs m))) (sym e)
 
-pub gives_along : (r : Result (Vec Token Global) LexFault) (o p : Outcome) → Gives r o → p ≡ o → Gives r p
-gives_along r o p h e = subst (λ x. Gives r x) (sym e) h
+pub gives_along : (r : Result (Vec Token Global) LexFault) (o p : LexOutcome) → GivesTokens r o → p ≡ o → GivesTokens r p
+gives_along r o p h e = subst (λ x. GivesTokens r x) (sym e) h

@@ -5,7 +5,7 @@ use Rattle.java_lex.specs.declared.TokenKind.{TokenKind}
 use Rattle.java_lex.specs.declared.scan.Piece.TheVariants.{Part}
 use Rattle.java_lex.specs.Piece.{piece_of}
 use Rattle.java_lex.specs.Chars.{is_blank}
-use Rattle.java_lex.specs.Lexing.{Outcome, lexed, moved, past, led, token, from_piece}
+use Rattle.java_lex.specs.Lexing.{LexOutcome, lexed, moved, past, led, token, from_piece}
 use Rattle.java_lex.specs.Spells.{kinds_of, kinds_led, Spells}
 use Rattle.java_lex.proofs.Rules.{blank_rule}
 
@@ -13,7 +13,7 @@ pub skipped : (xs ys : List ℕ) (p : Place) → lexed (xs ++ ys) (length xs) p 
 skipped [] ys p = refl
 skipped (x ∷ xs) ys p = skipped xs ys (past p x)
 
-kinds_of-led : (k : TokenKind) (p : Place) (o : Outcome) → kinds_of (led (token k p ∷ []) o) ≡ kinds_led (k ∷ []) (kinds_of o)
+kinds_of-led : (k : TokenKind) (p : Place) (o : LexOutcome) → kinds_of (led (token k p ∷ []) o) ≡ kinds_led (k ∷ []) (kinds_of o)
 kinds_of-led k p (Ok ts) = refl
 kinds_of-led k p (Err f) = refl
 

@@ -22,7 +22,7 @@ use Rattle.kaba_base.specs.Words.{is_start, is_part, next_is, is_none}
 use Rattle.java_lex.specs.Spelling.{mark_of}
 use Rattle.kaba_base.specs.Words.{key_of}
 use Rattle.java_lex.specs.Piece.{piece_of, word_piece, word_kind, number_in, number_piece, number_kind, more_digits, string_piece, quoted, behind, behind_escape, escaped, char_piece, char_escape, comment_piece, comment_end, mark_piece}
-use Rattle.java_lex.specs.Lexing.{Outcome, lexed, past, led, token, from_piece, tokens_of, start}
+use Rattle.java_lex.specs.Lexing.{LexOutcome, lexed, past, led, token, from_piece, tokens_of, start}
 use Rattle.java_lex.specs.Writable.{IsText, IsUnit, IsWritable, AllWritable}
 
 abbrev Good : Piece → Type 0
@@ -160,15 +160,15 @@ piece_fine c cs s =
 piece_good : (c : ℕ) (cs : List ℕ) → all_scalars (c ∷ cs) ≡ true → Good (piece_of c cs)
 piece_good c cs s = (piece_fine c cs s).good
 
-abbrev pub GoodOutcome : Outcome → Type 0
+abbrev pub GoodOutcome : LexOutcome → Type 0
 GoodOutcome (Ok ts) = AllWritable ts
 GoodOutcome (Err f) = Unit {0}
 
-led_good : (k : TokenKind) (p : Place) (o : Outcome) → IsWritable k → GoodOutcome o → GoodOutcome (led (token k p ∷ []) o)
+led_good : (k : TokenKind) (p : Place) (o : LexOutcome) → IsWritable k → GoodOutcome o → GoodOutcome (led (token k p ∷ []) o)
 led_good k p (Ok ts) g h = (g, h)
 led_good k p (Err f) g h = tt
 
-from_good : (q : Piece) (p : Place) (cs : List ℕ) (next : ℕ → Outcome) → Good q → ((n : ℕ) → GoodOutcome (next n)) → GoodOutcome (from_piece q p cs next)
+from_good : (q : Piece) (p : Place) (cs : List ℕ) (next : ℕ → LexOutcome) → Good q → ((n : ℕ) → GoodOutcome (next n)) → GoodOutcome (from_piece q p cs next)
 from_good (Gap n) p cs next g h = h n
 from_good (Part k n) p cs next g h = led_good k p (next n) g (h n)
 from_good (Fault f n) p cs next g h = tt
@@ -180,7 +180,7 @@ lexed_good (c ∷ cs) (suc n) p s = lexed_good cs n (past p c) (and_parts _ _ s)
 lexed_good (c ∷ cs) zero p s = from_good (piece_of c cs) p (c ∷ cs) (λ n. lexed cs n (past p c)) (piece_good c cs s)
     (λ n. lexed_good cs n (past p c) (and_parts _ _ s).1)
 
-good_along : (o : Outcome) (ts : List Token) → GoodOutcome o → o ≡ Ok ts → AllWritable ts
+good_along : (o : LexOutcome) (ts : List Token) → GoodOutcome o → o ≡ Ok ts → AllWritable ts
 good_along o ts g e = subst GoodOutcome e g
 
 -- the tokens of a text can be written

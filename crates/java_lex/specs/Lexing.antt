@@ -17,8 +17,8 @@ use Rattle.java_lex.specs.declared.LexFault.TheVariants as faults
 use Rattle.java_lex.specs.Piece.{piece_of}
 
 -- what lexing comes to: the tokens, or the first fault
-abbrev pub Outcome : Type 0
-Outcome = Result (List Token) LexFault
+abbrev pub LexOutcome : Type 0
+LexOutcome = Result (List Token) LexFault
 
 -- the place behind a character
 abbrev pub past : Place → ℕ → Place
@@ -46,7 +46,7 @@ fault_at kinds.OpenString p = faults.OpenString p
 fault_at kinds.BigLiteral p = faults.BigLiteral p
 
 -- an outcome with these tokens before its own; a fault stays as it is
-abbrev pub led : List Token → Outcome → Outcome
+abbrev pub led : List Token → LexOutcome → LexOutcome
 led ts (Ok us) = Ok (ts ++ us)
 led ts (Err f) = Err f
 
@@ -55,13 +55,13 @@ abbrev pub token : TokenKind → Place → Token
 token k p = record { kind = k; place = p }
 
 -- what follows from the piece at p: `next n` reads on after n more characters
-abbrev pub from_piece : Piece → Place → List ℕ → (ℕ → Outcome) → Outcome
+abbrev pub from_piece : Piece → Place → List ℕ → (ℕ → LexOutcome) → LexOutcome
 from_piece (Gap n) p cs next = next n
 from_piece (Part k n) p cs next = led (token k p ∷ []) (next n)
 from_piece (Fault f n) p cs next = Err (fault_at f (moved p (take n cs)))
 
 -- the tokens of the characters from the place p on, of which the first n belong to the piece before
-abbrev pub lexed : List ℕ → ℕ → Place → Outcome
+abbrev pub lexed : List ℕ → ℕ → Place → LexOutcome
 lexed [] n p = Ok []
 lexed (c ∷ cs) (suc n) p = lexed cs n (past p c)
 lexed (c ∷ cs) zero p = from_piece (piece_of c cs) p (c ∷ cs) (λ n. lexed cs n (past p c))
@@ -71,11 +71,11 @@ abbrev pub byte_place : List ℕ → ℕ → Place
 byte_place bytes n = record { at = n; line = 1 + count_by (λ b. b == 10) (take n bytes) }
 
 -- the tokens of a text in bytes, or its first fault, which is the first wrong byte where they are no UTF-8
-abbrev pub tokens_of : List ℕ → Outcome
+abbrev pub tokens_of : List ℕ → LexOutcome
 tokens_of bytes = if is_utf8 bytes then lexed (chars bytes) 0 start else Err (faults.BadByte (byte_place bytes (utf8_valid_len bytes)))
 
 -- the call gave this, or there was no memory
-abbrev pub Gives : Result (Vec Token Global) LexFault → Outcome → Type 0
-Gives (Ok v) o = o ≡ Ok v.items
-Gives (Err faults.Memory) o = Unit {0}
-Gives (Err f) o = o ≡ Err f
+abbrev pub GivesTokens : Result (Vec Token Global) LexFault → LexOutcome → Type 0
+GivesTokens (Ok v) o = o ≡ Ok v.items
+GivesTokens (Err faults.Memory) o = Unit {0}
+GivesTokens (Err f) o = o ≡ Err f

@@ -4,14 +4,14 @@ use Rattle.kaba_base.specs.declared.Place.{Place}
 use Rattle.java_lex.specs.declared.Token.{Token}
 use Rattle.java_lex.specs.declared.TokenKind.{TokenKind}
 use Rattle.java_lex.specs.declared.LexFault.{LexFault}
-use Rattle.java_lex.specs.Lexing.{Outcome, lexed}
+use Rattle.java_lex.specs.Lexing.{LexOutcome, lexed}
 
 -- the kind of a token
 abbrev pub kind_of : Token → TokenKind
 kind_of t = t.kind
 
 -- an outcome of lexing with the kinds of its tokens alone
-abbrev pub kinds_of : Outcome → Result (List TokenKind) LexFault
+abbrev pub kinds_of : LexOutcome → Result (List TokenKind) LexFault
 kinds_of (Ok ts) = Ok (map kind_of ts)
 kinds_of (Err f) = Err f
 

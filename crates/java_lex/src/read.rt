@@ -4,7 +4,7 @@
 ghost use Rattle.std.specs.Prelude.{◌≡◌, ℕ, ◌+◌, ◌^◌, ◌<◌, ◌≤◌, ◌++◌, ◌∷◌, [], ◌==◌, length, IfErr, IfOk, OnOk, vec_len, count_by};
 ghost use Rattle.std.specs.Str.{encode_utf8_all, chars};
 ghost use Rattle.std.specs.Char.{len_utf8};
-ghost use Rattle.java_lex.specs.Lexing.{lexed, moved, past, fault_at, start, width, byte_place, Gives, tokens_of};
+ghost use Rattle.java_lex.specs.Lexing.{lexed, moved, past, fault_at, start, width, byte_place, GivesTokens, tokens_of};
 ghost use Rattle.java_lex.specs.Piece.{piece_at, reach};
 ghost use Rattle.java_lex.specs.declared.LexFault.TheVariants.{Memory};
 
@@ -59,7 +59,7 @@ fn moved(place: Place, chars: &[char]) -> Place
 /// The tokens of the characters.
 fn read(alloc: Global, chars: &[char]) -> Result<Vec<Token>, LexFault>
     requires { width chars.now < 4294967295 }
-    ensures { Gives result (lexed chars.now 0 start) }
+    ensures { GivesTokens result (lexed chars.now 0 start) }
 {
     let mut tokens = Vec::new(alloc);
     let mut rest = chars;
@@ -126,7 +126,7 @@ fn byte_place(bytes: &[u8], n: usize) -> Place
 /// The tokens of the bytes.
 pub fn lex(alloc: Global, bytes: &Vec<u8>) -> Result<Vec<Token>, LexFault>
     requires small { vec_len bytes.now < 4294967295 }
-    ensures value { Gives result (tokens_of bytes.now.items) }
+    ensures value { GivesTokens result (tokens_of bytes.now.items) }
 {
     match str::from_utf8(bytes.as_slice()) {
         Ok(text) => lex_text(alloc, text),
@@ -137,7 +137,7 @@ pub fn lex(alloc: Global, bytes: &Vec<u8>) -> Result<Vec<Token>, LexFault>
 /// The tokens of the text.
 fn lex_text(alloc: Global, text: &str) -> Result<Vec<Token>, LexFault>
     requires { length text.now < 4294967295 }
-    ensures { Gives result (lexed (chars text.now) 0 start) }
+    ensures { GivesTokens result (lexed (chars text.now) 0 start) }
 {
     let chars = decoded(alloc, text)?;
     read(alloc, chars.as_slice())

@@ -10,7 +10,7 @@ use Rattle.java_core.specs.declared.BinOp.TheVariants as bin
 use Rattle.java_core.specs.declared.Op.{Op}
 use Rattle.java_core.specs.declared.Fault.{Fault}
 use Rattle.java_core.specs.declared.Fault.TheVariants as fault
-use Rattle.java_core.specs.Trees.{Ex, Exs, no_ex, ex_then, number, character, text, truth, null, this, local, static_field, own_field, field, index, call, static_call, super_call, create, create_array, cast, instance_of, unary, binary, Target, to_local, to_static, to_own, to_field, to_element, no_target, St, Sts, Arms, declare, block, assign, act, print, choose, loop, return, break, continue, no_st, st_then, otherwise, arm, no_other}
+use Rattle.java_core.specs.Trees.{Ex, Exs, no_ex, ex_then, number, character, text, truth, null, this, local, static_field, own_field, field, index, call, static_call, super_call, create, create_array, cast, instance_of, unary, binary, Target, to_local, to_static, to_own, to_field, to_element, no_target, St, Sts, IfArms, declare, block, assign, act, print, choose, loop, return, break, continue, no_st, st_then, otherwise, arm, no_other}
 use Rattle.java_core.specs.Types.{Env, element_in, StringMethod, LengthOf, CharAt, Equals, is_plus}
 use Rattle.java_meaning.specs.Moment.{End, Ended, Going, Value, Number, Truth, CodeUnit, Nothing, Text, Object, Kind, an_object, an_array, Cell, own_type, own_class, Spot, held, State, Frame, Faulted, Wrong, Escaped, Outcome, stop, Body, Lang, step, step_of, with_some, or_fault, with_result, on_bool, look, look_all}
 use Rattle.java_meaning.specs.Values.{arguments, number_of, truth_of, natural_of, text_of, arith as op_arith, unary_value, same_value, compared, join, is_text, equals_value}
@@ -385,7 +385,7 @@ module _ (R : Outcome → Outcome → Type 0) (ends : (e : End) (s : State) → 
       all_like (st_then x xs) m l f s k k' le h =
           one_like x m l f s _ _ le (λ w f1 s1 l1. after_one_like m w f1 s1 _ _ k k' l1 (all_like xs m l f1 s1 k k' l1 h) h)
 
-      pub arms_like : (xs : Arms) (m : ℕ) → LaterAlike m b c → (f : Frame) (s : State) (k k' : ToFlow) → s.left ≤ m → AlikeF m k k'
+      pub arms_like : (xs : IfArms) (m : ℕ) → LaterAlike m b c → (f : Frame) (s : State) (k k' : ToFlow) → s.left ≤ m → AlikeF m k k'
           → R (run_arms L b xs f s k) (run_arms L c xs f s k')
       arms_like no_other m l f s k k' le h = h Next f s le
       arms_like (otherwise xs) m l f s k k' le h = all_like xs m l f s k k' le h

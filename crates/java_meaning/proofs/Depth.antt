@@ -1,6 +1,6 @@
 -- The depth of the meaning does not count, where it is above the steps left; and a run that goes on has used all its steps.
 use Rattle.std.proofs.Common.{◌≡◌, ℕ, ◌<◌, ◌≤◌, List, Option, refl, subst}
-use Rattle.java_core.specs.Trees.{Ex, Exs, St, Sts, Arms}
+use Rattle.java_core.specs.Trees.{Ex, Exs, St, Sts, IfArms}
 use Rattle.java_core.specs.Programs.{Plain}
 use Rattle.java_meaning.specs.Moment.{Value, State, Frame, End, Going, Outcome, stop, Lang, step}
 use Rattle.java_meaning.specs.Meaning.{Flow, ToValue, ToFlow, Later, value, values, run_test, run_one, run_all, run_arms, meaning}
@@ -58,7 +58,7 @@ module _ (L : Lang) (b c : Later) where
       → run_all L b xs f s k ≡ run_all L c xs f s k'
   all_alike xs m l f s k k' le h = all_like Same same_end same_spent L b c xs m l f s k k' le h
 
-  pub arms_alike : (xs : Arms) (m : ℕ) → LaterAlike m b c → (f : Frame) (s : State) (k k' : ToFlow) → s.left ≤ m → AlikeF m k k'
+  pub arms_alike : (xs : IfArms) (m : ℕ) → LaterAlike m b c → (f : Frame) (s : State) (k k' : ToFlow) → s.left ≤ m → AlikeF m k k'
       → run_arms L b xs f s k ≡ run_arms L c xs f s k'
   arms_alike xs m l f s k k' le h = arms_like Same same_end same_spent L b c xs m l f s k k' le h
 

@@ -4,7 +4,7 @@ use Rattle.std.specs.Prelude.{Bool, true, slice_get}
 use Rattle.std.specs.Option.{is_some}
 use Rattle.std.proofs.lemmas.Bool.{false≢true}
 use Rattle.java_core.specs.declared.TyBase.{TyBase}
-use Rattle.java_core.specs.Trees.{Ex, Exs, Target, St, Sts, Arms}
+use Rattle.java_core.specs.Trees.{Ex, Exs, Target, St, Sts, IfArms}
 use Rattle.java_core.specs.Programs.{Plain, PlainMethod, PlainLocal}
 use Rattle.java_core.specs.Classes.{member_field, has_body}
 use Rattle.java_core.specs.Types.{Env, env_of, types_of, field_type, element_in}
@@ -97,7 +97,7 @@ module _ (P : Plain) (formed : IsFormed P) where
       stands_sts f_no_st = tt
       stands_sts (f_st_then h hs) = (stands_st h, stands_sts hs)
 
-      stands_arms : {l : Bool} {scope : List ℕ} {xs : Arms} → FormedArms P k l scope xs → InArms (standing P g) xs
+      stands_arms : {l : Bool} {scope : List ℕ} {xs : IfArms} → FormedArms P k l scope xs → InArms (standing P g) xs
       stands_arms f_no_other = tt
       stands_arms (f_otherwise h) = stands_sts h
       stands_arms (f_arm {scope = scope} e h hs) = (stands_ex scope e, stands_sts h, stands_arms hs)

@@ -14,7 +14,7 @@ use Rattle.java_core.specs.declared.TyBase.TheVariants.{Int, Str}
 use Rattle.java_core.specs.declared.Ty.{Ty}
 use Rattle.java_core.specs.Types.{env_of, plain_type}
 use Rattle.java_core.specs.Typing.{Offers, HasBodies, HasPublicMethods, IsTypedMethod, TypedSts, IsTyped, t_number, t_local, t_binary, t_to_local, t_assign, t_declare_as, t_print, t_loop, t_test, t_no_st, t_st_then}
-use Rattle.java_core.specs.Formed.{IsType, IsFormedClass, IsFormedLocal, IsFormedMethod, FormedSts, of_while, IsFormed, small, f_number, f_local, f_binary, f_to_local, f_some, f_assign, f_declare, f_print, f_loop, f_no_st, f_st_then, variables_of, numbers_below}
+use Rattle.java_core.specs.Formed.{IsProgramType, IsFormedClass, IsFormedLocal, IsFormedMethod, FormedSts, of_while, IsFormed, small, f_number, f_local, f_binary, f_to_local, f_some, f_assign, f_declare, f_print, f_loop, f_no_st, f_st_then, variables_of, numbers_below}
 use Rattle.java_meaning.specs.Moment.{Wrong}
 use Rattle.java_meaning.specs.Languages.{run}
 use Rattle.java_meaning.proofs.Examples.{object, class, under, variable, counting_code, counting_main, counting}
@@ -51,7 +51,7 @@ formed_code =
     f_no_st)
 
 formed_local : (x : List ℕ) (t : Ty) → IsName x → list_any (λ (k : PlainClass). bytes_eq k.name x) P.classes ≡ false
-    → bytes_eq x (codes "String") ≡ false → bytes_eq x (codes "System") ≡ false → IsType P t → IsFormedLocal P (variable x t)
+    → bytes_eq x (codes "String") ≡ false → bytes_eq x (codes "System") ≡ false → IsProgramType P t → IsFormedLocal P (variable x t)
 formed_local x t n a b c k = record { name = variable_name P x n a b c; type = k }
 
 formed_method : IsFormedMethod P counting_main

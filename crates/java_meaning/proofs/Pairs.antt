@@ -1,6 +1,6 @@
 -- Bodies in the same form: of two that stand in a row, the first and the last are in the same form.
 use Rattle.std.specs.Prelude.{Option}
-use Rattle.java_core.specs.Trees.{Ex, Target, St, Sts, Arms}
+use Rattle.java_core.specs.Trees.{Ex, Target, St, Sts, IfArms}
 use Rattle.java_meaning.specs.Paired.{PairedIf, PairedSt, PairedSts, PairedArms, pair_none, pair_some, pair_declare, pair_block, pair_assign, pair_act, pair_print, pair_choose, pair_loop, pair_return, pair_break, pair_continue, pair_no_st, pair_st_then, pair_no_other, pair_otherwise, pair_arm}
 
 module _ (E F G : Ex → Ex → Type 0) (S T U : Ex → Target → Target → Type 0) (of_ex : (e d c : Ex) → E e d → F d c → G e c)
@@ -26,7 +26,7 @@ module _ (E F G : Ex → Ex → Type 0) (S T U : Ex → Target → Target → Ty
     joined_sts pair_no_st pair_no_st = pair_no_st
     joined_sts (pair_st_then h hs) (pair_st_then i is) = pair_st_then (joined_st h i) (joined_sts hs is)
 
-    joined_arms : {a b c : Arms} → PairedArms E S a b → PairedArms F T b c → PairedArms G U a c
+    joined_arms : {a b c : IfArms} → PairedArms E S a b → PairedArms F T b c → PairedArms G U a c
     joined_arms pair_no_other pair_no_other = pair_no_other
     joined_arms (pair_otherwise h) (pair_otherwise i) = pair_otherwise (joined_sts h i)
     joined_arms (pair_arm h hs more) (pair_arm i is rest) = pair_arm (of_ex _ _ _ h i) (joined_sts hs is) (joined_arms more rest)

@@ -5,7 +5,7 @@ use Rattle.std.specs.Option.{option_map, option_and_then}
 use Rattle.std.proofs.lemmas.Bool.{false≢true}
 use Rattle.java_core.specs.declared.Ty.{Ty}
 use Rattle.java_core.specs.declared.Fault.TheVariants as fault
-use Rattle.java_core.specs.Trees.{Ex, Exs, no_ex, ex_then, number, character, text, truth, null, this, local, static_field, own_field, field, index, call, static_call, super_call, create, create_array, cast, instance_of, unary, binary, Target, to_local, to_static, to_own, to_field, to_element, no_target, St, Sts, Arms, declare, block, assign, act, print, choose, loop, return, break, continue, no_st, st_then, otherwise, arm, no_other}
+use Rattle.java_core.specs.Trees.{Ex, Exs, no_ex, ex_then, number, character, text, truth, null, this, local, static_field, own_field, field, index, call, static_call, super_call, create, create_array, cast, instance_of, unary, binary, Target, to_local, to_static, to_own, to_field, to_element, no_target, St, Sts, IfArms, declare, block, assign, act, print, choose, loop, return, break, continue, no_st, st_then, otherwise, arm, no_other}
 use Rattle.java_core.specs.Types.{Env, class_type, element_in}
 use Rattle.java_meaning.specs.Moment.{Value, Number, Truth, CodeUnit, Nothing, Text, Object, Kind, an_object, an_array, Cell, own_type, own_class, Spot, held, bound, self_of, result_of, set_static, kept, put_in, touched, tested, ran, Met, State, Frame, Ended, Faulted, Going, Wrong, Escaped, Outcome, unnoted, stop, Body, Lang, with_some, on_bool, look, look_all}
 use Rattle.java_meaning.specs.Values.{int_of, default_of, convert, arguments, number_of, natural_of, text_of, unary_value, cast_number, defaults}
@@ -342,7 +342,7 @@ module _ (E : Type 0) (L M : Lang) (like : IsUnwatched L M) (escape : (p : Spot)
             st_r h f s m _ _ (λ w f1 s1 m1. one_r w f1 s1 m1 k j (λ f2 s2. run_all L later xs f2 s2 k)
             (λ f2 s2. run_all M later2 ys f2 s2 j) r (sts_r hs f1 s1 m1 k j r))
 
-        arms_r : {xs ys : Arms} → PairedArms Retagged SameTarget xs ys → (f : Frame) (s : State) (m : List Met) (k j : ToFlow) → KF E k j
+        arms_r : {xs ys : IfArms} → PairedArms Retagged SameTarget xs ys → (f : Frame) (s : State) (m : List Met) (k j : ToFlow) → KF E k j
             → OrIs E m (run_arms L later xs f s k) (run_arms M later2 ys f (re s m) j)
         arms_r pair_no_other f s m k j r = r Next f s m
         arms_r (pair_otherwise hs) f s m k j r = sts_r hs f s m k j r

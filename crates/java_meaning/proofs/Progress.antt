@@ -4,7 +4,7 @@ use Rattle.std.specs.Prelude.{Bool, true, slice_get}
 use Rattle.std.specs.Option.{is_some}
 use Rattle.std.proofs.lemmas.Bool.{false≢true}
 use Rattle.java_core.specs.declared.Ty.{Ty}
-use Rattle.java_core.specs.Trees.{Ex, Exs, Target, St, Sts, Arms, own_field, field, index, call, static_call, super_call, create, create_array, cast, instance_of, loop, no_st, st_then, this}
+use Rattle.java_core.specs.Trees.{Ex, Exs, Target, St, Sts, IfArms, own_field, field, index, call, static_call, super_call, create, create_array, cast, instance_of, loop, no_st, st_then, this}
 use Rattle.java_core.specs.Programs.{Plain}
 use Rattle.std.specs.Option.{option_and_then}
 use Rattle.std.proofs.lemmas.Option.{same_Some}
@@ -296,7 +296,7 @@ module _ (P : Plain) (L : Lang) (tl : TypedLang P L) (later : Later) (next : Lat
           one_sound q p.0 f s _ ok ef fi (λ w f1 s1 r e1 i1 wo. let h1 = later_f g s s1 k r h in next_sound g w f1 s1 k _ r.ok e1 i1 wo h1
           (all_sound qs p.1 f1 s1 k r.ok e1 i1 h1))
 
-      arms_sound : {xs : Arms} → TypedArms P g xs → InArms (standing P g) xs → (f : Frame) (s : State) (k : ToFlow) → Ok s → f.env ≡ g
+      arms_sound : {xs : IfArms} → TypedArms P g xs → InArms (standing P g) xs → (f : Frame) (s : State) (k : ToFlow) → Ok s → f.env ≡ g
           → FrameIn P (heap_of s) f → F g (heap_of s) k → Sound (run_arms L later xs f s k)
       arms_sound t_no_other p f s k ok ef fi h = h Next f s (from_same P L tl s ok) ef fi tt
       arms_sound (t_otherwise q) p f s k ok ef fi h = all_sound q p f s k ok ef fi h

@@ -5,7 +5,7 @@ use Rattle.std.specs.Option.{option_map, option_map_or, option_and_then}
 use Rattle.std.proofs.lemmas.List.{length-map}
 use Rattle.std.proofs.lemmas.Option.{slice_get-map}
 use Rattle.kaba_base.specs.declared.ClassId.{ClassId}
-use Rattle.java_core.specs.Trees.{Ex, Exs, no_ex, ex_then, number, character, text, truth, null, this, local, static_field, own_field, field, index, call, static_call, super_call, create, create_array, cast, instance_of, unary, binary, Target, to_local, to_static, to_own, to_field, to_element, no_target, St, Sts, Arms, declare, block, assign, act, print, choose, loop, return, break, continue, no_st, st_then, no_other, otherwise, arm}
+use Rattle.java_core.specs.Trees.{Ex, Exs, no_ex, ex_then, number, character, text, truth, null, this, local, static_field, own_field, field, index, call, static_call, super_call, create, create_array, cast, instance_of, unary, binary, Target, to_local, to_static, to_own, to_field, to_element, no_target, St, Sts, IfArms, declare, block, assign, act, print, choose, loop, return, break, continue, no_st, st_then, no_other, otherwise, arm}
 use Rattle.java_core.specs.Programs.{Plain, PlainField, PlainMethod, PlainLocal}
 use Rattle.java_core.specs.Classes.{parent_of, slot_of, lookup, super_method}
 use Rattle.java_core.specs.Types.{Env, env_of, types_of, class_of, field_in, static}
@@ -77,7 +77,7 @@ mutual
   sts_of no_st = pair_no_st
   sts_of (st_then x xs) = pair_st_then (st_of x) (sts_of xs)
 
-  arms_of : (xs : Arms) → PairedArms Retagged SameTarget (bare_arms xs) xs
+  arms_of : (xs : IfArms) → PairedArms Retagged SameTarget (bare_arms xs) xs
   arms_of no_other = pair_no_other
   arms_of (otherwise xs) = pair_otherwise (sts_of xs)
   arms_of (arm e xs more) = pair_arm (of_bare e) (sts_of xs) (arms_of more)

@@ -1,7 +1,7 @@
 -- Believed. What holds in each statement of a body, and of those in it, where it is said what holds of an expression, a
 -- declaration, an assignment and what is returned.
 use Rattle.std.specs.Prelude.{ℕ, Option, Some, None}
-use Rattle.java_core.specs.Trees.{Ex, Target, St, Sts, Arms, declare, block, assign, act, print, choose, loop, return, break, continue, no_st, st_then, no_other, otherwise, arm}
+use Rattle.java_core.specs.Trees.{Ex, Target, St, Sts, IfArms, declare, block, assign, act, print, choose, loop, return, break, continue, no_st, st_then, no_other, otherwise, arm}
 
 -- it holds of an expression, where there is one
 abbrev pub OfOption : (Ex → Type 0) → Option Ex → Type 0
@@ -36,7 +36,7 @@ module _ (A : Asked) where
     InSts (st_then x xs) = InSt x × InSts xs
 
     -- the same of each test and each body of the arms of an `if`
-    pub InArms : Arms → Type 0
+    pub InArms : IfArms → Type 0
     InArms no_other = Unit {0}
     InArms (otherwise xs) = InSts xs
     InArms (arm e xs more) = A.Of e × InSts xs × InArms more

@@ -10,7 +10,7 @@ use Rattle.java_core.specs.declared.BinOp.{BinOp}
 use Rattle.java_core.specs.declared.BinOp.TheVariants as bin
 use Rattle.java_core.specs.declared.Op.{Op}
 use Rattle.java_core.specs.declared.Fault.TheVariants as fault
-use Rattle.java_core.specs.Trees.{Ex, Exs, no_ex, ex_then, number, character, text, truth, null, this, local, static_field, own_field, field, index, call, static_call, super_call, create, create_array, cast, instance_of, unary, binary, Target, to_local, to_static, to_own, to_field, to_element, no_target, St, Sts, Arms, declare, block, assign, act, print, choose, loop, return, break, continue, no_st, st_then, no_other, otherwise, arm}
+use Rattle.java_core.specs.Trees.{Ex, Exs, no_ex, ex_then, number, character, text, truth, null, this, local, static_field, own_field, field, index, call, static_call, super_call, create, create_array, cast, instance_of, unary, binary, Target, to_local, to_static, to_own, to_field, to_element, no_target, St, Sts, IfArms, declare, block, assign, act, print, choose, loop, return, break, continue, no_st, st_then, no_other, otherwise, arm}
 use Rattle.java_core.specs.Types.{Env, class_type, element_in, is_length, StringMethod, LengthOf, CharAt, Equals, string_method, is_plus}
 use Rattle.java_meaning.specs.Moment.{Value, Number, Truth, CodeUnit, Nothing, Text, Object, Kind, an_object, an_array, Cell, own_type, own_class, held, bound, self_of, result_of, set_static, kept, put_in, touched, tested, ran, State, Frame, Ended, Faulted, Going, Wrong, Outcome, stop, Body, Lang, step, with_some, or_fault, with_result, on_bool, look, look_all}
 use Rattle.java_meaning.specs.Values.{default_of, convert, arguments, number_of, truth_of, natural_of, int_of, text_of, bytes_of, line_end, arith, unary_value, cast_number, same_value, compared, join, is_text, defaults, equals_value}
@@ -391,7 +391,7 @@ module _ (L : Lang) (later : Later) where
     run_all (st_then x xs) f s k = run_one x f s (λ w f1 s1. after_one w f1 s1 (λ f2 s2. run_all xs f2 s2 k) k)
 
     -- what the arms of an `if` do: the first whose test is true runs, else the `else`
-    pub run_arms : Arms → Frame → State → ToFlow → Outcome
+    pub run_arms : IfArms → Frame → State → ToFlow → Outcome
     run_arms no_other f s k = k Next f s
     run_arms (otherwise xs) f s k = run_all xs f s k
     run_arms (arm e xs more) f s k = value e f s (λ v s1. on_test v s1 (λ s2. run_all xs f s2 k) (λ s2. run_arms more f s2 k))

@@ -3,7 +3,7 @@ use Rattle.std.proofs.Common.{◌≡◌, List, [], ◌∷◌, Bool, true, Option
 use Rattle.java_lex.specs.declared.Token.{Token}
 use Rattle.java_tree.specs.Syntax.{Expression, Statement, DoOf, PrintOf, Statements, Arms, Else, OptionalStatement}
 use Rattle.java_tree.specs.Tokens.{first_place}
-use Rattle.java_tree.specs.Statements.{printed, IsFinal, not_final, is_final, IsValue, no_value, a_value, IsInit, no_init, an_init, IsLocal, a_local, IsTarget, to_name, to_field, to_index, IsCall, plain_call, call_upon, call_above, IsAct, assign, assign_by, step_after, step_before, do_call, print, do_new, IsFirst, no_first, first_local, first_act, IsStep, no_step, a_step, IsItem, local_item, stmt_item, IsItems, no_items, next_item, IsStmt, block, empty, acting, choice, while_loop, for_loop, return_word, break_word, continue_word, IsArms, last_arm, else_arm, more_arms}
+use Rattle.java_tree.specs.Statements.{printed, IsFinal, not_final, is_final, IsValue, no_value, a_value, IsInit, no_init, an_init, IsLocal, a_local, IsTarget, to_name, to_field, to_index, IsCall, plain_call, call_upon, call_above, IsAct, assign, assign_by, step_after, step_before, do_call, print, do_new, IsForFirst, no_first, first_local, first_act, IsForStep, no_step, a_step, IsItem, local_item, stmt_item, IsItems, no_items, next_item, IsStmt, block, empty, acting, choice, while_loop, for_loop, return_word, break_word, continue_word, IsArms, last_arm, else_arm, more_arms}
 use Rattle.java_parse.specs.declared.End.{End}
 use Rattle.java_parse.proofs.Post.{Ended, by_name, by_target, by_call, by_new, by_array, by_other}
 use Rattle.java_parse.proofs.Cuts.{here, on, join, Alone, filled, same_front}
@@ -82,12 +82,12 @@ act_alone (print {e = e} {l = l} {v = v} {ts = ts} d h) =
     }
 act_alone (do_new d0) = let s0 = args_alone d0 in record { cut = on (on (on s0.cut)); again = λ tail. do_new (s0.again tail) }
 
-pub first_alone : {ts rest : List Token} {x : OptionalStatement} → IsFirst ts rest x → Alone (λ ts rest. IsFirst ts rest x) ts rest
+pub first_alone : {ts rest : List Token} {x : OptionalStatement} → IsForFirst ts rest x → Alone (λ ts rest. IsForFirst ts rest x) ts rest
 first_alone no_first = record { cut = here; again = λ tail. no_first }
 first_alone (first_local d0) = let s0 = local_alone d0 in record { cut = s0.cut; again = λ tail. first_local (s0.again tail) }
 first_alone (first_act d0) = let s0 = act_alone d0 in record { cut = s0.cut; again = λ tail. first_act (s0.again tail) }
 
-pub step_alone : {ts rest : List Token} {x : OptionalStatement} → IsStep ts rest x → Alone (λ ts rest. IsStep ts rest x) ts rest
+pub step_alone : {ts rest : List Token} {x : OptionalStatement} → IsForStep ts rest x → Alone (λ ts rest. IsForStep ts rest x) ts rest
 step_alone no_step = record { cut = here; again = λ tail. no_step }
 step_alone (a_step d0) = let s0 = act_alone d0 in record { cut = s0.cut; again = λ tail. a_step (s0.again tail) }
 

@@ -24,7 +24,7 @@ use Rattle.java_parse.proofs.Begins.{begins_post, begins, no_round, post_begins,
 use Rattle.std.proofs.lemmas.Bool.{le-leb, lt-leb}
 use Rattle.std.specs.Prelude.{nat_lt, nat_le}
 use Rattle.java_tree.specs.Nesting.{next_is}
-use Rattle.java_parse.specs.Reading.{Outcome, Reads}
+use Rattle.java_parse.specs.Reading.{ParseOutcome, Reads}
 use Rattle.java_tree.proofs.Appended.{append_exprs, exprs_end}
 use Rattle.java_parse.proofs.SoundExpressions.{exprs_snoc}
 use Rattle.java_parse.proofs.ExpressionSteps as x
@@ -248,10 +248,10 @@ index_none z rest h = guarded_none (is_array z) (after marks.OpenSquare rest) h
 pub record PostRead (b : Bool) (ts rest : List Token) (e : Expression) : Type 0 where
   pub end_ : End
   pub kind : b ≡ true → is_array end_ ≡ false
-  pub goes : (o : Outcome (Expression × End)) → Reads (NTail e end_) rest o → Reads NPost ts o
+  pub goes : (o : ParseOutcome (Expression × End)) → Reads (NTail e end_) rest o → Reads NPost ts o
 
 read_up_to : {b : Bool} {ts rest : List Token} {e : Expression} (z : End) → (b ≡ true → is_array z ≡ false)
-    → ((o : Outcome (Expression × End)) → Reads (NTail e z) rest o → Reads NPost ts o) → PostRead b ts rest e
+    → ((o : ParseOutcome (Expression × End)) → Reads (NTail e z) rest o → Reads NPost ts o) → PostRead b ts rest e
 read_up_to z k g = record { end_ = z; kind = k; goes = g }
 
 atom_reads : {b : Bool} {ts rest : List Token} {e : Expression} (z : End) → (b ≡ true → is_array z ≡ false) → Reads NAtom ts (Ok ((e, z), rest))
@@ -275,7 +275,7 @@ more_stops (next_arg a b) = stops_comma
 no : {P : Type 0} → true ≡ false → P
 no h = absurd (let g : ⊥ = cc in g)
 
-based : {ts us : List Token} {b : TypeBase} {p q r : Place} {o : Outcome (Expression × End)} → IsBase ts (mark marks.OpenSquare r ∷ us) b q
+based : {ts us : List Token} {b : TypeBase} {p q r : Place} {o : ParseOutcome (Expression × End)} → IsBase ts (mark marks.OpenSquare r ∷ us) b q
     → Reads (NSized p b q) (mark marks.OpenSquare r ∷ us) o → Reads (NNew p) ts o
 based int_base a = x.new_base refl refl a
 based boolean_base a = x.new_base refl refl a
@@ -293,13 +293,13 @@ array_reads {ts = ts} {rest = rest} {b = b} {e = e} {d = d} {p = p} {q = q} h a 
 stops_more : {rest : List Token} {e : Expression} → Stops 1 rest → (c : ℕ) → 1 ≤ c → Reads (NMore 1 c e) rest (Ok (e, rest))
 stops_more {rest = rest} s c h = x.more_ends (op_none 1 c rest s.below) (inst_none 1 c rest s.below)
 
-closed : {ts rest : List Token} {e : Expression} → ((k : ℕ) → k ≤ 1 → 1 ≤ 11 → Stops (suc 1) rest → (o : Outcome Expression)
+closed : {ts rest : List Token} {e : Expression} → ((k : ℕ) → k ≤ 1 → 1 ≤ 11 → Stops (suc 1) rest → (o : ParseOutcome Expression)
     → ((c : ℕ) → 1 ≤ c → Reads (NMore k c e) rest o) → Reads (NExpr k) ts o) → Stops 1 rest → Reads (NExpr 1) ts (Ok (e, rest))
 closed read s = read 1 (omega arith) (omega arith) (looser (omega arith) s) _ (stops_more s)
 
 mutual
   pub expr_reads : {l : ℕ} {ts rest : List Token} {e : Expression} → IsExpr l ts rest e → (k : ℕ) → k ≤ l → l ≤ 11 → Stops (suc l) rest
-      → (o : Outcome Expression) → ((c : ℕ) → l ≤ c → Reads (NMore k c e) rest o) → Reads (NExpr k) ts o
+      → (o : ParseOutcome Expression) → ((c : ℕ) → l ≤ c → Reads (NMore k c e) rest o) → Reads (NExpr k) ts o
   expr_reads (binary {l = l} {m = m} {p = p} {a = a} {b = b} {ts = ts} {us = us} {rest = rest} po le da db) k kl lb s o end =
       let small : level m ≤ 10 = level_small m in
       let s1 : Stops (suc (level m)) rest = looser (omega arith) s in

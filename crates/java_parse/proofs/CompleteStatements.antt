@@ -18,7 +18,7 @@ use Rattle.java_parse.specs.declared.End.TheVariants as ends
 use Rattle.java_parse.specs.Want.{NPost, NType, NTail, NInit, NLocal, NValue, NAct, NTested, NItem, NItems, NStmt, NForHead, NFirst, NStep, NBranches}
 use Rattle.java_parse.specs.Front.{after, after_key, word_next, index_next, stmt_snoc, arm_snoc, final_of, stepping_next, compound_next, is_target, is_call, done, starts_local, start, SOther}
 use Rattle.java_tree.specs.Expressions.{named_base, IsDims, no_dims, one_dim, IsType, a_type, IsExpr, IsPost, field, call_on, index, name}
-use Rattle.java_tree.specs.Statements.{is_choice, IsValue, no_value, a_value, IsInit, no_init, an_init, IsLocal, a_local, IsTarget, to_name, to_field, to_index, IsCall, plain_call, call_upon, call_above, IsAct, assign, assign_by, step_after, step_before, do_call, print, do_new, IsFirst, no_first, first_local, first_act, IsStep, no_step, a_step, IsItem, local_item, stmt_item, IsItems, no_items, next_item, IsStmt, block, empty, acting, choice, while_loop, for_loop, return_word, break_word, continue_word, IsArms, last_arm, else_arm, more_arms}
+use Rattle.java_tree.specs.Statements.{is_choice, IsValue, no_value, a_value, IsInit, no_init, an_init, IsLocal, a_local, IsTarget, to_name, to_field, to_index, IsCall, plain_call, call_upon, call_above, IsAct, assign, assign_by, step_after, step_before, do_call, print, do_new, IsForFirst, no_first, first_local, first_act, IsForStep, no_step, a_step, IsItem, local_item, stmt_item, IsItems, no_items, next_item, IsStmt, block, empty, acting, choice, while_loop, for_loop, return_word, break_word, continue_word, IsArms, last_arm, else_arm, more_arms}
 use Rattle.java_parse.proofs.Fronts.{Starts, start_is, done_is}
 use Rattle.java_tree.specs.Nesting.{next_is}
 use Rattle.java_parse.specs.Front.{index_next, follows_word}
@@ -273,13 +273,13 @@ act_starts (do_call {ts = ts} c h) = post_acts ts (call_begins c)
 act_starts (print {ts = ts} c h) = post_acts ts (call_begins c)
 act_starts (do_new a) = record { other = refl; semi = refl; round_ = refl; brace = refl; else_ = refl }
 
-first_reads : {ts rest : List Token} {o : OptionalStatement} {q : Place} → IsFirst ts (mark marks.Semi q ∷ rest) o
+first_reads : {ts rest : List Token} {o : OptionalStatement} {q : Place} → IsForFirst ts (mark marks.Semi q ∷ rest) o
     → Reads NFirst ts (Ok (o, mark marks.Semi q ∷ rest))
 first_reads no_first = y.first_none refl
 first_reads (first_local d) = let s = local_starts d in y.first_local s.1 s.0 (local_reads d)
 first_reads (first_act d) = y.first_act (act_starts d).semi (act_no_local d) (act_reads d semi_ends)
 
-step_reads : {ts rest : List Token} {o : OptionalStatement} {q : Place} → IsStep ts (mark marks.CloseRound q ∷ rest) o
+step_reads : {ts rest : List Token} {o : OptionalStatement} {q : Place} → IsForStep ts (mark marks.CloseRound q ∷ rest) o
     → Reads NStep ts (Ok (o, mark marks.CloseRound q ∷ rest))
 step_reads no_step = y.step_none refl
 step_reads (a_step d) = y.step_act (act_starts d).round_ (act_reads d round_ends)
@@ -288,8 +288,8 @@ tested_reads : {us vs : List Token} {e : Expression} {q r : Place} → IsExpr 1 
     → Reads NTested (mark marks.OpenRound q ∷ us) (Ok (e, vs))
 tested_reads d = y.tested_is refl (closed_reads d stops_round) refl
 
-head_reads : {us vs ws xs : List Token} {f g : OptionalStatement} {v : Option Expression} {q r t w : Place} → IsFirst us (mark marks.Semi r ∷ vs) f
-    → IsValue vs (mark marks.Semi t ∷ ws) v → IsStep ws (mark marks.CloseRound w ∷ xs) g →
+head_reads : {us vs ws xs : List Token} {f g : OptionalStatement} {v : Option Expression} {q r t w : Place} → IsForFirst us (mark marks.Semi r ∷ vs) f
+    → IsValue vs (mark marks.Semi t ∷ ws) v → IsForStep ws (mark marks.CloseRound w ∷ xs) g →
     Reads NForHead (mark marks.OpenRound q ∷ us) (Ok ((f, v, g), xs))
 head_reads a b c = y.for_head_is refl (first_reads a) refl (value_reads b) refl (step_reads c) refl
 

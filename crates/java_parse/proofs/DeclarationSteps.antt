@@ -13,10 +13,10 @@ use Rattle.java_tree.specs.Syntax.{Statements, no_statements, HeadTree, MemberTr
 use Rattle.java_parse.specs.Want.{NType, NItems, NMods, NIds, NParent, NList, NParam, NParams, NMoreParams, NResult, NHead, NBody, NMember, NMethod, NMembers, NHeads, NClass, NInterface, NDecl, NDecls}
 use Rattle.java_parse.specs.Front.{after, after_key, word_next, final_of, modifier_next, at_end}
 use Rattle.java_parse.proofs.Runs.{reads, run, found, missed}
-use Rattle.java_parse.specs.Reading.{Fault, Left, Outcome, give, fail, ask, ask_fails, Reads}
+use Rattle.java_parse.specs.Reading.{Fault, Left, ParseOutcome, give, fail, ask, ask_fails, Reads}
 use Rattle.java_parse.specs.ReadDeclarations.{mods_step, ids_step, parent_step, list_step, params_step, more_params_step, result_type_step, body_step, members_step, heads_step, class_step, interface_step, decls_step}
 
-pub mods_next : {ms : List Modifier} {ts : List Token} {m : Modifier} {us : List Token} {o : Outcome (List Modifier)}
+pub mods_next : {ms : List Modifier} {ts : List Token} {m : Modifier} {us : List Token} {o : ParseOutcome (List Modifier)}
     → modifier_next ts ≡ Some (m, us) → Reads (NMods (ms ++ m ∷ [])) us o → Reads (NMods ms) ts o
 mods_next {o = Ok given} h0 a1 = reads (rw (h0, mods_step) (ask (run a1) give))
 mods_next {o = Err fault} h0 a1 = reads (rw (h0, mods_step) (ask_fails (run a1)))
@@ -24,7 +24,7 @@ mods_next {o = Err fault} h0 a1 = reads (rw (h0, mods_step) (ask_fails (run a1))
 pub mods_end : {ms : List Modifier} {ts : List Token} → modifier_next ts ≡ None → Reads (NMods ms) ts (Ok (ms, ts))
 mods_end h0 = reads (rw (h0, mods_step) give)
 
-pub ids_next : {is : List Id} {ts : List Token} {n : List ℕ} {q : Place} {us : List Token} {p : Place} {vs : List Token} {o : Outcome (List Id)}
+pub ids_next : {is : List Id} {ts : List Token} {n : List ℕ} {q : Place} {us : List Token} {p : Place} {vs : List Token} {o : ParseOutcome (List Id)}
     → word_next ts ≡ Some (n, q, us) → after marks.Comma us ≡ Some (p, vs) → Reads (NIds (is ++ record { name = n; place = q } ∷ [])) vs o
     → Reads (NIds is) ts o
 ids_next {o = Ok given} h0 h1 a2 = reads (rw (h0, ids_step, h1) (ask (run a2) give))
@@ -48,7 +48,7 @@ parent_no_name h0 h1 = reads (rw (h0, parent_step, h1) fail)
 pub parent_none : {ts : List Token} → after_key keys.Extends ts ≡ None → Reads NParent ts (Ok (None, ts))
 parent_none h0 = reads (rw (h0, parent_step) give)
 
-pub list_some : {k : Keyword} {ts : List Token} {p : Place} {us : List Token} {o : Outcome (List Id)} → after_key k ts ≡ Some (p, us)
+pub list_some : {k : Keyword} {ts : List Token} {p : Place} {us : List Token} {o : ParseOutcome (List Id)} → after_key k ts ≡ Some (p, us)
     → Reads (NIds []) us o → Reads (NList k) ts o
 list_some {o = Ok given} h0 a1 = reads (rw (h0, list_step) (ask (run a1) give))
 list_some {o = Err fault} h0 a1 = reads (rw (h0, list_step) (ask_fails (run a1)))
@@ -74,7 +74,7 @@ params_none h0 = reads (rw (h0, params_step) give)
 pub params_some_fails : {ts : List Token} {fl : Fault} → after marks.CloseRound ts ≡ None → Reads NParam ts (Err fl) → Reads NParams ts (Err fl)
 params_some_fails h0 a1 = reads (rw (h0, params_step) (ask_fails (run a1)))
 
-pub params_some : {ts : List Token} {q : Param} {us : List Token} {o : Outcome (List Param)} → after marks.CloseRound ts ≡ None
+pub params_some : {ts : List Token} {q : Param} {us : List Token} {o : ParseOutcome (List Param)} → after marks.CloseRound ts ≡ None
     → Reads NParam ts (Ok (q, us)) → Reads (NMoreParams (q ∷ [])) us o → Reads NParams ts o
 params_some {o = Ok given} h0 a1 a2 = reads (rw (h0, params_step) (ask (run a1) (ask (run a2) give)))
 params_some {o = Err fault} h0 a1 a2 = reads (rw (h0, params_step) (ask (run a1) (ask_fails (run a2))))
@@ -87,7 +87,7 @@ pub more_params_next_fails : {qs : List Param} {ts : List Token} {p : Place} {us
     → after marks.Comma ts ≡ Some (p, us) → Reads NParam us (Err fl) → Reads (NMoreParams qs) ts (Err fl)
 more_params_next_fails h0 h1 a2 = reads (rw (h0, more_params_step, h1) (ask_fails (run a2)))
 
-pub more_params_next : {qs : List Param} {ts : List Token} {p : Place} {us : List Token} {q : Param} {vs : List Token} {o : Outcome (List Param)}
+pub more_params_next : {qs : List Param} {ts : List Token} {p : Place} {us : List Token} {q : Param} {vs : List Token} {o : ParseOutcome (List Param)}
     → after marks.CloseRound ts ≡ None → after marks.Comma ts ≡ Some (p, us) → Reads NParam us (Ok (q, vs)) → Reads (NMoreParams (qs ++ q ∷ [])) vs o
     → Reads (NMoreParams qs) ts o
 more_params_next {o = Ok given} h0 h1 a2 a3 = reads (rw (h0, more_params_step, h1) (ask (run a2) (ask (run a3) give)))
@@ -156,7 +156,7 @@ pub member_method_fails2 : {ts : List Token} {ms : List Modifier} {us : List Tok
 member_method_fails2 a0 a1 = reads (ask (run a0) (ask_fails (run a1)))
 
 pub member_method : {ts : List Token} {ms : List Modifier} {us : List Token} {t : Option TypeName} {vs : List Token} {n : List ℕ} {p : Place}
-    {ws : List Token} {q : Place} {xs : List Token} {o : Outcome MemberTree} → Reads (NMods []) ts (Ok (ms, us)) → Reads NResult us (Ok (t, vs))
+    {ws : List Token} {q : Place} {xs : List Token} {o : ParseOutcome MemberTree} → Reads (NMods []) ts (Ok (ms, us)) → Reads NResult us (Ok (t, vs))
     → word_next vs ≡ Some (n, p, ws) → after marks.OpenRound ws ≡ Some (q, xs) → Reads (NMethod ms t n p) xs o → Reads NMember ts o
 member_method {o = Ok given} a0 a1 h2 h3 a4 = reads (ask (run a0) (ask (run a1) (rw (h2, h3) (ask (run a4) give))))
 member_method {o = Err fault} a0 a1 h2 h3 a4 = reads (ask (run a0) (ask (run a1) (rw (h2, h3) (ask_fails (run a4)))))
@@ -202,7 +202,7 @@ pub members_next_fails : {bs : List MemberTree} {ts : List Token} {fl : Fault} �
     → Reads (NMembers bs) ts (Err fl)
 members_next_fails h0 a1 = reads (rw (h0, members_step) (ask_fails (run a1)))
 
-pub members_next : {bs : List MemberTree} {ts : List Token} {b : MemberTree} {us : List Token} {o : Outcome (List MemberTree)}
+pub members_next : {bs : List MemberTree} {ts : List Token} {b : MemberTree} {us : List Token} {o : ParseOutcome (List MemberTree)}
     → after marks.CloseBrace ts ≡ None → Reads NMember ts (Ok (b, us)) → Reads (NMembers (bs ++ b ∷ [])) us o → Reads (NMembers bs) ts o
 members_next {o = Ok given} h0 a1 a2 = reads (rw (h0, members_step) (ask (run a1) (ask (run a2) give)))
 members_next {o = Err fault} h0 a1 a2 = reads (rw (h0, members_step) (ask (run a1) (ask_fails (run a2))))
@@ -215,7 +215,7 @@ pub heads_next_fails : {hs : List HeadTree} {ts : List Token} {fl : Fault} → a
     → Reads (NHeads hs) ts (Err fl)
 heads_next_fails h0 a1 = reads (rw (h0, heads_step) (ask_fails (run a1)))
 
-pub heads_next : {hs : List HeadTree} {ts : List Token} {h : HeadTree} {us : List Token} {p : Place} {vs : List Token} {o : Outcome (List HeadTree)}
+pub heads_next : {hs : List HeadTree} {ts : List Token} {h : HeadTree} {us : List Token} {p : Place} {vs : List Token} {o : ParseOutcome (List HeadTree)}
     → after marks.CloseBrace ts ≡ None → Reads NHead ts (Ok (h, us)) → after marks.Semi us ≡ Some (p, vs) → Reads (NHeads (hs ++ h ∷ [])) vs o
     → Reads (NHeads hs) ts o
 heads_next {o = Ok given} h0 a1 h2 a3 = reads (rw (h0, heads_step) (ask (run a1) (found _ _ h2 (ask (run a3) give))))
@@ -278,12 +278,12 @@ interface_no_name h0 = reads (rw (h0, interface_step) fail)
 pub decl_class_fails : {ts : List Token} {fl : Fault} → Reads (NMods []) ts (Err fl) → Reads NDecl ts (Err fl)
 decl_class_fails a0 = reads (ask_fails (run a0))
 
-pub decl_class : {ts : List Token} {ms : List Modifier} {us : List Token} {p : Place} {vs : List Token} {o : Outcome DeclTree}
+pub decl_class : {ts : List Token} {ms : List Modifier} {us : List Token} {p : Place} {vs : List Token} {o : ParseOutcome DeclTree}
     → Reads (NMods []) ts (Ok (ms, us)) → after_key keys.Class us ≡ Some (p, vs) → Reads (NClass ms) vs o → Reads NDecl ts o
 decl_class {o = Ok given} a0 h1 a2 = reads (ask (run a0) (rw h1 (ask (run a2) give)))
 decl_class {o = Err fault} a0 h1 a2 = reads (ask (run a0) (rw h1 (ask_fails (run a2))))
 
-pub decl_interface : {ts : List Token} {ms : List Modifier} {us : List Token} {p : Place} {vs : List Token} {o : Outcome DeclTree}
+pub decl_interface : {ts : List Token} {ms : List Modifier} {us : List Token} {p : Place} {vs : List Token} {o : ParseOutcome DeclTree}
     → Reads (NMods []) ts (Ok (ms, us)) → after_key keys.Class us ≡ None → after_key keys.Interface us ≡ Some (p, vs) → Reads (NInterface ms) vs o
     → Reads NDecl ts o
 decl_interface {o = Ok given} a0 h1 h2 a3 = reads (ask (run a0) (rw (h1, h2) (ask (run a3) give)))
@@ -299,7 +299,7 @@ decls_end h0 = reads (rw (h0, decls_step) give)
 pub decls_next_fails : {ds : List DeclTree} {ts : List Token} {fl : Fault} → at_end ts ≡ false → Reads NDecl ts (Err fl) → Reads (NDecls ds) ts (Err fl)
 decls_next_fails h0 a1 = reads (rw (h0, decls_step) (ask_fails (run a1)))
 
-pub decls_next : {ds : List DeclTree} {ts : List Token} {d : DeclTree} {us : List Token} {o : Outcome (List DeclTree)} → at_end ts ≡ false
+pub decls_next : {ds : List DeclTree} {ts : List Token} {d : DeclTree} {us : List Token} {o : ParseOutcome (List DeclTree)} → at_end ts ≡ false
     → Reads NDecl ts (Ok (d, us)) → Reads (NDecls (ds ++ d ∷ [])) us o → Reads (NDecls ds) ts o
 decls_next {o = Ok given} h0 a1 a2 = reads (rw (h0, decls_step) (ask (run a1) (ask (run a2) give)))
 decls_next {o = Err fault} h0 a1 a2 = reads (rw (h0, decls_step) (ask (run a1) (ask_fails (run a2))))

@@ -15,13 +15,13 @@ use Rattle.java_parse.specs.declared.End.TheVariants as ends
 use Rattle.java_parse.specs.Want.{NExpr, NMore, NPrefixed, NPost, NAtom, NSuper, NNew, NSized, NDims, NType, NTail, NArgs, NMoreArgs}
 use Rattle.java_parse.specs.Front.{after, after_key, word_next, operator, instance_next, least_next, sign_next, opens_cast, cast_next, base_next, literal_next, index_next, expr_snoc}
 use Rattle.java_parse.proofs.Runs.{reads, run, found, missed}
-use Rattle.java_parse.specs.Reading.{Fault, Left, Outcome, give, fail, ask, ask_fails, Reads}
+use Rattle.java_parse.specs.Reading.{Fault, Left, ParseOutcome, give, fail, ask, ask_fails, Reads}
 use Rattle.java_parse.specs.ReadExpressions.{more_step, prefixed_step, atom_step, super_step, new_step, sized_step, dims_step, type_step, tail_step, args_step, more_args_step}
 
 pub expr_steps_fails : {l : ℕ} {ts : List Token} {fl : Fault} → Reads NPrefixed ts (Err fl) → Reads (NExpr l) ts (Err fl)
 expr_steps_fails a0 = reads (ask_fails (run a0))
 
-pub expr_steps : {l : ℕ} {ts : List Token} {e : Expression} {us : List Token} {o : Outcome Expression} → Reads NPrefixed ts (Ok (e, us))
+pub expr_steps : {l : ℕ} {ts : List Token} {e : Expression} {us : List Token} {o : ParseOutcome Expression} → Reads NPrefixed ts (Ok (e, us))
     → Reads (NMore l 11 e) us o → Reads (NExpr l) ts o
 expr_steps {o = Ok given} a0 a1 = reads (ask (run a0) (ask (run a1) give))
 expr_steps {o = Err fault} a0 a1 = reads (ask (run a0) (ask_fails (run a1)))
@@ -31,13 +31,13 @@ pub more_binary_fails : {l : ℕ} {c : ℕ} {e : Expression} {ts : List Token} {
 more_binary_fails h0 a1 = reads (rw (h0, more_step) (ask_fails (run a1)))
 
 pub more_binary : {l : ℕ} {c : ℕ} {e : Expression} {ts : List Token} {m : Mark} {p : Place} {us : List Token} {b : Expression} {vs : List Token}
-    {o : Outcome Expression} → operator l c ts ≡ Some (m, p, us) → Reads (NExpr (suc (level m))) us (Ok (b, vs))
+    {o : ParseOutcome Expression} → operator l c ts ≡ Some (m, p, us) → Reads (NExpr (suc (level m))) us (Ok (b, vs))
     → Reads (NMore l (level m) (BinaryOf m e b p)) vs o → Reads (NMore l c e) ts o
 more_binary {o = Ok given} h0 a1 a2 = reads (rw (h0, more_step) (ask (run a1) (ask (run a2) give)))
 more_binary {o = Err fault} h0 a1 a2 = reads (rw (h0, more_step) (ask (run a1) (ask_fails (run a2))))
 
 pub more_instance : {l : ℕ} {c : ℕ} {e : Expression} {ts : List Token} {p : Place} {us : List Token} {n : List ℕ} {q : Place} {vs : List Token}
-    {o : Outcome Expression} → operator l c ts ≡ None → instance_next l c ts ≡ Some (p, us) → word_next us ≡ Some (n, q, vs)
+    {o : ParseOutcome Expression} → operator l c ts ≡ None → instance_next l c ts ≡ Some (p, us) → word_next us ≡ Some (n, q, vs)
     → Reads (NMore l 7 (InstanceOfClass e (record { name = n; place = q }) p)) vs o → Reads (NMore l c e) ts o
 more_instance {o = Ok given} h0 h1 h2 a3 = reads (rw (h0, more_step, h1, h2) (ask (run a3) give))
 more_instance {o = Err fault} h0 h1 h2 a3 = reads (rw (h0, more_step, h1, h2) (ask_fails (run a3)))
@@ -50,7 +50,7 @@ pub more_ends : {l : ℕ} {c : ℕ} {e : Expression} {ts : List Token} → opera
 more_ends h0 h1 = reads (rw (h0, more_step, h1) give)
 
 -- the same, with the level as the program has it
-pub more_operator : {l c i : ℕ} {e b : Expression} {ts us vs : List Token} {m : Mark} {p : Place} {o : Outcome Expression}
+pub more_operator : {l c i : ℕ} {e b : Expression} {ts us vs : List Token} {m : Mark} {p : Place} {o : ParseOutcome Expression}
     → operator l c ts ≡ Some (m, p, us) → i ≡ level m → Reads (NExpr (i + 1)) us (Ok (b, vs)) → Reads (NMore l i (BinaryOf m e b p)) vs o
     → Reads (NMore l c e) ts o
 more_operator h w a b = more_binary h (rw (w, add-one) at a) (rw w at b)
@@ -104,7 +104,7 @@ prefixed_bare h0 h1 h2 h3 a4 = reads (rw (h0, prefixed_step, h1, h2, h3) (ask (r
 pub post_steps_fails : {ts : List Token} {fl : Fault} → Reads NAtom ts (Err fl) → Reads NPost ts (Err fl)
 post_steps_fails a0 = reads (ask_fails (run a0))
 
-pub post_steps : {ts : List Token} {e : Expression} {z : End} {us : List Token} {o : Outcome (Expression × End)} → Reads NAtom ts (Ok ((e, z), us))
+pub post_steps : {ts : List Token} {e : Expression} {z : End} {us : List Token} {o : ParseOutcome (Expression × End)} → Reads NAtom ts (Ok ((e, z), us))
     → Reads (NTail e z) us o → Reads NPost ts o
 post_steps {o = Ok given} a0 a1 = reads (ask (run a0) (ask (run a1) give))
 post_steps {o = Err fault} a0 a1 = reads (ask (run a0) (ask_fails (run a1)))
@@ -138,12 +138,12 @@ pub atom_open : {ts : List Token} {p : Place} {us : List Token} {e : Expression}
     → after marks.OpenRound ts ≡ Some (p, us) → Reads (NExpr 1) us (Ok (e, vs)) → after marks.CloseRound vs ≡ None → Reads NAtom ts (Err (Left vs))
 atom_open h0 h1 h2 a3 h4 = reads (rw (h0, atom_step, h1, h2) (ask (run a3) (missed _ h4 fail)))
 
-pub atom_new : {ts : List Token} {p : Place} {us : List Token} {o : Outcome (Expression × End)} → literal_next ts ≡ None → word_next ts ≡ None
+pub atom_new : {ts : List Token} {p : Place} {us : List Token} {o : ParseOutcome (Expression × End)} → literal_next ts ≡ None → word_next ts ≡ None
     → after marks.OpenRound ts ≡ None → after_key keys.New ts ≡ Some (p, us) → Reads (NNew p) us o → Reads NAtom ts o
 atom_new {o = Ok given} h0 h1 h2 h3 a4 = reads (rw (h0, atom_step, h1, h2, h3) (ask (run a4) give))
 atom_new {o = Err fault} h0 h1 h2 h3 a4 = reads (rw (h0, atom_step, h1, h2, h3) (ask_fails (run a4)))
 
-pub atom_super : {ts : List Token} {p : Place} {us : List Token} {o : Outcome (Expression × End)} → literal_next ts ≡ None → word_next ts ≡ None
+pub atom_super : {ts : List Token} {p : Place} {us : List Token} {o : ParseOutcome (Expression × End)} → literal_next ts ≡ None → word_next ts ≡ None
     → after marks.OpenRound ts ≡ None → after_key keys.New ts ≡ None → after_key keys.Super ts ≡ Some (p, us) → Reads NSuper us o → Reads NAtom ts o
 atom_super {o = Ok given} h0 h1 h2 h3 h4 a5 = reads (rw (h0, atom_step, h1, h2, h3, h4) (ask (run a5) give))
 atom_super {o = Err fault} h0 h1 h2 h3 h4 a5 = reads (rw (h0, atom_step, h1, h2, h3, h4) (ask_fails (run a5)))
@@ -181,12 +181,12 @@ pub new_object : {p : Place} {ts : List Token} {n : List ℕ} {q : Place} {us : 
     → Reads (NNew p) ts (Ok ((NewOf (record { name = n; place = q }) es p, ends.New), ws))
 new_object h0 h1 a2 = reads (rw (h0, new_step, h1) (ask (run a2) give))
 
-pub new_named : {p : Place} {ts : List Token} {n : List ℕ} {q : Place} {us : List Token} {o : Outcome (Expression × End)}
+pub new_named : {p : Place} {ts : List Token} {n : List ℕ} {q : Place} {us : List Token} {o : ParseOutcome (Expression × End)}
     → word_next ts ≡ Some (n, q, us) → after marks.OpenRound us ≡ None → Reads (NSized p (bases.Named n) q) us o → Reads (NNew p) ts o
 new_named {o = Ok given} h0 h1 a2 = reads (rw (h0, new_step, h1) (ask (run a2) give))
 new_named {o = Err fault} h0 h1 a2 = reads (rw (h0, new_step, h1) (ask_fails (run a2)))
 
-pub new_base : {p : Place} {ts : List Token} {b : TypeBase} {q : Place} {us : List Token} {o : Outcome (Expression × End)} → word_next ts ≡ None
+pub new_base : {p : Place} {ts : List Token} {b : TypeBase} {q : Place} {us : List Token} {o : ParseOutcome (Expression × End)} → word_next ts ≡ None
     → base_next ts ≡ Some (b, q, us) → Reads (NSized p b q) us o → Reads (NNew p) ts o
 new_base {o = Ok given} h0 h1 a2 = reads (rw (h0, new_step, h1) (ask (run a2) give))
 new_base {o = Err fault} h0 h1 a2 = reads (rw (h0, new_step, h1) (ask_fails (run a2)))
@@ -217,7 +217,7 @@ sized_open h0 a1 h2 = reads (rw (h0, sized_step) (ask (run a1) (missed _ h2 fail
 pub sized_none : {p : Place} {b : TypeBase} {q : Place} {ts : List Token} → after marks.OpenSquare ts ≡ None → Reads (NSized p b q) ts (Err (Left ts))
 sized_none h0 = reads (rw (h0, sized_step) fail)
 
-pub dims_more : {d : ℕ} {ts : List Token} {p : Place} {us : List Token} {zq : Place} {vs : List Token} {o : Outcome ℕ} → after marks.OpenSquare ts
+pub dims_more : {d : ℕ} {ts : List Token} {p : Place} {us : List Token} {zq : Place} {vs : List Token} {o : ParseOutcome ℕ} → after marks.OpenSquare ts
     ≡ Some (p, us) → after marks.CloseSquare us ≡ Some (zq, vs) → Reads (NDims (suc d)) vs o → Reads (NDims d) ts o
 dims_more {o = Ok given} h0 h1 a2 = reads (rw (h0, dims_step, h1) (ask (run a2) give))
 dims_more {o = Err fault} h0 h1 a2 = reads (rw (h0, dims_step, h1) (ask_fails (run a2)))
@@ -230,7 +230,7 @@ pub dims_ends : {d : ℕ} {ts : List Token} → after marks.OpenSquare ts ≡ No
 dims_ends h0 = reads (rw (h0, dims_step) give)
 
 -- the same, with the number as the program has it
-pub dims_again : {d : ℕ} {ts : List Token} {p : Place} {us : List Token} {zq : Place} {vs : List Token} {o : Outcome ℕ} → after marks.OpenSquare ts
+pub dims_again : {d : ℕ} {ts : List Token} {p : Place} {us : List Token} {zq : Place} {vs : List Token} {o : ParseOutcome ℕ} → after marks.OpenSquare ts
     ≡ Some (p, us) → after marks.CloseSquare us ≡ Some (zq, vs) → Reads (NDims (d + 1)) vs o → Reads (NDims d) ts o
 dims_again h k a = dims_more h k (rw add-one at a)
 
@@ -251,14 +251,14 @@ pub tail_call_fails : {e : Expression} {z : End} {ts : List Token} {p : Place} {
 tail_call_fails h0 h1 h2 a3 = reads (rw (h0, tail_step, h1, h2) (ask_fails (run a3)))
 
 pub tail_call : {e : Expression} {z : End} {ts : List Token} {p : Place} {us : List Token} {n : List ℕ} {q : Place} {vs : List Token} {r : Place}
-    {ws : List Token} {es : Expressions} {xs : List Token} {o : Outcome (Expression × End)} → after marks.Dot ts ≡ Some (p, us)
+    {ws : List Token} {es : Expressions} {xs : List Token} {o : ParseOutcome (Expression × End)} → after marks.Dot ts ≡ Some (p, us)
     → word_next us ≡ Some (n, q, vs) → after marks.OpenRound vs ≡ Some (r, ws) → Reads NArgs ws (Ok (es, xs))
     → Reads (NTail (CallOn e n es q) ends.Call) xs o → Reads (NTail e z) ts o
 tail_call {o = Ok given} h0 h1 h2 a3 a4 = reads (rw (h0, tail_step, h1, h2) (ask (run a3) (ask (run a4) give)))
 tail_call {o = Err fault} h0 h1 h2 a3 a4 = reads (rw (h0, tail_step, h1, h2) (ask (run a3) (ask_fails (run a4))))
 
 pub tail_field : {e : Expression} {z : End} {ts : List Token} {p : Place} {us : List Token} {n : List ℕ} {q : Place} {vs : List Token}
-    {o : Outcome (Expression × End)} → after marks.Dot ts ≡ Some (p, us) → word_next us ≡ Some (n, q, vs) → after marks.OpenRound vs ≡ None
+    {o : ParseOutcome (Expression × End)} → after marks.Dot ts ≡ Some (p, us) → word_next us ≡ Some (n, q, vs) → after marks.OpenRound vs ≡ None
     → Reads (NTail (FieldOf e n q) ends.Target) vs o → Reads (NTail e z) ts o
 tail_field {o = Ok given} h0 h1 h2 a3 = reads (rw (h0, tail_step, h1, h2) (ask (run a3) give))
 tail_field {o = Err fault} h0 h1 h2 a3 = reads (rw (h0, tail_step, h1, h2) (ask_fails (run a3)))
@@ -272,7 +272,7 @@ pub tail_index_fails : {e : Expression} {z : End} {ts : List Token} {p : Place} 
 tail_index_fails h0 h1 a2 = reads (rw (h0, tail_step, h1) (ask_fails (run a2)))
 
 pub tail_index : {e : Expression} {z : End} {ts : List Token} {p : Place} {us : List Token} {i : Expression} {vs : List Token} {zq : Place}
-    {ws : List Token} {o : Outcome (Expression × End)} → after marks.Dot ts ≡ None → index_next z ts ≡ Some (p, us) → Reads (NExpr 1) us (Ok (i, vs))
+    {ws : List Token} {o : ParseOutcome (Expression × End)} → after marks.Dot ts ≡ None → index_next z ts ≡ Some (p, us) → Reads (NExpr 1) us (Ok (i, vs))
     → after marks.CloseSquare vs ≡ Some (zq, ws) → Reads (NTail (IndexOf e i p) ends.Target) ws o → Reads (NTail e z) ts o
 tail_index {o = Ok given} h0 h1 a2 h3 a4 = reads (rw (h0, tail_step, h1) (ask (run a2) (found _ _ h3 (ask (run a4) give))))
 tail_index {o = Err fault} h0 h1 a2 h3 a4 = reads (rw (h0, tail_step, h1) (ask (run a2) (found _ _ h3 (ask_fails (run a4)))))
@@ -291,7 +291,7 @@ args_none h0 = reads (rw (h0, args_step) give)
 pub args_some_fails : {ts : List Token} {fl : Fault} → after marks.CloseRound ts ≡ None → Reads (NExpr 1) ts (Err fl) → Reads NArgs ts (Err fl)
 args_some_fails h0 a1 = reads (rw (h0, args_step) (ask_fails (run a1)))
 
-pub args_some : {ts : List Token} {e : Expression} {us : List Token} {o : Outcome Expressions} → after marks.CloseRound ts ≡ None
+pub args_some : {ts : List Token} {e : Expression} {us : List Token} {o : ParseOutcome Expressions} → after marks.CloseRound ts ≡ None
     → Reads (NExpr 1) ts (Ok (e, us)) → Reads (NMoreArgs (and_more e no_more)) us o → Reads NArgs ts o
 args_some {o = Ok given} h0 a1 a2 = reads (rw (h0, args_step) (ask (run a1) (ask (run a2) give)))
 args_some {o = Err fault} h0 a1 a2 = reads (rw (h0, args_step) (ask (run a1) (ask_fails (run a2))))
@@ -304,7 +304,7 @@ pub more_args_next_fails : {es : Expressions} {ts : List Token} {p : Place} {us 
     → after marks.Comma ts ≡ Some (p, us) → Reads (NExpr 1) us (Err fl) → Reads (NMoreArgs es) ts (Err fl)
 more_args_next_fails h0 h1 a2 = reads (rw (h0, more_args_step, h1) (ask_fails (run a2)))
 
-pub more_args_next : {es : Expressions} {ts : List Token} {p : Place} {us : List Token} {e : Expression} {vs : List Token} {o : Outcome Expressions}
+pub more_args_next : {es : Expressions} {ts : List Token} {p : Place} {us : List Token} {e : Expression} {vs : List Token} {o : ParseOutcome Expressions}
     → after marks.CloseRound ts ≡ None → after marks.Comma ts ≡ Some (p, us) → Reads (NExpr 1) us (Ok (e, vs))
     → Reads (NMoreArgs (expr_snoc es e)) vs o → Reads (NMoreArgs es) ts o
 more_args_next {o = Ok given} h0 h1 a2 a3 = reads (rw (h0, more_args_step, h1) (ask (run a2) (ask (run a3) give)))

@@ -1,33 +1,33 @@
 -- No part leaves more tokens than it is given.
 use Rattle.std.proofs.Common.{◌≡◌, ℕ, suc, ◌<◌, ◌≤◌, List, length, Option, Some, None, Bool, true, false, Ok, Err, arith, refl}
 use Rattle.java_lex.specs.declared.Token.{Token}
-use Rattle.java_parse.specs.Want.{Want, Val, Step, Give, Fail, Ask}
-use Rattle.java_parse.specs.Reading.{Fault, Left, NoMemory, Outcome}
+use Rattle.java_parse.specs.Want.{Want, Val, ReadStep, Give, Fail, Ask}
+use Rattle.java_parse.specs.Reading.{Fault, Left, NoMemory, ParseOutcome}
 
 -- a step leaves no more than n tokens, if its parts leave no more than they are given
-abbrev pub Leaves : {A : Type 0} → ℕ → Step A → Type 0
+abbrev pub Leaves : {A : Type 0} → ℕ → ReadStep A → Type 0
 Leaves n (Give v rest) = length rest ≤ n
 Leaves n (Fail rest) = length rest ≤ n
 Leaves n (Ask m ts k) = (length ts ≤ n) × ((v : Val m) (rest : List Token) → length rest ≤ length ts → Leaves n (k v rest))
 
 -- what is left is fewer tokens than n
-abbrev pub Below : {A : Type 0} → ℕ → Outcome A → Type 0
+abbrev pub Below : {A : Type 0} → ℕ → ParseOutcome A → Type 0
 Below n (Ok x) = length x.1 < n
 Below n (Err (Left rest)) = length rest < n
 Below n (Err NoMemory) = Unit {0}
 
 -- and not fewer
-abbrev pub Reaches : {A : Type 0} → ℕ → Outcome A → Type 0
+abbrev pub Reaches : {A : Type 0} → ℕ → ParseOutcome A → Type 0
 Reaches n (Ok x) = n ≤ length x.1
 Reaches n (Err (Left rest)) = n ≤ length rest
 Reaches n (Err NoMemory) = ⊥
 
-pub not_both : {A : Type 0} (n : ℕ) (o : Outcome A) → Below n o → Reaches n o → ⊥
+pub not_both : {A : Type 0} (n : ℕ) (o : ParseOutcome A) → Below n o → Reaches n o → ⊥
 not_both n (Ok x) a b = absurd (omega (arith, a, b))
 not_both n (Err (Left rest)) a b = absurd (omega (arith, a, b))
 not_both n (Err NoMemory) a b = b
 
-pub below_more : {A : Type 0} (n k : ℕ) (o : Outcome A) → Below n o → n ≤ k → Below k o
+pub below_more : {A : Type 0} (n k : ℕ) (o : ParseOutcome A) → Below n o → n ≤ k → Below k o
 below_more n k (Ok x) a le = omega (arith, a, le)
 below_more n k (Err (Left rest)) a le = omega (arith, a, le)
 below_more n k (Err NoMemory) a le = tt

@@ -7,16 +7,16 @@ use Rattle.java_lex.specs.declared.Token.{Token}
 use Rattle.java_tree.specs.Tokens.{first_place}
 use Rattle.java_tree.specs.Statements.{is_word}
 use Rattle.java_tree.specs.Nesting.{next_is}
-use Rattle.java_parse.specs.Want.{Want, Val, Step, Give, Fail, Ask}
+use Rattle.java_parse.specs.Want.{Want, Val, ReadStep, Give, Fail, Ask}
 use Rattle.java_parse.specs.Front.{after_key, final_of, at_end}
-use Rattle.java_parse.specs.Reading.{Fault, Left, NoMemory, Outcome, body, Runs, give, fail, short, ask, ask_fails}
+use Rattle.java_parse.specs.Reading.{Fault, Left, NoMemory, ParseOutcome, body, RunsTo, give, fail, short, ask, ask_fails}
 use Rattle.java_parse.proofs.Leaves.{Leaves, Below, fault_below}
 use Rattle.java_parse.proofs.Looks.{Look, Tests, misses, finds, a_key}
 use Rattle.java_parse.proofs.Plans.{Plan, Giving, Stopping, Asking, Looking, Peeking, Guarding, Allowing, Choosing, Testing, Heading, Finals, Ending, final_from, steps, leaves}
 use Rattle.java_parse.proofs.PartLeaves.{part_leaves}
 
 -- what a step leaves is fewer tokens than it takes up to
-pub left_below : {m : Want} {s : Step (Val m)} {o : Outcome (Val m)} (n : ℕ) → Runs m s o → Leaves n s → Below (suc n) o
+pub left_below : {m : Want} {s : ReadStep (Val m)} {o : ParseOutcome (Val m)} (n : ℕ) → RunsTo m s o → Leaves n s → Below (suc n) o
 left_below n give h = omega (arith, h)
 left_below n fail h = omega (arith, h)
 left_below n short h = tt
@@ -26,10 +26,10 @@ left_below {m = w} n (ask_fails {n = m} {ts = ts} {f = f} a) h =
     fault_below (Val m) (Val w) (length ts) n f (left_below (length ts) a (part_leaves m ts)) h.0
 
 -- whatever a step comes to, it leaves fewer tokens than n
-abbrev pub IsPast : (m : Want) → ℕ → Step (Val m) → Type 0
-IsPast m n s = (o : Outcome (Val m)) → Runs m s o → Below n o
+abbrev pub IsPast : (m : Want) → ℕ → ReadStep (Val m) → Type 0
+IsPast m n s = (o : ParseOutcome (Val m)) → RunsTo m s o → Below n o
 
-pub past_by : (m : Want) {s : Step (Val m)} (n : ℕ) → Leaves n s → IsPast m (suc n) s
+pub past_by : (m : Want) {s : ReadStep (Val m)} (n : ℕ) → Leaves n s → IsPast m (suc n) s
 past_by m n h = λ o a. left_below n a h
 
 -- two lists with one beginning before two tails
@@ -38,13 +38,13 @@ pub data Same (t : Token) (us vs : List Token) : List Token → List Token → T
   on : {ts ss : List Token} (x : Token) → Same t us vs ts ss → Same t us vs (x ∷ ts) (x ∷ ss)
 
 -- two steps do the same until the first is past the token
-pub data Alike (t : Token) (us vs : List Token) (m : Want) : Step (Val m) → Step (Val m) → Type 0 where
+pub data Alike (t : Token) (us vs : List Token) (m : Want) : ReadStep (Val m) → ReadStep (Val m) → Type 0 where
   gives : {v : Val m} {ts ss : List Token} → Same t us vs ts ss → Alike t us vs m (Give v ts) (Give v ss)
   fails : {ts ss : List Token} → Same t us vs ts ss → Alike t us vs m (Fail ts) (Fail ss)
-  asks : {n : Want} {ts ss : List Token} {k j : Val n → List Token → Step (Val m)} → Same t us vs ts ss
+  asks : {n : Want} {ts ss : List Token} {k j : Val n → List Token → ReadStep (Val m)} → Same t us vs ts ss
       → ((v : Val n) (xs ys : List Token) → Same t us vs xs ys → Alike t us vs m (k v xs) (j v ys))
       → ((v : Val n) (xs : List Token) → Leaves (length xs) (k v xs)) → Alike t us vs m (Ask n ts k) (Ask n ss j)
-  past : {s r : Step (Val m)} → IsPast m (suc (length us)) s → Alike t us vs m s r
+  past : {s r : ReadStep (Val m)} → IsPast m (suc (length us)) s → Alike t us vs m s r
 
 -- of one beginning: the next token, and what begins with it
 pub same_head : {t : Token} {us vs ts ss : List Token} (f : List Token → List Token → Type 0) → Same t us vs ts ss
@@ -53,23 +53,23 @@ same_head {t = t} {us = us} {vs = vs} f at h = h t us vs
 same_head f (on {ts = ts} {ss = ss} x s) h = h x ts ss
 
 module _ (t : Token) (us vs : List Token) (m : Want) where
-  pub both_lack : {A : Type 0} {o p : Option A} (f g : A → Step (Val m)) (s r : Step (Val m)) → o ≡ None → p ≡ None → Alike t us vs m s r
+  pub both_lack : {A : Type 0} {o p : Option A} (f g : A → ReadStep (Val m)) (s r : ReadStep (Val m)) → o ≡ None → p ≡ None → Alike t us vs m s r
       → Alike t us vs m (elim o [ Some w ↦ f w | None ↦ s ]) (elim p [ Some w ↦ g w | None ↦ r ])
   both_lack f g s r h k a = rw (h, k) a
 
-  pub both_pass : {A : Type 0} {o p : Option A} (f g : A → Step (Val m)) (s r : Step (Val m)) {w x : A} → o ≡ Some w → p ≡ Some x
+  pub both_pass : {A : Type 0} {o p : Option A} (f g : A → ReadStep (Val m)) (s r : ReadStep (Val m)) {w x : A} → o ≡ Some w → p ≡ Some x
       → Alike t us vs m (f w) (g x) → Alike t us vs m (elim o [ Some w ↦ f w | None ↦ s ]) (elim p [ Some w ↦ g w | None ↦ r ])
   both_pass f g s r h k a = rw (h, k) a
 
   -- a test of the next token: where it is passed, at the token t or before it, and where it is not
-  look_by : {A B : Type 0} {find : List Token → Option A} {value : A → B} {rest : A → List Token} {x : Token} (f g : A → Step (Val m)) (s r : Step (Val m))
+  look_by : {A B : Type 0} {find : List Token → Option A} {value : A → B} {rest : A → List Token} {x : Token} (f g : A → ReadStep (Val m)) (s r : ReadStep (Val m))
       → Tests find value rest x → (xs ys : List Token)
       → ((b : B) (w y : A) → value w ≡ b → value y ≡ b → rest w ≡ xs → rest y ≡ ys → Alike t us vs m (f w) (g y)) → Alike t us vs m s r
       → Alike t us vs m (elim (find (x ∷ xs)) [ Some w ↦ f w | None ↦ s ]) (elim (find (x ∷ ys)) [ Some w ↦ g w | None ↦ r ])
   look_by f g s r (misses h) xs ys yea lacks = both_lack f g s r (h xs) (h ys) lacks
   look_by f g s r (finds b w h k e) xs ys yea lacks = both_pass f g s r (h xs) (h ys) (yea b (w xs) (w ys) (k xs) (k ys) (e xs) (e ys))
 
-  pub look_alike : (l : Look) (f g : l.whole → Step (Val m)) (s r : Step (Val m)) {ts ss : List Token} → Same t us vs ts ss
+  pub look_alike : (l : Look) (f g : l.whole → ReadStep (Val m)) (s r : ReadStep (Val m)) {ts ss : List Token} → Same t us vs ts ss
       → ((b : l.found) (w x : l.whole) (xs ys : List Token) → l.value w ≡ b → l.value x ≡ b → l.rest w ≡ xs → l.rest x ≡ ys → Same t us vs xs ys
       → Alike t us vs m (f w) (g x))
       → ((w x : l.whole) → l.rest w ≡ us → Alike t us vs m (f w) (g x)) → Alike t us vs m s r
@@ -83,19 +83,19 @@ module _ (t : Token) (us vs : List Token) (m : Want) where
   moved k p q r s a = rw (p, q, r, s) a
 
   -- the plan goes on behind the token t
-  pub gone : (p : Plan (Val m)) (xs : List Token) (r : Step (Val m)) → xs ≡ us → Alike t us vs m (steps p xs) r
+  pub gone : (p : Plan (Val m)) (xs : List Token) (r : ReadStep (Val m)) → xs ≡ us → Alike t us vs m (steps p xs) r
   gone p xs r e = past (past_by m (length us) (leaves p (length us) xs (rw e (omega arith))))
 
-  pub both_bool : (b : Bool) (x y z w : Step (Val m)) → Alike t us vs m x z → Alike t us vs m y w
+  pub both_bool : (b : Bool) (x y z w : ReadStep (Val m)) → Alike t us vs m x z → Alike t us vs m y w
       → Alike t us vs m (elim b [ true ↦ x | false ↦ y ]) (elim b [ true ↦ z | false ↦ w ])
   both_bool true x y z w a b = a
   both_bool false x y z w a b = b
 
-  both_false : {b c : Bool} (x y z w : Step (Val m)) → b ≡ false → c ≡ false → Alike t us vs m y w
+  both_false : {b c : Bool} (x y z w : ReadStep (Val m)) → b ≡ false → c ≡ false → Alike t us vs m y w
       → Alike t us vs m (elim b [ true ↦ x | false ↦ y ]) (elim c [ true ↦ z | false ↦ w ])
   both_false x y z w h k a = rw (h, k) a
 
-  both_option : {C : Type 0} (o : Option C) (f g : C → Step (Val m)) (s r : Step (Val m)) → ((c : C) → Alike t us vs m (f c) (g c)) → Alike t us vs m s r
+  both_option : {C : Type 0} (o : Option C) (f g : C → ReadStep (Val m)) (s r : ReadStep (Val m)) → ((c : C) → Alike t us vs m (f c) (g c)) → Alike t us vs m s r
       → Alike t us vs m (elim o [ Some c ↦ f c | None ↦ s ]) (elim o [ Some c ↦ g c | None ↦ r ])
   both_option None f g s r a b = b
   both_option (Some c) f g s r a b = a c
@@ -110,7 +110,7 @@ module _ (t : Token) (us vs : List Token) (m : Want) where
       → Alike t us vs m (steps (k c q) ts) (steps (k c q) ss) → Alike t us vs m (steps (k b p) ts) (steps (k c q) ss)
   headed k ts ss h g a = rw (h, g) a
 
-  abbrev final_case : (Bool → Plan (Val m)) → Option (Place × List Token) → List Token → Step (Val m)
+  abbrev final_case : (Bool → Plan (Val m)) → Option (Place × List Token) → List Token → ReadStep (Val m)
   final_case k o ts = steps (k (final_from o ts).0) (final_from o ts).1
 
   final_by : (k : Bool → Plan (Val m)) {x : Token} (xs ys : List Token) → Tests (after_key keys.Final) (λ w. w.0) (λ w. w.1) x

@@ -13,7 +13,7 @@ use Rattle.java_tree.specs.declared.TypeBase.TheVariants as bases
 use Rattle.java_tree.specs.declared.TypeName.{TypeName}
 use Rattle.java_tree.specs.Syntax.{absent}
 use Rattle.java_tree.specs.Tokens.{mark, key, word, casts}
-use Rattle.java_parse.specs.Want.{Want, Val, Step, Give, Fail, Ask, NExpr, NMore, NPrefixed, NPost, NAtom, NSuper, NNew, NSized, NDims, NType, NTail, NArgs, NMoreArgs, NInit, NLocal, NValue, NAct, NActRest, NTested, NItem, NItems, NStmt, NForHead, NFirst, NStep, NBranches, NMods, NIds, NParent, NList, NParam, NParams, NMoreParams, NResult, NHead, NBody, NMember, NMethod, NMembers, NHeads, NClass, NInterface, NDecl, NDecls}
+use Rattle.java_parse.specs.Want.{Want, Val, ReadStep, Give, Fail, Ask, NExpr, NMore, NPrefixed, NPost, NAtom, NSuper, NNew, NSized, NDims, NType, NTail, NArgs, NMoreArgs, NInit, NLocal, NValue, NAct, NActRest, NTested, NItem, NItems, NStmt, NForHead, NFirst, NStep, NBranches, NMods, NIds, NParent, NList, NParam, NParams, NMoreParams, NResult, NHead, NBody, NMember, NMethod, NMembers, NHeads, NClass, NInterface, NDecl, NDecls}
 use Rattle.java_parse.specs.Front.{cast_by, cast_end, word_next, starts_local, closes}
 use Rattle.java_parse.specs.Reading.{body}
 use Rattle.java_parse.specs.ReadExpressions.{prefixed_step}

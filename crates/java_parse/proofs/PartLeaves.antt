@@ -12,7 +12,7 @@ use Rattle.java_lex.specs.Lexing.{token}
 use Rattle.java_tree.specs.declared.TypeName.{TypeName}
 use Rattle.java_tree.specs.Syntax.{Expression, Statement, absent}
 use Rattle.java_tree.specs.Tokens.{mark, key, casts}
-use Rattle.java_parse.specs.Want.{Want, NPrefixed, NPost, Step, Give, Fail, Ask, NExpr, NMore, NAtom, NSuper, NNew, NSized, NDims, NType, NTail, NArgs, NMoreArgs, NInit, NLocal, NValue, NAct, NActRest, NTested, NItem, NItems, NStmt, NForHead, NFirst, NStep, NBranches, NMods, NIds, NParent, NList, NParam, NParams, NMoreParams, NResult, NHead, NBody, NMember, NMethod, NMembers, NHeads, NClass, NInterface, NDecl, NDecls}
+use Rattle.java_parse.specs.Want.{Want, NPrefixed, NPost, ReadStep, Give, Fail, Ask, NExpr, NMore, NAtom, NSuper, NNew, NSized, NDims, NType, NTail, NArgs, NMoreArgs, NInit, NLocal, NValue, NAct, NActRest, NTested, NItem, NItems, NStmt, NForHead, NFirst, NStep, NBranches, NMods, NIds, NParent, NList, NParam, NParams, NMoreParams, NResult, NHead, NBody, NMember, NMethod, NMembers, NHeads, NClass, NInterface, NDecl, NDecls}
 use Rattle.java_parse.specs.Front.{after, word_next, opens_behind, cast_by, cast_end, starts_local}
 use Rattle.java_parse.specs.Reading.{body}
 use Rattle.java_parse.specs.ReadExpressions.{prefixed_step}
@@ -26,7 +26,7 @@ use Rattle.java_parse.proofs.StatementPlans.{local_item_plan, stmt_item_plan, fi
 use Rattle.java_parse.proofs.DeclarationPlans.{body_plan, class_plan, decl_plan, decls_plan, head_plan, heads_plan, ids_plan, interface_plan, list_plan, member_plan, members_plan, method_plan, mods_plan, more_params_plan, param_plan, params_plan, parent_plan, result_type_plan}
 
 -- behind a round bracket at p that opens no cast to `int` or `char`: a cast to a name, or an expression in brackets
-abbrev pub cast_or : Place → List Token → Step Expression
+abbrev pub cast_or : Place → List Token → ReadStep Expression
 cast_or p xs = elim (cast_by p (word_next xs)) [
   | Some w ↦ steps (casted_plan w.0 w.1) w.2
   | None ↦ steps bare_plan (mark marks.OpenRound p ∷ xs)

@@ -10,9 +10,9 @@ use Rattle.java_tree.specs.Tokens.{mark, word}
 use Rattle.java_tree.specs.Expressions.{operand, bare, name}
 use Rattle.java_parse.specs.declared.End.{End}
 use Rattle.java_parse.specs.declared.End.TheVariants as ends
-use Rattle.java_parse.specs.Want.{Want, NExpr, NMore, NPrefixed, NPost, NAtom, NDims, NType, NTail, NArgs, NInit, NLocal, NAct, NActRest, NStmt, Val, Step, Ask}
+use Rattle.java_parse.specs.Want.{Want, NExpr, NMore, NPrefixed, NPost, NAtom, NDims, NType, NTail, NArgs, NInit, NLocal, NAct, NActRest, NStmt, Val, ReadStep, Ask}
 use Rattle.java_parse.specs.Front.{after, opens_behind, cast_by, word_next}
-use Rattle.java_parse.specs.Reading.{Left, NoMemory, Outcome, body, Runs, give, short, ask, ask_fails, Reads}
+use Rattle.java_parse.specs.Reading.{Left, NoMemory, ParseOutcome, body, RunsTo, give, short, ask, ask_fails, Reads}
 use Rattle.java_parse.specs.ReadExpressions.{prefixed_step}
 use Rattle.java_parse.proofs.Runs.{reads, read_once, fails_once}
 use Rattle.java_parse.proofs.CompleteExpressions.{closed_reads, stops_round}
@@ -24,19 +24,19 @@ use Rattle.java_parse.proofs.PartLeaves.{cast_or, end_shorter, cast_shorter}
 use Rattle.java_parse.proofs.Local.{left_below, IsPast, past_by}
 
 -- what asks for a part that is past is past
-ask_past : (m n : Want) (ts : List Token) (k : Val n → Plan (Val m)) (b : ℕ) → IsPast n (suc b) (body n ts) → (o : Outcome (Val m))
-    → Runs m (Ask n ts (λ v rest. steps (k v) rest)) o → Below (suc b) o
+ask_past : (m n : Want) (ts : List Token) (k : Val n → Plan (Val m)) (b : ℕ) → IsPast n (suc b) (body n ts) → (o : ParseOutcome (Val m))
+    → RunsTo m (Ask n ts (λ v rest. steps (k v) rest)) o → Below (suc b) o
 ask_past m n ts k b p o short = tt
 ask_past m n ts k b p o (ask {rest = rest} {v = v} a c) =
     let l = p (Ok (v, rest)) a in left_below b c (leaves (k v) b rest (omega (arith, l)))
 ask_past m n ts k b p o (ask_fails {f = f} a) = fault_below (Val n) (Val m) b b f (p (Err f) a) (omega arith)
 
 -- and so is what is past behind a part that is read as this
-ask_known : (m n : Want) (ts rest : List Token) (v : Val n) (k : Val n → List Token → Step (Val m)) (b : ℕ) → Reads n ts (Ok (v, rest))
-    → IsPast m b (k v rest) → (o : Outcome (Val m)) → Runs m (Ask n ts k) o → Below b o
+ask_known : (m n : Want) (ts rest : List Token) (v : Val n) (k : Val n → List Token → ReadStep (Val m)) (b : ℕ) → Reads n ts (Ok (v, rest))
+    → IsPast m b (k v rest) → (o : ParseOutcome (Val m)) → RunsTo m (Ask n ts k) o → Below b o
 ask_known m n ts rest v k b r p o short = tt
 ask_known m n ts rest v k b r p o (ask {rest = us} {v = w} a c) =
-    let e : (w, us) ≡ (v, rest) = read_once (reads a) r in p o (subst (λ (x : Val n × List Token). Runs m (k x.0 x.1) o) e c)
+    let e : (w, us) ≡ (v, rest) = read_once (reads a) r in p o (subst (λ (x : Val n × List Token). RunsTo m (k x.0 x.1) o) e c)
 ask_known m n ts rest v k b r p o (ask_fails {f = Left us} a) = absurd (fails_once r (reads a))
 ask_known m n ts rest v k b r p o (ask_fails {f = NoMemory} a) = tt
 

@@ -7,7 +7,7 @@ use Rattle.java_lex.specs.Lexing.{token}
 use Rattle.java_tree.specs.Tokens.{first_place}
 use Rattle.java_tree.specs.Statements.{is_word}
 use Rattle.java_tree.specs.Nesting.{next_is}
-use Rattle.java_parse.specs.Want.{Want, Val, Step, Give, Fail, Ask}
+use Rattle.java_parse.specs.Want.{Want, Val, ReadStep, Give, Fail, Ask}
 use Rattle.java_parse.specs.Front.{after_key, final_of, at_end}
 use Rattle.java_parse.proofs.Looks.{Look, look_shorter, a_key}
 use Rattle.java_parse.proofs.Leaves.{Leaves, on_option, on_bool}
@@ -32,7 +32,7 @@ pub data Plan (A : Type 0) : Type 1 where
   -- where no token is left, or where one is
   Ending : Plan A → Plan A → Plan A
 
-abbrev pub steps : {A : Type 0} → Plan A → List Token → Step A
+abbrev pub steps : {A : Type 0} → Plan A → List Token → ReadStep A
 steps (Giving v) ts = Give v ts
 steps Stopping ts = Fail ts
 steps (Asking n k) ts = Ask n ts (λ v rest. steps (k v) rest)

@@ -13,7 +13,7 @@ use Rattle.java_parse.specs.declared.End.TheVariants as ends
 use Rattle.java_parse.specs.Want.{Want, NExpr, NMore, NPrefixed, NPost, NAtom, NSuper, NNew, NSized, NDims, NType, NTail, NArgs, NMoreArgs, NInit, NLocal, NValue, NAct, NActRest, NTested, NItem, NItems, NStmt, NForHead, NFirst, NStep, NBranches, NMods, NIds, NParent, NList, NParam, NParams, NMoreParams, NResult, NHead, NBody, NMember, NMethod, NMembers, NHeads, NClass, NInterface, NDecl, NDecls, Val}
 use Rattle.java_parse.specs.Front.{after_key}
 use Rattle.java_tree.specs.Expressions.{IsBase, IsDims, IsType, IsExpr, IsPrefixed, IsPost, IsArgs, IsMoreArgs}
-use Rattle.java_tree.specs.Statements.{is_word, IsValue, IsInit, IsLocal, IsTarget, IsCall, IsAct, IsFirst, IsStep, IsItem, IsItems, IsStmt, IsArms}
+use Rattle.java_tree.specs.Statements.{is_word, IsValue, IsInit, IsLocal, IsTarget, IsCall, IsAct, IsForFirst, IsForStep, IsItem, IsItems, IsStmt, IsArms}
 use Rattle.java_tree.specs.Declarations.{IsMods, IsIds, IsParent, IsList, IsParam, IsMoreParams, IsParams, IsResult, IsHead, IsBody, IsMember, IsMembers, IsHeads, IsDecl, IsPlaced}
 
 -- an expression without operators, by how it ends
@@ -58,7 +58,7 @@ pub record Stmted (ts : List Token) (s : Statement) (rest : List Token) : Type 0
 -- the head of a `for`, by its three parts
 pub data Headed : List Token → OptionalStatement → Option Expression → OptionalStatement → List Token → Type 0 where
   headed : {o p q r : Place} {inner middle last rest : List Token} {f : OptionalStatement} {v : Option Expression} {g : OptionalStatement} →
-      IsFirst inner (mark marks.Semi p ∷ middle) f → IsValue middle (mark marks.Semi q ∷ last) v → IsStep last (mark marks.CloseRound r ∷ rest) g →
+      IsForFirst inner (mark marks.Semi p ∷ middle) f → IsValue middle (mark marks.Semi q ∷ last) v → IsForStep last (mark marks.CloseRound r ∷ rest) g →
       Headed (mark marks.OpenRound o ∷ inner) f v g rest
 
 pub record Branched (before : Arms) (ts : List Token) (a : Arms) (l : Else) (rest : List Token) : Type 0 where
@@ -106,8 +106,8 @@ Post NItem ts s rest = IsItem ts rest s
 Post (NItems ss) ts x rest = Itemed ss ts x rest
 Post NStmt ts s rest = Stmted ts s rest
 Post NForHead ts x rest = Headed ts x.0 x.1 x.2 rest
-Post NFirst ts o rest = IsFirst ts rest o
-Post NStep ts o rest = IsStep ts rest o
+Post NFirst ts o rest = IsForFirst ts rest o
+Post NStep ts o rest = IsForStep ts rest o
 Post (NBranches a) ts x rest = Branched a ts x.0 x.1 rest
 Post (NMods ms) ts x rest = Longer IsMods ms ts x rest
 Post (NIds is) ts x rest = Longer IsIds is ts x rest

@@ -11,7 +11,7 @@ use Rattle.java_tree.specs.declared.Param.{Param}
 use Rattle.java_tree.specs.Syntax.{Expression, CallOn, Expressions, no_more, and_more, Statement, LocalOf, BlockOf, AssignOf, DoOf, PrintOf, IfOf, WhileOf, ForOf, ReturnOf, BreakOf, ContinueOf, Statements, Arms, Else, OptionalStatement, HeadTree, MemberTree, DeclTree}
 use Rattle.java_tree.specs.Statements.{as_body, printed}
 use Rattle.java_tree.specs.Expressions.{IsBase, named_base, IsDims, no_dims, one_dim, IsType, a_type, IsExpr, binary, instance_of, operand, IsPrefixed, signed, least, cast_named, cast_int, cast_char, bare, IsPost, field, call_on, index, name, call, super_call, round, new_object, new_array, IsArgs, no_args, some_args, IsMoreArgs, last_arg, next_arg}
-use Rattle.java_tree.specs.Statements.{printed, IsFinal, IsValue, no_value, a_value, IsInit, no_init, an_init, IsLocal, a_local, IsTarget, to_name, to_field, to_index, IsCall, plain_call, call_upon, call_above, IsAct, assign, assign_by, step_after, step_before, do_call, print, do_new, IsFirst, no_first, first_local, first_act, IsStep, no_step, a_step, IsItem, local_item, stmt_item, IsItems, no_items, next_item, IsStmt, block, empty, acting, choice, while_loop, for_loop, return_word, break_word, continue_word, IsArms, last_arm, else_arm, more_arms}
+use Rattle.java_tree.specs.Statements.{printed, IsFinal, IsValue, no_value, a_value, IsInit, no_init, an_init, IsLocal, a_local, IsTarget, to_name, to_field, to_index, IsCall, plain_call, call_upon, call_above, IsAct, assign, assign_by, step_after, step_before, do_call, print, do_new, IsForFirst, no_first, first_local, first_act, IsForStep, no_step, a_step, IsItem, local_item, stmt_item, IsItems, no_items, next_item, IsStmt, block, empty, acting, choice, while_loop, for_loop, return_word, break_word, continue_word, IsArms, last_arm, else_arm, more_arms}
 use Rattle.java_tree.specs.Declarations.{IsMods, no_mods, next_mod, IsIds, last_id, next_id, IsParent, no_parent, a_parent, IsList, no_list, a_list, IsParam, a_param, IsMoreParams, last_param, next_param, IsParams, no_params, some_params, IsResult, no_result, a_result, IsHead, a_head, no_body, a_body, IsMember, a_field, a_method, IsMembers, no_members, next_member, IsHeads, no_heads, next_head, IsDecl, a_class, an_interface, IsPlaced, no_decls, next_decl}
 use Rattle.java_parse.proofs.Fronts.{bool_cases}
 use Rattle.java_tree.specs.Expressions.{int_base, boolean_base, char_base, int_literal, char_literal, string_literal, true_literal, false_literal, null_literal, this_word}
@@ -132,12 +132,12 @@ act_small (do_call c h) = omega (arith, call_small c)
 act_small (print {e = e} {l = l} {v = v} {ts = ts} c h) = omega (arith, call_small c, printed_small ts e l v h)
 act_small (do_new a) = omega (arith, args_small a)
 
-first_small : {ts rest : List Token} {o : OptionalStatement} → IsFirst ts rest o → step_size o + 4 * length rest ≤ 4 * length ts
+first_small : {ts rest : List Token} {o : OptionalStatement} → IsForFirst ts rest o → step_size o + 4 * length rest ≤ 4 * length ts
 first_small no_first = omega arith
 first_small (first_local d) = omega (arith, local_small d)
 first_small (first_act d) = act_small d
 
-step_small : {ts rest : List Token} {o : OptionalStatement} → IsStep ts rest o → step_size o + 4 * length rest ≤ 4 * length ts
+step_small : {ts rest : List Token} {o : OptionalStatement} → IsForStep ts rest o → step_size o + 4 * length rest ≤ 4 * length ts
 step_small no_step = omega arith
 step_small (a_step d) = act_small d
 

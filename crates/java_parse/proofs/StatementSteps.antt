@@ -14,13 +14,13 @@ use Rattle.java_parse.specs.declared.End.{End}
 use Rattle.java_parse.specs.Want.{NExpr, NPost, NType, NInit, NLocal, NValue, NAct, NActRest, NTested, NItem, NItems, NStmt, NForHead, NFirst, NStep, NBranches, Want, Val, Give, Fail}
 use Rattle.java_parse.specs.Front.{after, after_key, word_next, stmt_snoc, arm_snoc, final_of, stepping_next, compound_next, named, is_target, is_call, stepped, done, starts_local, start, SBlock, SEmpty, SIf, SWhile, SFor, SReturn, SBreak, SContinue, SOther}
 use Rattle.java_parse.proofs.Runs.{reads, run, found, missed}
-use Rattle.java_parse.specs.Reading.{Fault, Left, Outcome, Runs, give, fail, ask, ask_fails, Reads}
+use Rattle.java_parse.specs.Reading.{Fault, Left, ParseOutcome, RunsTo, give, fail, ask, ask_fails, Reads}
 use Rattle.java_parse.specs.Seen.{before_by, before}
 use Rattle.java_parse.specs.ReadStatements.{init_step, value_step, act_step, act_rest_step, tested_step, item_step, items_step, stmt_step, for_head_step, first_step, step_step}
 
 -- what the mark behind it ends
 ends_before : {m : Want} (v : Val m) (ts : List Token) (end : Option (Place × List Token))
-    → Runs m (elim end [ Some e ↦ Give v e.1 | None ↦ Fail ts ]) (before_by v ts end)
+    → RunsTo m (elim end [ Some e ↦ Give v e.1 | None ↦ Fail ts ]) (before_by v ts end)
 ends_before v ts (Some end) = give
 ends_before v ts None = fail
 
@@ -78,7 +78,7 @@ act_no_name h0 h1 = reads (rw (h0, act_step, h1) fail)
 pub act_post_fails : {ts : List Token} {fl : Fault} → stepping_next ts ≡ None → Reads NPost ts (Err fl) → Reads NAct ts (Err fl)
 act_post_fails h0 a1 = reads (rw (h0, act_step) (ask_fails (run a1)))
 
-pub act_post : {ts : List Token} {e : Expression} {z : End} {us : List Token} {o : Outcome Statement} → stepping_next ts ≡ None
+pub act_post : {ts : List Token} {e : Expression} {z : End} {us : List Token} {o : ParseOutcome Statement} → stepping_next ts ≡ None
     → Reads NPost ts (Ok ((e, z), us)) → Reads (NActRest (next_is is_word ts) (first_place ts) e z) us o → Reads NAct ts o
 act_post {o = Ok given} h0 a1 a2 = reads (rw (h0, act_step) (ask (run a1) (ask (run a2) give)))
 act_post {o = Err fault} h0 a1 a2 = reads (rw (h0, act_step) (ask (run a1) (ask_fails (run a2))))
@@ -147,11 +147,11 @@ tested_none h0 = reads (rw (h0, tested_step) fail)
 pub item_local_fails : {ts : List Token} {fl : Fault} → starts_local ts ≡ true → Reads NLocal ts (Err fl) → Reads NItem ts (Err fl)
 item_local_fails h0 a1 = reads (rw (h0, item_step) (ask_fails (run a1)))
 
-pub item_local : {ts : List Token} {s : Statement} {us : List Token} {o : Outcome Statement} → starts_local ts ≡ true → Reads NLocal ts (Ok (s, us))
+pub item_local : {ts : List Token} {s : Statement} {us : List Token} {o : ParseOutcome Statement} → starts_local ts ≡ true → Reads NLocal ts (Ok (s, us))
     → o ≡ before marks.Semi s us → Reads NItem ts o
 item_local h0 a1 e = reads (rw (h0, item_step, e) (ask (run a1) (ends_before _ _ _)))
 
-pub item_stmt : {ts : List Token} {o : Outcome Statement} → starts_local ts ≡ false → Reads NStmt ts o → Reads NItem ts o
+pub item_stmt : {ts : List Token} {o : ParseOutcome Statement} → starts_local ts ≡ false → Reads NStmt ts o → Reads NItem ts o
 item_stmt {o = Ok given} h0 a1 = reads (rw (h0, item_step) (ask (run a1) give))
 item_stmt {o = Err fault} h0 a1 = reads (rw (h0, item_step) (ask_fails (run a1)))
 
@@ -163,7 +163,7 @@ pub items_next_fails : {ss : Statements} {ts : List Token} {fl : Fault} → afte
     → Reads (NItems ss) ts (Err fl)
 items_next_fails h0 a1 = reads (rw (h0, items_step) (ask_fails (run a1)))
 
-pub items_next : {ss : Statements} {ts : List Token} {s : Statement} {us : List Token} {o : Outcome Statements} → after marks.CloseBrace ts ≡ None
+pub items_next : {ss : Statements} {ts : List Token} {s : Statement} {us : List Token} {o : ParseOutcome Statements} → after marks.CloseBrace ts ≡ None
     → Reads NItem ts (Ok (s, us)) → Reads (NItems (stmt_snoc ss s)) us o → Reads (NItems ss) ts o
 items_next {o = Ok given} h0 a1 a2 = reads (rw (h0, items_step) (ask (run a1) (ask (run a2) give)))
 items_next {o = Err fault} h0 a1 a2 = reads (rw (h0, items_step) (ask (run a1) (ask_fails (run a2))))
@@ -215,22 +215,22 @@ pub stmt_return_fails : {ts : List Token} {p : Place} {us : List Token} {fl : Fa
     → Reads NStmt ts (Err fl)
 stmt_return_fails h0 a1 = reads (rw (h0, stmt_step) (ask_fails (run a1)))
 
-pub stmt_return : {ts : List Token} {p : Place} {us : List Token} {v : Option Expression} {vs : List Token} {o : Outcome Statement}
+pub stmt_return : {ts : List Token} {p : Place} {us : List Token} {v : Option Expression} {vs : List Token} {o : ParseOutcome Statement}
     → start ts ≡ SReturn p us → Reads NValue us (Ok (v, vs)) → o ≡ before marks.Semi (ReturnOf v p) vs → Reads NStmt ts o
 stmt_return h0 a1 e = reads (rw (h0, stmt_step, e) (ask (run a1) (ends_before _ _ _)))
 
-pub stmt_break : {ts : List Token} {p : Place} {us : List Token} {o : Outcome Statement} → start ts ≡ SBreak p us → o ≡ before marks.Semi (BreakOf p) us
+pub stmt_break : {ts : List Token} {p : Place} {us : List Token} {o : ParseOutcome Statement} → start ts ≡ SBreak p us → o ≡ before marks.Semi (BreakOf p) us
     → Reads NStmt ts o
 stmt_break h0 e = reads (rw (h0, stmt_step, e) (ends_before _ _ _))
 
-pub stmt_continue : {ts : List Token} {p : Place} {us : List Token} {o : Outcome Statement} → start ts ≡ SContinue p us
+pub stmt_continue : {ts : List Token} {p : Place} {us : List Token} {o : ParseOutcome Statement} → start ts ≡ SContinue p us
     → o ≡ before marks.Semi (ContinueOf p) us → Reads NStmt ts o
 stmt_continue h0 e = reads (rw (h0, stmt_step, e) (ends_before _ _ _))
 
 pub stmt_act_fails : {ts : List Token} {fl : Fault} → start ts ≡ SOther → Reads NAct ts (Err fl) → Reads NStmt ts (Err fl)
 stmt_act_fails h0 a1 = reads (rw (h0, stmt_step) (ask_fails (run a1)))
 
-pub stmt_act : {ts : List Token} {s : Statement} {us : List Token} {o : Outcome Statement} → start ts ≡ SOther → Reads NAct ts (Ok (s, us))
+pub stmt_act : {ts : List Token} {s : Statement} {us : List Token} {o : ParseOutcome Statement} → start ts ≡ SOther → Reads NAct ts (Ok (s, us))
     → o ≡ before marks.Semi s us → Reads NStmt ts o
 stmt_act h0 a1 e = reads (rw (h0, stmt_step, e) (ask (run a1) (ends_before _ _ _)))
 
@@ -311,7 +311,7 @@ pub branches_again_fails2 : {a : Arms} {ts : List Token} {e : Expression} {us : 
 branches_again_fails2 a0 a1 = reads (ask (run a0) (ask_fails (run a1)))
 
 pub branches_again : {a : Arms} {ts : List Token} {e : Expression} {us : List Token} {s : Statement} {vs : List Token} {p : Place} {ws : List Token}
-    {q : Place} {xs : List Token} {o : Outcome (Arms × Else)} → Reads NTested ts (Ok (e, us)) → Reads NStmt us (Ok (s, vs)) → after_key keys.Else vs
+    {q : Place} {xs : List Token} {o : ParseOutcome (Arms × Else)} → Reads NTested ts (Ok (e, us)) → Reads NStmt us (Ok (s, vs)) → after_key keys.Else vs
     ≡ Some (p, ws) → after_key keys.If ws ≡ Some (q, xs) → Reads (NBranches (arm_snoc a e (as_body s))) xs o → Reads (NBranches a) ts o
 branches_again {o = Ok given} a0 a1 h2 h3 a4 = reads (ask (run a0) (ask (run a1) (rw (h2, h3) (ask (run a4) give))))
 branches_again {o = Err fault} a0 a1 h2 h3 a4 = reads (ask (run a0) (ask (run a1) (rw (h2, h3) (ask_fails (run a4)))))

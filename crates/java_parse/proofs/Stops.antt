@@ -3,8 +3,8 @@ use Rattle.std.proofs.Common.{◌≡◌, ⊎_elim, ℕ, suc, ◌<◌, ◌≤◌,
 use Rattle.std.proofs.lemmas.Bool.{cases_lt}
 use Rattle.std.proofs.lemmas.List.{append_assoc}
 use Rattle.java_lex.specs.declared.Token.{Token}
-use Rattle.java_parse.specs.Want.{Want, Val, Step, Ask, NDecls}
-use Rattle.java_parse.specs.Reading.{Left, NoMemory, Outcome, body, Runs, give, fail, short, ask, ask_fails, Reads}
+use Rattle.java_parse.specs.Want.{Want, Val, ReadStep, Ask, NDecls}
+use Rattle.java_parse.specs.Reading.{Left, NoMemory, ParseOutcome, body, RunsTo, give, fail, short, ask, ask_fails, Reads}
 use Rattle.java_tree.specs.Declarations.{Derives}
 use Rattle.java_parse.specs.Beginnings.{Begins}
 use Rattle.java_parse.proofs.Runs.{run, reads}
@@ -15,24 +15,24 @@ use Rattle.java_parse.proofs.LocalParts.{part_alike}
 
 module _ (t : Token) (us vs : List Token) where
   -- the second reading comes to the same
-  data Ends {A : Type 0} : Outcome A → Outcome A → Type 0 where
+  data Ends {A : Type 0} : ParseOutcome A → ParseOutcome A → Type 0 where
     both_read : {v : A} {ts ss : List Token} → Same t us vs ts ss → Ends (Ok (v, ts)) (Ok (v, ss))
     both_left : {ts ss : List Token} → Same t us vs ts ss → Ends (Err (Left ts)) (Err (Left ss))
 
-  record Again (m : Want) (r : Step (Val m)) (o : Outcome (Val m)) : Type 0 where
-    end : Outcome (Val m)
-    runs : Runs m r end
+  record Again (m : Want) (r : ReadStep (Val m)) (o : ParseOutcome (Val m)) : Type 0 where
+    end : ParseOutcome (Val m)
+    runs : RunsTo m r end
     ends : Ends o end
 
-  ask_on : {m n : Want} {ss rest : List Token} {v : Val n} {j : Val n → List Token → Step (Val m)} {o : Outcome (Val m)} (e : Outcome (Val n))
-      → Runs n (body n ss) e → Ends (Ok (v, rest)) e → ((zs : List Token) → Same t us vs rest zs → Again m (j v zs) o) → Again m (Ask n ss j) o
+  ask_on : {m n : Want} {ss rest : List Token} {v : Val n} {j : Val n → List Token → ReadStep (Val m)} {o : ParseOutcome (Val m)} (e : ParseOutcome (Val n))
+      → RunsTo n (body n ss) e → Ends (Ok (v, rest)) e → ((zs : List Token) → Same t us vs rest zs → Again m (j v zs) o) → Again m (Ask n ss j) o
   ask_on e a (both_read same) go = let b = go _ same in record { end = b.end; runs = ask a b.runs; ends = b.ends }
 
-  ask_stops : {m n : Want} {ss rest : List Token} {j : Val n → List Token → Step (Val m)} (e : Outcome (Val n))
-      → Runs n (body n ss) e → Ends (Err (Left rest)) e → Again m (Ask n ss j) (Err (Left rest))
+  ask_stops : {m n : Want} {ss rest : List Token} {j : Val n → List Token → ReadStep (Val m)} (e : ParseOutcome (Val n))
+      → RunsTo n (body n ss) e → Ends (Err (Left rest)) e → Again m (Ask n ss j) (Err (Left rest))
   ask_stops e a (both_left {ss = zs} same) = record { end = Err (Left zs); runs = ask_fails a; ends = both_left same }
 
-  again : {m : Want} {s r : Step (Val m)} {o : Outcome (Val m)} → Alike t us vs m s r → Reaches (suc (length us)) o → Runs m s o → Again m r o
+  again : {m : Want} {s r : ReadStep (Val m)} {o : ParseOutcome (Val m)} → Alike t us vs m s r → Reaches (suc (length us)) o → RunsTo m s o → Again m r o
   again {o = o} (past h) le a = absurd (not_both (suc (length us)) o (h o a) le)
   again (gives same) le give = record { end = Ok (_, _); runs = give; ends = both_read same }
   again (gives same) le short = absurd le
@@ -56,12 +56,12 @@ module _ (t : Token) (us vs : List Token) where
   same_tail at e = refl
   same_tail (on {ts = ts} x s) e = absurd (let l = longer s in let m = ap length e in omega (arith, l, m))
 
-  stops_there : (m : Want) (ss : List Token) (e : Outcome (Val m)) → Runs m (body m ss) e → Ends (Err (Left (t ∷ us))) e
-      → Runs m (body m ss) (Err (Left (t ∷ vs)))
+  stops_there : (m : Want) (ss : List Token) (e : ParseOutcome (Val m)) → RunsTo m (body m ss) e → Ends (Err (Left (t ∷ us))) e
+      → RunsTo m (body m ss) (Err (Left (t ∷ vs)))
   stops_there m ss e a (both_left {ss = zs} same) =
-      subst (λ (zs : List Token). Runs m (body m ss) (Err (Left zs))) (same_tail same refl) a
+      subst (λ (zs : List Token). RunsTo m (body m ss) (Err (Left zs))) (same_tail same refl) a
 
-  stops : {m : Want} {ts ss : List Token} → Same t us vs ts ss → Runs m (body m ts) (Err (Left (t ∷ us))) → Runs m (body m ss) (Err (Left (t ∷ vs)))
+  stops : {m : Want} {ts ss : List Token} → Same t us vs ts ss → RunsTo m (body m ts) (Err (Left (t ∷ us))) → RunsTo m (body m ss) (Err (Left (t ∷ vs)))
   stops {m = m} {ts = ts} {ss = ss} same a = let x = again (part_alike t us vs m ts ss same) (omega arith) a in stops_there m ss x.end x.runs x.ends
 
   same_front : (front : List Token) → Same t us vs (front ++ t ∷ us) (front ++ t ∷ vs)

@@ -13,10 +13,10 @@ use Rattle.java_tree.specs.declared.Param.{Param}
 use Rattle.java_tree.specs.Syntax.{Expression, Expressions, Statement, Statements, Arms, Else, OptionalStatement, HeadTree, MemberTree, DeclTree}
 use Rattle.java_tree.specs.Tokens.{mark, key, word}
 use Rattle.java_tree.specs.Expressions.{IsBase, IsDims, IsType, IsExpr, IsPrefixed, IsPost, IsArgs, IsMoreArgs}
-use Rattle.java_tree.specs.Statements.{IsValue, IsInit, IsLocal, IsAct, IsFirst, IsStep, IsItem, IsItems, IsStmt, IsArms}
+use Rattle.java_tree.specs.Statements.{IsValue, IsInit, IsLocal, IsAct, IsForFirst, IsForStep, IsItem, IsItems, IsStmt, IsArms}
 use Rattle.java_tree.specs.Declarations.{IsMods, IsIds, IsParent, IsList, IsParam, IsMoreParams, IsParams, IsResult, IsHead, IsBody, IsMember, IsMembers, IsHeads, IsDecl, IsPlaced}
-use Rattle.java_parse.specs.Want.{Want, NExpr, NMore, NPrefixed, NPost, NAtom, NSuper, NNew, NSized, NDims, NType, NTail, NArgs, NMoreArgs, NInit, NLocal, NValue, NAct, NActRest, NTested, NItem, NItems, NStmt, NForHead, NFirst, NStep, NBranches, NMods, NIds, NParent, NList, NParam, NParams, NMoreParams, NResult, NHead, NBody, NMember, NMethod, NMembers, NHeads, NClass, NInterface, NDecl, NDecls, Val, Step, Give, Fail, Ask}
-use Rattle.java_parse.specs.Reading.{Left, NoMemory, Outcome, body, Runs, give, fail, short, ask, ask_fails}
+use Rattle.java_parse.specs.Want.{Want, NExpr, NMore, NPrefixed, NPost, NAtom, NSuper, NNew, NSized, NDims, NType, NTail, NArgs, NMoreArgs, NInit, NLocal, NValue, NAct, NActRest, NTested, NItem, NItems, NStmt, NForHead, NFirst, NStep, NBranches, NMods, NIds, NParent, NList, NParam, NParams, NMoreParams, NResult, NHead, NBody, NMember, NMethod, NMembers, NHeads, NClass, NInterface, NDecl, NDecls, Val, ReadStep, Give, Fail, Ask}
+use Rattle.java_parse.specs.Reading.{Left, NoMemory, ParseOutcome, body, RunsTo, give, fail, short, ask, ask_fails}
 use Rattle.java_parse.proofs.Post.{Ended, Tested, Headed, Post}
 use Rattle.java_parse.proofs.Runs.{reads}
 use Rattle.java_parse.proofs.Cuts.{Cut, join}
@@ -47,8 +47,8 @@ Done NItem ts rest = (s : Statement) × IsItem ts rest s
 Done (NItems ss) ts rest = (more : Statements) × IsItems ts rest more
 Done NStmt ts rest = (o : Bool) × (s : Statement) × IsStmt o ts rest s
 Done NForHead ts rest = (f : OptionalStatement) × (v : Option Expression) × (g : OptionalStatement) × Headed ts f v g rest
-Done NFirst ts rest = (o : OptionalStatement) × IsFirst ts rest o
-Done NStep ts rest = (o : OptionalStatement) × IsStep ts rest o
+Done NFirst ts rest = (o : OptionalStatement) × IsForFirst ts rest o
+Done NStep ts rest = (o : OptionalStatement) × IsForStep ts rest o
 Done (NBranches a) ts rest = (o : Bool) × (more : Arms) × (l : Else) × IsArms o ts rest more l
 Done (NMods ms) ts rest = ⊥
 Done (NIds is) ts rest = (more : List Id) × IsIds ts rest more
@@ -76,18 +76,18 @@ pub record Stuck (n : Want) (ts rest : List Token) : Type 0 where
   pub ends : (tail : List Token) → (us : List Token) × Done n (cut.put us) tail
 
 -- what is left to show of a step that stops: where it fails itself, and where a part that it asks for does
-abbrev pub Unfinished : {A : Type 0} → Step A → (List Token → Type 0) → Type 0
+abbrev pub Unfinished : {A : Type 0} → ReadStep A → (List Token → Type 0) → Type 0
 Unfinished (Give v rest) C = Unit {0}
 Unfinished (Fail rest) C = C rest
 Unfinished (Ask n ts k) C = ((rest : List Token) → Stuck n ts rest → C rest) × ((v : Val n) (rest : List Token) → Post n ts v rest → Unfinished (k v rest) C)
 
-abbrev pub IfLeft : {A : Type 0} → (List Token → Type 0) → Outcome A → Type 0
+abbrev pub IfLeft : {A : Type 0} → (List Token → Type 0) → ParseOutcome A → Type 0
 IfLeft C (Ok x) = Unit {0}
 IfLeft C (Err (Left rest)) = C rest
 IfLeft C (Err NoMemory) = Unit {0}
 
 module _ (all : (n : Want) (ts : List Token) → Unfinished (body n ts) (Stuck n ts)) where
-  pub bad_runs : {m : Want} (s : Step (Val m)) (C : List Token → Type 0) (o : Outcome (Val m)) → Runs m s o → Unfinished s C → IfLeft C o
+  pub bad_runs : {m : Want} (s : ReadStep (Val m)) (C : List Token → Type 0) (o : ParseOutcome (Val m)) → RunsTo m s o → Unfinished s C → IfLeft C o
   bad_runs s C o give u = tt
   bad_runs s C o fail u = u
   bad_runs s C o short u = tt

@@ -8,10 +8,10 @@ use Rattle.java_parse.specs.declared.ParseFault.TheVariants as faults
 
 -- why it comes: the tokens are not nested too deep, and this is the first that cannot stand where it does; or this token is
 -- the first that goes too deep
-abbrev pub IsCause : List Token → ParseFault → Type 0
-IsCause ts (faults.NotAProgram k) = (nesting_of ts ≤ 128) × IsExact ts k
-IsCause ts (faults.TooDeep k) = IsTooDeep ts k
-IsCause ts faults.Memory = Unit {0}
+abbrev pub IsParseCause : List Token → ParseFault → Type 0
+IsParseCause ts (faults.NotAProgram k) = (nesting_of ts ≤ 128) × IsExact ts k
+IsParseCause ts (faults.TooDeep k) = IsTooDeep ts k
+IsParseCause ts faults.Memory = Unit {0}
 
 -- this token is said to go too deep, or memory was short
 abbrev pub IsDeepAt : ℕ → ParseFault → Type 0

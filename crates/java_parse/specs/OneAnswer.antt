@@ -7,7 +7,7 @@ use Rattle.java_tree.specs.Declarations.{IsPlaced, Derives}
 use Rattle.java_tree.specs.Nesting.{nesting_of}
 use Rattle.java_parse.specs.declared.ParseFault.{ParseFault}
 use Rattle.java_parse.specs.declared.ParseFault.TheVariants as faults
-use Rattle.java_parse.specs.Faults.{IsCause}
+use Rattle.java_parse.specs.Faults.{IsParseCause}
 
 -- the tokens have at most one tree, places aside
 abbrev pub OneTree : Type 0
@@ -16,7 +16,7 @@ OneTree = (tokens : List Token) (a b : List DeclTree) → Derives tokens a → D
 -- what `parse` says of the tokens by an answer: this tree derives them, or that is why none is given
 abbrev pub IsAnswer : List Token → Result (List DeclTree) ParseFault → Type 0
 IsAnswer tokens (Ok tree) = IsPlaced tokens tree × (nesting_of tokens ≤ 128)
-IsAnswer tokens (Err fault) = IsCause tokens fault
+IsAnswer tokens (Err fault) = IsParseCause tokens fault
 
 -- the same fault, or memory was short
 abbrev pub AreOneFault : ParseFault → ParseFault → Type 0
@@ -27,13 +27,13 @@ AreOneFault (faults.TooDeep j) (faults.TooDeep k) = j ≡ k
 AreOneFault f g = ⊥
 
 -- the same tree with the same places, or the same fault, or memory was short
-abbrev pub AreOne : Result (List DeclTree) ParseFault → Result (List DeclTree) ParseFault → Type 0
-AreOne (Ok a) (Ok b) = a ≡ b
-AreOne (Err f) (Err g) = AreOneFault f g
-AreOne (Ok a) (Err faults.Memory) = Unit {0}
-AreOne (Err faults.Memory) (Ok b) = Unit {0}
-AreOne r s = ⊥
+abbrev pub AreOneReading : Result (List DeclTree) ParseFault → Result (List DeclTree) ParseFault → Type 0
+AreOneReading (Ok a) (Ok b) = a ≡ b
+AreOneReading (Err f) (Err g) = AreOneFault f g
+AreOneReading (Ok a) (Err faults.Memory) = Unit {0}
+AreOneReading (Err faults.Memory) (Ok b) = Unit {0}
+AreOneReading r s = ⊥
 
 -- two answers to the same tokens are one
-abbrev pub OneAnswer : Type 0
-OneAnswer = (tokens : List Token) (r s : Result (List DeclTree) ParseFault) → IsAnswer tokens r → IsAnswer tokens s → AreOne r s
+abbrev pub OneReading : Type 0
+OneReading = (tokens : List Token) (r s : Result (List DeclTree) ParseFault) → IsAnswer tokens r → IsAnswer tokens s → AreOneReading r s

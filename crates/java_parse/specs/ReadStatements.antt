@@ -9,32 +9,32 @@ use Rattle.java_tree.specs.Tokens.{first_place}
 use Rattle.java_tree.specs.Statements.{as_body, is_word}
 use Rattle.java_tree.specs.Nesting.{next_is}
 use Rattle.java_parse.specs.declared.End.{End}
-use Rattle.java_parse.specs.Want.{NExpr, NPost, NType, NInit, NLocal, NValue, NAct, NActRest, NTested, NItem, NItems, NStmt, NForHead, NFirst, NStep, NBranches, Step, Give, Fail, Ask}
+use Rattle.java_parse.specs.Want.{NExpr, NPost, NType, NInit, NLocal, NValue, NAct, NActRest, NTested, NItem, NItems, NStmt, NForHead, NFirst, NStep, NBranches, ReadStep, Give, Fail, Ask}
 use Rattle.java_parse.specs.Front.{after, after_key, word_next, stmt_snoc, arm_snoc, final_of, stepping_next, compound_next, named, is_target, is_call, stepped, done, starts_local, start, SBlock, SEmpty, SIf, SWhile, SFor, SReturn, SBreak, SContinue, SOther}
 
 -- `=` and an expression, or nothing
-abbrev pub init_step : List Token → Step (Option Expression)
+abbrev pub init_step : List Token → ReadStep (Option Expression)
 init_step ts = elim (after marks.Assign ts) [
   | Some w1 ↦ Ask (NExpr 1) w1.1 (λ x2 r3. Give (Some x2) r3)
   | None ↦ Give None ts
 ]
 
 -- the declaration of a local: `final` or not, a type, a name, and its first value or none
-abbrev pub local_step : List Token → Step Statement
+abbrev pub local_step : List Token → ReadStep Statement
 local_step ts = Ask NType ((final_of ts).1) (λ x1 r2. elim (word_next r2) [
   | Some w3 ↦ Ask NInit w3.2 (λ x4 r5. Give (LocalOf (final_of ts).0 x1 w3.0 x4 w3.1) r5)
   | None ↦ Fail r2
 ])
 
 -- an expression, or nothing where a `;` is next
-abbrev pub value_step : List Token → Step (Option Expression)
+abbrev pub value_step : List Token → ReadStep (Option Expression)
 value_step ts = elim (after marks.Semi ts) [
   | Some w1 ↦ Give None ts
   | None ↦ Ask (NExpr 1) ts (λ x2 r3. Give (Some x2) r3)
 ]
 
 -- an assignment, a step by one, a call or a new object, as a statement without its `;`
-abbrev pub act_step : List Token → Step Statement
+abbrev pub act_step : List Token → ReadStep Statement
 act_step ts = elim (stepping_next ts) [
   | Some w1 ↦ elim (word_next w1.2) [
     | Some w2 ↦ Give (stepped w1.0 w2.0 w2.1 w1.1) w2.2
@@ -44,7 +44,7 @@ act_step ts = elim (stepping_next ts) [
 ]
 
 -- the rest of such a statement, of which the expression e has been read, with its first token at p, a name or not
-abbrev pub act_rest_step : Bool → Place → Expression → End → List Token → Step Statement
+abbrev pub act_rest_step : Bool → Place → Expression → End → List Token → ReadStep Statement
 act_rest_step w p e z ts = elim (after marks.Assign ts) [
   | Some w1 ↦ elim (is_target z) [
     | true ↦ Ask (NExpr 1) w1.1 (λ x2 r3. Give (AssignOf e x2 w1.0) r3)
@@ -69,7 +69,7 @@ act_rest_step w p e z ts = elim (after marks.Assign ts) [
 ]
 
 -- an expression in round brackets
-abbrev pub tested_step : List Token → Step Expression
+abbrev pub tested_step : List Token → ReadStep Expression
 tested_step ts = elim (after marks.OpenRound ts) [
   | Some w1 ↦ Ask (NExpr 1) w1.1 (λ x2 r3. elim (after marks.CloseRound r3) [
     | Some w4 ↦ Give x2 w4.1
@@ -79,7 +79,7 @@ tested_step ts = elim (after marks.OpenRound ts) [
 ]
 
 -- the declaration of a local with its `;`, or a statement
-abbrev pub item_step : List Token → Step Statement
+abbrev pub item_step : List Token → ReadStep Statement
 item_step ts = elim (starts_local ts) [
   | true ↦ Ask NLocal ts (λ x1 r2. elim (after marks.Semi r2) [
     | Some w3 ↦ Give x1 w3.1
@@ -89,14 +89,14 @@ item_step ts = elim (starts_local ts) [
 ]
 
 -- the statements behind those already read, and the closing brace
-abbrev pub items_step : Statements → List Token → Step Statements
+abbrev pub items_step : Statements → List Token → ReadStep Statements
 items_step ss ts = elim (after marks.CloseBrace ts) [
   | Some w1 ↦ Give ss w1.1
   | None ↦ Ask NItem ts (λ x2 r3. Ask (NItems (stmt_snoc ss x2)) r3 Give)
 ]
 
 -- a statement, by how it begins
-abbrev pub stmt_step : List Token → Step Statement
+abbrev pub stmt_step : List Token → ReadStep Statement
 stmt_step ts = elim (start ts) [
   | SBlock p us ↦ Ask (NItems no_statements) us (λ x1 r2. Give (BlockOf x1 p) r2)
   | SEmpty p us ↦ Give (BlockOf no_statements p) us
@@ -122,7 +122,7 @@ stmt_step ts = elim (start ts) [
 ]
 
 -- what stands in the round brackets of a `for`, and these
-abbrev pub for_head_step : List Token → Step (OptionalStatement × Option Expression × OptionalStatement)
+abbrev pub for_head_step : List Token → ReadStep (OptionalStatement × Option Expression × OptionalStatement)
 for_head_step ts = elim (after marks.OpenRound ts) [
   | Some w1 ↦ Ask NFirst w1.1 (λ x2 r3. elim (after marks.Semi r3) [
     | Some w4 ↦ Ask NValue w4.1 (λ x5 r6. elim (after marks.Semi r6) [
@@ -138,7 +138,7 @@ for_head_step ts = elim (after marks.OpenRound ts) [
 ]
 
 -- how a `for` begins: the declaration of a local, an act, or nothing where a `;` is next
-abbrev pub first_step : List Token → Step OptionalStatement
+abbrev pub first_step : List Token → ReadStep OptionalStatement
 first_step ts = elim (after marks.Semi ts) [
   | Some w1 ↦ Give absent ts
   | None ↦ elim (starts_local ts) [
@@ -148,14 +148,14 @@ first_step ts = elim (after marks.Semi ts) [
 ]
 
 -- how a `for` steps: an act, or nothing where the closing bracket is next
-abbrev pub step_step : List Token → Step OptionalStatement
+abbrev pub step_step : List Token → ReadStep OptionalStatement
 step_step ts = elim (after marks.CloseRound ts) [
   | Some w1 ↦ Give absent ts
   | None ↦ Ask NAct ts (λ x2 r3. Give (present x2) r3)
 ]
 
 -- the rest of an `if` behind the arms already read: a test and a body, and more arms or an `else`
-abbrev pub branches_step : Arms → List Token → Step (Arms × Else)
+abbrev pub branches_step : Arms → List Token → ReadStep (Arms × Else)
 branches_step a ts = Ask NTested ts (λ x1 r2. Ask NStmt r2 (λ x3 r4. elim (after_key keys.Else r4) [
   | Some w5 ↦ elim (after_key keys.If w5.1) [
     | Some w6 ↦ Ask (NBranches (arm_snoc a x1 (as_body x3))) w6.1 Give

@@ -1,13 +1,13 @@
 -- Mirror. Readings: what a part comes to from a list of tokens.
 use Rattle.std.specs.Prelude.{List, Result, Ok, Err}
 use Rattle.java_lex.specs.declared.Token.{Token}
-use Rattle.java_parse.specs.Want.{Want, NExpr, NMore, NPrefixed, NPost, NAtom, NSuper, NNew, NSized, NDims, NType, NTail, NArgs, NMoreArgs, NInit, NLocal, NValue, NAct, NActRest, NTested, NItem, NItems, NStmt, NForHead, NFirst, NStep, NBranches, NMods, NIds, NParent, NList, NParam, NParams, NMoreParams, NResult, NHead, NBody, NMember, NMethod, NMembers, NHeads, NClass, NInterface, NDecl, NDecls, Val, Step, Give, Fail, Ask}
+use Rattle.java_parse.specs.Want.{Want, NExpr, NMore, NPrefixed, NPost, NAtom, NSuper, NNew, NSized, NDims, NType, NTail, NArgs, NMoreArgs, NInit, NLocal, NValue, NAct, NActRest, NTested, NItem, NItems, NStmt, NForHead, NFirst, NStep, NBranches, NMods, NIds, NParent, NList, NParam, NParams, NMoreParams, NResult, NHead, NBody, NMember, NMethod, NMembers, NHeads, NClass, NInterface, NDecl, NDecls, Val, ReadStep, Give, Fail, Ask}
 use Rattle.java_parse.specs.ReadExpressions.{expr_step, more_step, prefixed_step, post_step, atom_step, super_step, new_step, sized_step, dims_step, type_step, tail_step, args_step, more_args_step}
 use Rattle.java_parse.specs.ReadStatements.{init_step, local_step, value_step, act_step, act_rest_step, tested_step, item_step, items_step, stmt_step, for_head_step, first_step, step_step, branches_step}
 use Rattle.java_parse.specs.ReadDeclarations.{mods_step, ids_step, parent_step, list_step, param_step, params_step, more_params_step, result_type_step, head_step, body_step, member_step, method_step, members_step, heads_step, class_step, interface_step, decl_step, decls_step}
 
 -- how a part is read
-abbrev pub body : (n : Want) → List Token → Step (Val n)
+abbrev pub body : (n : Want) → List Token → ReadStep (Val n)
 body (NExpr l) ts = expr_step l ts
 body (NMore l c e) ts = more_step l c e ts
 body NPrefixed ts = prefixed_step ts
@@ -59,25 +59,25 @@ pub data Fault : Type 0 where
   NoMemory : Fault
 
 -- what reading comes to: a tree and the tokens behind it, or a fault
-abbrev pub Outcome : Type 0 → Type 0
-Outcome A = Result (A × List Token) Fault
+abbrev pub ParseOutcome : Type 0 → Type 0
+ParseOutcome A = Result (A × List Token) Fault
 
 -- a reading comes to an outcome; want of memory may come anywhere
-pub data Runs : (m : Want) → Step (Val m) → Outcome (Val m) → Type 0 where
-  give : {m : Want} {v : Val m} {rest : List Token} → Runs m (Give v rest) (Ok (v, rest))
-  fail : {m : Want} {rest : List Token} → Runs m (Fail rest) (Err (Left rest))
-  short : {m : Want} {s : Step (Val m)} → Runs m s (Err NoMemory)
-  ask : {m n : Want} {ts rest : List Token} {v : Val n} {k : Val n → List Token → Step (Val m)} {o : Outcome (Val m)} →
-      Runs n (body n ts) (Ok (v, rest)) → Runs m (k v rest) o → Runs m (Ask n ts k) o
-  ask_fails : {m n : Want} {ts : List Token} {k : Val n → List Token → Step (Val m)} {f : Fault} →
-      Runs n (body n ts) (Err f) → Runs m (Ask n ts k) (Err f)
+pub data RunsTo : (m : Want) → ReadStep (Val m) → ParseOutcome (Val m) → Type 0 where
+  give : {m : Want} {v : Val m} {rest : List Token} → RunsTo m (Give v rest) (Ok (v, rest))
+  fail : {m : Want} {rest : List Token} → RunsTo m (Fail rest) (Err (Left rest))
+  short : {m : Want} {s : ReadStep (Val m)} → RunsTo m s (Err NoMemory)
+  ask : {m n : Want} {ts rest : List Token} {v : Val n} {k : Val n → List Token → ReadStep (Val m)} {o : ParseOutcome (Val m)} →
+      RunsTo n (body n ts) (Ok (v, rest)) → RunsTo m (k v rest) o → RunsTo m (Ask n ts k) o
+  ask_fails : {m n : Want} {ts : List Token} {k : Val n → List Token → ReadStep (Val m)} {f : Fault} →
+      RunsTo n (body n ts) (Err f) → RunsTo m (Ask n ts k) (Err f)
 
 -- the program may run out of memory anywhere
-abbrev pub Told : (n : Want) → List Token → Outcome (Val n) → Type 0
-Told n ts (Ok x) = Runs n (body n ts) (Ok x)
-Told n ts (Err (Left rest)) = Runs n (body n ts) (Err (Left rest))
-Told n ts (Err NoMemory) = Unit {0}
+abbrev pub IsToldOutcome : (n : Want) → List Token → ParseOutcome (Val n) → Type 0
+IsToldOutcome n ts (Ok x) = RunsTo n (body n ts) (Ok x)
+IsToldOutcome n ts (Err (Left rest)) = RunsTo n (body n ts) (Err (Left rest))
+IsToldOutcome n ts (Err NoMemory) = Unit {0}
 
 -- a part is read from these tokens with this outcome
-pub record Reads (n : Want) (ts : List Token) (o : Outcome (Val n)) : Type 0 where
-  pub runs : Told n ts o
+pub record Reads (n : Want) (ts : List Token) (o : ParseOutcome (Val n)) : Type 0 where
+  pub runs : IsToldOutcome n ts o

@@ -24,7 +24,7 @@ use Rattle.java_parse.specs.declared.parts.Literal.TheVariants as literals
 use Rattle.java_parse.specs.declared.parts.ForHead.{ForHead}
 use Rattle.java_lex.specs.declared.Mark.{Mark}
 use Rattle.java_parse.specs.Front.{after, Start, SBlock, SEmpty, SIf, SWhile, SFor, SReturn, SBreak, SContinue, SOther}
-use Rattle.java_parse.specs.Reading.{Fault, Left, NoMemory, Outcome}
+use Rattle.java_parse.specs.Reading.{Fault, Left, NoMemory, ParseOutcome}
 
 -- why reading stopped, as plain data
 abbrev pub fault_of : Stop → Fault
@@ -32,7 +32,7 @@ fault_of stops.Memory = NoMemory
 fault_of (stops.At ts) = Left ts.now
 
 -- a result as an outcome
-abbrev pub seen : {X A : Type 0} → (X → A) → Result (X × Bor (List Token)) Stop → Outcome A
+abbrev pub seen : {X A : Type 0} → (X → A) → Result (X × Bor (List Token)) Stop → ParseOutcome A
 seen view (Ok x) = Ok (view x.0, x.1.now)
 seen view (Err e) = Err (fault_of e)
 
@@ -109,10 +109,10 @@ start_seen (begins.Continue p ts) = SContinue p ts.now
 start_seen begins.Other = SOther
 
 -- what reading a part comes to that this mark closes, once the tree is read
-abbrev pub before_by : {A : Type 0} → A → List Token → Option (Place × List Token) → Outcome A
+abbrev pub before_by : {A : Type 0} → A → List Token → Option (Place × List Token) → ParseOutcome A
 before_by v ts (Some end) = Ok (v, end.1)
 before_by v ts None = Err (Left ts)
 
 -- what reading comes to where the tree v has been read and this mark must be next
-abbrev pub before : {A : Type 0} → Mark → A → List Token → Outcome A
+abbrev pub before : {A : Type 0} → Mark → A → List Token → ParseOutcome A
 before m v ts = before_by v ts (after m ts)

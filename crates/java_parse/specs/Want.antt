@@ -108,7 +108,7 @@ Val NDecl = DeclTree
 Val (NDecls ds) = List DeclTree
 
 -- what reading does: it gives a tree and the tokens behind it, fails at these, or asks for a part and goes on with it
-pub data Step (A : Type 0) : Type 0 where
-  Give : A → List Token → Step A
-  Fail : List Token → Step A
-  Ask : (n : Want) → List Token → (Val n → List Token → Step A) → Step A
+pub data ReadStep (A : Type 0) : Type 0 where
+  Give : A → List Token → ReadStep A
+  Fail : List Token → ReadStep A
+  Ask : (n : Want) → List Token → (Val n → List Token → ReadStep A) → ReadStep A

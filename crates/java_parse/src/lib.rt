@@ -89,8 +89,8 @@ ghost use Rattle.java_tree.specs.Syntax.{DeclTree, tree_of};
 ghost use Rattle.java_tree.specs.Size.{tree_size};
 ghost use Rattle.java_tree.specs.Declarations.{IsPlaced, Derives};
 ghost use Rattle.java_tree.specs.Nesting.{nesting_of, IsTooDeep};
-ghost use Rattle.java_parse.specs.Faults.{IsCause, IsDeepAt, IsRefusal, IsShort};
-ghost use Rattle.java_parse.specs.OneAnswer.{OneTree, OneAnswer};
+ghost use Rattle.java_parse.specs.Faults.{IsParseCause, IsDeepAt, IsRefusal, IsShort};
+ghost use Rattle.java_parse.specs.OneAnswer.{OneTree, OneReading};
 
 mod acts;
 mod decl;
@@ -175,7 +175,7 @@ pub fn parse(alloc: Global, tokens: &Vec<Token>) -> Result<Tree, ParseFault>
     ensures found { IfOk result (λ tree. IsPlaced tokens.now.items (tree_of tree)) }
     ensures nested { IfOk result (λ tree. nesting_of tokens.now.items ≤ 128) }
     ensures small { IfOk result (λ tree. tree_size (tree_of tree) ≤ 4 * length tokens.now.items) }
-    ensures refused { IfErr result (λ fault. IsCause tokens.now.items fault) }
+    ensures refused { IfErr result (λ fault. IsParseCause tokens.now.items fault) }
     ensures deep { (k : ℕ) → IsTooDeep tokens.now.items k → IsErrAnd result (IsDeepAt k) }
     ensures none { nesting_of tokens.now.items ≤ 128 → ((tree : List DeclTree) → Derives tokens.now.items tree → ⊥) → IsErrAnd result IsRefusal }
     ensures accepted { nesting_of tokens.now.items ≤ 128 → (tree : List DeclTree) → Derives tokens.now.items tree → IfErr result IsShort }
@@ -201,5 +201,5 @@ pub fn parse(alloc: Global, tokens: &Vec<Token>) -> Result<Tree, ParseFault>
 /// places or the same fault, want of memory aside.
 pub fn one_tree()
     ensures tree { OneTree }
-    ensures answer { OneAnswer }
+    ensures answer { OneReading }
 {}

@@ -4,7 +4,7 @@ use Rattle.std.proofs.lemmas.Str.{chars-encodes}
 use Rattle.std.specs.Str.{encode_utf8_all, chars}
 use Rattle.java_lex.specs.declared.Token.{Token}
 use Rattle.java_lex.specs.declared.TokenKind.{TokenKind}
-use Rattle.java_lex.specs.Lexing.{Outcome, tokens_of, lexed, start}
+use Rattle.java_lex.specs.Lexing.{LexOutcome, tokens_of, lexed, start}
 use Rattle.java_lex.specs.Spells.{kind_of, kinds_of}
 use Rattle.java_lex.proofs.Reading.{tokens_ok}
 use Rattle.kaba_base.specs.declared.Keyword.{Keyword}
@@ -199,7 +199,7 @@ decls (d ∷ ds) w ts o = let x = decl d w.0 _ ts o in let y = decls ds w.1 x.re
           ∙ ap (λ y. decl_unplaced d ∷ y) y.same;
     }
 
-read_by : (bytes : List ℕ) (ds : List DeclTree) (o : Outcome) → tokens_of bytes ≡ o → kinds_of o ≡ Ok (kinds_in (decls_items ds []))
+read_by : (bytes : List ℕ) (ds : List DeclTree) (o : LexOutcome) → tokens_of bytes ≡ o → kinds_of o ≡ Ok (kinds_in (decls_items ds []))
     → IsFormedTree (unplaced ds) → IsReadAs bytes ds
 read_by bytes ds (Ok ts) e h w = let k : map kind_of ts ≡ kinds_in (decls_items ds []) = cc in
     record { tokens = ts; lexed = e; derived = decls ds w ts (subst (λ ks. Of ks ts) k (of_tokens ts)) }

@@ -18,7 +18,7 @@ use Rattle.java_tree.specs.Places.{expr_unplaced, exprs_unplaced}
 use Rattle.java_tree.specs.Tokens.{level, is_sign}
 use Rattle.java_print.specs.Items.{Item, Lexeme, text}
 use Rattle.java_print.specs.Layout.{rank, sign_of, same_sign, fits, fits_sign, fits_cast, in_round, comma, base_items, dims_items, more_dims_items, type_items, expr_items, args_items}
-use Rattle.java_tree.specs.Formed.{IsNumber, a_small, the_least, IsFormedBase, IsCastBase, IsFormed, AreFormed}
+use Rattle.java_tree.specs.Formed.{IsNumber, a_small, the_least, IsFormedBase, IsCastBase, IsFormedExpression, AreFormed}
 use Rattle.java_print.proofs.Lexes.{Lexes, Loose, word, key, small, least, char, string, closed, space, spaced, IsSign, plus, minus, bang, flip, extends, signy, signed, clear, number_head, name_head}
 
 -- an expression before other items, with what its text begins with where no brackets are needed before a postfix
@@ -83,7 +83,7 @@ bracket minus rest = refl
 bracket bang rest = refl
 bracket flip rest = refl
 
-sign_eleven : {m : Mark} → IsSign m → (e : Expression) → IsFormed (expr_unplaced e) → 11 ≤ rank e → rank e < 12 → not (same_sign m (sign_of e)) ≡ true
+sign_eleven : {m : Mark} → IsSign m → (e : Expression) → IsFormedExpression (expr_unplaced e) → 11 ≤ rank e → rank e < 12 → not (same_sign m (sign_of e)) ≡ true
     → (r : List Item) → next_is (extends m) (text (expr_items e r)) ≡ false
 sign_eleven g (UnaryOf k e p) w l u q r = two_signs g (a_sign k w.0) e p _ q
 sign_eleven g (CastOf t e p) w l u q r = bracket g (drop 1 (text (expr_items (CastOf t e p) r)))
@@ -92,7 +92,7 @@ sign_eleven g (IntLit (pos n) p) w l u q r = absurd (omega (arith, u))
 sign_eleven g (IntLit (negsuc n) p) w l u q r = absurd (omega (arith, l))
 sign_eleven g _ w l u q r = absurd (omega (arith, l, u))
 
-sign_head : {m : Mark} → IsSign m → (e : Expression) → IsFormed (expr_unplaced e) → Shown e → fits_sign m e ≡ true → (r : List Item) → Loose r
+sign_head : {m : Mark} → IsSign m → (e : Expression) → IsFormedExpression (expr_unplaced e) → Shown e → fits_sign m e ≡ true → (r : List Item) → Loose r
     → Lexes r → next_is (extends m) (text (expr_items e r)) ≡ false
 sign_head {m} g e w h f r a s =
     let p = and_parts (fits 11 e) (not (same_sign m (sign_of e))) f in
@@ -101,7 +101,7 @@ sign_head {m} g e w h f r a s =
       | inr k ↦ sign_eleven g e w (leb-true 11 (rank e) p.0) (leb-false 12 (rank e) k) p.1 r
     ]
 
-sign_round : {m : Mark} → IsSign m → (b : Bool) (e : Expression) → fits_sign m e ≡ b → IsFormed (expr_unplaced e) → Shown e → (r : List Item)
+sign_round : {m : Mark} → IsSign m → (b : Bool) (e : Expression) → fits_sign m e ≡ b → IsFormedExpression (expr_unplaced e) → Shown e → (r : List Item)
     → Loose r → Lexes r → next_is (extends m) (text (in_round b (expr_items e) r)) ≡ false
 sign_round g true e f w h r a s = sign_head g e w h f r a s
 sign_round g false e f w h r a s = bracket g (drop 1 (text (in_round false (expr_items e) r)))
@@ -157,7 +157,7 @@ args_loose (and_more e es) r = refl
 mutual
   unfolding unicode_ident key_text
 
-  pub expr : (e : Expression) → IsFormed (expr_unplaced e) → Shown e
+  pub expr : (e : Expression) → IsFormedExpression (expr_unplaced e) → Shown e
   expr (IntLit z p) w = int z p w
   expr (CharLit u p) w = λ r a s. record { lexes = char w s; head = λ h. refl }
   expr (StrLit us p) w = λ r a s. record { lexes = string w s; head = λ h. refl }

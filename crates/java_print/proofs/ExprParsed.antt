@@ -16,7 +16,7 @@ use Rattle.java_tree.specs.Places.{nowhere, expr_unplaced, exprs_unplaced, id_un
 use Rattle.java_tree.specs.Tokens.{level}
 use Rattle.java_print.specs.Items.{Item, Space, kinds_in}
 use Rattle.java_print.specs.Layout.{mark_then, rank, sign_of, same_sign, is_plus_or_minus, is_named, fits, fits_sign, fits_cast, in_round, base_items, dims_items, more_dims_items, type_items, expr_items, args_items}
-use Rattle.java_tree.specs.Formed.{IsNumber, a_small, the_least, IsCastBase, IsFormed, AreFormed}
+use Rattle.java_tree.specs.Formed.{IsNumber, a_small, the_least, IsCastBase, IsFormedExpression, AreFormed}
 use Rattle.java_lex.specs.Lexing.{token}
 use Rattle.java_tree.specs.Tokens.{mark, casts, casts_kind}
 use Rattle.java_tree.specs.Expressions.{IsBase, int_base, boolean_base, char_base, named_base, IsDims, no_dims, one_dim, IsType, a_type, IsExpr, binary, instance_of, operand, IsPrefixed, signed, least, cast_named, cast_int, cast_char, bare, IsPost, field, call_on, index, int_literal, char_literal, string_literal, true_literal, false_literal, null_literal, this_word, name, call, super_call, round, new_object, new_array, IsArgs, no_args, some_args, IsMoreArgs, last_arg, next_arg}
@@ -191,7 +191,7 @@ sign_starts minus n e p h = absurd (true≢false (sym h))
 sign_starts bang n e p h = refl
 sign_starts flip n e p h = refl
 
-eleven_starts : (e : Expression) → IsFormed (expr_unplaced e) → 11 ≤ rank e → rank e < 12 → (n : List ℕ)
+eleven_starts : (e : Expression) → IsFormedExpression (expr_unplaced e) → 11 ≤ rank e → rank e < 12 → (n : List ℕ)
     → not (is_named (bases.Named n) && is_plus_or_minus (sign_of e)) ≡ true → (r : List Item) → first_casts (kinds_in (expr_items e r)) ≡ true
 eleven_starts (UnaryOf k e p) w l u n q r = sign_starts (a_sign k w.0) n e p q
 eleven_starts (CastOf t e p) w l u n q r = refl
@@ -200,7 +200,7 @@ eleven_starts (IntLit (pos m) p) w l u n q r = absurd (omega (arith, u))
 eleven_starts (IntLit (negsuc m) p) w l u n q r = absurd (omega (arith, l))
 eleven_starts _ w l u n q r = absurd (omega (arith, l, u))
 
-cast_starts : (b : Bool) (n : List ℕ) (e : Expression) → fits_cast (bases.Named n) e ≡ b → IsFormed (expr_unplaced e) → (r : List Item)
+cast_starts : (b : Bool) (n : List ℕ) (e : Expression) → fits_cast (bases.Named n) e ≡ b → IsFormedExpression (expr_unplaced e) → (r : List Item)
     → first_casts (kinds_in (in_round b (expr_items e) r)) ≡ true
 cast_starts false n e f w r = refl
 cast_starts true n e f w r =
@@ -220,7 +220,7 @@ cast_operand b e h r ts o =
     let x = rounded 11 (fits_cast b e) e (λ f. leb-true 11 (rank e) (and_parts (fits 11 e) (not (is_named b && is_plus_or_minus (sign_of e))) f).0) h r ts o in
     record { rest = x.rest; tree = x.tree; fact = x.fact.prefixed (omega arith); left = x.left; same = x.same }
 
-cast_to : (b : TypeBase) → IsCastBase b → (e : Expression) → IsFormed (expr_unplaced e) → Finds e → (q : Place) (r : List Item) (ts : List Token)
+cast_to : (b : TypeBase) → IsCastBase b → (e : Expression) → IsFormedExpression (expr_unplaced e) → Finds e → (q : Place) (r : List Item) (ts : List Token)
     → Of (kinds_in (base_items b (mark_then marks.CloseRound (Space ∷ in_round (fits_cast b e) (expr_items e) r)))) ts
     → Got expr_unplaced (CastTo b q) e (kinds_in r) ts
 cast_to bases.Boolean c e w h q r ts o = absurd c
@@ -253,7 +253,7 @@ array_dims zero h r ts o = absurd (omega (arith, h))
 array_dims (suc d) h r ts o = (d, refl, dims d r ts o)
 
 mutual
-  pub expr : (e : Expression) → IsFormed (expr_unplaced e) → Finds e
+  pub expr : (e : Expression) → IsFormedExpression (expr_unplaced e) → Finds e
   expr (IntLit z p) w r ts o = int z p w r ts o
   expr (CharLit u p) w r _ (one {p = q} {ts = ts} o) = record { rest = ts; tree = CharLit u q; fact = post_shape char_literal; left = o; same = refl }
   expr (StrLit us p) w r _ (one {p = q} {ts = ts} o) = record { rest = ts; tree = StrLit us q; fact = post_shape string_literal; left = o; same = refl }

@@ -14,7 +14,7 @@ use Rattle.java_tree.specs.Syntax.{Expression, CallOn, Statement, LocalOf, Block
 use Rattle.java_tree.specs.Places.{expr_unplaced, value_unplaced, stmt_unplaced, stmts_unplaced, arms_unplaced, else_unplaced, step_unplaced, all_unplaced, may_unplaced, id_unplaced, modifier_unplaced, type_unplaced, param_unplaced, head_unplaced, member_unplaced, decl_unplaced, unplaced}
 use Rattle.java_print.specs.Items.{Item}
 use Rattle.java_print.specs.Layout.{expr_items, value_items, spaced_items, init_items, final_items, prints, bracketed_items, call_items, simple_items, first_items, step_items, else_then, open_body, close_body, stmt_items, stmts_items, arms_items, else_items, mods_items, result_items, params_items, head_items, body_items, member_items, members_items, heads_items, ids_items, parent_items, list_items, decl_items, decls_items}
-use Rattle.java_tree.specs.Formed.{IsFormed, IsFormedValue, IsFormedStmt, AreFormedStmts, AreFormedArms, IsFormedElse, IsFormedFirst, IsFormedStep, Each, IsFormedMod, IsFormedId, IsFormedParam, IsFormedResult, IsFormedHead, IsFormedBody, IsFormedMember, IsFormedParent, IsFormedDecl, IsFormedTree}
+use Rattle.java_tree.specs.Formed.{IsFormedExpression, IsFormedValue, IsFormedStmt, AreFormedStmts, AreFormedArms, IsFormedElse, IsFormedFirst, IsFormedStep, Each, IsFormedMod, IsFormedId, IsFormedParam, IsFormedResult, IsFormedHead, IsFormedBody, IsFormedMember, IsFormedParent, IsFormedDecl, IsFormedTree}
 use Rattle.java_print.proofs.Lexes.{Lexes, Loose, word, key, closed, space, line, margin, spaced, system_out, print_names}
 use Rattle.java_print.proofs.ExprLexes.{expr, args, a_type, commas}
 
@@ -45,7 +45,7 @@ unfolding unicode_ident
 final true r s = key keys.Final refl (space s)
 final false r s = s
 
-bracketed : (e : Expression) → IsFormed (expr_unplaced e) → (r : List Item) → Loose r → Lexes r → Lexes (bracketed_items e r)
+bracketed : (e : Expression) → IsFormedExpression (expr_unplaced e) → (r : List Item) → Loose r → Lexes r → Lexes (bracketed_items e r)
 unfolding unicode_ident
 bracketed (CallOn e n es p) w r a s =
     closed tokens.cOpenRound (word system_out.0 refl
@@ -53,7 +53,7 @@ bracketed (CallOn e n es p) w r a s =
     (word system_out.1 refl (closed tokens.cDot (word w.1 refl (closed tokens.cOpenRound (args false es w.2 r s))))))))
 bracketed e w r a s = (expr e w r a s).lexes
 
-call : (e : Expression) → IsFormed (expr_unplaced e) → (r : List Item) → Loose r → Lexes r → Lexes (call_items e r)
+call : (e : Expression) → IsFormedExpression (expr_unplaced e) → (r : List Item) → Loose r → Lexes r → Lexes (call_items e r)
 call e w r a s = cond_both (prints e) (bracketed_items e r) (expr_items e r) Lexes (λ h. bracketed e w r a s) (λ h. (expr e w r a s).lexes)
 
 simple : (s : Statement) → IsFormedStmt (stmt_unplaced s) → (r : List Item) → Loose r → Lexes r → Lexes (simple_items s r)

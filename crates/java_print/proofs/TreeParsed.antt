@@ -15,10 +15,10 @@ use Rattle.java_tree.specs.Syntax.{Expression, NameRef, FieldOf, IndexOf, CallOf
 use Rattle.java_tree.specs.Places.{nowhere, expr_unplaced, exprs_unplaced, value_unplaced, stmt_unplaced, stmts_unplaced, arms_unplaced, else_unplaced, step_unplaced, id_unplaced, type_unplaced}
 use Rattle.java_print.specs.Items.{Item, End, kinds_in}
 use Rattle.java_print.specs.Layout.{expr_items, value_items, spaced_items, init_items, final_items, prints, bracketed_items, call_items, simple_items, first_items, step_items, close_body, stmt_items, stmts_items, arms_items, else_items, stop_then}
-use Rattle.java_tree.specs.Formed.{is_target, is_call, IsFormed, IsFormedValue, is_act, IsFormedStmt, AreFormedStmts, AreFormedArms, IsFormedElse, IsFormedFirst, IsFormedStep}
+use Rattle.java_tree.specs.Formed.{is_target, is_call, IsFormedExpression, IsFormedValue, is_act, IsFormedStmt, AreFormedStmts, AreFormedArms, IsFormedElse, IsFormedFirst, IsFormedStep}
 use Rattle.java_tree.specs.Tokens.{mark, first_place}
 use Rattle.java_tree.specs.Expressions.{IsExpr, operand, bare, field, name, round, no_args, some_args, last_arg}
-use Rattle.java_tree.specs.Statements.{is_called, is_out, as_body, printed_args, printed_by, is_word, printed, IsFinal, not_final, is_final, IsValue, no_value, a_value, IsInit, no_init, an_init, IsLocal, a_local, IsTarget, to_name, to_field, to_index, plain_call, call_upon, call_above, IsAct, assign, do_call, print, do_new, IsFirst, no_first, first_local, first_act, IsStep, no_step, a_step, IsItem, local_item, stmt_item, IsItems, no_items, next_item, IsStmt, block, acting, choice, while_loop, for_loop, return_word, break_word, continue_word, IsArms, last_arm, else_arm, more_arms}
+use Rattle.java_tree.specs.Statements.{is_called, is_out, as_body, printed_args, printed_by, is_word, printed, IsFinal, not_final, is_final, IsValue, no_value, a_value, IsInit, no_init, an_init, IsLocal, a_local, IsTarget, to_name, to_field, to_index, plain_call, call_upon, call_above, IsAct, assign, do_call, print, do_new, IsForFirst, no_first, first_local, first_act, IsForStep, no_step, a_step, IsItem, local_item, stmt_item, IsItems, no_items, next_item, IsStmt, block, acting, choice, while_loop, for_loop, return_word, break_word, continue_word, IsArms, last_arm, else_arm, more_arms}
 use Rattle.java_print.proofs.ExprParsed.{Of, one, Got, step, got_in, operand_found, type_found, expr, args}
 
 value : (v : Option Expression) → IsFormedValue (value_unplaced v) → (r : List Item) (ts : List Token) → Of (kinds_in (value_items v r)) ts
@@ -56,7 +56,7 @@ local f t n v p w r ts o =
           ∙ ap (λ x. LocalOf f x n (value_unplaced c.tree) nowhere) b.same ∙ ap (λ x. LocalOf f (type_unplaced t) n x nowhere) c.same;
     }
 
-target : (t : Expression) → is_target (expr_unplaced t) ≡ true → IsFormed (expr_unplaced t) → (r : List Item) (ts : List Token)
+target : (t : Expression) → is_target (expr_unplaced t) ≡ true → IsFormedExpression (expr_unplaced t) → (r : List Item) (ts : List Token)
     → Of (kinds_in (expr_items t r)) ts → Got expr_unplaced IsTarget t (kinds_in r) ts
 target (NameRef n p) h w r _ (one {p = q} {ts = ts} o) = record { rest = ts; tree = NameRef n q; fact = to_name; left = o; same = refl }
 target (FieldOf e n p) h w r ts o = let x = step (step (operand_found 12 e (expr e w.0) _ ts o)) in
@@ -136,7 +136,7 @@ system_base e n es q h = out_base e (guard_holds (is_out e) (printed_args n es) 
 abbrev Acts : Statement → List TokenKind → List Token → Type 0
 Acts s ks ts = Got stmt_unplaced IsAct s ks ts
 
-bracketed : (c : Expression) (p : Place) → prints c ≡ true → IsFormed (expr_unplaced c) → (r : List Item) (ts : List Token)
+bracketed : (c : Expression) (p : Place) → prints c ≡ true → IsFormedExpression (expr_unplaced c) → (r : List Item) (ts : List Token)
     → Of (kinds_in (bracketed_items c r)) ts → Acts (DoOf c p) (kinds_in r) ts
 bracketed (CallOn e n es q) p h w r _
     (one {p = p1} (one {p = p2} (one {p = p3} (one {p = p4} (one {p = p5} (one {p = p6} (one {p = p7} (one {p = p8} {ts = ts} o)))))))) =
@@ -156,7 +156,7 @@ done_by : {c : Expression} {p : Place} {ks : List TokenKind} {ts rest : List Tok
     → expr_unplaced d ≡ expr_unplaced c → Acts (DoOf c p) ks ts
 done_by {rest = rest} d q fact left same = record { rest = rest; tree = DoOf d q; fact = fact; left = left; same = ap (λ x. DoOf x nowhere) same }
 
-plain_do : (c : Expression) (p : Place) → prints c ≡ false → is_call (expr_unplaced c) ≡ true → IsFormed (expr_unplaced c)
+plain_do : (c : Expression) (p : Place) → prints c ≡ false → is_call (expr_unplaced c) ≡ true → IsFormedExpression (expr_unplaced c)
     → (r : List Item) (ts : List Token) → Of (kinds_in (expr_items c r)) ts → Acts (DoOf c p) (kinds_in r) ts
 plain_do (CallOf n es q) p h i w r _ (one {p = p1} (one {ts = ts} o)) = let y = args es w.1 r ts o in
     done_by (CallOf n y.tree p1) p1 (do_call (plain_call y.fact) refl) y.left (ap (λ x. CallOf n x nowhere) y.same)
@@ -180,7 +180,7 @@ plain_do (NewOf c es q) p h i w r _ (one {p = p0} (one {p = p1} (one {ts = ts} o
     done_by (NewOf (record { name = c.name; place = p1 }) y.tree p0) p0 (do_new y.fact) y.left (ap (λ x. NewOf (id_unplaced c) x nowhere) y.same)
 plain_do _ p h i w r ts o = absurd (true≢false (sym i))
 
-do_found : (c : Expression) (p : Place) → is_call (expr_unplaced c) ≡ true → IsFormed (expr_unplaced c) → (r : List Item) (ts : List Token)
+do_found : (c : Expression) (p : Place) → is_call (expr_unplaced c) ≡ true → IsFormedExpression (expr_unplaced c) → (r : List Item) (ts : List Token)
     → Of (kinds_in (call_items c r)) ts → Acts (DoOf c p) (kinds_in r) ts
 do_found c p i w r ts o =
     let at : Bool → Type 0 = λ b. Of (kinds_in (if b then bracketed_items c r else expr_items c r)) ts in
@@ -218,7 +218,7 @@ act (PrintOf l v p) h w r ts o = print_found l v p w.0 w.1 r ts o
 act _ h w r ts o = absurd (true≢false (sym h))
 
 acting_first : (s : Statement) → is_act (stmt_unplaced s) ≡ true → IsFormedStmt (stmt_unplaced s) → (r : List Item) (ts : List Token)
-    → Of (kinds_in (simple_items s r)) ts → Got step_unplaced IsFirst (present s) (kinds_in r) ts
+    → Of (kinds_in (simple_items s r)) ts → Got step_unplaced IsForFirst (present s) (kinds_in r) ts
 acting_first s h w r ts o = got_in present present (λ y. refl) refl (λ us y d. first_act d) (act s h w r ts o)
 
 acting_item : (s : Statement) → is_act (stmt_unplaced s) ≡ true → IsFormedStmt (stmt_unplaced s) → (r : List Item) (ts : List Token)
@@ -226,13 +226,13 @@ acting_item : (s : Statement) → is_act (stmt_unplaced s) ≡ true → IsFormed
 acting_item s h w r ts o = got_in (λ x. x) (λ x. x) (λ y. refl) refl (λ us y d. stmt_item (acting d.1)) (step (act s h w _ ts o))
 
 first : (f : OptionalStatement) → IsFormedFirst (step_unplaced f) → (r : List Item) (ts : List Token) → Of (kinds_in (first_items f r)) ts
-    → Got step_unplaced IsFirst f (kinds_in r) ts
+    → Got step_unplaced IsForFirst f (kinds_in r) ts
 first absent w r ts o = record { rest = ts; tree = absent; fact = no_first; left = o; same = refl }
 first (present (LocalOf f t n v p)) w r ts o = got_in present present (λ y. refl) refl (λ us y d. first_local d) (local f t n v p w.1.2 r ts o)
 first (present s) w r ts o = acting_first s w.0 w.1 r ts o
 
 step_part : (g : OptionalStatement) → IsFormedStep (step_unplaced g) → (r : List Item) (ts : List Token) → Of (kinds_in (step_items g r)) ts
-    → Got step_unplaced IsStep g (kinds_in r) ts
+    → Got step_unplaced IsForStep g (kinds_in r) ts
 step_part absent w r ts o = record { rest = ts; tree = absent; fact = no_step; left = o; same = refl }
 step_part (present s) w r ts o = got_in present present (λ y. refl) refl (λ us y d. a_step d) (act s w.0 w.1 r ts o)
 

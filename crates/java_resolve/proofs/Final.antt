@@ -6,7 +6,7 @@ use Rattle.java_tree.specs.Syntax.{DeclTree}
 use Rattle.java_tree.specs.Formed.{IsFormedTree}
 use Rattle.java_core.specs.declared.Program.{Program}
 use Rattle.java_core.specs.Programs.{Plain, program_of, class_seen, field_seen, method_seen, slot_seen}
-use Rattle.java_core.specs.Formed.{AreCounted, IsFormed}
+use Rattle.java_core.specs.Formed.{HasSmallNumbers, IsFormed}
 use Rattle.name_rules.specs.declared.Refusal.{Refusal}
 use Rattle.name_rules.specs.declared.Refusal.TheVariants as refusals
 use Rattle.name_laws.specs.Answers.{IsRefused}
@@ -24,7 +24,7 @@ pub resolves_ok : (tree : List DeclTree) (p : Program) → IsFormedTree tree →
 resolves_ok tree p g e = (told tree (Ok (program_of p)) g e).resolves
 
 pub formed_ok : (tree : List DeclTree) (p : Program) → IsFormedTree tree → resolved tree ≡ Ok (program_of p)
-    → AreCounted (program_of p) → IsFormed (program_of p)
+    → HasSmallNumbers (program_of p) → IsFormed (program_of p)
 formed_ok tree p g e c = (told tree (Ok (program_of p)) g e).formed c
 
 pub none_ok : (tree : List DeclTree) (p : Program) → IsFormedTree tree → resolved tree ≡ Ok (program_of p) → HasNoCondition tree
@@ -42,7 +42,7 @@ cause tree (refusals.NotInProfile f p) g e = told tree (Err (refusals.NotInProfi
 cause tree refusals.Memory g e = tt
 
 pub counted : (p : Program) → length p.classes.items < 4294967295 → length p.fields.items < 4294967295 → length p.methods.items < 4294967295
-    → length p.slots.items < 4294967295 → AreCounted (program_of p)
+    → length p.slots.items < 4294967295 → HasSmallNumbers (program_of p)
 counted p a b c d =
     record {
       classes = omega (arith, a, length-map p.classes.items class_seen);

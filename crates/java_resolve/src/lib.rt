@@ -5,7 +5,7 @@ ghost use Rattle.java_tree.specs.Syntax.{decls, tree_of};
 ghost use Rattle.std.specs.Prelude.{◌≡◌, IfOk, IfErr, map};
 ghost use Rattle.std.specs.Bool.{OnTrue};
 ghost use Rattle.java_tree.specs.Formed.{IsFormedTree};
-ghost use Rattle.java_core.specs.Formed.{AreCounted, IsFormed};
+ghost use Rattle.java_core.specs.Formed.{HasSmallNumbers, IsFormed};
 ghost use Rattle.name_rules.specs.Resolves.{Resolves};
 ghost use Rattle.java_resolve.specs.Unique.{OneProgram};
 ghost use Rattle.name_rules.specs.Causes.{IsCause, HasNoCondition};
@@ -13,9 +13,9 @@ ghost use Rattle.java_core.specs.Programs.{Plain, program_of, class_seen};
 ghost use Rattle.java_core.specs.declared.Program.{Program};
 ghost use Rattle.java_core.specs.Subtypes.{subtype_rows};
 ghost use Rattle.java_core.specs.Nearest.{superclasses};
-ghost use Rattle.name_laws.specs.Answers.{Gives, with};
+ghost use Rattle.name_laws.specs.Answers.{GivesValue, with};
 ghost use Rattle.name_laws.specs.Members.{clashes_of, main_of};
-ghost use Rattle.name_types.specs.Found.{AreFound, members_seen};
+ghost use Rattle.name_types.specs.Found.{AreDeclarationsFound, members_seen};
 ghost use Rattle.name_laws.specs.Resolved.{resolved, with_bodies, parents_of};
 
 use java_core::{Class, FieldTables, Hierarchy, Program};
@@ -52,8 +52,8 @@ fn narrowed(count: usize) -> u32 {
 
 /// The number of the main method, where none of the methods clashes with another; there are so many types.
 fn main_number(alloc: Global, above: &Hierarchy, count: u32, draft: &Draft) -> Result<u32, Refusal>
-    requires found { AreFound draft.now }
-    ensures { Gives (λ k. k) result (with (clashes_of above.now draft.now.declared.headings.items) (λ _. main_of draft.now.declared.headings.items)) }
+    requires found { AreDeclarationsFound draft.now }
+    ensures { GivesValue (λ k. k) result (with (clashes_of above.now draft.now.declared.headings.items) (λ _. main_of draft.now.declared.headings.items)) }
 {
     let _count = clashes_of(
         alloc,
@@ -75,8 +75,8 @@ fn with_bodies(
     draft: Draft,
 ) -> Result<Program, Refusal>
     requires rows { above ≡ subtype_rows (map class_seen classes.items) }
-    requires found { AreFound draft }
-    ensures { Gives {A = Program} {B = Plain} program_of result
+    requires found { AreDeclarationsFound draft }
+    ensures { GivesValue {A = Program} {B = Plain} program_of result
         (with_bodies (decls list.now) known (map class_seen classes.items) above
         (members_seen draft)) }
 {
@@ -146,7 +146,7 @@ fn with_bodies(
 /// The program that the rules make of a tree, or the first refusal that they meet.
 #[tactic(auto, unfolding(name_laws::specs::Resolved::resolved))]
 fn resolve_tree(alloc: Global, tree: &Tree) -> Result<Program, Refusal>
-    ensures program { Gives {A = Program} {B = Plain} program_of result (resolved (tree_of tree.now)) }
+    ensures program { GivesValue {A = Program} {B = Plain} program_of result (resolved (tree_of tree.now)) }
 {
     let list = tree.decls.as_slice();
     let known = known_of(alloc, list)?;
@@ -160,7 +160,7 @@ fn resolve_tree(alloc: Global, tree: &Tree) -> Result<Program, Refusal>
 /// Whether each class, field, method and slot has a number of 32 bits.
 #[tactic(auto, using(crate::proofs::Final::counted))]
 fn is_counted(program: &Program) -> bool
-    ensures { OnTrue result (AreCounted (program_of program.now)) }
+    ensures { OnTrue result (HasSmallNumbers (program_of program.now)) }
 {
     let most = 4_294_967_295;
     program.classes.len() < most

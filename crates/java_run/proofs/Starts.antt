@@ -14,8 +14,8 @@ use Rattle.java_meaning.specs.Moment as meaning
 use Rattle.java_meaning.specs.Languages.{body_of, body_with, run}
 use Rattle.java_meaning.proofs.TypedPrograms.{never_wrong}
 use Rattle.java_meaning.proofs.Depth.{going_spent}
-use Rattle.run_code.specs.Machine.{Entry, Tables, Config, comes, Ends, ends_so, is_wrong, first_config}
-use Rattle.run_code.specs.Fits.{Fits}
+use Rattle.run_code.specs.Machine.{BodyEntry, Tables, Config, comes, Ends, ends_so, is_wrong, first_config}
+use Rattle.run_code.specs.Fits.{FitsProgram}
 use Rattle.run_code.proofs.Runs.{machine_runs}
 use Rattle.run_state.specs.Words.{units_of}
 use Rattle.run_state.specs.declared.machine.Machine.{Machine}
@@ -45,11 +45,11 @@ module _ (P : Plain) (formed : IsFormed P) where
       )
 
   -- its code begins somewhere
-  pub main_begins : (T : Tables) → Fits P T → (e : Entry) × (T.entry P.main ≡ Some e)
+  pub main_begins : (T : Tables) → FitsProgram P T → (e : BodyEntry) × (T.entry P.main ≡ Some e)
   main_begins T fits = let m = main_body in let h = fits.body P.main m.0 m.1 in (h.entry, h.is)
 
   -- what the machine comes to is what the run comes to, unless that is Wrong
-  pub runs_so : (T : Tables) → Fits P T → (words : List (List ℕ)) (n : ℕ) (e : Entry) (c : Config) (k : ℕ) (o : meaning.Outcome)
+  pub runs_so : (T : Tables) → FitsProgram P T → (words : List (List ℕ)) (n : ℕ) (e : BodyEntry) (c : Config) (k : ℕ) (o : meaning.Outcome)
       → T.entry P.main ≡ Some e → c ≡ first_config P e words n
       → ((m : ℕ) → comes P T (k + m) c ≡ o) → (run P words n).end ≢ Wrong → run P words n ≡ o
   runs_so T fits words n e c k o at is h right = by (machine_runs P formed T fits words n main_body.0 e main_body.1 at)
@@ -61,7 +61,7 @@ module _ (P : Plain) (formed : IsFormed P) where
 
 module _ (P : Plain) (words : List (String Global)) (bound : ℕ) (last : Machine) (e : Ending) where
   -- where the machine stops, the meaning does
-  pub meant_so : IsFormed P → IsTyped P → (Q : Plain) (T : Tables) → Fits P T → (n : Entry) (c : Config) → T.entry P.main ≡ Some n
+  pub meant_so : IsFormed P → IsTyped P → (Q : Plain) (T : Tables) → FitsProgram P T → (n : BodyEntry) (c : Config) → T.entry P.main ≡ Some n
       → c ≡ first_config P n (map (λ w. units_of (string_bytes w)) words) bound
       → Q ≡ P → ((k : ℕ) × ((m : ℕ) → comes Q T (k + m) c ≡ stop (end_of e) (state_of last))) → meant P (map string_bytes words) bound
       ≡ stop (end_of e) (state_of last)

@@ -5,7 +5,7 @@ ghost use Rattle.std.specs.Option.{option_map};
 ghost use Rattle.java_core.specs.Programs.{Plain, program_of};
 ghost use Rattle.java_core.specs.Formed.{IsFormed};
 ghost use Rattle.java_core.specs.Typing.{IsTyped};
-ghost use Rattle.run_code.specs.Fits.{Fits};
+ghost use Rattle.run_code.specs.Fits.{FitsProgram};
 ghost use Rattle.run_code.specs.Seen.{entry_of, tables_of};
 ghost use Rattle.run_state.specs.Run.{end_of};
 ghost use Rattle.java_run.specs.Outcomes.{IsOutcomeOf};
@@ -55,7 +55,7 @@ fn entry_at(image: &Image, method: u32) -> Option<&Entry>
 /// Where the code of the method that a run begins with begins.
 fn main_entry<'a>(p: &Program, image: &'a Image) -> &'a Entry
     requires formed { IsFormed (program_of p.now) }
-    requires fits { Fits (program_of p.now) (tables_of image.now) }
+    requires fits { FitsProgram (program_of p.now) (tables_of image.now) }
     ensures { (tables_of image.now).entry p.now.main.0 ≡ Some (entry_of result.now) }
 {
     match entry_at(image, p.main.0) {

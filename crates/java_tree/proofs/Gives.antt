@@ -15,10 +15,10 @@ use Rattle.java_tree.specs.declared.Param.{Param}
 use Rattle.java_tree.specs.Syntax.{Expression, CallOn, Expressions, no_more, and_more, Statement, LocalOf, BlockOf, Statements, Arms, Else, OptionalStatement, HeadTree, MemberTree, DeclTree}
 use Rattle.java_tree.specs.Places.{expr_unplaced, exprs_unplaced, value_unplaced, stmt_unplaced, stmts_unplaced, arms_unplaced, else_unplaced, step_unplaced, all_unplaced, may_unplaced, id_unplaced, modifier_unplaced, type_unplaced, param_unplaced, head_unplaced, member_unplaced, decl_unplaced, unplaced}
 use Rattle.java_tree.specs.Tokens.{level}
-use Rattle.java_tree.specs.Formed.{a_small, the_least, IsFormedBase, is_target, is_call, IsFormed, AreFormed, IsFormedValue, is_act, is_simple, has_arm, IsFormedStmt, AreFormedStmts, AreFormedArms, IsFormedElse, IsFormedFirst, IsFormedStep, Each, IsFormedMod, IsFormedId, IsFormedParam, IsFormedResult, IsFormedHead, IsFormedBody, IsFormedMember, IsFormedParent, IsFormedDecl, IsFormedTree}
+use Rattle.java_tree.specs.Formed.{a_small, the_least, IsFormedBase, is_target, is_call, IsFormedExpression, AreFormed, IsFormedValue, is_act, is_simple, has_arm, IsFormedStmt, AreFormedStmts, AreFormedArms, IsFormedElse, IsFormedFirst, IsFormedStep, Each, IsFormedMod, IsFormedId, IsFormedParam, IsFormedResult, IsFormedHead, IsFormedBody, IsFormedMember, IsFormedParent, IsFormedDecl, IsFormedTree}
 use Rattle.java_tree.specs.Tokens.{compound, stepping}
 use Rattle.java_tree.specs.Expressions.{IsBase, int_base, boolean_base, char_base, named_base, IsDims, no_dims, one_dim, IsType, a_type, IsExpr, binary, instance_of, operand, IsPrefixed, signed, least, cast_named, cast_int, cast_char, bare, IsPost, field, call_on, index, int_literal, char_literal, string_literal, true_literal, false_literal, null_literal, this_word, name, call, super_call, round, new_object, new_array, IsArgs, no_args, some_args, IsMoreArgs, last_arg, next_arg}
-use Rattle.java_tree.specs.Statements.{is_called, is_out, as_body, printed_args, printed_by, is_word, printed, IsFinal, not_final, is_final, IsValue, no_value, a_value, IsInit, no_init, an_init, IsLocal, a_local, IsTarget, to_name, to_field, to_index, IsCall, plain_call, call_upon, call_above, IsAct, assign, assign_by, step_after, step_before, do_call, print, do_new, IsFirst, no_first, first_local, first_act, IsStep, no_step, a_step, IsItem, local_item, stmt_item, IsItems, no_items, next_item, IsStmt, block, empty, acting, choice, while_loop, for_loop, return_word, break_word, continue_word, IsArms, last_arm, else_arm, more_arms}
+use Rattle.java_tree.specs.Statements.{is_called, is_out, as_body, printed_args, printed_by, is_word, printed, IsFinal, not_final, is_final, IsValue, no_value, a_value, IsInit, no_init, an_init, IsLocal, a_local, IsTarget, to_name, to_field, to_index, IsCall, plain_call, call_upon, call_above, IsAct, assign, assign_by, step_after, step_before, do_call, print, do_new, IsForFirst, no_first, first_local, first_act, IsForStep, no_step, a_step, IsItem, local_item, stmt_item, IsItems, no_items, next_item, IsStmt, block, empty, acting, choice, while_loop, for_loop, return_word, break_word, continue_word, IsArms, last_arm, else_arm, more_arms}
 use Rattle.java_tree.specs.Declarations.{IsMods, no_mods, next_mod, IsIds, last_id, next_id, IsParent, no_parent, a_parent, IsList, no_list, a_list, IsParam, a_param, IsMoreParams, last_param, next_param, IsParams, no_params, some_params, IsResult, no_result, a_result, IsHead, a_head, IsBody, no_body, a_body, IsMember, a_field, a_method, IsMembers, no_members, next_member, IsHeads, no_heads, next_head, IsDecl, a_class, an_interface, IsPlaced, no_decls, next_decl}
 use Rattle.java_tree.specs.Formed.{IsGiven}
 
@@ -40,12 +40,12 @@ a_formed_type : {ts rest : List Token} {t : TypeName} → IsType ts rest t → A
 a_formed_type (a_type b d) w = let x = base b w in (x.0, dims d x.1)
 
 mutual
-  pub expr : {l : ℕ} {ts rest : List Token} {e : Expression} → IsExpr l ts rest e → AllWritable ts → And (IsFormed (expr_unplaced e)) rest
+  pub expr : {l : ℕ} {ts rest : List Token} {e : Expression} → IsExpr l ts rest e → AllWritable ts → And (IsFormedExpression (expr_unplaced e)) rest
   expr (binary h i a b) w = let x = expr a w in let y = expr b x.1.1 in ((h, x.0, y.0), y.1)
   expr (instance_of h a) w = let x = expr a w in ((x.0, x.1.1.0), x.1.1.1)
   expr (operand d) w = prefixed d w
 
-  prefixed : {ts rest : List Token} {e : Expression} → IsPrefixed ts rest e → AllWritable ts → And (IsFormed (expr_unplaced e)) rest
+  prefixed : {ts rest : List Token} {e : Expression} → IsPrefixed ts rest e → AllWritable ts → And (IsFormedExpression (expr_unplaced e)) rest
   prefixed (signed h d) w = let x = prefixed d w.1 in ((h, x.0), x.1)
   prefixed least w = (the_least, w.1.1)
   prefixed (cast_named h d) w = let x = prefixed d w.1.1.1 in ((w.1.0, refl, x.0), x.1)
@@ -53,7 +53,7 @@ mutual
   prefixed (cast_char d) w = let x = prefixed d w.1.1.1 in ((tt, refl, x.0), x.1)
   prefixed (bare d) w = post d w
 
-  post : {b : Bool} {ts rest : List Token} {e : Expression} → IsPost b ts rest e → AllWritable ts → And (IsFormed (expr_unplaced e)) rest
+  post : {b : Bool} {ts rest : List Token} {e : Expression} → IsPost b ts rest e → AllWritable ts → And (IsFormedExpression (expr_unplaced e)) rest
   post (field d) w = let x = post d w in ((x.0, x.1.1.0), x.1.1.1)
   post (call_on d a) w = let x = post d w in let y = args a x.1.1.1.1 in ((x.0, x.1.1.0, y.0), y.1)
   post (index d i) w = let x = post d w in let y = expr i x.1.1 in ((x.0, y.0), y.1.1)
@@ -101,13 +101,13 @@ local : {ts rest : List Token} {s : Statement} → IsLocal ts rest s → AllWrit
 local (a_local f t v) w = let x = a_formed_type t (final f w) in let y = init v x.1.1 in ((refl, (x.0, x.1.0, y.0)), y.1)
 
 target : {ts rest : List Token} {t : Expression} → IsTarget ts rest t → AllWritable ts
-    → And ((is_target (expr_unplaced t) ≡ true) × IsFormed (expr_unplaced t)) rest
+    → And ((is_target (expr_unplaced t) ≡ true) × IsFormedExpression (expr_unplaced t)) rest
 target to_name w = ((refl, w.0), w.1)
 target (to_field d) w = let x = post d w in ((refl, (x.0, x.1.1.0)), x.1.1.1)
 target (to_index d i) w = let x = post d w in let y = expr i x.1.1 in ((refl, (x.0, y.0)), y.1.1)
 
 a_call : {ts rest : List Token} {e : Expression} → IsCall ts rest e → AllWritable ts
-    → And ((is_call (expr_unplaced e) ≡ true) × IsFormed (expr_unplaced e)) rest
+    → And ((is_call (expr_unplaced e) ≡ true) × IsFormedExpression (expr_unplaced e)) rest
 a_call (plain_call a) w = let y = args a w.1.1 in ((refl, (w.0, y.0)), y.1)
 a_call (call_upon d a) w = let x = post d w in let y = args a x.1.1.1.1 in ((refl, (x.0, x.1.1.0, y.0)), y.1)
 a_call (call_above a) w = let y = args a w.1.1.1.1 in ((refl, (w.1.1.0, y.0)), y.1)
@@ -147,7 +147,7 @@ printed_formed n (and_more e no_more) z h f = two_tests (is_called n (codes "pri
     h (refl, f.0) (refl, f.0)
 printed_formed n (and_more e (and_more k es)) z h f = cc
 
-printing : (e : Expression) (z : Bool × Option Expression) → printed_by e ≡ Some z → IsFormed (expr_unplaced e) → Printed z
+printing : (e : Expression) (z : Bool × Option Expression) → printed_by e ≡ Some z → IsFormedExpression (expr_unplaced e) → Printed z
 printing (CallOn b n es r) z h f = printed_formed n es z (guard_some (is_out b) (printed_args n es) z h) f.2
 printing _ z h f = cc
 
@@ -169,12 +169,12 @@ act_simple : (s : Statement) → is_act s ≡ true → is_simple s ≡ true
 act_simple (LocalOf f t n v p) h = refl
 act_simple _ h = h
 
-first : {ts rest : List Token} {f : OptionalStatement} → IsFirst ts rest f → AllWritable ts → And (IsFormedFirst (step_unplaced f)) rest
+first : {ts rest : List Token} {f : OptionalStatement} → IsForFirst ts rest f → AllWritable ts → And (IsFormedFirst (step_unplaced f)) rest
 first no_first w = (tt, w)
 first (first_local d) w = local d w
 first (first_act {s = s} d) w = let x = act d w in ((act_simple (stmt_unplaced s) x.0.0, x.0.1), x.1)
 
-step : {ts rest : List Token} {g : OptionalStatement} → IsStep ts rest g → AllWritable ts → And (IsFormedStep (step_unplaced g)) rest
+step : {ts rest : List Token} {g : OptionalStatement} → IsForStep ts rest g → AllWritable ts → And (IsFormedStep (step_unplaced g)) rest
 step no_step w = (tt, w)
 step (a_step d) w = act d w
 

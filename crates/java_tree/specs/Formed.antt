@@ -60,35 +60,35 @@ is_call _ = false
 
 abbrev mutual
   -- an expression that the grammar gives: its names, literals, types and operators are those of tokens
-  pub IsFormed : Expression → Type 0
-  IsFormed (IntLit z p) = IsNumber z
-  IsFormed (CharLit u p) = IsUnit u
-  IsFormed (StrLit us p) = IsText us
-  IsFormed (BoolLit b p) = Unit {0}
-  IsFormed (NullLit p) = Unit {0}
-  IsFormed (ThisRef p) = Unit {0}
-  IsFormed (NameRef n p) = IsName n
-  IsFormed (FieldOf e n p) = IsFormed e × IsName n
-  IsFormed (IndexOf e i p) = IsFormed e × IsFormed i
-  IsFormed (CallOf n es p) = IsName n × AreFormed es
-  IsFormed (CallOn e n es p) = IsFormed e × IsName n × AreFormed es
-  IsFormed (SuperCallOf n es p) = IsName n × AreFormed es
-  IsFormed (NewOf c es p) = IsName c.name × AreFormed es
-  IsFormed (NewArrayOf t e p) = IsFormedBase t.base × (1 ≤ t.dim) × IsFormed e
-  IsFormed (CastOf t e p) = IsCastBase t.base × (t.dim ≡ 0) × IsFormed e
-  IsFormed (InstanceOfClass e c p) = IsFormed e × IsName c.name
-  IsFormed (UnaryOf m e p) = (is_sign m ≡ true) × IsFormed e
-  IsFormed (BinaryOf m a b p) = (0 < level m) × IsFormed a × IsFormed b
+  pub IsFormedExpression : Expression → Type 0
+  IsFormedExpression (IntLit z p) = IsNumber z
+  IsFormedExpression (CharLit u p) = IsUnit u
+  IsFormedExpression (StrLit us p) = IsText us
+  IsFormedExpression (BoolLit b p) = Unit {0}
+  IsFormedExpression (NullLit p) = Unit {0}
+  IsFormedExpression (ThisRef p) = Unit {0}
+  IsFormedExpression (NameRef n p) = IsName n
+  IsFormedExpression (FieldOf e n p) = IsFormedExpression e × IsName n
+  IsFormedExpression (IndexOf e i p) = IsFormedExpression e × IsFormedExpression i
+  IsFormedExpression (CallOf n es p) = IsName n × AreFormed es
+  IsFormedExpression (CallOn e n es p) = IsFormedExpression e × IsName n × AreFormed es
+  IsFormedExpression (SuperCallOf n es p) = IsName n × AreFormed es
+  IsFormedExpression (NewOf c es p) = IsName c.name × AreFormed es
+  IsFormedExpression (NewArrayOf t e p) = IsFormedBase t.base × (1 ≤ t.dim) × IsFormedExpression e
+  IsFormedExpression (CastOf t e p) = IsCastBase t.base × (t.dim ≡ 0) × IsFormedExpression e
+  IsFormedExpression (InstanceOfClass e c p) = IsFormedExpression e × IsName c.name
+  IsFormedExpression (UnaryOf m e p) = (is_sign m ≡ true) × IsFormedExpression e
+  IsFormedExpression (BinaryOf m a b p) = (0 < level m) × IsFormedExpression a × IsFormedExpression b
 
   -- each expression of a list is one that the grammar gives
   pub AreFormed : Expressions → Type 0
   AreFormed no_more = Unit {0}
-  AreFormed (and_more e es) = IsFormed e × AreFormed es
+  AreFormed (and_more e es) = IsFormedExpression e × AreFormed es
 
 -- no expression, or one that the grammar gives
 abbrev pub IsFormedValue : Option Expression → Type 0
 IsFormedValue None = Unit {0}
-IsFormedValue (Some e) = IsFormed e
+IsFormedValue (Some e) = IsFormedExpression e
 
 -- whether a statement is an assignment, a call or a printing: what may also step a `for`
 abbrev pub is_act : Statement → Bool
@@ -112,11 +112,11 @@ abbrev mutual
   pub IsFormedStmt : Statement → Type 0
   IsFormedStmt (LocalOf f t n v p) = IsFormedBase t.base × IsName n × IsFormedValue v
   IsFormedStmt (BlockOf ss p) = AreFormedStmts ss
-  IsFormedStmt (AssignOf t v p) = (is_target t ≡ true) × IsFormed t × IsFormed v
-  IsFormedStmt (DoOf c p) = (is_call c ≡ true) × IsFormed c
+  IsFormedStmt (AssignOf t v p) = (is_target t ≡ true) × IsFormedExpression t × IsFormedExpression v
+  IsFormedStmt (DoOf c p) = (is_call c ≡ true) × IsFormedExpression c
   IsFormedStmt (PrintOf l v p) = ((l || is_some v) ≡ true) × IsFormedValue v
   IsFormedStmt (IfOf a l p) = (has_arm a ≡ true) × AreFormedArms a × IsFormedElse l
-  IsFormedStmt (WhileOf e ss p) = IsFormed e × AreFormedStmts ss
+  IsFormedStmt (WhileOf e ss p) = IsFormedExpression e × AreFormedStmts ss
   IsFormedStmt (ForOf f v g ss p) = IsFormedFirst f × IsFormedValue v × IsFormedStep g × AreFormedStmts ss
   IsFormedStmt (ReturnOf v p) = IsFormedValue v
   IsFormedStmt (BreakOf p) = Unit {0}
@@ -130,7 +130,7 @@ abbrev mutual
   -- the test and the body of each arm are such as the grammar gives
   pub AreFormedArms : Arms → Type 0
   AreFormedArms no_arms = Unit {0}
-  AreFormedArms (and_arm e ss a) = IsFormed e × AreFormedStmts ss × AreFormedArms a
+  AreFormedArms (and_arm e ss a) = IsFormedExpression e × AreFormedStmts ss × AreFormedArms a
 
   -- no `else`, or one whose body the grammar gives
   pub IsFormedElse : Else → Type 0

@@ -120,15 +120,15 @@ pub data IsAct : List Token → List Token → Statement → Type 0 where
       IsAct (key keys.New p ∷ word n q ∷ mark marks.OpenRound r ∷ us) rest (DoOf (NewOf (record { name = n; place = q }) es p) p)
 
 -- [first], where first = act | ["final"] type ID ["=" expr]
-pub data IsFirst : List Token → List Token → OptionalStatement → Type 0 where
-  no_first : {ts : List Token} → IsFirst ts ts absent
-  first_local : {s : Statement} {ts rest : List Token} → IsLocal ts rest s → IsFirst ts rest (present s)
-  first_act : {s : Statement} {ts rest : List Token} → IsAct ts rest s → IsFirst ts rest (present s)
+pub data IsForFirst : List Token → List Token → OptionalStatement → Type 0 where
+  no_first : {ts : List Token} → IsForFirst ts ts absent
+  first_local : {s : Statement} {ts rest : List Token} → IsLocal ts rest s → IsForFirst ts rest (present s)
+  first_act : {s : Statement} {ts rest : List Token} → IsAct ts rest s → IsForFirst ts rest (present s)
 
 -- [act]
-pub data IsStep : List Token → List Token → OptionalStatement → Type 0 where
-  no_step : {ts : List Token} → IsStep ts ts absent
-  a_step : {s : Statement} {ts rest : List Token} → IsAct ts rest s → IsStep ts rest (present s)
+pub data IsForStep : List Token → List Token → OptionalStatement → Type 0 where
+  no_step : {ts : List Token} → IsForStep ts ts absent
+  a_step : {s : Statement} {ts rest : List Token} → IsAct ts rest s → IsForStep ts rest (present s)
 
 mutual
   -- item = ["final"] type ID ["=" expr] ";" | stmt
@@ -156,7 +156,7 @@ mutual
         IsStmt o (key keys.While p ∷ mark marks.OpenRound q ∷ us) rest (WhileOf e (as_body s) p)
     -- stmt = "for" "(" [first] ";" [expr] ";" [act] ")" stmt
     for_loop : {o : Bool} {f g : OptionalStatement} {v : Option Expression} {s : Statement} {p q r t w : Place} {us vs ws xs rest : List Token} →
-        IsFirst us (mark marks.Semi r ∷ vs) f → IsValue vs (mark marks.Semi t ∷ ws) v → IsStep ws (mark marks.CloseRound w ∷ xs) g → IsStmt o xs rest s →
+        IsForFirst us (mark marks.Semi r ∷ vs) f → IsValue vs (mark marks.Semi t ∷ ws) v → IsForStep ws (mark marks.CloseRound w ∷ xs) g → IsStmt o xs rest s →
         IsStmt o (key keys.For p ∷ mark marks.OpenRound q ∷ us) rest (ForOf f v g (as_body s) p)
     -- stmt = "return" [expr] ";" | "break" ";" | "continue" ";"
     return_word : {v : Option Expression} {p q : Place} {us rest : List Token} → IsValue us (mark marks.Semi q ∷ rest) v

@@ -14,7 +14,7 @@ use Rattle.name_rules.specs.Causes.{IsCause, HasNoCondition}
 use Rattle.name_rules.specs.Resolves.{Resolves}
 use Rattle.fact_model.specs.declared.facts.Facts.{Facts}
 use Rattle.hier_model.specs.Hierarchies.{Hierarchy}
-use Rattle.rebuild_laws.specs.types.Laws.{IsReady}
+use Rattle.rebuild_laws.specs.types.Laws.{IsRebuildable}
 use Rattle.write_laws.specs.given.Laws.{TreeIsFormed, TreeIsGiven}
 use Rattle.write_laws.proofs.given.Law.{tree_is_formed, tree_is_given}
 use Rattle.write_laws.specs.names.Laws.{TreeResolves}
@@ -45,7 +45,7 @@ module _ (p : Program) (F : Facts) (H : Hierarchy)
     (formed : IsFormed (program_of p)) (typed : IsTyped (program_of p))
     (facts : AreProgramFacts (program_of p) F) (unbroken : IsUnbroken F H)
   where
-    ready : IsReady (program_of p) F unbroken.sets unbroken.table H
+    ready : IsRebuildable (program_of p) F unbroken.sets unbroken.table H
     ready = record {
       formed = formed;
       typed = typed;

@@ -17,7 +17,7 @@ use Rattle.fact_model.specs.declared.sets.Table.{Table}
 use Rattle.hier_model.specs.Hierarchies.{Hierarchy, IsHierarchyOf}
 use Rattle.hier_rules.specs.First.{first_broken}
 use Rattle.write_model.specs.Written.{java_tree}
-use Rattle.write_laws.specs.runs.Laws.{Keeps}
+use Rattle.write_laws.specs.runs.Laws.{KeepsProgram}
 
 -- a text's tree resolves to the program
 pub record HasText (program : Program) : Type 0 where
@@ -45,7 +45,7 @@ pub record IsWrittenText (old : Program) (F : Facts) (H : Hierarchy) (text : Lis
   pub new : Program
   pub resolves : Resolves (tree_of_hierarchy old F H) (program_of new)
   pub formed : IsFormed (program_of new)
-  pub keeps : Keeps (program_of old) F H (program_of new)
+  pub keeps : KeepsProgram (program_of old) F H (program_of new)
 
 -- such a text stands behind what stood before
 pub record Appends (old : Program) (F : Facts) (H : Hierarchy) (before now : List ℕ) : Type 0 where

@@ -8,7 +8,7 @@ ghost use Rattle.java_core.specs.Programs.{program_of};
 ghost use Rattle.java_core.specs.Formed.{IsFormed};
 ghost use Rattle.java_core.specs.Typing.{IsTyped};
 ghost use Rattle.java_tree.specs.Syntax.{tree_of};
-ghost use Rattle.flow_rules.specs.Facts.{IsWithin};
+ghost use Rattle.flow_rules.specs.Facts.{IsWithinLimits};
 ghost use Rattle.name_rules.specs.declared.Refusal.TheVariants as Refusal;
 ghost use Rattle.flow_program.specs.Known.{AreProgramFacts};
 ghost use Rattle.java_write.specs.Numbers.{AreNumbersOf};
@@ -28,7 +28,7 @@ use write_forms::Numbering;
 /// The numbers of the rows and columns of a program that has facts.
 fn numbers_of(alloc: Global, program: &Program) -> Result<Numbering, AllocError>
     requires formed { IsFormed (program_of program.now) }
-    requires within { IsWithin (program_of program.now) }
+    requires within { IsWithinLimits (program_of program.now) }
     ensures numbers { IfOk result (AreNumbersOf program.now) }
 {
     match numbering_of(alloc, program) {

@@ -18,7 +18,7 @@ use Rattle.tree_merge.specs.declared.trees.NoTree.{NoTree}
 use Rattle.kaba_top.specs.Logs.{log_text, no_tree_text}
 use Rattle.kaba_top.specs.declared.reply.Reply.{Reply}
 use Rattle.kaba_top.specs.declared.script.Proposal.{Proposal}
-use Rattle.kaba_top.specs.Lines.{Says, Gives, line}
+use Rattle.kaba_top.specs.Lines.{Says, GivesReply, line}
 use Rattle.kaba_top.specs.FactsAnswers.{HasFacts, AnalysisAnswers, LatticeOf, too_many_concepts}
 use Rattle.kaba_top.specs.ScriptAnswers.{HasLattice, ScriptAnswers, start_of, edited}
 use Rattle.kaba_top.specs.EditAnswers.{EditOf, ShowsHierarchy, edit_status}
@@ -68,22 +68,22 @@ ran bound script facts A p (Ok reply) is h =
 
 -- the hierarchy after it is shown
 pub shows : (bound : ℕ) (script : List ℕ) (facts : Facts) (p : Proposal) (r : Result Reply AllocError) → IsProposal bound script facts p
-    → IfOk r (λ reply. Gives (edit_status p.edited.refusals.items) (hierarchy_text facts p.edited.hier) p.edited.refusals.items reply.status
+    → IfOk r (λ reply. GivesReply (edit_status p.edited.refusals.items) (hierarchy_text facts p.edited.hier) p.edited.refusals.items reply.status
     reply.out.items reply.err.items)
     → IfOk r (λ reply. EditOf bound script facts reply.status reply.out.items reply.err.items)
 shows bound script facts p r is h =
     let has = has_lattice bound script facts p is in
     ran bound script facts (ShowsHierarchy bound facts) p r is
-    (subst (λ lines. IfOk r (λ reply. Gives (edit_status lines) (hierarchy_text facts (edited bound facts has is.edits)) lines reply.status
+    (subst (λ lines. IfOk r (λ reply. GivesReply (edit_status lines) (hierarchy_text facts (edited bound facts has is.edits)) lines reply.status
     reply.out.items reply.err.items)) is.is.refusals
-    (subst (λ H. IfOk r (λ reply. Gives (edit_status p.edited.refusals.items) (hierarchy_text facts H) p.edited.refusals.items reply.status
+    (subst (λ H. IfOk r (λ reply. GivesReply (edit_status p.edited.refusals.items) (hierarchy_text facts H) p.edited.refusals.items reply.status
     reply.out.items reply.err.items)) is.is.hierarchy h))
 
 -- the program of a tree is written
 pub regenerated : (bound : ℕ) (script : List ℕ) (program : Program) (facts : Facts) (p : Proposal) (tree : Hierarchy) (log : List TreeStep) (text : List ℕ)
     (r : Result Reply AllocError) → (is : IsProposal bound script facts p)
     → IsWritten program facts p.sets p.edited.hier tree log text
-    → IfOk r (λ reply. Gives (edit_status p.edited.refusals.items) text (p.edited.refusals.items ++ log_text log) reply.status reply.out.items reply.err.items)
+    → IfOk r (λ reply. GivesReply (edit_status p.edited.refusals.items) text (p.edited.refusals.items ++ log_text log) reply.status reply.out.items reply.err.items)
     → IfOk r (λ reply. RegenOf bound script program facts reply.status reply.out.items reply.err.items)
 regenerated bound script program facts p tree log text (Err e) is written h = tt
 regenerated bound script program facts p tree log text (Ok reply) is written h = inr (record {
@@ -97,14 +97,14 @@ regenerated bound script program facts p tree log text (Ok reply) is written h =
     is = subst (λ H. IsTreeOf facts p.sets H log tree) is.is.hierarchy written.is;
     text = text;
     written = written.written;
-    gives = subst (λ lines. Gives (edit_status lines) text (lines ++ log_text log) reply.status reply.out.items reply.err.items) is.is.refusals h;
+    gives = subst (λ lines. GivesReply (edit_status lines) text (lines ++ log_text log) reply.status reply.out.items reply.err.items) is.is.refusals h;
   });
 })
 
 -- there is no tree, and drops and fresh names alone do not lead there
 pub without_tree : (bound : ℕ) (script : List ℕ) (program : Program) (facts : Facts) (p : Proposal) (fault : NoTree) (status : ℕ) (out err : List ℕ)
     → (is : IsProposal bound script facts p) → HasFacts program facts → IsStuck facts p.sets p.edited.hier fault
-    → Gives 5 [] (p.edited.refusals.items ++ (log_text fault.log.items ++ line (no_tree_text fault))) status out err
+    → GivesReply 5 [] (p.edited.refusals.items ++ (log_text fault.log.items ++ line (no_tree_text fault))) status out err
     → IsWithoutTree program bound facts (has_lattice bound script facts p is) is.edits status out err
 without_tree bound script program facts p fault status out err is known stuck h =
     let has = has_lattice bound script facts p is in
@@ -116,12 +116,12 @@ without_tree bound script program facts p fault status out err is known stuck h 
           (no_interface program facts known none)
           (subst (IsReached facts p.sets p.table p.lattice) (sym is.is.hierarchy) (reached facts p.sets p.table p.lattice (start_of bound facts has)
           is.edits modest begun));
-      gives = subst (λ lines. Gives 5 [] (lines ++ (log_text fault.log.items ++ line (no_tree_text fault))) status out err) is.is.refusals h;
+      gives = subst (λ lines. GivesReply 5 [] (lines ++ (log_text fault.log.items ++ line (no_tree_text fault))) status out err) is.is.refusals h;
     }
 
 pub stuck_answers : (bound : ℕ) (script : List ℕ) (program : Program) (facts : Facts) (p : Proposal) (fault : NoTree) (r : Result Reply AllocError)
     → IsProposal bound script facts p → HasFacts program facts → IsStuck facts p.sets p.edited.hier fault
-    → IfOk r (λ reply. Gives 5 [] (p.edited.refusals.items ++ (log_text fault.log.items ++ line (no_tree_text fault))) reply.status reply.out.items
+    → IfOk r (λ reply. GivesReply 5 [] (p.edited.refusals.items ++ (log_text fault.log.items ++ line (no_tree_text fault))) reply.status reply.out.items
     reply.err.items)
     → IfOk r (λ reply. RegenOf bound script program facts reply.status reply.out.items reply.err.items)
 stuck_answers bound script program facts p fault (Err e) is known stuck h = tt

@@ -7,7 +7,7 @@ use Rattle.java_core.specs.Programs.{Plain, program_of}
 use Rattle.java_meaning.specs.Moment as meaning
 use Rattle.java_run.specs.Outcomes.{meant}
 use Rattle.fact_model.specs.declared.facts.Facts.{Facts}
-use Rattle.flow_rules.specs.Facts.{IsWithin}
+use Rattle.flow_rules.specs.Facts.{IsWithinLimits}
 use Rattle.edit_script.specs.declared.lines.Line.{Line}
 use Rattle.kaba_words.specs.Commands.{Cmd, run, table, lattice, base, why, same, edit, regen, make, help, version, usual_concepts}
 use Rattle.kaba_top.specs.TextPrograms.{IsTypedText}
@@ -23,7 +23,7 @@ use Rattle.kaba_top.specs.ScriptAnswers.{HasLattice, ScriptAnswers, refusals}
 use Rattle.kaba_top.specs.EditAnswers.{ShowsHierarchy, EditOf}
 use Rattle.kaba_top.specs.RegenAnswers.{IsRegeneration, RegenOf}
 use Rattle.kaba_top.specs.Answers.{FileAnswers, NamedAnswers, EditAnswers, RegenAnswers, CommandAnswers}
-use Rattle.kaba_top.specs.OneAnswer.{OfSmallFile, IsTaken, IsTakenWithin, HasFewConcepts, IsTakenFor, HasFewImplications, IsTakenForBase, IsAcceptedScript, IsReady, IsDoneWith, IsComplete}
+use Rattle.kaba_top.specs.OneAnswer.{OfSmallFile, IsTaken, IsTakenWithin, HasFewConcepts, IsTakenFor, HasFewImplications, IsTakenForBase, IsAcceptedScript, HasAllInput, IsDoneWith, IsComplete}
 use Rattle.kaba_words.proofs.OneCommand.{one_command}
 use Rattle.kaba_top.proofs.OneText.{one_program, not_both}
 use Rattle.kaba_top.proofs.Absent.{none_some}
@@ -45,7 +45,7 @@ module _ (status : ℕ) (out err : List ℕ) where
   of_text K D bytes P t f (inr a) = f a.program (one_program bytes P (program_of a.program) t a.is) a.answers
 
   -- the program has facts
-  of_facts : (J : Facts → ℕ → List ℕ → List ℕ → Type 0) (D : Type 0) (p : Program) → IsWithin (program_of p)
+  of_facts : (J : Facts → ℕ → List ℕ → List ℕ → Type 0) (D : Type 0) (p : Program) → IsWithinLimits (program_of p)
       → ((F : Facts) → HasFacts p F → J F status out err → D) → AnalysisAnswers J p status out err → D
   of_facts J D p w f (inl a) = absurd (none_some w.counts a.over)
   of_facts J D p w f (inr a) = f a.facts a.has a.answers
@@ -87,7 +87,7 @@ module _ (status : ℕ) (out err : List ℕ) where
       → (status ≡ 0) ⊎ (status ≡ 4)
   of_edit bound bytes script t ok a =
       of_text (AnalysisAnswers (EditOf bound script)) ((status ≡ 0) ⊎ (status ≡ 4)) bytes t.0 t.1
-      (λ p e b. of_facts (EditOf bound script) ((status ≡ 0) ⊎ (status ≡ 4)) p (subst IsWithin e t.2)
+      (λ p e b. of_facts (EditOf bound script) ((status ≡ 0) ⊎ (status ≡ 4)) p (subst IsWithinLimits e t.2)
       (λ F h c. of_script bound script p F (ShowsHierarchy bound F) ((status ≡ 0) ⊎ (status ≡ 4)) h (subst (HasFewConcepts bound) e t.3) ok
       (λ l es g. by_lines (length (refusals bound F l es) == 0) g.status_is) c) b) a
 
@@ -95,13 +95,13 @@ module _ (status : ℕ) (out err : List ℕ) where
       → (status ≡ 0) ⊎ ((status ≡ 4) ⊎ (status ≡ 5))
   of_regen bound bytes script t ok a =
       of_text (λ p. AnalysisAnswers (RegenOf bound script p) p) ((status ≡ 0) ⊎ ((status ≡ 4) ⊎ (status ≡ 5))) bytes t.0 t.1
-      (λ p e b. of_facts (RegenOf bound script p) ((status ≡ 0) ⊎ ((status ≡ 4) ⊎ (status ≡ 5))) p (subst IsWithin e t.2)
+      (λ p e b. of_facts (RegenOf bound script p) ((status ≡ 0) ⊎ ((status ≡ 4) ⊎ (status ≡ 5))) p (subst IsWithinLimits e t.2)
       (λ F h c. of_script bound script p F (IsRegeneration p bound F) ((status ≡ 0) ⊎ ((status ≡ 4) ⊎ (status ≡ 5))) h
       (subst (HasFewConcepts bound) e t.3) ok
       (λ l es g. ⊎_elim (λ w. ⊎_elim (λ z. inl z) (λ z. inr (inl z)) (by_lines (length (refusals bound F l es) == 0) w.gives.status_is))
       (λ n. inr (inr n.gives.status_is)) g) c) b) a
 
-  done : (c : Cmd) (first second : Files) → IsReady c first second → CommandAnswers c first second status out err → IsDoneWith c status
+  done : (c : Cmd) (first second : Files) → HasAllInput c first second → CommandAnswers c first second status out err → IsDoneWith c status
   done (run file steps words) first second r a =
       of_file (TextAnswers (RunAnswers steps words)) IsTaken ((status ≡ 0) ⊎ ((status ≡ 10) ⊎ (status ≡ 11))) first file r
       (λ bytes t b. of_text (RunAnswers steps words) ((status ≡ 0) ⊎ ((status ≡ 10) ⊎ (status ≡ 11))) bytes t.0 t.1
@@ -109,23 +109,23 @@ module _ (status : ℕ) (out err : List ℕ) where
   done (table file) first second r a =
       of_file (TextAnswers (AnalysisAnswers TableOf)) IsTakenWithin (status ≡ 0) first file r
       (λ bytes t b. of_text (AnalysisAnswers TableOf) (status ≡ 0) bytes t.0 t.1
-      (λ p e c. of_facts TableOf (status ≡ 0) p (subst IsWithin e t.2) (λ F h g. g.gives.status_is) c) b) a
+      (λ p e c. of_facts TableOf (status ≡ 0) p (subst IsWithinLimits e t.2) (λ F h g. g.gives.status_is) c) b) a
   done (lattice json bound file) first second r a =
       of_file (TextAnswers (AnalysisAnswers (LatticeOf json bound))) (IsTakenFor bound) (status ≡ 0) first file r
       (λ bytes t b. of_text (AnalysisAnswers (LatticeOf json bound)) (status ≡ 0) bytes t.0 t.1
-      (λ p e c. of_facts (LatticeOf json bound) (status ≡ 0) p (subst IsWithin e t.2)
+      (λ p e c. of_facts (LatticeOf json bound) (status ≡ 0) p (subst IsWithinLimits e t.2)
       (λ F h g. ⊎_elim (λ m. absurd (subst (HasFewConcepts bound) e t.3 F g.table (text_facts p F h) g.is m.more)) (λ l. l.gives.status_is) g.answers) c) b) a
   done (base file) first second r a =
       of_file (TextAnswers (AnalysisAnswers BaseOf)) IsTakenForBase (status ≡ 0) first file r
       (λ bytes t b. of_text (AnalysisAnswers BaseOf) (status ≡ 0) bytes t.0 t.1
-      (λ p e c. of_facts BaseOf (status ≡ 0) p (subst IsWithin e t.2)
+      (λ p e c. of_facts BaseOf (status ≡ 0) p (subst IsWithinLimits e t.2)
       (λ F h g. ⊎_elim (λ m. absurd (subst (HasFewConcepts usual_concepts) e t.3 F g.table (text_facts p F h) g.is m.more))
       (λ few. ⊎_elim (λ m. absurd (subst HasFewImplications e t.4 F g.table (text_facts p F h) g.is m.more)) (λ l. l.gives.status_is) few.answers)
       g.answers) c) b) a
   done (why file row column) first second r a =
       of_file (TextAnswers (AnalysisAnswers (WhyOf row column))) IsTakenWithin ((status ≡ 0) ⊎ (status ≡ 71)) first file r
       (λ bytes t b. of_text (AnalysisAnswers (WhyOf row column)) ((status ≡ 0) ⊎ (status ≡ 71)) bytes t.0 t.1
-      (λ p e c. of_facts (WhyOf row column) ((status ≡ 0) ⊎ (status ≡ 71)) p (subst IsWithin e t.2)
+      (λ p e c. of_facts (WhyOf row column) ((status ≡ 0) ⊎ (status ≡ 71)) p (subst IsWithinLimits e t.2)
       (λ F h g. ⊎_elim (λ n. inr n.says.status_is) (λ l. inl l.gives.status_is) g) c) b) a
   done (same file other) first second r a =
       of_named (λ p. NamedAnswers (SameOf file other p) second other) ((status ≡ 0) ⊎ (status ≡ 1)) first file r.0

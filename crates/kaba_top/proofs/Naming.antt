@@ -10,10 +10,10 @@ use Rattle.kaba_top.specs.declared.same.Found.TheVariants as founds
 use Rattle.kaba_top.specs.Lines.{Says, line}
 use Rattle.kaba_top.specs.Agreement.{Agrees}
 use Rattle.kaba_top.specs.Reading.{IsRefusedText}
-use Rattle.kaba_top.specs.SameAnswers.{named, IsNamed, SameOf}
-use Rattle.kaba_top.specs.Answers.{IsTooLarge, IsFault, NamedAnswers, CommandReplies}
-use Rattle.kaba_top.specs.Fetching.{IsThere, IsRefused}
-use Rattle.kaba_top.specs.Named.{IsNamedReading, IsProgramThere, NothingFor, IsNoProgram, IsFound, NamedReplies}
+use Rattle.kaba_top.specs.SameAnswers.{named, IsFileNamed, SameOf}
+use Rattle.kaba_top.specs.Answers.{IsTooLarge, IsShelfFault, NamedAnswers, CommandReplies}
+use Rattle.kaba_top.specs.Fetching.{IsThere, IsFileRefused}
+use Rattle.kaba_top.specs.Named.{IsNamedReading, IsProgramThere, NothingFor, IsNoProgram, IsProgramFound, NamedReplies}
 
 -- a line for err, and nothing for out
 record IsLine (out err : List ℕ) : Type 0 where
@@ -34,7 +34,7 @@ refused_line bytes s o e (inr (inr (inr (inr a)))) = said_line a.says
 
 -- the same line with the name of the file
 with_name : (A : ℕ → List ℕ → List ℕ → Type 0) (file : List ℕ) (s t : ℕ) (o p e f : List ℕ) → A s o e → (l : IsLine o e)
-    → Says s (named file l.text) t p f → IsNamed file A t p f
+    → Says s (named file l.text) t p f → IsFileNamed file A t p f
 with_name A file s t o p e f a l says = record {
   text = l.text;
   answers = subst (λ z. A z p (line l.text)) (sym says.status_is)
@@ -44,7 +44,7 @@ with_name A file s t o p e f a l says = record {
 
 pub refused_named : (bytes file : List ℕ) (reply told : Reply) → IsRefusedText bytes reply.status reply.out.items reply.err.items
     → ((text : List ℕ) → reply.err.items ≡ line text → Says reply.status (named file text) told.status told.out.items told.err.items)
-    → IsNamed file (IsRefusedText bytes) told.status told.out.items told.err.items
+    → IsFileNamed file (IsRefusedText bytes) told.status told.out.items told.err.items
 refused_named bytes file reply told a h =
     let l = refused_line bytes reply.status reply.out.items reply.err.items a in
     with_name (IsRefusedText bytes) file reply.status told.status reply.out.items told.out.items reply.err.items told.err.items a l (h l.text l.err_is)
@@ -52,7 +52,7 @@ refused_named bytes file reply told a h =
 module _ (told : Option Files) (before now : ℕ) (name : List ℕ) where
   -- the bytes of the file are there
   pub found_there : (bytes : List ℕ) (r : Result Found AllocError) → IsThere told name bytes → IfOk r (IsNamedReading name bytes)
-      → IfOk r (IsFound told before now name)
+      → IfOk r (IsProgramFound told before now name)
   found_there bytes (Err e) there h = tt
   found_there bytes (Ok (founds.Typed program)) there h =
       record { files = there.files; agrees = there.agrees; bytes = bytes; there = there.there; small = there.small; is = h }
@@ -65,7 +65,7 @@ module _ (told : Option Files) (before now : ℕ) (name : List ℕ) where
   -- the file is too large
   large_named : (files : Files) (reply more : Reply) → IsTooLarge files name reply.status reply.out.items reply.err.items
       → ((text : List ℕ) → reply.err.items ≡ line text → Says reply.status (named name text) more.status more.out.items more.err.items)
-      → IsNamed name (IsTooLarge files name) more.status more.out.items more.err.items
+      → IsFileNamed name (IsTooLarge files name) more.status more.out.items more.err.items
   large_named files reply more a h =
       let l = said_line a.says in
       with_name (IsTooLarge files name) name reply.status more.status reply.out.items more.out.items reply.err.items more.err.items a l
@@ -75,9 +75,9 @@ module _ (told : Option Files) (before now : ℕ) (name : List ℕ) where
   not_large n status e h k = omega (arith, e, h, k)
 
   pub found_large : (reply more : Reply) → reply.status ≡ 67
-      → IsRefused told name reply.status reply.out.items reply.err.items ⊎ IsFault before now name reply.status reply.out.items reply.err.items
+      → IsFileRefused told name reply.status reply.out.items reply.err.items ⊎ IsShelfFault before now name reply.status reply.out.items reply.err.items
       → ((text : List ℕ) → reply.err.items ≡ line text → Says reply.status (named name text) more.status more.out.items more.err.items)
-      → IsFound told before now name (founds.Refused more)
+      → IsProgramFound told before now name (founds.Refused more)
   found_large reply more e (inl r) h = inl (record {
     files = r.files;
     agrees = r.agrees;
@@ -86,8 +86,8 @@ module _ (told : Option Files) (before now : ℕ) (name : List ℕ) where
   found_large reply more e (inr f) h = absurd (not_large 66 reply.status refl f.says.status_is e)
 
   pub found_none : (reply : Reply) → (reply.status ≡ 67 → ⊥)
-      → IsRefused told name reply.status reply.out.items reply.err.items ⊎ IsFault before now name reply.status reply.out.items reply.err.items
-      → IsFound told before now name (founds.Refused reply)
+      → IsFileRefused told name reply.status reply.out.items reply.err.items ⊎ IsShelfFault before now name reply.status reply.out.items reply.err.items
+      → IsProgramFound told before now name (founds.Refused reply)
   found_none reply other (inl r) = inl (record {
     files = r.files;
     agrees = r.agrees;
@@ -126,7 +126,7 @@ module _ (told : Option Files) (before now : ℕ) (name : List ℕ) (K : Program
     }));
   })
 
-  pub reply_none : (reply : Reply) → IsFound told before now name (founds.Refused reply)
+  pub reply_none : (reply : Reply) → IsProgramFound told before now name (founds.Refused reply)
       → NamedReplies told before now K name reply.status reply.out.items reply.err.items
   reply_none reply (inl r) = inl (record {
     first = r.files;
@@ -159,7 +159,7 @@ module _ (file other : List ℕ) where
   both_named told told_then before mid now program (Ok reply) same_files later there (inr f) =
       inr (record { file = other; names = inr refl; fault = record { rose = omega (arith, later, f.rose); says = f.says } })
 
-  pub none_named : (told : Option Files) (before now : ℕ) (reply : Reply) → IsFound told before now file (founds.Refused reply)
+  pub none_named : (told : Option Files) (before now : ℕ) (reply : Reply) → IsProgramFound told before now file (founds.Refused reply)
       → CommandReplies told before now (same file other) reply.status reply.out.items reply.err.items
   none_named told before now reply (inl r) = inl (record {
     first = r.files;

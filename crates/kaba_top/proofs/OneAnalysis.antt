@@ -11,11 +11,11 @@ use Rattle.fact_model.specs.declared.facts.Facts.{Facts}
 use Rattle.fact_model.specs.declared.sets.Table.{Table}
 use Rattle.fact_model.specs.declared.sets.Lattice.{Lattice}
 use Rattle.fact_model.specs.Concepts.{pair_of, IsLattice, AreMoreThan}
-use Rattle.concept_build.specs.Laws.{Told, told}
+use Rattle.concept_build.specs.Laws.{ToldConcept, told}
 use Rattle.concept_build.proofs.Uniqueness.{one_lattice, not_both}
 use Rattle.flow_rules.specs.Facts.{TooMany, too_many}
 use Rattle.flow_program.specs.Known.{AreProgramFacts}
-use Rattle.flow_program.specs.Same.{AreSame}
+use Rattle.flow_program.specs.Same.{AreSameFacts}
 use Rattle.flow_program.proofs.OneAnswer.{same_facts}
 use Rattle.hier_model.specs.Hierarchies.{Hierarchy}
 use Rattle.hier_model.specs.Start.{start_of}
@@ -29,7 +29,7 @@ use Rattle.hier_model.specs.declared.edits.Act.TheVariants as acts
 use Rattle.hier_script.specs.Scripts.{History, unedited, kept, refusal, after_act, act_refusal, after_acts, refusals_from, after_edits, refusals_of}
 use Rattle.hier_script.specs.Refusals.{broken_text}
 use Rattle.hier_tree.specs.declared.Conflict.{Conflict}
-use Rattle.hier_tree.specs.Trees.{Try, MakeOne, PutUnder, Step, End, Tree, Stuck, Grows, IsEditOf, try_of}
+use Rattle.hier_tree.specs.Trees.{Try, MakeOne, PutUnder, GrowthStep, GrowthEnd, Tree, Stuck, Grows, IsEditOf, try_of}
 use Rattle.hier_tree.proofs.GrowLemmas.{one_tree}
 use Rattle.hier_rules.specs.declared.broken.Broken.{Broken}
 use Rattle.tree_merge.specs.declared.steps.TreeStep.{TreeStep}
@@ -41,7 +41,7 @@ use Rattle.write_model.specs.Written.{java_tree}
 use Rattle.java_write.specs.Written.{IsWrittenText}
 use Rattle.kaba_top.specs.declared.cause_words.Cause.TheVariants as cause
 use Rattle.kaba_top.specs.CauseWords.{cause_text}
-use Rattle.kaba_top.specs.Lines.{Says, Gives, line}
+use Rattle.kaba_top.specs.Lines.{Says, GivesReply, line}
 use Rattle.kaba_top.specs.TextFacts.{shown}
 use Rattle.kaba_top.specs.FactsAnswers.{AnalysisAnswers, TableOf, LatticeOf, too_many_concepts}
 use Rattle.kaba_top.specs.ScriptAnswers.{HasLattice, ScriptAnswers, bad_script, too_many_edits, edited, refusals}
@@ -60,7 +60,7 @@ pub said : (n : ℕ) (x y : List ℕ) → x ≡ y → AreOneKind (Says n x) (Say
 said n x y q s t o p e f a b =
     record { status = a.status_is ∙ sym b.status_is; out = inl (a.out_is ∙ sym b.out_is); err = inl (a.err_is ∙ ap line q ∙ sym b.err_is) }
 
-pub given : (n m : ℕ) (x y v w : List ℕ) → n ≡ m → x ≡ y → v ≡ w → AreOneKind (Gives n x v) (Gives m y w)
+pub given : (n m : ℕ) (x y v w : List ℕ) → n ≡ m → x ≡ y → v ≡ w → AreOneKind (GivesReply n x v) (GivesReply m y w)
 given n m x y v w k q r s t o p e f a b =
     record { status = a.status_is ∙ k ∙ sym b.status_is; out = inl (a.out_is ∙ q ∙ sym b.out_is); err = inl (a.err_is ∙ r ∙ sym b.err_is) }
 
@@ -69,7 +69,7 @@ no_some e = cc e
 
 -- ---- the facts of a program
 
-module _ (J L : Facts → ℕ → List ℕ → List ℕ → Type 0) (one : (F G : Facts) → AreSame F G → AreOneKind (J F) (L G)) where
+module _ (J L : Facts → ℕ → List ℕ → List ℕ → Type 0) (one : (F G : Facts) → AreSameFacts F G → AreOneKind (J F) (L G)) where
   pub one_analysis : (p q : Program) → program_of p ≡ program_of q → AreOneKind (AnalysisAnswers J p) (AnalysisAnswers L q)
   one_analysis p q same s t o r e f (inl a) (inl b) =
       let over = same_Some (record { what = a.what; number = a.number }) (record { what = b.what; number = b.number })
@@ -83,7 +83,7 @@ module _ (J L : Facts → ℕ → List ℕ → List ℕ → Type 0) (one : (F G 
 
 -- ---- the table and the lattice
 
-module _ {F G : Facts} (same : AreSame F G) where
+module _ {F G : Facts} (same : AreSameFacts F G) where
   pub one_table_text : AreOneKind (TableOf F) (TableOf G)
   one_table_text s t o p e f a b =
       given 0 0 _ _ [] [] refl (table_text_is same a.table b.table (one_table same a.table b.table a.is b.is)) refl s t o p e f a.gives b.gives
@@ -121,7 +121,7 @@ module _ {F G : Facts} (same : AreSame F G) where
 
 -- ---- a script
 
-module _ {F G : Facts} (same : AreSame F G) (bound : ℕ) (h : HasLattice bound F) (k : HasLattice bound G) where
+module _ {F G : Facts} (same : AreSameFacts F G) (bound : ℕ) (h : HasLattice bound F) (k : HasLattice bound G) where
   points : h.sets.points.items ≡ k.sets.points.items
   points = one_points same h.sets k.sets h.are_sets k.are_sets
 
@@ -136,8 +136,8 @@ module _ {F G : Facts} (same : AreSame F G) (bound : ℕ) (h : HasLattice bound 
 
   pairs : map pair_of h.lattice.concepts.items ≡ map pair_of k.lattice.concepts.items
   pairs =
-      sym (map_map (λ (z : Told). z.0) told h.lattice.concepts.items) ∙ ap (map (λ (z : Told). z.0)) tells
-      ∙ map_map (λ (z : Told). z.0) told k.lattice.concepts.items
+      sym (map_map (λ (z : ToldConcept). z.0) told h.lattice.concepts.items) ∙ ap (map (λ (z : ToldConcept). z.0)) tells
+      ∙ map_map (λ (z : ToldConcept). z.0) told k.lattice.concepts.items
 
   pub start : script.start_of bound F h ≡ script.start_of bound G k
   start = (λ i. start_of F (rows i) (pairs i)) ∙ start_is same k.table.rows.items (map pair_of k.lattice.concepts.items)
@@ -181,15 +181,15 @@ module _ {F G : Facts} (same : AreSame F G) (bound : ℕ) (h : HasLattice bound 
   one_refusals es fs one = ap (λ H. refusals_of F h.sets H es) start ∙ refused_is es fs one (unedited (script.start_of bound G k))
 
   -- the steps of both are those of one
-  pub steps_on : {H K : Hierarchy} → H ≡ K → {log : List Step} {end : End} → Grows F h.sets H log end → Grows G k.sets K log end
+  pub steps_on : {H K : Hierarchy} → H ≡ K → {log : List GrowthStep} {end : GrowthEnd} → Grows F h.sets H log end → Grows G k.sets K log end
   steps_on e {log} {end} g = subst (λ z. Grows G k.sets z log end) e (grows_on same h.sets k.sets points set_rows g)
 
   -- and from the start they come to one end
-  pub tree_of_start : {log other : List Step} {end end2 : End} → Grows F h.sets (script.start_of bound F h) log end
+  pub tree_of_start : {log other : List GrowthStep} {end end2 : GrowthEnd} → Grows F h.sets (script.start_of bound F h) log end
       → Grows G k.sets (script.start_of bound G k) other end2 → (log ≡ other) × (end ≡ end2)
   tree_of_start {log} {other} {end} {end2} a b = one_tree G k.sets (script.start_of bound G k) log other end end2 (steps_on start a) b
 
-module _ {F G : Facts} (same : AreSame F G) (bound : ℕ) (text : List ℕ) (A : HasLattice bound F → List Line → ℕ → List ℕ → List ℕ → Type 0)
+module _ {F G : Facts} (same : AreSameFacts F G) (bound : ℕ) (text : List ℕ) (A : HasLattice bound F → List Line → ℕ → List ℕ → List ℕ → Type 0)
     (B : HasLattice bound G → List Line → ℕ → List ℕ → List ℕ → Type 0)
     (one : (h : HasLattice bound F) (k : HasLattice bound G) (es fs : List Line) → AreOneList es fs → AreOneKind (A h es) (B k fs)) where
   over : (t : Table) (k : HasLattice bound G) → t.rows.items ≡ k.table.rows.items → t.width ≡ k.table.width → AreMoreThan t.rows.items t.width bound → ⊥
@@ -230,7 +230,7 @@ module _ {F G : Facts} (same : AreSame F G) (bound : ℕ) (text : List ℕ) (A :
   one_scripted s t o p e f (inr a) (inr b) =
       one a.has b.has a.edits b.edits (one_script text a.edits b.edits a.are b.are) s t o p e f a.answers b.answers
 
-module _ {F G : Facts} (same : AreSame F G) (bound : ℕ) (text : List ℕ) where
+module _ {F G : Facts} (same : AreSameFacts F G) (bound : ℕ) (text : List ℕ) where
   pub one_edit_text : AreOneKind (EditOf bound text F) (EditOf bound text G)
   one_edit_text =
       one_scripted same bound text (ShowsHierarchy bound F) (ShowsHierarchy bound G)
@@ -254,7 +254,7 @@ tried_text (edit.TypeName n name) h = absurd h
 tried_text (edit.MemberName c name) h = absurd h
 tried_text (edit.Drop n) h = absurd h
 
-abbrev step_line : Step → List ℕ
+abbrev step_line : GrowthStep → List ℕ
 step_line s = codes "tree " ++ (conflict_text s.conflict ++ (codes ": " ++ (try_text s.try ++ 10 ∷ [])))
 
 logged : (log : List TreeStep) → AreEdits log → log_text log ≡ flat_map step_line (steps_of log)
@@ -280,16 +280,16 @@ broken_same : {H K : Hierarchy} {c d : Conflict} {b b2 : Broken} → Stuck H c b
 broken_same e = cc e
 
 -- the texts of one tree are one
-pub one_written : (F G : Facts) → AreSame F G → (p q : Program) → program_of p ≡ program_of q → (H K : Hierarchy) → H ≡ K → (v w : List ℕ)
+pub one_written : (F G : Facts) → AreSameFacts F G → (p q : Program) → program_of p ≡ program_of q → (H K : Hierarchy) → H ≡ K → (v w : List ℕ)
     → IsWrittenText p F H v → IsWrittenText q G K w → v ≡ w
 one_written F G same p q e H K t v w a b =
     a.layout
     ∙ ap (λ z. encode_utf8_all (tree_text z)) (tree_is same H (program_of p) ∙ (λ i. java_tree (e i) G (t i)))
     ∙ sym b.layout
 
-module _ (p q : Program) (same_program : program_of p ≡ program_of q) {F G : Facts} (same : AreSame F G) (bound : ℕ) (text : List ℕ) where
+module _ (p q : Program) (same_program : program_of p ≡ program_of q) {F G : Facts} (same : AreSameFacts F G) (bound : ℕ) (text : List ℕ) where
   module _ (h : HasLattice bound F) (k : HasLattice bound G) (es fs : List Line) (one : AreOneList es fs) where
-    ended : {log other : List Step} {end end2 : End} → Grows F h.sets (edited bound F h es) log end → Grows G k.sets (edited bound G k fs) other end2
+    ended : {log other : List GrowthStep} {end end2 : GrowthEnd} → Grows F h.sets (edited bound F h es) log end → Grows G k.sets (edited bound G k fs) other end2
         → (log ≡ other) × (end ≡ end2)
     ended {log} {other} {end} {end2} a b =
         one_tree G k.sets (edited bound G k fs) log other end end2 (steps_on same bound h k (one_edited same bound h k es fs one) a) b

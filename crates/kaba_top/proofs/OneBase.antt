@@ -6,7 +6,7 @@ use Rattle.fact_model.specs.Concepts.{AreMoreThan}
 use Rattle.stem_base.specs.Base.{Sides, common, IsStemBase, AreMoreStems}
 use Rattle.stem_base.specs.Text.{base_text}
 use Rattle.stem_base.proofs.Uniqueness.{one_base, never_both}
-use Rattle.flow_program.specs.Same.{AreSame}
+use Rattle.flow_program.specs.Same.{AreSameFacts}
 use Rattle.kaba_words.specs.Commands.{usual_concepts}
 use Rattle.kaba_top.specs.FactsAnswers.{too_many_concepts}
 use Rattle.kaba_top.specs.BaseAnswers.{most_implications, too_many_implications, StemsOf, BaseOf}
@@ -36,7 +36,7 @@ one_stems a b rows width s t o p e f (inr x) (inr y) =
     given 0 0 (base_text x.base) (base_text y.base) [] [] refl
     (ap base_text (one_base b.rows.items b.width x.base y.base (base_there a b rows width x.base x.is) y.is)) refl s t o p e f x.gives y.gives
 
-pub one_base_text : {F G : Facts} → AreSame F G → AreOneKind (BaseOf F) (BaseOf G)
+pub one_base_text : {F G : Facts} → AreSameFacts F G → AreOneKind (BaseOf F) (BaseOf G)
 one_base_text same s t o p e f a b =
     let rows = one_table same a.table b.table a.is b.is in
     let width = one_width same a.table b.table a.is b.is in

@@ -9,7 +9,7 @@ use Rattle.java_meaning.specs.Moment as meaning
 use Rattle.java_run.specs.Outcomes.{meant}
 use Rattle.fact_model.specs.declared.facts.Facts.{Facts}
 use Rattle.fact_model.specs.declared.sets.Lattice.{Lattice}
-use Rattle.flow_program.specs.Same.{AreSame}
+use Rattle.flow_program.specs.Same.{AreSameFacts}
 use Rattle.hier_model.specs.Hierarchies.{Hierarchy}
 use Rattle.hier_view.specs.Text.{live_nodes}
 use Rattle.tree_merge.specs.declared.steps.TreeStep.{TreeStep}
@@ -78,7 +78,7 @@ one_made_text K L one v w alike s t o p e f (inr a) (inl b) = let n = ap length 
 one_made_text K L one v w alike s t o p e f (inr a) (inr b) =
     one_text K L one w s t o p e f (subst (λ z. TextAnswers K z s o e) alike a.answers) b.answers
 
-one_counts : (F G : Facts) → AreSame F G → (l m : Lattice) → map told l.concepts.items ≡ map told m.concepts.items → (H K : Hierarchy) → H ≡ K
+one_counts : (F G : Facts) → AreSameFacts F G → (l m : Lattice) → map told l.concepts.items ≡ map told m.concepts.items → (H K : Hierarchy) → H ≡ K
     → (log other : List TreeStep) → steps_of log ≡ steps_of other → counts_of F l H log ≡ counts_of G m K other
 one_counts F G alike l m tells H K trees log other e =
     let concepts : length l.concepts.items ≡ length m.concepts.items =
@@ -92,7 +92,7 @@ one_counts F G alike l m tells H K trees log other e =
       tree = steps i;
     }
 
-one_made : (p q : Program) → program_of p ≡ program_of q → (F G : Facts) → AreSame F G → AreOneKind (MadeOf p F) (MadeOf q G)
+one_made : (p q : Program) → program_of p ≡ program_of q → (F G : Facts) → AreSameFacts F G → AreOneKind (MadeOf p F) (MadeOf q G)
 one_made p q program F G alike s t o r e f (inl a) (inl b) =
     said 68 (too_many_concepts usual_concepts) (too_many_concepts usual_concepts) refl s t o r e f a.many.says b.many.says
 one_made p q program F G alike s t o r e f (inl a) (inr b) =

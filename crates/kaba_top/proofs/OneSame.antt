@@ -8,9 +8,9 @@ use Rattle.java_core.specs.Programs.{Plain, program_of}
 use Rattle.rebuild_model.specs.OnePrograms as programs
 use Rattle.kaba_top.specs.Lines.{line, file_too_large, cannot_read}
 use Rattle.kaba_top.specs.Reading.{IsRefusedText}
-use Rattle.kaba_top.specs.SameAnswers.{named, IsNamed, SameOf}
+use Rattle.kaba_top.specs.SameAnswers.{named, IsFileNamed, SameOf}
 use Rattle.kaba_top.specs.Answers.{IsTooLarge, NamedTextAnswers, NamedAnswers, SameAnswers}
-use Rattle.kaba_top.specs.OneAnswer.{AreOne, AreOneKind}
+use Rattle.kaba_top.specs.OneAnswer.{AreOneAnswer, AreOneKind}
 use Rattle.kaba_top.proofs.OneText.{one_program, not_both, one_refusal}
 use Rattle.kaba_top.proofs.OneAnalysis.{said, given}
 use Rattle.kaba_top.proofs.Absent.{none_some}
@@ -23,7 +23,7 @@ module _ (file : List ℕ) where
   named_line : {e f x y : List ℕ} → e ≡ line (named file x) → f ≡ line (named file y) → x ≡ y → e ≡ f
   named_line h k q = h ∙ ap (λ z. line (named file z)) q ∙ sym k
 
-  one_named_refusal : (bytes : List ℕ) → AreOneKind (IsNamed file (IsRefusedText bytes)) (IsNamed file (IsRefusedText bytes))
+  one_named_refusal : (bytes : List ℕ) → AreOneKind (IsFileNamed file (IsRefusedText bytes)) (IsFileNamed file (IsRefusedText bytes))
   one_named_refusal bytes s t o p e f a b =
       let r = one_refusal bytes s t o p (line a.text) (line b.text) a.answers b.answers in
       record {
@@ -41,7 +41,7 @@ module _ (file : List ℕ) where
             })))) r.err;
       }
 
-  one_named_large : (files : Files) → AreOneKind (IsNamed file (IsTooLarge files file)) (IsNamed file (IsTooLarge files file))
+  one_named_large : (files : Files) → AreOneKind (IsFileNamed file (IsTooLarge files file)) (IsFileNamed file (IsTooLarge files file))
   one_named_large files s t o p e f a b = record {
     status = a.answers.says.status_is ∙ sym b.answers.says.status_is;
     out = inl (a.answers.says.out_is ∙ sym b.answers.says.out_is);

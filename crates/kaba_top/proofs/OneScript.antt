@@ -18,7 +18,7 @@ use Rattle.hier_model.specs.Hierarchies.{Hierarchy}
 use Rattle.hier_model.specs.Edits.{first_unknown, first_between, merged, unless, changed}
 use Rattle.fact_model.specs.declared.facts.Facts.{Facts}
 use Rattle.edit_script.specs.declared.lines.Line.{Line}
-use Rattle.edit_script.specs.Script.{is_space, is_there, parts_of, words_in, node_word, column_word, words_of, IsId, IsNode, IsSound, IsComment, WritesAct, IsActLine, IsBadLine, IsNext, AreEditsFrom, AreEditsOf, IsFirstBadFrom, IsFirstBadLine, lines_of}
+use Rattle.edit_script.specs.Script.{is_space, is_there, parts_of, words_in, node_word, column_word, words_of, IsId, IsNode, IsSound, IsComment, WritesAct, IsActLine, IsBadLine, IsNextAct, AreEditsFrom, AreEditsOf, IsFirstBadFrom, IsFirstBadLine, lines_of}
 
 heads : {A : Type 0} {x y : A} {xs ys : List A} → x ∷ xs ≡ y ∷ ys → x ≡ y
 heads e = cc e
@@ -170,7 +170,7 @@ AreOneList (e ∷ es) [] = ⊥
 AreOneList (e ∷ es) (f ∷ fs) = (e.number ≡ f.number) × AreOneAct e.act f.act × AreOneList es fs
 
 one_next : (k : ℕ) (line : List ℕ) (K : List Line → Type 0) → ((es fs : List Line) → K es → K fs → AreOneList es fs) → (es fs : List Line)
-    → IsNext k line K es → IsNext k line K fs → AreOneList es fs
+    → IsNextAct k line K es → IsNextAct k line K fs → AreOneList es fs
 one_next k line K one [] fs h g = absurd h
 one_next k line K one (e ∷ es) [] h g = absurd g
 one_next k line K one (e ∷ es) (f ∷ fs) h g = (
@@ -179,7 +179,7 @@ one_next k line K one (e ∷ es) (f ∷ fs) h g = (
   one es fs h.2 g.2,
 )
 
-no_next : (k : ℕ) (line : List ℕ) (K : List Line → Type 0) (es : List Line) → IsComment line → IsNext k line K es → ⊥
+no_next : (k : ℕ) (line : List ℕ) (K : List Line → Type 0) (es : List Line) → IsComment line → IsNextAct k line K es → ⊥
 no_next k line K [] c h = h
 no_next k line K (e ∷ es) c h = no_act line e.act c h.1
 
@@ -202,11 +202,11 @@ one_count (e ∷ es) [] h = absurd h
 one_count (e ∷ es) (f ∷ fs) h = let z = one_count es fs h.2 in omega (arith, z)
 
 -- a script with a bad line has no edits
-edit_there : (k : ℕ) (line : List ℕ) (K : List Line → Type 0) (es : List Line) → IsBadLine line → IsNext k line K es → ⊥
+edit_there : (k : ℕ) (line : List ℕ) (K : List Line → Type 0) (es : List Line) → IsBadLine line → IsNextAct k line K es → ⊥
 edit_there k line K [] b h = h
 edit_there k line K (e ∷ es) b h = b.no_act e.act h.1
 
-rest_there : (k : ℕ) (line : List ℕ) (K : List Line → Type 0) (es : List Line) → IsNext k line K es → (fs : List Line) × K fs
+rest_there : (k : ℕ) (line : List ℕ) (K : List Line → Type 0) (es : List Line) → IsNextAct k line K es → (fs : List Line) × K fs
 rest_there k line K [] h = absurd h
 rest_there k line K (e ∷ es) h = (es, h.2)
 

@@ -20,7 +20,7 @@ use Rattle.name_laws.proofs.OnlyWhole.{only}
 use Rattle.kaba_top.specs.Lines.{Says, line}
 use Rattle.kaba_top.specs.TextPrograms.{most_nesting, IsParsedAs, HasProgram, IsTypedText}
 use Rattle.kaba_top.specs.Reading.{refused, lex_text, at_token, line_of, IsRefusedText, TextAnswers}
-use Rattle.kaba_top.specs.OneAnswer.{AreFree, AreOne, AreOneKind}
+use Rattle.kaba_top.specs.OneAnswer.{AreFree, AreOneAnswer, AreOneKind}
 use Rattle.write_laws.proofs.given.Read.{read_formed}
 
 ok_same : {A B : Type 0} {a b : A} → ◌≡◌ {A = Result A B} (Ok a) (Ok b) → a ≡ b
@@ -136,7 +136,7 @@ module _ (bytes : List ℕ) where
   one_refusal s t o p e f (inr (inr (inr (inr a)))) (inr (inr (inr (inr b)))) = free s t o p e f _ _ a.says b.says (inr (a, b))
 
 -- so they are one
-once : (bytes : List ℕ) (s t : ℕ) (o p e f : List ℕ) → RefusesOnce bytes s t o p e f → AreOne s o e t p f
+once : (bytes : List ℕ) (s t : ℕ) (o p e f : List ℕ) → RefusesOnce bytes s t o p e f → AreOneAnswer s o e t p f
 once bytes s t o p e f r = record { status = r.status; out = inl r.out; err = ⊎_elim (λ q. inl q) (λ c. inr (inl (bytes, c))) r.err }
 
 -- the answers for a text, where the answers for its program are one

@@ -7,11 +7,11 @@ use Rattle.kaba_words.specs.declared.words.Command.{Command}
 use Rattle.kaba_words.specs.Commands.{command_of, Fits, FitsNone}
 use Rattle.kaba_top.specs.Lines.{Says, usage, cannot_read, most_bytes, file_too_large}
 use Rattle.kaba_top.specs.Agreement.{Agrees}
-use Rattle.kaba_top.specs.Answers.{IsMissing, IsTooLarge, FileAnswers, IsFault, Names, CommandAnswers, CommandReplies, Replies}
+use Rattle.kaba_top.specs.Answers.{IsMissing, IsTooLarge, FileAnswers, IsShelfFault, NamesFiles, CommandAnswers, CommandReplies, Replies}
 use Rattle.kaba_top.specs.declared.answer.Shows.{Shows}
 use Rattle.kaba_top.specs.declared.answer.Shows.TheVariants as shows
 use Rattle.kaba_top.specs.Shown.{ShownAnswers, command_showing}
-use Rattle.kaba_top.specs.Fetching.{IsThere, IsRefused, FileReplies}
+use Rattle.kaba_top.specs.Fetching.{IsThere, IsFileRefused, FileReplies}
 
 found : (f : Files) (name bytes : List ℕ) (o : Option (List ℕ)) → f name ≡ o → ((b : List ℕ) → f name ≡ Some b → bytes ≡ b) → (f name ≡ None → ⊥)
     → length bytes ≤ most_bytes → IsThere (Some f) name bytes
@@ -24,7 +24,7 @@ is_there (Some f) name bytes same present small = found f name bytes (f name) re
 is_there None name bytes same present small = record { files = λ _. Some bytes; agrees = λ _. refl; there = refl; small = small }
 
 pub cannot : (told : Option Files) (before now : ℕ) (name : List ℕ) (status : ℕ) (out err : List ℕ) → Rose before now ⊎ IsAbsent told name
-    → Says 66 (cannot_read name) status out err → IsRefused told name status out err ⊎ IsFault before now name status out err
+    → Says 66 (cannot_read name) status out err → IsFileRefused told name status out err ⊎ IsShelfFault before now name status out err
 cannot told before now name status out err (inl rose) says = inr (record { rose = rose; says = says })
 cannot (Some f) before now name status out err (inr absent) says =
     inl (record { files = f; agrees = refl; refused = inl (record { missing = absent; says = says }) })
@@ -36,14 +36,14 @@ longer (suc n) = (0 ∷ (longer n).0, omega (arith, (longer n).1))
 
 larger : (f : Files) (name : List ℕ) (status : ℕ) (out err : List ℕ) (o : Option (List ℕ)) → f name ≡ o
     → ((b : List ℕ) → f name ≡ Some b → most_bytes < length b) → (f name ≡ None → ⊥) → Says 67 file_too_large status out err
-    → IsRefused (Some f) name status out err
+    → IsFileRefused (Some f) name status out err
 larger f name status out err None e large present says = absurd (present e)
 larger f name status out err (Some b) e large present says =
     record { files = f; agrees = refl; refused = inr (record { bytes = b; there = e; large = large b e; says = says }) }
 
 pub too_large : (told : Option Files) (before now : ℕ) (name : List ℕ) (status : ℕ) (out err : List ℕ)
     → ((b : List ℕ) → IsFile told name b → most_bytes < length b) → (IsAbsent told name → ⊥) → Says 67 file_too_large status out err
-    → IsRefused told name status out err ⊎ IsFault before now name status out err
+    → IsFileRefused told name status out err ⊎ IsShelfFault before now name status out err
 too_large (Some f) before now name status out err large present says = inl (larger f name status out err (f name) refl large present says)
 too_large None before now name status out err large present says =
     inl (record {
@@ -117,7 +117,7 @@ reads_shown : (s : Shows) (bound : ℕ) (file script : List ℕ) (first second :
 reads_shown shows.Hierarchy bound file script first second status out err h = h
 reads_shown shows.Program bound file script first second status out err h = h
 
-names_shown : (s : Shows) (bound : ℕ) (file script name : List ℕ) → (name ≡ file) ⊎ (name ≡ script) → Names (command_showing s bound file script) name
+names_shown : (s : Shows) (bound : ℕ) (file script name : List ℕ) → (name ≡ file) ⊎ (name ≡ script) → NamesFiles (command_showing s bound file script) name
 names_shown shows.Hierarchy bound file script name h = h
 names_shown shows.Program bound file script name h = h
 
@@ -146,7 +146,7 @@ module _ (s : Shows) (bound : ℕ) (file script : List ℕ) where
 
   -- the first of the two files was not read
   pub no_first_file : (told : Option Files) (before now : ℕ) (status : ℕ) (out err : List ℕ)
-      → IsRefused told file status out err ⊎ IsFault before now file status out err
+      → IsFileRefused told file status out err ⊎ IsShelfFault before now file status out err
       → CommandReplies told before now (command_showing s bound file script) status out err
   no_first_file told before now status out err (inl r) = inl (record {
     first = r.files;

@@ -9,7 +9,7 @@ use Rattle.java_core.specs.declared.Ty.{Ty}
 use Rattle.java_core.specs.declared.TyBase.TheVariants.{Int, Char}
 use Rattle.java_core.specs.declared.BinOp.{BinOp}
 use Rattle.java_core.specs.declared.BinOp.TheVariants as bin
-use Rattle.java_core.specs.Trees.{Ex, Exs, no_ex, ex_then, number, character, text, truth, null, this, local, static_field, own_field, field, index, call, static_call, super_call, create, create_array, cast, instance_of, unary, binary, Target, to_local, to_static, to_own, to_field, to_element, no_target, St, Sts, Arms, declare, block, assign, act, print, choose, loop, return, break, continue, no_st, st_then, no_other, otherwise, arm}
+use Rattle.java_core.specs.Trees.{Ex, Exs, no_ex, ex_then, number, character, text, truth, null, this, local, static_field, own_field, field, index, call, static_call, super_call, create, create_array, cast, instance_of, unary, binary, Target, to_local, to_static, to_own, to_field, to_element, no_target, St, Sts, IfArms, declare, block, assign, act, print, choose, loop, return, break, continue, no_st, st_then, no_other, otherwise, arm}
 use Rattle.java_core.specs.Programs.{Plain, PlainClass, PlainMethod}
 use Rattle.java_core.specs.Classes.{below, nearest, own_declaration, has_slot, nearest_declaration, has_body, is_interface, is_concrete}
 use Rattle.java_core.specs.Types.{Static, a_value, null_value, no_value, Env, env_of, class_type, class_in, class_of, element_of, is_numeric, is_boolean, is_string, is_printable, is_object, is_only, fits, fits_in, are_comparable, Signature, types_of, string_method, signature_of_string, object_signature, call_signature, super_signature, signature_of_slot, signature_of_method, field_in, value_type, length_or, access_type, or_nothing, result_of, binary_type, static, target_type}
@@ -248,7 +248,7 @@ module _ (P : Plain) where
       sts no_st h = t_no_st
       sts (st_then x xs) (t_st_then h hs) = t_st_then (st x h) (sts xs hs)
 
-      arms : (xs : Arms) → TypedArms U g (bare_arms xs) → TypedArms P g xs
+      arms : (xs : IfArms) → TypedArms U g (bare_arms xs) → TypedArms P g xs
       arms no_other h = t_no_other
       arms (otherwise xs) (t_otherwise h) = t_otherwise (sts xs h)
       arms (arm e xs more) (t_arm h a hs k) = t_arm (ex e h) (holds (ap is_boolean (static_is e)) a) (sts xs hs) (arms more k)

@@ -12,13 +12,13 @@ use Rattle.fact_model.specs.declared.facts.ColumnInfo.{ColumnInfo}
 use Rattle.fact_model.specs.declared.facts.CellInfo.{CellInfo}
 use Rattle.fact_model.specs.declared.facts.ColKind.TheVariants.{Is}
 use Rattle.fact_model.specs.Items.{site_at, cell_at, row_at, column_at, point_row, site_class, site_row, row_class, row_this, column_class, column_kind, column_slot}
-use Rattle.fact_model.specs.Classes.{parent_of, supers_of, IsBelow, same, through, IsStrictlyBelow, reaches, below, is_interface, is_body, own_body, finds_within, finds}
+use Rattle.fact_model.specs.Classes.{parent_of, supers_of, IsBelow, same, through, IsStrictSubclass, reaches, below, is_interface, is_body, own_body, finds_within, finds}
 use Rattle.flow_rules.specs.Facts.{ClassFacts, class_seen}
-use Rattle.flow_program.specs.Same.{AreSame}
+use Rattle.flow_program.specs.Same.{AreSameFacts}
 use Rattle.kaba_top.proofs.SameLists.{or_seen, then_seen}
 
 -- the same from the other side
-pub turned : (F G : Facts) → AreSame F G → AreSame G F
+pub turned : (F G : Facts) → AreSameFacts F G → AreSameFacts G F
 turned F G s = record {
   rows = sym s.rows;
   columns = sym s.columns;
@@ -44,7 +44,7 @@ turned F G s = record {
   vars = λ x. ((s.vars x).1, (s.vars x).0);
 }
 
-module _ {F G : Facts} (s : AreSame F G) where
+module _ {F G : Facts} (s : AreSameFacts F G) where
   -- ---- what a number names
 
   pub site_at_is : (n : ℕ) → site_at F n ≡ site_at G n
@@ -127,5 +127,5 @@ module _ {F G : Facts} (s : AreSame F G) where
   below_on same = same
   below_on (through {a = a} {c = c} h r) = through (subst (λ z. Contains z c) (supers_is a) h) (below_on r)
 
-  pub strictly_on : {a b : ℕ} → IsStrictlyBelow F a b → IsStrictlyBelow G a b
+  pub strictly_on : {a b : ℕ} → IsStrictSubclass F a b → IsStrictSubclass G a b
   strictly_on {a} h = record { by = h.by; direct = subst (λ z. Contains z h.by) (supers_is a) h.direct; rest = below_on h.rest }

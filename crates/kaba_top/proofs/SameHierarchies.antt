@@ -25,10 +25,10 @@ use Rattle.hier_model.specs.declared.edits.Edit.{Edit}
 use Rattle.hier_model.specs.declared.edits.Edit.TheVariants as edit
 use Rattle.hier_model.specs.declared.edits.ChangeFault.TheVariants.{UnknownNode, UnknownMember, Cycle}
 use Rattle.flow_rules.specs.Facts.{ClassFacts}
-use Rattle.flow_program.specs.Same.{AreSame}
+use Rattle.flow_program.specs.Same.{AreSameFacts}
 use Rattle.kaba_top.proofs.SameFacts.{site_at_is, site_row_is, column_at_is, column_class_is, row_this_is, kind_is, slot_is, by_class, interface_is, below_is}
 
-module _ {F G : Facts} (s : AreSame F G) where
+module _ {F G : Facts} (s : AreSameFacts F G) where
   -- ---- names
 
   name_is : (c : ℕ) → name_of F c ≡ name_of G c

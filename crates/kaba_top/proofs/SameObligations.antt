@@ -23,12 +23,12 @@ use Rattle.hier_rules.specs.First.{first_changed_run, first_of_edit}
 use Rattle.hier_rules.specs.Instances.{of_both, of_row, of_column, of_node, of_three}
 use Rattle.flow_rules.specs.Lists.{PlainCall}
 use Rattle.flow_rules.specs.Facts.{ClassFacts, class_seen, call_seen}
-use Rattle.flow_program.specs.Same.{AreSame}
+use Rattle.flow_program.specs.Same.{AreSameFacts}
 use Rattle.kaba_top.proofs.SameLists.{any_set, bound_set, any_seen, bound_seen}
 use Rattle.kaba_top.proofs.SameFacts.{site_at_is, site_class_is, site_row_is, row_class_is, column_class_is, kind_is, slot_is, below_is, finds_is}
 use Rattle.kaba_top.proofs.SameHierarchies.{class_node_is}
 
-module _ {F G : Facts} (s : AreSame F G) where
+module _ {F G : Facts} (s : AreSameFacts F G) where
   -- ---- what the obligations ask of the facts
 
   tie_is : (l u : ℕ) → is_tie F l u ≡ is_tie G l u

@@ -12,17 +12,17 @@ use Rattle.fact_model.specs.declared.facts.BodyInfo.{BodyInfo}
 use Rattle.fact_model.specs.declared.sets.PointsTo.{PointsTo}
 use Rattle.fact_model.specs.declared.sets.Table.{Table}
 use Rattle.fact_model.specs.Items.{site_class, column_class, IsColumn}
-use Rattle.fact_model.specs.Classes.{finds, IsBelow, IsStrictlyBelow}
-use Rattle.fact_model.specs.Flowing.{Fact, in_point, in_cell, IsCell, Fits, Runs, point_at, Inclusion, by_new, by_flow, by_load, by_store, by_this, by_argument, by_result, by_cast, Holds, IsInRow, by_point, by_cell, AreSets}
+use Rattle.fact_model.specs.Classes.{finds, IsBelow, IsStrictSubclass}
+use Rattle.fact_model.specs.Flowing.{Fact, in_point, in_cell, IsCell, FitsStore, CallRuns, point_at, Inclusion, by_new, by_flow, by_load, by_store, by_this, by_argument, by_result, by_cast, Holds, IsInRow, by_point, by_cell, AreSets}
 use Rattle.fact_model.specs.Entries.{Entry, Hides, Entails, by_access, by_need, by_declared, by_body, by_super, by_tie, by_site, by_hiding, by_test, by_array, IsEntry, IsTable}
 use Rattle.fact_model.specs.Entries as rules
 use Rattle.flow_rules.specs.Lists.{PlainCall}
 use Rattle.flow_rules.specs.Facts.{PlainBody, call_seen, body_seen}
-use Rattle.flow_program.specs.Same.{AreSame}
+use Rattle.flow_program.specs.Same.{AreSameFacts}
 use Rattle.kaba_top.proofs.SameLists.{same_truth, seen_in}
 use Rattle.kaba_top.proofs.SameFacts.{turned, site_at_is, cell_at_is, point_row_is, site_class_is, site_row_is, row_this_is, column_class_is, kind_is, slot_is, finds_is, below_on, strictly_on}
 
-module _ {F G : Facts} (s : AreSame F G) where
+module _ {F G : Facts} (s : AreSameFacts F G) where
   -- ---- inclusions
 
   cell_on : {c o : ℕ} {column : Option ColId} → IsCell F c o column → IsCell G c o column
@@ -32,7 +32,7 @@ module _ {F G : Facts} (s : AreSame F G) where
     column_is = sym (λ i. (cell_at_is s c i).column) ∙ h.column_is;
   }
 
-  fits_on : (column : Option ColId) (n o : ℕ) → Fits F column n o → Fits G column n o
+  fits_on : (column : Option ColId) (n o : ℕ) → FitsStore F column n o → FitsStore G column n o
   fits_on None n o h = subst (λ z. IsBelow G z (site_class G o)) (site_class_is s n) (subst (λ z. IsBelow G (site_class F n) z)
       (site_class_is s o) (below_on s h))
   fits_on (Some c) n o h = tt
@@ -43,9 +43,9 @@ module _ {F G : Facts} (s : AreSame F G) where
     body_there : BodyInfo
     call_is : call_seen call_there ≡ call_seen call
     body_is : body_seen body_there ≡ body_seen body
-    runs : Runs G call_there o body_there
+    runs : CallRuns G call_there o body_there
 
-  seen : (call : CallInfo) (o : ℕ) (body : BodyInfo) → Runs F call o body → Seen call o body
+  seen : (call : CallInfo) (o : ℕ) (body : BodyInfo) → CallRuns F call o body → Seen call o body
   seen call o body r =
       let c = seen_in call_seen F.calls.items G.calls.items s.calls call r.called in
       let b = seen_in body_seen F.bodies.items G.bodies.items s.bodies body r.listed in
@@ -109,8 +109,8 @@ module _ {F G : Facts} (s : AreSame F G) where
     method = ⊎_elim (λ e. inl (sym (kind_is s d) ∙ e)) (λ e. inr (sym (kind_is s d) ∙ e)) h.method;
     kind = sym (kind_is s d) ∙ h.kind ∙ kind_is s c;
     slot = sym (slot_is s d) ∙ h.slot ∙ slot_is s c;
-    class = subst (λ z. IsStrictlyBelow G z (column_class G c)) (column_class_is s d)
-        (subst (λ z. IsStrictlyBelow G (column_class F d) z) (column_class_is s c) (strictly_on s h.class));
+    class = subst (λ z. IsStrictSubclass G z (column_class G c)) (column_class_is s d)
+        (subst (λ z. IsStrictSubclass G (column_class F d) z) (column_class_is s c) (strictly_on s h.class));
   }
 
   entails_on : {ps : List Entry} {e : Entry} → Entails F ps e → Entails G ps e
@@ -149,7 +149,7 @@ one_family n w a b p q u v f g = same_rows w a b (p ∙ sym q) u v (λ k i. same
 
 -- ---- the sets and the table are one
 
-module _ {F G : Facts} (s : AreSame F G) where
+module _ {F G : Facts} (s : AreSameFacts F G) where
   pub one_points : (t u : PointsTo) → AreSets F t → AreSets G u → t.points.items ≡ u.points.items
   one_points t u a b =
       one_family (length G.points.items) (length G.sites.items) t.points.items u.points.items (a.point_count ∙ ap length s.points) b.point_count

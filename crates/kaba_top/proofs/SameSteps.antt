@@ -12,13 +12,13 @@ use Rattle.hier_model.specs.declared.edits.ChangeFault.{ChangeFault}
 use Rattle.hier_model.specs.declared.edits.ChangeFault.TheVariants.{UnknownNode, Cycle}
 use Rattle.hier_edit.specs.Applied.{unless_broken, outcome, applied}
 use Rattle.hier_tree.specs.declared.Conflict.{Conflict}
-use Rattle.hier_tree.specs.Trees.{Try, MakeOne, PutUnder, tries_of_one, tries_of_lower, tries_of_higher, tries_of_others, tries_by, tries_of, changed_by, tried, accepted_or, first_accepted, last_try, conflict_of, Step, End, Grows, done, stuck, step}
-use Rattle.flow_program.specs.Same.{AreSame}
+use Rattle.hier_tree.specs.Trees.{Try, MakeOne, PutUnder, tries_of_one, tries_of_lower, tries_of_higher, tries_of_others, tries_by, tries_of, changed_by, tried, accepted_or, first_accepted, last_try, conflict_of, GrowthStep, GrowthEnd, Grows, done, stuck, step}
+use Rattle.flow_program.specs.Same.{AreSameFacts}
 use Rattle.kaba_top.proofs.SameFacts.{below_is}
 use Rattle.kaba_top.proofs.SameHierarchies.{merged_is, changed_is}
 use Rattle.kaba_top.proofs.SameObligations.{unchained_are, of_edit_are}
 
-module _ {F G : Facts} (s : AreSame F G) where
+module _ {F G : Facts} (s : AreSameFacts F G) where
   tries_by_is : (H : Hierarchy) (x y : NodeId) (o p : Option ClassId) → tries_by F H x y o p ≡ tries_by G H x y o p
   tries_by_is H x y (Some k) (Some l) =
       λ i. if k.0 == l.0 then tries_of_one H k x y else
@@ -52,7 +52,7 @@ module _ {F G : Facts} (s : AreSame F G) where
     accepted_of H c = ap (first_accepted F t H) (tries_are H c) ∙ accepted_is H (tries_of G H c)
 
     -- the same steps lead to the same end
-    pub grows_on : {H : Hierarchy} {log : List Step} {end : End} → Grows F t H log end → Grows G u H log end
+    pub grows_on : {H : Hierarchy} {log : List GrowthStep} {end : GrowthEnd} → Grows F t H log end → Grows G u H log end
     grows_on {H} (done e) = done (sym (unchained_are s H) ∙ e)
     grows_on {H} (stuck {b = b} {t = try} a c d e) =
         stuck (sym (unchained_are s H) ∙ a) (sym (accepted_of H (conflict_of b)) ∙ c) (ap last_try (sym (tries_are H (conflict_of b))) ∙ d)

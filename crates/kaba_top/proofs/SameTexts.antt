@@ -19,20 +19,20 @@ use Rattle.fact_model.specs.declared.sets.Lattice.{Lattice}
 use Rattle.fact_model.specs.declared.sets.Concept.{Concept}
 use Rattle.hier_model.specs.Hierarchies.{Hierarchy, stands_at, place_of_row, type_name, member_name, origin_of}
 use Rattle.hier_model.specs.Edits.{is_mark}
-use Rattle.concept_build.specs.Laws.{Told, told}
+use Rattle.concept_build.specs.Laws.{ToldConcept, told}
 use Rattle.lattice_view.specs.Lists.{part_text}
 use Rattle.lattice_view.specs.Table.{rows_text, columns_text, table_text}
 use Rattle.lattice_view.specs.Text.{concept_text, concepts_text, lattice_text}
 use Rattle.lattice_view.specs.Json.{numbers_data, names_data, concept_parts, concept_data, lattice_parts, lattice_json}
 use Rattle.hier_view.specs.Text.{those_below, live_nodes, covers_of, columns_at, name_part, column_part, column_parts, name_in, origin_text, kind_text, head_text, node_line, hierarchy_text}
 use Rattle.flow_rules.specs.Facts.{ClassFacts}
-use Rattle.flow_program.specs.Same.{AreSame}
+use Rattle.flow_program.specs.Same.{AreSameFacts}
 use Rattle.kaba_top.proofs.SameFacts.{kind_is, by_class}
 use Rattle.kaba_top.proofs.SameHierarchies.{class_node_is}
 
 -- ---- lattices
 
-abbrev line_of : ℕ → Told → List ℕ
+abbrev line_of : ℕ → ToldConcept → List ℕ
 line_of k x =
     codes "k" ++ (decimal k ++ (codes " " ++ (decimal (size x.0.0) ++ (codes " " ++ (decimal (size x.0.1)
     ++ (part_text (codes " columns:") (codes "c") (map (λ c. c.0) x.3)
@@ -40,7 +40,7 @@ line_of k x =
     ++ (part_text (codes " above:") (codes "k") x.1
     ++ codes "\n"))))))))
 
-abbrev lines_of : ℕ → List Told → List ℕ
+abbrev lines_of : ℕ → List ToldConcept → List ℕ
 lines_of k [] = []
 lines_of k (x ∷ xs) = line_of k x ++ lines_of (k + 1) xs
 
@@ -48,7 +48,7 @@ lines_told : (k : ℕ) (xs : List Concept) → concepts_text k xs ≡ lines_of k
 lines_told k [] = refl
 lines_told k (x ∷ xs) = ap (λ z. concept_text k x ++ z) (lines_told (k + 1) xs)
 
-abbrev data_of : Told → Data
+abbrev data_of : ToldConcept → Data
 data_of x = concept_parts (numbers_data x.1) (numbers_data (map (λ c. c.0) x.3)) (numbers_data (map (λ r. r.0) x.2)) (size x.0.0)
 
 one_text : (xs ys : List Concept) → map told xs ≡ map told ys → concepts_text 0 xs ≡ concepts_text 0 ys
@@ -65,7 +65,7 @@ lattice_text_is l m e =
     λ i. codes "concepts " ++ (decimal (one_length l.concepts.items m.concepts.items e i)
     ++ (codes "\n" ++ one_text l.concepts.items m.concepts.items e i))
 
-module _ {F G : Facts} (s : AreSame F G) where
+module _ {F G : Facts} (s : AreSameFacts F G) where
   pub lattice_json_is : (l m : Lattice) → map told l.concepts.items ≡ map told m.concepts.items → lattice_json F l ≡ lattice_json G m
   lattice_json_is l m e =
       λ i. compact_text (lattice_parts (names_data (map (λ c. c.label) (s.columns i)))

@@ -23,11 +23,11 @@ use Rattle.write_model.specs.Names.{modifier, by_number}
 use Rattle.write_model.specs.Members.{is_declaration, filling, first_head, slot_head, bodyless, is_first_there, heads_of_slot, column_heads, own_member, column_members, filler, class_members, interface_heads}
 use Rattle.write_model.specs.Supers.{is_above, is_cover, nodes_that, is_class_above, superclass, type_id, extended, implemented, covering}
 use Rattle.write_model.specs.Written.{class_modifiers, class_tree, interface_tree, type_tree, type_trees, holder_trees, java_tree}
-use Rattle.flow_program.specs.Same.{AreSame}
+use Rattle.flow_program.specs.Same.{AreSameFacts}
 use Rattle.kaba_top.proofs.SameFacts.{site_at_is, site_row_is, kind_is, slot_is}
 use Rattle.kaba_top.proofs.SameHierarchies.{class_node_is}
 
-module _ {F G : Facts} (s : AreSame F G) (H : Hierarchy) where
+module _ {F G : Facts} (s : AreSameFacts F G) (H : Hierarchy) where
   made_is : (n : ℕ) → is_made_at F H n ≡ is_made_at G H n
   made_is n = λ i. any_below (length (s.sites i)) (λ k. ((site_at_is s k i).dim == 0) && (place_of_row H (site_row_is s k i) == n))
 

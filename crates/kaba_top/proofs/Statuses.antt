@@ -8,7 +8,7 @@ use Rattle.fact_model.specs.declared.facts.Facts.{Facts}
 use Rattle.java_run.specs.Outcomes.{meant}
 use Rattle.kaba_words.specs.Commands.{Cmd, run, table, lattice, base, why, same, edit, regen, make, help, version}
 use Rattle.kaba_top.specs.About.{help_text, version_text}
-use Rattle.kaba_top.specs.Lines.{Says, Gives}
+use Rattle.kaba_top.specs.Lines.{Says, GivesReply}
 use Rattle.kaba_top.specs.Reading.{IsRefusedText, TextAnswers}
 use Rattle.kaba_top.specs.RunAnswers.{EndGives, RunAnswers}
 use Rattle.kaba_top.specs.FactsAnswers.{AnalysisAnswers, TableOf, LatticeOf}
@@ -35,7 +35,7 @@ AreOther A = (status : ℕ) (out err : List ℕ) → A status out err → IsOthe
 said : (n : ℕ) → IsOther n → (text : List ℕ) → AreOther (Says n text)
 said n o text status out err h = ((λ e. o.0 (omega (arith, e, h.status_is))), (λ e. o.1 (omega (arith, e, h.status_is))))
 
-gave : (n : ℕ) → IsOther n → (bytes lines : List ℕ) → AreOther (Gives n bytes lines)
+gave : (n : ℕ) → IsOther n → (bytes lines : List ℕ) → AreOther (GivesReply n bytes lines)
 gave n o bytes lines status out err h = ((λ e. o.0 (omega (arith, e, h.status_is))), (λ e. o.1 (omega (arith, e, h.status_is))))
 
 refused : (bytes : List ℕ) → AreOther (IsRefusedText bytes)
@@ -86,7 +86,7 @@ why_other : (row column : ℕ) (f : Facts) → AreOther (WhyOf row column f)
 why_other row column f status out err (inl none) = said 71 (omega arith, omega arith) _ status out err none.says
 why_other row column f status out err (inr shown) = gave 0 (omega arith, omega arith) _ _ status out err shown.gives
 
-after_script : (none : Bool) (bytes refusals : List ℕ) → AreOther (Gives (if none then 0 else 4) bytes refusals)
+after_script : (none : Bool) (bytes refusals : List ℕ) → AreOther (GivesReply (if none then 0 else 4) bytes refusals)
 after_script true bytes refusals status out err h = gave 0 (omega arith, omega arith) _ _ status out err h
 after_script false bytes refusals status out err h = gave 4 (omega arith, omega arith) _ _ status out err h
 

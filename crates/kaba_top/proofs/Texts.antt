@@ -5,7 +5,7 @@ use Rattle.kaba_base.specs.declared.Place.{Place}
 use Rattle.java_lex.specs.declared.Token.{Token}
 use Rattle.java_lex.specs.declared.LexFault.{LexFault}
 use Rattle.java_lex.specs.declared.LexFault.TheVariants as lexing
-use Rattle.java_lex.specs.Lexing.{tokens_of, Gives}
+use Rattle.java_lex.specs.Lexing.{tokens_of, GivesTokens}
 use Rattle.java_tree.specs.Nesting as nesting
 use Rattle.java_tree.specs.Syntax.{DeclTree}
 use Rattle.java_tree.specs.Declarations.{IsPlaced}
@@ -26,9 +26,9 @@ use Rattle.kaba_top.specs.declared.reading.Reading.TheVariants as readings
 use Rattle.kaba_top.specs.Lines.{Says}
 use Rattle.kaba_top.specs.TextPrograms.{IsTypedText, most_nesting}
 use Rattle.kaba_top.specs.Reading.{IsRefusedText, TextAnswers, IsOfText, IsOfTree, refused, at_token, lex_text, naming_text, typing_text, line_of}
-use Rattle.kaba_top.specs.Readings.{IsReading, IsReadingOfProgram, IsResolved, IsReadingOfTree}
+use Rattle.kaba_top.specs.Readings.{IsProgramReading, IsReadingOfProgram, IsResolved, IsReadingOfTree}
 
-lexed_fault : (fault : LexFault) (bytes : List ℕ) → IsOfText fault → Gives (Err fault) (tokens_of bytes) → tokens_of bytes ≡ Err fault
+lexed_fault : (fault : LexFault) (bytes : List ℕ) → IsOfText fault → GivesTokens (Err fault) (tokens_of bytes) → tokens_of bytes ≡ Err fault
 lexed_fault lexing.Memory bytes t h = absurd t
 lexed_fault _ bytes t h = h
 
@@ -37,21 +37,21 @@ named_cause naming.Memory tree t h = absurd t
 named_cause _ tree t h = h
 
 -- a text without tokens, one that nests too deep, and one that has no tree
-pub no_tokens : (bytes : List ℕ) (fault : LexFault) (reply : Reply) → Gives (Err fault) (tokens_of bytes) → IsOfText fault
-    × Says 65 (refused (lex_text fault)) reply.status reply.out.items reply.err.items → IsReading bytes (readings.Refused reply)
+pub no_tokens : (bytes : List ℕ) (fault : LexFault) (reply : Reply) → GivesTokens (Err fault) (tokens_of bytes) → IsOfText fault
+    × Says 65 (refused (lex_text fault)) reply.status reply.out.items reply.err.items → IsProgramReading bytes (readings.Refused reply)
 unfolding IsRefusedText
 no_tokens bytes fault reply h s = inl (record { fault = fault; lexed = lexed_fault fault bytes s.0 h; says = s.1 })
 
 pub too_deep : (bytes : List ℕ) (tokens : List Token) (k : ℕ) (reply : Reply) → tokens_of bytes ≡ Ok tokens → nesting.IsTooDeep tokens k
     → Says 65 (refused (at_token (codes "TooDeep") k (line_of bytes k tokens))) reply.status reply.out.items reply.err.items
-    → IsReading bytes (readings.Refused reply)
+    → IsProgramReading bytes (readings.Refused reply)
 unfolding IsRefusedText
 too_deep bytes tokens k reply h d s = inr (inl (record { tokens = tokens; lexed = h; token = k; deep = d; says = s }))
 
 pub no_tree : (bytes : List ℕ) (tokens : List Token) (k : ℕ) (reply : Reply) → tokens_of bytes ≡ Ok tokens
     → (nesting.nesting_of tokens ≤ most_nesting) × IsExact tokens k
     → Says 65 (refused (at_token (codes "NotAProgram") k (line_of bytes k tokens))) reply.status reply.out.items reply.err.items
-    → IsReading bytes (readings.Refused reply)
+    → IsProgramReading bytes (readings.Refused reply)
 unfolding IsRefusedText
 no_tree bytes tokens k reply h w s = inr (inr (inl (record { tokens = tokens; lexed = h; nested = w.0; token = k; exact = w.1; says = s })))
 
@@ -80,7 +80,7 @@ unresolved tree why reply h s = inl (record { why = why; condition = named_cause
 
 -- what is known of the tree is known of the bytes that are read as it
 of_tree : (bytes : List ℕ) (tokens : List Token) (tree : List DeclTree) (reading : Reading) → tokens_of bytes ≡ Ok tokens
-    → nesting.nesting_of tokens ≤ most_nesting → IsPlaced tokens tree → IsReadingOfTree tree reading → IsReading bytes reading
+    → nesting.nesting_of tokens ≤ most_nesting → IsPlaced tokens tree → IsReadingOfTree tree reading → IsProgramReading bytes reading
 unfolding IsRefusedText
 of_tree bytes tokens tree (readings.Typed program) h d p t =
     record {
@@ -112,7 +112,7 @@ of_tree bytes tokens tree (readings.Refused reply) h d p (inr u) =
 
 pub read_as : (bytes : List ℕ) (tokens : List Token) (tree : List DeclTree) (r : Result Reading AllocError) → tokens_of bytes ≡ Ok tokens
     → nesting.nesting_of tokens ≤ most_nesting → IsPlaced tokens tree → IfOk r (λ reading. IsReadingOfTree tree reading)
-    → IfOk r (λ reading. IsReading bytes reading)
+    → IfOk r (λ reading. IsProgramReading bytes reading)
 read_as bytes tokens tree (Err e) h d p t = tt
 read_as bytes tokens tree (Ok reading) h d p t = of_tree bytes tokens tree reading h d p t
 

@@ -5,6 +5,6 @@ use Rattle.kaba_top.specs.declared.analysis.Analysed.TheVariants as analysed
 use Rattle.kaba_top.specs.FactsAnswers.{HasFacts, IsOverLimit}
 
 -- all that is known of the facts of the program, or a reply that it has none
-abbrev pub IsAnalysis : Program → Analysed → Type 0
-IsAnalysis program (analysed.Found facts) = HasFacts program facts
-IsAnalysis program (analysed.Refused reply) = IsOverLimit program reply.status reply.out.items reply.err.items
+abbrev pub IsAnalysisOf : Program → Analysed → Type 0
+IsAnalysisOf program (analysed.Found facts) = HasFacts program facts
+IsAnalysisOf program (analysed.Refused reply) = IsOverLimit program reply.status reply.out.items reply.err.items

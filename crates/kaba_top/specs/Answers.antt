@@ -4,14 +4,14 @@ use Rattle.kaba_base.specs.Outside.{Files, Rose, taken_more, HoldsPrefix}
 use Rattle.kaba_words.specs.Commands.{Cmd, run, table, lattice, base, why, same, edit, regen, make, help, version, Fits, FitsNone}
 use Rattle.kaba_top.specs.About.{help_text, version_text}
 use Rattle.kaba_top.specs.Agreement.{Agrees}
-use Rattle.kaba_top.specs.Lines.{Says, Gives, usage, cannot_read, most_bytes, file_too_large}
+use Rattle.kaba_top.specs.Lines.{Says, GivesReply, usage, cannot_read, most_bytes, file_too_large}
 use Rattle.java_core.specs.declared.Program.{Program}
 use Rattle.kaba_top.specs.Reading.{IsRefusedText, IsAnsweredText, TextAnswers}
 use Rattle.kaba_top.specs.RunAnswers.{RunAnswers}
 use Rattle.kaba_top.specs.FactsAnswers.{AnalysisAnswers, TableOf, LatticeOf}
 use Rattle.kaba_top.specs.BaseAnswers.{BaseOf}
 use Rattle.kaba_top.specs.WhyAnswers.{WhyOf}
-use Rattle.kaba_top.specs.SameAnswers.{IsNamed, SameOf}
+use Rattle.kaba_top.specs.SameAnswers.{IsFileNamed, SameOf}
 use Rattle.kaba_top.specs.EditAnswers.{EditOf}
 use Rattle.kaba_top.specs.RegenAnswers.{RegenOf}
 use Rattle.kaba_top.specs.MakeAnswers.{MakeAnswers}
@@ -46,12 +46,12 @@ FileAnswers K files file status out err = IsMissing files file status out err �
 
 -- the answers for the bytes of a file whose name is told where its text is refused, where K are those for its program
 abbrev pub NamedTextAnswers : List ℕ → (Program → ℕ → List ℕ → List ℕ → Type 0) → List ℕ → ℕ → List ℕ → List ℕ → Type 0
-NamedTextAnswers file K bytes status out err = IsNamed file (IsRefusedText bytes) status out err ⊎ IsAnsweredText K bytes status out err
+NamedTextAnswers file K bytes status out err = IsFileNamed file (IsRefusedText bytes) status out err ⊎ IsAnsweredText K bytes status out err
 
 -- the answers of a command that reads the program of a file, whose name is told where it is refused
 abbrev pub NamedAnswers : (Program → ℕ → List ℕ → List ℕ → Type 0) → Files → List ℕ → ℕ → List ℕ → List ℕ → Type 0
 NamedAnswers K files file status out err = IsMissing files file status out err
-    ⊎ (IsNamed file (IsTooLarge files file) status out err ⊎ IsRead (NamedTextAnswers file K) files file status out err)
+    ⊎ (IsFileNamed file (IsTooLarge files file) status out err ⊎ IsRead (NamedTextAnswers file K) files file status out err)
 
 -- the answers of `same`: the refusals of its first file, then those of its second, and then whether their programs are one
 abbrev pub SameAnswers : List ℕ → List ℕ → Files → Files → ℕ → List ℕ → List ℕ → Type 0
@@ -76,22 +76,22 @@ CommandAnswers (same file other) first second = SameAnswers file other first sec
 CommandAnswers (edit bound file script) first second = FileAnswers (λ bytes. FileAnswers (EditAnswers bound bytes) second script) first file
 CommandAnswers (regen bound file script) first second = FileAnswers (λ bytes. FileAnswers (RegenAnswers bound bytes) second script) first file
 CommandAnswers (make prints number) first second = MakeAnswers prints number
-CommandAnswers help first second = Gives 0 help_text []
-CommandAnswers version first second = Gives 0 version_text []
+CommandAnswers help first second = GivesReply 0 help_text []
+CommandAnswers version first second = GivesReply 0 version_text []
 
 -- the names of the files that a command reads
-abbrev pub Names : Cmd → List ℕ → Type 0
-Names (run file steps words) name = name ≡ file
-Names (table file) name = name ≡ file
-Names (lattice json bound file) name = name ≡ file
-Names (base file) name = name ≡ file
-Names (why file row column) name = name ≡ file
-Names (same file other) name = (name ≡ file) ⊎ (name ≡ other)
-Names (edit bound file script) name = (name ≡ file) ⊎ (name ≡ script)
-Names (regen bound file script) name = (name ≡ file) ⊎ (name ≡ script)
-Names (make prints number) name = ⊥
-Names help name = ⊥
-Names version name = ⊥
+abbrev pub NamesFiles : Cmd → List ℕ → Type 0
+NamesFiles (run file steps words) name = name ≡ file
+NamesFiles (table file) name = name ≡ file
+NamesFiles (lattice json bound file) name = name ≡ file
+NamesFiles (base file) name = name ≡ file
+NamesFiles (why file row column) name = name ≡ file
+NamesFiles (same file other) name = (name ≡ file) ⊎ (name ≡ other)
+NamesFiles (edit bound file script) name = (name ≡ file) ⊎ (name ≡ script)
+NamesFiles (regen bound file script) name = (name ≡ file) ⊎ (name ≡ script)
+NamesFiles (make prints number) name = ⊥
+NamesFiles help name = ⊥
+NamesFiles version name = ⊥
 
 -- the words say a command, and this is an answer of it
 pub record IsOfCommand (words : List (List ℕ)) (first second : Files) (status : ℕ) (out err : List ℕ) : Type 0 where
@@ -112,15 +112,15 @@ pub record IsAnswered (told : Option Files) (A : Files → Files → ℕ → Lis
   pub answers : A first second status out err
 
 -- a fault of the shelf: its count rose, and the line names this file
-pub record IsFault (before now : ℕ) (file : List ℕ) (status : ℕ) (out err : List ℕ) : Type 0 where
+pub record IsShelfFault (before now : ℕ) (file : List ℕ) (status : ℕ) (out err : List ℕ) : Type 0 where
   pub rose : Rose before now
   pub says : Says 66 (cannot_read file) status out err
 
 -- a fault at a file that the command reads
 pub record IsUnread (before now : ℕ) (command : Cmd) (status : ℕ) (out err : List ℕ) : Type 0 where
   pub file : List ℕ
-  pub names : Names command file
-  pub fault : IsFault before now file status out err
+  pub names : NamesFiles command file
+  pub fault : IsShelfFault before now file status out err
 
 -- a fault at a file that the words name
 pub record WasUnread (before now : ℕ) (words : List (List ℕ)) (status : ℕ) (out err : List ℕ) : Type 0 where

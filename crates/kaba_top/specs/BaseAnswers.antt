@@ -7,7 +7,7 @@ use Rattle.fact_model.specs.Concepts.{AreMoreThan}
 use Rattle.stem_base.specs.Base.{Sides, common, IsStemBase, AreMoreStems}
 use Rattle.stem_base.specs.Text.{base_text}
 use Rattle.kaba_words.specs.Commands.{usual_concepts}
-use Rattle.kaba_top.specs.Lines.{Says, Gives}
+use Rattle.kaba_top.specs.Lines.{Says, GivesReply}
 use Rattle.kaba_top.specs.FactsAnswers.{IsTooMany}
 
 -- how many implications a base may have
@@ -28,7 +28,7 @@ pub record IsBaseShown (table : Table) (status : ℕ) (out err : List ℕ) : Typ
   pub base : List Sides
   pub is : IsStemBase table.width (common table.rows.items table.width) base
   pub within : length base ≤ most_implications
-  pub gives : Gives 0 (base_text base) [] status out err
+  pub gives : GivesReply 0 (base_text base) [] status out err
 
 -- the text of the base of a table, or that it has too many implications
 abbrev pub StemsOf : Table → ℕ → List ℕ → List ℕ → Type 0

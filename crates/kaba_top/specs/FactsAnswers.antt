@@ -14,7 +14,7 @@ use Rattle.flow_program.specs.Known.{AreProgramFacts}
 use Rattle.lattice_view.specs.Table.{table_text}
 use Rattle.kaba_top.specs.declared.cause_words.Cause.TheVariants as cause
 use Rattle.kaba_top.specs.CauseWords.{cause_text}
-use Rattle.kaba_top.specs.Lines.{Says, Gives}
+use Rattle.kaba_top.specs.Lines.{Says, GivesReply}
 use Rattle.kaba_top.specs.TextFacts.{shown}
 
 -- the program has no facts, since there is too much of something
@@ -43,7 +43,7 @@ AnalysisAnswers J program status out err = IsOverLimit program status out err �
 pub record TableOf (facts : Facts) (status : ℕ) (out err : List ℕ) : Type 0 where
   pub table : Table
   pub is : IsTable facts table
-  pub gives : Gives 0 (table_text facts table) [] status out err
+  pub gives : GivesReply 0 (table_text facts table) [] status out err
 
 -- the text that says that there are more concepts than are allowed
 abbrev pub too_many_concepts : ℕ → List ℕ
@@ -55,14 +55,14 @@ pub record IsTooMany (bound : ℕ) (table : Table) (status : ℕ) (out err : Lis
   pub says : Says 68 (too_many_concepts bound) status out err
 
 -- the table has this lattice, within what is allowed
-pub record IsShown (json : Bool) (bound : ℕ) (facts : Facts) (table : Table) (status : ℕ) (out err : List ℕ) : Type 0 where
+pub record IsLatticeShown (json : Bool) (bound : ℕ) (facts : Facts) (table : Table) (status : ℕ) (out err : List ℕ) : Type 0 where
   pub lattice : Lattice
   pub is : IsLatticeOf table lattice
   pub within : length lattice.concepts.items ≤ bound
-  pub gives : Gives 0 (shown json facts lattice) [] status out err
+  pub gives : GivesReply 0 (shown json facts lattice) [] status out err
 
 -- the answers of `lattice` for facts: the text or the JSON of the lattice, or that it has too many concepts
 pub record LatticeOf (json : Bool) (bound : ℕ) (facts : Facts) (status : ℕ) (out err : List ℕ) : Type 0 where
   pub table : Table
   pub is : IsTable facts table
-  pub answers : IsTooMany bound table status out err ⊎ IsShown json bound facts table status out err
+  pub answers : IsTooMany bound table status out err ⊎ IsLatticeShown json bound facts table status out err

@@ -12,7 +12,7 @@ pub record Says (wanted : ℕ) (text : List ℕ) (status : ℕ) (out err : List 
   pub err_is : err ≡ line text
 
 -- an answer with these bytes for out and these for err
-pub record Gives (wanted : ℕ) (bytes lines : List ℕ) (status : ℕ) (out err : List ℕ) : Type 0 where
+pub record GivesReply (wanted : ℕ) (bytes lines : List ℕ) (status : ℕ) (out err : List ℕ) : Type 0 where
   pub status_is : status ≡ wanted
   pub out_is : out ≡ bytes
   pub err_is : err ≡ lines

@@ -16,7 +16,7 @@ use Rattle.tree_merge.specs.declared.steps.TreeStep.{TreeStep}
 use Rattle.kaba_words.specs.Commands.{usual_concepts}
 use Rattle.kaba_work.specs.Sample.{sample_tree}
 use Rattle.kaba_top.specs.declared.make.Counts.{Counts}
-use Rattle.kaba_top.specs.Lines.{Says, Gives, most_bytes, file_too_large}
+use Rattle.kaba_top.specs.Lines.{Says, GivesReply, most_bytes, file_too_large}
 use Rattle.kaba_top.specs.Reading.{TextAnswers}
 use Rattle.kaba_top.specs.RunAnswers.{EndGives}
 use Rattle.kaba_top.specs.FactsAnswers.{AnalysisAnswers}
@@ -72,7 +72,7 @@ summary counts steps bytes =
 
 -- a run that came to its end gives the counts; any other gives what `run` gives of it
 abbrev pub RunGives : Counts → meaning.End → ℕ → List ℕ → ℕ → List ℕ → List ℕ → Type 0
-RunGives counts meaning.Ended steps bytes = Gives 0 (summary counts steps (length bytes)) []
+RunGives counts meaning.Ended steps bytes = GivesReply 0 (summary counts steps (length bytes)) []
 RunGives counts (meaning.Faulted kind) steps bytes = EndGives (meaning.Faulted kind) bytes
 RunGives counts meaning.Going steps bytes = EndGives meaning.Going bytes
 RunGives counts meaning.Wrong steps bytes = EndGives meaning.Wrong bytes
@@ -106,5 +106,5 @@ SampleAnswers text = MadeTextAnswers (λ program. AnalysisAnswers (MadeOf progra
 
 -- the text of the sample, or what comes of it
 abbrev pub MakeAnswers : Bool → ℕ → ℕ → List ℕ → List ℕ → Type 0
-MakeAnswers true number = Gives 0 (sample_text number) []
+MakeAnswers true number = GivesReply 0 (sample_text number) []
 MakeAnswers false number = SampleAnswers (sample_text number)

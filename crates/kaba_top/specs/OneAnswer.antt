@@ -7,14 +7,14 @@ use Rattle.fact_model.specs.declared.sets.Table.{Table}
 use Rattle.fact_model.specs.Entries.{IsTable}
 use Rattle.fact_model.specs.Concepts.{AreMoreThan}
 use Rattle.stem_base.specs.Base.{common, AreMoreStems}
-use Rattle.flow_rules.specs.Facts.{IsWithin}
+use Rattle.flow_rules.specs.Facts.{IsWithinLimits}
 use Rattle.edit_script.specs.Script.{IsFirstBadLine, HasTooManyEdits}
 use Rattle.kaba_words.specs.Commands.{Cmd, run, table, lattice, base, why, same, edit, regen, make, help, version, Fits, usual_concepts}
 use Rattle.kaba_top.specs.Lines.{line, most_bytes}
 use Rattle.kaba_top.specs.TextPrograms.{IsTypedText}
 use Rattle.kaba_top.specs.TextFacts.{HasTextFacts}
 use Rattle.kaba_top.specs.Reading.{IsUnresolved, IsUntyped}
-use Rattle.flow_program.specs.Same.{AreSame}
+use Rattle.flow_program.specs.Same.{AreSameFacts}
 use Rattle.why_table.specs.declared.trail.Trail.{Trail}
 use Rattle.why_table.specs.Found.{IsTrailOf}
 use Rattle.why_table.specs.Text.{trail_text}
@@ -59,7 +59,7 @@ pub record IsTrailText (F : Facts) (row column : ℕ) (out : List ℕ) : Type 0 
 pub record AreTrails (o p : List ℕ) : Type 0 where
   pub facts : Facts
   pub other : Facts
-  pub same : AreSame facts other
+  pub same : AreSameFacts facts other
   pub row : ℕ
   pub column : ℕ
   pub one : IsTrailText facts row column o
@@ -67,14 +67,14 @@ pub record AreTrails (o p : List ℕ) : Type 0 where
 
 -- two answers are one: the status, the bytes for out but for two trails to one entry, and those for err but for such refusals
 -- and for two tellings of where programs part
-pub record AreOne (s : ℕ) (o e : List ℕ) (t : ℕ) (p f : List ℕ) : Type 0 where
+pub record AreOneAnswer (s : ℕ) (o e : List ℕ) (t : ℕ) (p f : List ℕ) : Type 0 where
   pub status : s ≡ t
   pub out : (o ≡ p) ⊎ AreTrails o p
   pub err : (e ≡ f) ⊎ (((bytes : List ℕ) × AreFree bytes s o e t p f) ⊎ (AreNamedFree s o e t p f ⊎ ArePartings s o e t p f))
 
 -- an answer of one kind and one of another are one
 abbrev pub AreOneKind : (ℕ → List ℕ → List ℕ → Type 0) → (ℕ → List ℕ → List ℕ → Type 0) → Type 0
-AreOneKind A B = (s t : ℕ) (o p e f : List ℕ) → A s o e → B t p f → AreOne s o e t p f
+AreOneKind A B = (s t : ℕ) (o p e f : List ℕ) → A s o e → B t p f → AreOneAnswer s o e t p f
 
 -- for one list of words and one pair of files there is one answer
 unfoldable pub HasOneAnswer : Type 0
@@ -93,7 +93,7 @@ IsTaken bytes = (P : Plain) × IsTypedText bytes P
 
 -- the text of a typed program within the limits
 abbrev pub IsTakenWithin : List ℕ → Type 0
-IsTakenWithin bytes = (P : Plain) × IsTypedText bytes P × IsWithin P
+IsTakenWithin bytes = (P : Plain) × IsTypedText bytes P × IsWithinLimits P
 
 -- its table has no more concepts than are allowed
 abbrev pub HasFewConcepts : ℕ → Plain → Type 0
@@ -101,7 +101,7 @@ HasFewConcepts bound P = (F : Facts) (t : Table) → HasTextFacts P F → IsTabl
 
 -- the text of such a program with so few concepts
 abbrev pub IsTakenFor : ℕ → List ℕ → Type 0
-IsTakenFor bound bytes = (P : Plain) × IsTypedText bytes P × IsWithin P × HasFewConcepts bound P
+IsTakenFor bound bytes = (P : Plain) × IsTypedText bytes P × IsWithinLimits P × HasFewConcepts bound P
 
 -- its table has no more implications than a base may have
 abbrev pub HasFewImplications : Plain → Type 0
@@ -109,25 +109,25 @@ HasFewImplications P = (F : Facts) (t : Table) → HasTextFacts P F → IsTable 
 
 -- the text of such a program with so few concepts and implications
 abbrev pub IsTakenForBase : List ℕ → Type 0
-IsTakenForBase bytes = (P : Plain) × IsTypedText bytes P × IsWithin P × HasFewConcepts usual_concepts P × HasFewImplications P
+IsTakenForBase bytes = (P : Plain) × IsTypedText bytes P × IsWithinLimits P × HasFewConcepts usual_concepts P × HasFewImplications P
 
 -- each line of a script is an edit or an undo or says nothing, and there are not too many of them
 abbrev pub IsAcceptedScript : List ℕ → Type 0
 IsAcceptedScript script = ((n : ℕ) → IsFirstBadLine script n → ⊥) × (HasTooManyEdits script → ⊥)
 
 -- nothing is refused of what a command reads
-abbrev pub IsReady : Cmd → Files → Files → Type 0
-IsReady (run file steps words) first second = OfSmallFile first file IsTaken
-IsReady (table file) first second = OfSmallFile first file IsTakenWithin
-IsReady (lattice json bound file) first second = OfSmallFile first file (IsTakenFor bound)
-IsReady (base file) first second = OfSmallFile first file IsTakenForBase
-IsReady (why file row column) first second = OfSmallFile first file IsTakenWithin
-IsReady (same file other) first second = OfSmallFile first file IsTaken × OfSmallFile second other IsTaken
-IsReady (edit bound file script) first second = OfSmallFile first file (IsTakenFor bound) × OfSmallFile second script IsAcceptedScript
-IsReady (regen bound file script) first second = OfSmallFile first file (IsTakenFor bound) × OfSmallFile second script IsAcceptedScript
-IsReady (make prints number) first second = ⊥
-IsReady help first second = Unit {0}
-IsReady version first second = Unit {0}
+abbrev pub HasAllInput : Cmd → Files → Files → Type 0
+HasAllInput (run file steps words) first second = OfSmallFile first file IsTaken
+HasAllInput (table file) first second = OfSmallFile first file IsTakenWithin
+HasAllInput (lattice json bound file) first second = OfSmallFile first file (IsTakenFor bound)
+HasAllInput (base file) first second = OfSmallFile first file IsTakenForBase
+HasAllInput (why file row column) first second = OfSmallFile first file IsTakenWithin
+HasAllInput (same file other) first second = OfSmallFile first file IsTaken × OfSmallFile second other IsTaken
+HasAllInput (edit bound file script) first second = OfSmallFile first file (IsTakenFor bound) × OfSmallFile second script IsAcceptedScript
+HasAllInput (regen bound file script) first second = OfSmallFile first file (IsTakenFor bound) × OfSmallFile second script IsAcceptedScript
+HasAllInput (make prints number) first second = ⊥
+HasAllInput help first second = Unit {0}
+HasAllInput version first second = Unit {0}
 
 -- the statuses of a command then: a run ends, at a fault or at its bound; a row may lack a column; programs may part; an edit may be refused, and there may be
 -- no tree
@@ -146,5 +146,5 @@ IsDoneWith version status = status ≡ 0
 
 -- where the words say a command and nothing is refused of what it reads, the status is one of these
 unfoldable pub IsComplete : Type 0
-IsComplete = (words : List (List ℕ)) (command : Cmd) → Fits words command → (first second : Files) → IsReady command first second
+IsComplete = (words : List (List ℕ)) (command : Cmd) → Fits words command → (first second : Files) → HasAllInput command first second
     → (status : ℕ) (out err : List ℕ) → Answers words first second status out err → IsDoneWith command status

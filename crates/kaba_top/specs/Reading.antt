@@ -107,7 +107,7 @@ pub record IsNoTokens (bytes : List ℕ) (status : ℕ) (out err : List ℕ) : T
   pub says : Says 65 (refused (lex_text fault)) status out err
 
 -- the nesting of the tokens is too deep, and first so behind the token k
-pub record IsTooDeep (bytes : List ℕ) (status : ℕ) (out err : List ℕ) : Type 0 where
+pub record IsTooDeepText (bytes : List ℕ) (status : ℕ) (out err : List ℕ) : Type 0 where
   pub tokens : List Token
   pub lexed : tokens_of bytes ≡ Ok tokens
   pub token : ℕ
@@ -145,7 +145,7 @@ pub record IsUntyped (bytes : List ℕ) (status : ℕ) (out err : List ℕ) : Ty
 -- the text is refused
 unfoldable pub IsRefusedText : List ℕ → ℕ → List ℕ → List ℕ → Type 0
 IsRefusedText bytes status out err = IsNoTokens bytes status out err
-    ⊎ (IsTooDeep bytes status out err ⊎ (IsNoTree bytes status out err ⊎ (IsUnresolved bytes status out err ⊎ IsUntyped bytes status out err)))
+    ⊎ (IsTooDeepText bytes status out err ⊎ (IsNoTree bytes status out err ⊎ (IsUnresolved bytes status out err ⊎ IsUntyped bytes status out err)))
 
 -- the text is that of a typed program, for which there is this answer
 pub record IsAnsweredText (K : Program → ℕ → List ℕ → List ℕ → Type 0) (bytes : List ℕ) (status : ℕ) (out err : List ℕ) : Type 0 where

@@ -20,9 +20,9 @@ use Rattle.kaba_top.specs.Reading.{IsRefusedText, refused, naming_text, typing_t
 use Rattle.kaba_top.specs.MakeAnswers.{IsLongText}
 
 -- the bytes are those of this typed program, or a reply refuses them
-abbrev pub IsReading : List ℕ → Reading → Type 0
-IsReading bytes (readings.Typed program) = IsTypedText bytes (program_of program)
-IsReading bytes (readings.Refused reply) = IsRefusedText bytes reply.status reply.out.items reply.err.items
+abbrev pub IsProgramReading : List ℕ → Reading → Type 0
+IsProgramReading bytes (readings.Typed program) = IsTypedText bytes (program_of program)
+IsProgramReading bytes (readings.Refused reply) = IsRefusedText bytes reply.status reply.out.items reply.err.items
 
 -- the program is not typed
 pub record IsIllTyped (program : Program) (status : ℕ) (out err : List ℕ) : Type 0 where

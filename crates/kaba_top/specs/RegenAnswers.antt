@@ -12,7 +12,7 @@ use Rattle.tree_merge.specs.declared.trees.NoTree.{NoTree}
 use Rattle.tree_merge.specs.Logs.{steps_of, AreEdits}
 use Rattle.kaba_top.specs.Logs.{log_text, no_tree_text}
 use Rattle.java_write.specs.Written.{IsWrittenText}
-use Rattle.kaba_top.specs.Lines.{Gives, line}
+use Rattle.kaba_top.specs.Lines.{GivesReply, line}
 use Rattle.kaba_top.specs.ScriptAnswers.{HasLattice, ScriptAnswers, start_of, edited, refusals}
 use Rattle.kaba_top.specs.EditAnswers.{edit_status}
 use Rattle.kaba_top.specs.Fresh.{DeclaresNoInterface, AreDropsAndFreshNames}
@@ -37,7 +37,7 @@ module _ (program : Program) (bound : ℕ) (facts : Facts) (has : HasLattice bou
     pub is : IsTreeOf facts has.sets (edited bound facts has edits) log tree
     pub text : List ℕ
     pub written : IsWrittenText program facts tree text
-    pub gives : Gives (edit_status (refusals bound facts has edits)) text (refusals bound facts has edits ++ log_text log) status out err
+    pub gives : GivesReply (edit_status (refusals bound facts has edits)) text (refusals bound facts has edits ++ log_text log) status out err
 
   -- there is no tree: the log is told, and the conflict; this comes only where the program declares an interface, or the edits do more than
   -- drop nodes and give fresh names
@@ -45,7 +45,7 @@ module _ (program : Program) (bound : ℕ) (facts : Facts) (has : HasLattice bou
     pub fault : NoTree
     pub ends : EndsAtConflict facts has.sets (edited bound facts has edits) fault
     pub more : DeclaresNoInterface program → AreDropsAndFreshNames facts has.sets (start_of bound facts has) edits → ⊥
-    pub gives : Gives 5 [] (refusals bound facts has edits ++ (log_text fault.log.items ++ line (no_tree_text fault))) status out err
+    pub gives : GivesReply 5 [] (refusals bound facts has edits ++ (log_text fault.log.items ++ line (no_tree_text fault))) status out err
 
   -- the program of a tree of classes is written, or it is told that there is no tree
   abbrev pub IsRegeneration : Type 0

@@ -6,13 +6,13 @@ use Rattle.java_meaning.specs.Moment as meaning
 use Rattle.java_run.specs.Outcomes.{meant}
 use Rattle.kaba_top.specs.declared.cause_words.Cause.TheVariants as cause
 use Rattle.kaba_top.specs.CauseWords.{cause_text}
-use Rattle.kaba_top.specs.Lines.{Gives, line}
+use Rattle.kaba_top.specs.Lines.{GivesReply, line}
 
 -- what the end of a run gives, with what was printed until then; a typed program has no other end
 abbrev pub EndGives : meaning.End → List ℕ → ℕ → List ℕ → List ℕ → Type 0
-EndGives meaning.Ended bytes = Gives 0 bytes []
-EndGives (meaning.Faulted kind) bytes = Gives 10 bytes (line (codes "fault " ++ cause_text (cause.Fault kind)))
-EndGives meaning.Going bytes = Gives 11 bytes (line (codes "going"))
+EndGives meaning.Ended bytes = GivesReply 0 bytes []
+EndGives (meaning.Faulted kind) bytes = GivesReply 10 bytes (line (codes "fault " ++ cause_text (cause.Fault kind)))
+EndGives meaning.Going bytes = GivesReply 11 bytes (line (codes "going"))
 EndGives meaning.Wrong bytes = λ status out err. ⊥
 EndGives meaning.Escaped bytes = λ status out err. ⊥
 

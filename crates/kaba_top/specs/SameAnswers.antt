@@ -7,14 +7,14 @@ use Rattle.rebuild_model.specs.OnePrograms.{AreOne}
 use Rattle.same_program.specs.declared.Parting.{Parting}
 use Rattle.kaba_top.specs.declared.cause_words.Cause.TheVariants as cause
 use Rattle.kaba_top.specs.CauseWords.{cause_text}
-use Rattle.kaba_top.specs.Lines.{Says, Gives, line}
+use Rattle.kaba_top.specs.Lines.{Says, GivesReply, line}
 
 -- a line with the name of a file before its text
 abbrev pub named : List ℕ → List ℕ → List ℕ
 named file text = file ++ (codes ": " ++ text)
 
 -- an answer with one line for err, to which the name of the file is added
-pub record IsNamed (file : List ℕ) (A : ℕ → List ℕ → List ℕ → Type 0) (status : ℕ) (out err : List ℕ) : Type 0 where
+pub record IsFileNamed (file : List ℕ) (A : ℕ → List ℕ → List ℕ → Type 0) (status : ℕ) (out err : List ℕ) : Type 0 where
   pub text : List ℕ
   pub answers : A status out (line text)
   pub says : Says status (named file text) status out err
@@ -29,7 +29,7 @@ parting_text file other p =
 -- the programs are one, and nothing is told
 pub record AreFoundOne (first second : Program) (status : ℕ) (out err : List ℕ) : Type 0 where
   pub one : AreOne (program_of first) (program_of second)
-  pub gives : Gives 0 [] [] status out err
+  pub gives : GivesReply 0 [] [] status out err
 
 -- the programs are not one, and places are told at which they part
 pub record AreFoundApart (file other : List ℕ) (first second : Program) (status : ℕ) (out err : List ℕ) : Type 0 where

@@ -5,7 +5,7 @@ use Rattle.fact_model.specs.declared.facts.Facts.{Facts}
 use Rattle.why_table.specs.declared.trail.Trail.{Trail}
 use Rattle.why_table.specs.Found.{HasEntry, IsTrailOf}
 use Rattle.why_table.specs.Text.{trail_text}
-use Rattle.kaba_top.specs.Lines.{Says, Gives}
+use Rattle.kaba_top.specs.Lines.{Says, GivesReply}
 
 -- the text that says that the row does not have the column, or that one of them is not there
 abbrev pub no_entry : ℕ → ℕ → List ℕ
@@ -21,7 +21,7 @@ pub record IsTrailShown (facts : Facts) (row column : ℕ) (status : ℕ) (out e
   pub holds : HasEntry facts row column
   pub trail : Trail
   pub is : IsTrailOf facts (record { 0 = row }) (record { 0 = column }) trail.steps.items
-  pub gives : Gives 0 (trail_text trail.steps.items) [] status out err
+  pub gives : GivesReply 0 (trail_text trail.steps.items) [] status out err
 
 -- the answers of `why` for facts: there is no such entry, or a trail to it is shown
 abbrev pub WhyOf : ℕ → ℕ → Facts → ℕ → List ℕ → List ℕ → Type 0

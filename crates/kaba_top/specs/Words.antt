@@ -8,7 +8,7 @@ pub use Rattle.java_run.specs.Outcomes.{end_of}
 pub use Rattle.kaba_top.specs.Logs.{log_text, no_tree_text}
 pub use Rattle.flow_program.specs.Known.{AreProgramFacts}
 pub use Rattle.java_write.specs.Written.{HasText}
-pub use Rattle.kaba_top.specs.Lines.{Gives, Says, line, most_bytes}
+pub use Rattle.kaba_top.specs.Lines.{GivesReply, Says, line, most_bytes}
 pub use Rattle.kaba_top.specs.Reading.{TextAnswers}
 pub use Rattle.kaba_top.specs.FactsAnswers.{AnalysisAnswers}
 pub use Rattle.kaba_top.specs.Tasks.{IsTask}

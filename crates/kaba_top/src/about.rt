@@ -2,7 +2,7 @@
 #![tactic(auto)]
 
 ghost use Rattle.std.specs.Prelude.{[], IfOk};
-ghost use Rattle.kaba_top.specs.Words.{Gives};
+ghost use Rattle.kaba_top.specs.Words.{GivesReply};
 ghost use Rattle.kaba_top.specs.About.{help_text, version_text};
 
 use crate::Tried;
@@ -11,7 +11,7 @@ use std::alloc::Global;
 
 /// The reply of `--help`: each command, the statuses, and where the documents are.
 pub fn help_reply(alloc: Global) -> Tried<Reply>
-    ensures gives { IfOk result (λ reply. Gives 0 help_text [] reply.status reply.out.items reply.err.items) }
+    ensures gives { IfOk result (λ reply. GivesReply 0 help_text [] reply.status reply.out.items reply.err.items) }
 {
     let out = Vec::from_slice(
         alloc,
@@ -43,7 +43,7 @@ pub fn help_reply(alloc: Global) -> Tried<Reply>
 
 /// The reply of `--version`.
 pub fn version_reply(alloc: Global) -> Tried<Reply>
-    ensures gives { IfOk result (λ reply. Gives 0 version_text [] reply.status reply.out.items reply.err.items) }
+    ensures gives { IfOk result (λ reply. GivesReply 0 version_text [] reply.status reply.out.items reply.err.items) }
 {
     Ok(Reply {
         status: 0,

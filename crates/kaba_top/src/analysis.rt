@@ -5,7 +5,7 @@ ghost use Rattle.std.specs.Prelude.{◌≡◌, ◌≤◌, IfOk, length};
 ghost use Rattle.kaba_top.specs.Words.{InRange, IsTable, Says, most_bytes, TextAnswers, AnalysisAnswers};
 ghost use Rattle.kaba_top.specs.TextFacts.{shown};
 ghost use Rattle.kaba_top.specs.FactsAnswers.{TableOf, LatticeOf, too_many_concepts};
-ghost use Rattle.kaba_top.specs.Analyses.{IsAnalysis};
+ghost use Rattle.kaba_top.specs.Analyses.{IsAnalysisOf};
 
 use crate::Tried;
 use crate::cause_words::{Cause, cause_text};
@@ -29,7 +29,7 @@ pub enum Analysed {
 
 /// The facts of a program, or the reply that it has none.
 pub fn analyse(alloc: Global, program: &Checked) -> Tried<Analysed>
-    ensures { IfOk result (λ analysed. IsAnalysis program.now analysed) }
+    ensures { IfOk result (λ analysed. IsAnalysisOf program.now analysed) }
 {
     match facts(alloc, program) {
         Ok(facts) => Ok(Analysed::Found(facts)),

@@ -2,7 +2,7 @@
 #![tactic(auto)]
 
 ghost use Rattle.std.specs.Prelude.{◌≤◌, IfOk, length};
-ghost use Rattle.kaba_top.specs.Words.{InRange, InOrder, IsHierarchyOf, Gives, most_bytes, TextAnswers, AnalysisAnswers, edit_status, IsTask};
+ghost use Rattle.kaba_top.specs.Words.{InRange, InOrder, IsHierarchyOf, GivesReply, most_bytes, TextAnswers, AnalysisAnswers, edit_status, IsTask};
 ghost use Rattle.hier_view.specs.Text.{hierarchy_text};
 ghost use Rattle.kaba_top.specs.EditAnswers.{EditOf};
 
@@ -21,7 +21,7 @@ use std::alloc::Global;
 fn show(alloc: Global, facts: &Facts, edited: Edited) -> Tried<Reply>
     requires range { InRange facts.now }
     requires hierarchy { IsHierarchyOf facts.now edited.hier }
-    ensures { IfOk result (λ reply. Gives (edit_status edited.refusals.items)
+    ensures { IfOk result (λ reply. GivesReply (edit_status edited.refusals.items)
         (hierarchy_text facts.now edited.hier) edited.refusals.items reply.status reply.out.items
         reply.err.items) }
 {

@@ -7,7 +7,7 @@ ghost use Rattle.java_tree.specs.Syntax.{tree_of};
 ghost use Rattle.java_tree.specs.Formed.{IsFormedTree};
 ghost use Rattle.java_core.specs.Formed.{IsFormed};
 ghost use Rattle.kaba_top.specs.Reading.{refused, at_byte, at_token, on_name, on_what, lex_text, naming_text, typing_text, last_line, line_of, IsOfText, IsOfTree};
-ghost use Rattle.kaba_top.specs.Readings.{IsReading, IsReadingOfProgram, IsReadingOfTree};
+ghost use Rattle.kaba_top.specs.Readings.{IsProgramReading, IsReadingOfProgram, IsReadingOfTree};
 
 use crate::Tried;
 use crate::cause_words::{Cause, cause_text};
@@ -173,7 +173,7 @@ fn type_tree(alloc: Global, tree: &Tree) -> Tried<Reading>
 /// The typed program of the bytes of a file, or the reply that there is none.
 pub fn read_program(alloc: Global, bytes: &Vec<u8>) -> Tried<Reading>
     requires small { length bytes.now.items ≤ most_bytes }
-    ensures reading { IfOk result (λ reading. IsReading bytes.now.items reading) }
+    ensures reading { IfOk result (λ reading. IsProgramReading bytes.now.items reading) }
 {
     let tokens = match lex(alloc, bytes) {
         Ok(tokens) => tokens,

@@ -2,7 +2,7 @@
 #![tactic(auto)]
 
 ghost use Rattle.std.specs.Prelude.{◌≡◌, ◌≤◌, ◌++◌, [], IfOk, length};
-ghost use Rattle.kaba_top.specs.Words.{MeetsEdit, program_of, Table, IsTable, AreSets, IsHierarchyOf, log_text, no_tree_text, AreProgramFacts, HasText, Gives, line, most_bytes, AnalysisAnswers, edit_status, IsTask};
+ghost use Rattle.kaba_top.specs.Words.{MeetsEdit, program_of, Table, IsTable, AreSets, IsHierarchyOf, log_text, no_tree_text, AreProgramFacts, HasText, GivesReply, line, most_bytes, AnalysisAnswers, edit_status, IsTask};
 ghost use Rattle.kaba_top.specs.RegenAnswers.{RegenOf};
 ghost use Rattle.kaba_top.specs.Answers.{RegenAnswers};
 ghost use Rattle.kaba_top.specs.Proposals.{IsWrittenOver};
@@ -82,7 +82,7 @@ fn written_reply(
     log: &Vec<TreeStep>,
     text: Vec<u8>,
 ) -> Tried<Reply>
-    ensures { IfOk result (λ reply. Gives (edit_status refusals.items) text.items (refusals.items ++ log_text log.now.items) reply.status
+    ensures { IfOk result (λ reply. GivesReply (edit_status refusals.items) text.items (refusals.items ++ log_text log.now.items) reply.status
         reply.out.items reply.err.items) }
 {
     let status = edit_status(&refusals);
@@ -96,7 +96,7 @@ fn written_reply(
 
 /// The reply that there is no tree.
 pub fn stuck(alloc: Global, refusals: Vec<u8>, fault: &NoTree) -> Tried<Reply>
-    ensures { IfOk result (λ reply. Gives 5 []
+    ensures { IfOk result (λ reply. GivesReply 5 []
         (refusals.items ++ (log_text fault.now.log.items ++ line (no_tree_text fault.now))) reply.status
         reply.out.items reply.err.items) }
 {

@@ -2,7 +2,7 @@
 #![tactic(auto)]
 
 ghost use Rattle.std.specs.Prelude.{◌≡◌, ◌⊎◌, ℕ, List, IfOk, OnErr, OnOk};
-ghost use Rattle.kaba_top.specs.Words.{Rose, Says, Gives, line};
+ghost use Rattle.kaba_top.specs.Words.{Rose, Says, GivesReply, line};
 ghost use Rattle.kaba_base.specs.Outside.{taken_more};
 ghost use Rattle.kaba_top.specs.Answers.{Cut};
 
@@ -35,7 +35,7 @@ impl Reply {
 
     /// The reply with these bytes for out and one line for err.
     pub fn with_line(alloc: Global, status: u8, out: Vec<u8>, text: &[u8]) -> Tried<Reply>
-        ensures gives { IfOk result (λ reply. Gives status out.items (line text.now) reply.status reply.out.items reply.err.items) }
+        ensures gives { IfOk result (λ reply. GivesReply status out.items (line text.now) reply.status reply.out.items reply.err.items) }
     {
         let reply = Reply::line(alloc, status, text)?;
         Ok(Reply {

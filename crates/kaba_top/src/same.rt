@@ -7,7 +7,7 @@ ghost use Rattle.java_core.specs.Formed.{IsFormed};
 ghost use Rattle.kaba_words.specs.Commands.{same};
 ghost use Rattle.kaba_top.specs.Answers.{CommandReplies};
 ghost use Rattle.kaba_top.specs.SameAnswers.{named, parting_text, SameOf};
-ghost use Rattle.kaba_top.specs.Named.{IsFound, IsNamedReading, NamedReplies};
+ghost use Rattle.kaba_top.specs.Named.{IsProgramFound, IsNamedReading, NamedReplies};
 
 use crate::Tried;
 use crate::cause_words::{Cause, cause_text};
@@ -57,7 +57,7 @@ fn named_program(alloc: Global, file: &String, bytes: &Vec<u8>) -> Tried<Found>
 
 /// The program of a file, or the reply that it has none.
 fn find_program<F: Shelf>(alloc: Global, shelf: &mut F, file: &String) -> Tried<Found>
-    ensures found { IfOk result (λ found. IsFound (F.files shelf.old) (F.faults shelf.old) (F.faults shelf.new) (string_bytes file.now) found) }
+    ensures found { IfOk result (λ found. IsProgramFound (F.files shelf.old) (F.faults shelf.old) (F.faults shelf.new) (string_bytes file.now) found) }
     ensures same { F.files shelf.new ≡ F.files shelf.old }
     ensures later { F.faults shelf.old ≤ F.faults shelf.new }
 {

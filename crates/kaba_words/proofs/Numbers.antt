@@ -9,10 +9,10 @@ use Rattle.std.specs.declared.string.String.{String}
 use Rattle.std.specs.declared.alloc.Global.{Global}
 use Rattle.std.proofs.lemmas.Fmt.{parse-decimal}
 use Rattle.std.specs.Str.Parse.{ParsesUnsigned}
-use Rattle.kaba_words.specs.Commands.{IsNumber, texts, most_units}
+use Rattle.kaba_words.specs.Commands.{IsNumberWord, texts, most_units}
 
 -- the number that a word writes is the one that it is read as
-pub number_parses : {E : Type 0} (word : List ℕ) (limit n : ℕ) (r : Result ℕ E) → limit < 2 ^ 32 → IsNumber word limit n
+pub number_parses : {E : Type 0} (word : List ℕ) (limit n : ℕ) (r : Result ℕ E) → limit < 2 ^ 32 → IsNumberWord word limit n
     → ParsesUnsigned 32 10 word r → r ≡ Ok n
 number_parses word limit n r small number parsed = parse-decimal 32 n word r (omega (arith, number.small, small)) (omega (arith, number.small, small))
     number.digits parsed
@@ -33,12 +33,12 @@ number_in d (Err e) = d
 
 -- no number is read as a fault
 pub never_number : {E : Type 0} (word : List ℕ) (limit n : ℕ) (r : Result ℕ E) (e : E) → limit < 2 ^ 32 → ParsesUnsigned 32 10 word r → r ≡ Err e
-    → IsNumber word limit n → ⊥
+    → IsNumberWord word limit n → ⊥
 never_number word limit n r e small parsed was number = false≢true (sym (ap is_ok was) ∙ ap is_ok (number_parses word limit n r small number parsed))
 
 -- a number that is not the one that was read
 pub not_number : {E : Type 0} (word written : List ℕ) (limit m n : ℕ) (r : Result ℕ E) → limit < 2 ^ 32 → ParsesUnsigned 32 10 word r → r ≡ Ok m
-    → written ≡ decimal m → (limit < m) ⊎ (written ≡ word → ⊥) → IsNumber word limit n → ⊥
+    → written ≡ decimal m → (limit < m) ⊎ (written ≡ word → ⊥) → IsNumberWord word limit n → ⊥
 not_number word written limit m n r small parsed was wrote why number =
     let same : m ≡ n = ap (number_in m) (sym was ∙ number_parses word limit n r small number parsed) in
     elim why as (λ _. ⊥) [

@@ -2,7 +2,7 @@
 use Rattle.std.proofs.Common.{◌≡◌, ℕ, ◌<◌, ◌^◌, Bool, true, false, List, [], ◌∷◌, refl, sym, ap, ◌∙◌, subst, arith, codes}
 use Rattle.std.proofs.lemmas.Fmt.{decimal_injective}
 use Rattle.kaba_words.proofs.Patterns.{other}
-use Rattle.kaba_words.specs.Commands.{Cmd, run, table, lattice, base, why, same, edit, regen, make, help, version, IsNumber, most_steps, most_concepts, most_samples, FitsRun, TakesFlag, BoundAfter, TakesBound, FitsLattice, FitsWhy, row_word, column_word, FitsEdit, FitsMake, FitsArguments, Fits}
+use Rattle.kaba_words.specs.Commands.{Cmd, run, table, lattice, base, why, same, edit, regen, make, help, version, IsNumberWord, most_steps, most_concepts, most_samples, FitsRun, TakesFlag, BoundAfter, TakesBound, FitsLattice, FitsWhy, row_word, column_word, FitsEdit, FitsMake, FitsArguments, Fits}
 
 heads : {A : Type 0} {x y : A} {xs ys : List A} → x ∷ xs ≡ y ∷ ys → x ≡ y
 heads e = cc e
@@ -11,7 +11,7 @@ tails : {A : Type 0} {x y : A} {xs ys : List A} → x ∷ xs ≡ y ∷ ys → xs
 tails e = cc e
 
 -- a number is written one way
-one_number : (w v : List ℕ) (limit m n : ℕ) → limit < 2 ^ 64 → w ≡ v → IsNumber w limit m → IsNumber v limit n → m ≡ n
+one_number : (w v : List ℕ) (limit m n : ℕ) → limit < 2 ^ 64 → w ≡ v → IsNumberWord w limit m → IsNumberWord v limit n → m ≡ n
 one_number w v limit m n small e h k =
     decimal_injective m n (omega (arith, small, h.small)) (omega (arith, small, k.small)) (sym h.digits ∙ e ∙ k.digits)
 

@@ -4,7 +4,7 @@ use Rattle.std.specs.Str.{bytes_eq}
 use Rattle.std.proofs.lemmas.Bool.{false≢true}
 use Rattle.std.proofs.lemmas.Slice.Eq.{bytes_eq-Decides}
 use Rattle.std.proofs.lemmas.Fmt.{decimal_injective}
-use Rattle.kaba_words.specs.Commands.{Cmd, run, table, lattice, base, why, same, edit, regen, make, help, version, FitsRun, FitsLattice, FitsWhy, NoEdit, NoMake, FitsNone, Fits, TakesFlag, TakesBound, BoundAfter, IsNumber, most_concepts, most_samples}
+use Rattle.kaba_words.specs.Commands.{Cmd, run, table, lattice, base, why, same, edit, regen, make, help, version, FitsRun, FitsLattice, FitsWhy, NoEdit, NoMake, FitsNone, Fits, TakesFlag, TakesBound, BoundAfter, IsNumberWord, most_concepts, most_samples}
 
 -- two words that differ
 apart : (a b : List ℕ) → bytes_eq a b ≡ false → a ≡ b → ⊥
@@ -116,18 +116,18 @@ pub none_asked : (words after : List (List ℕ)) (a : Bool) → a ≡ true → T
 none_asked words after a e f none n rest h = none n rest (bound_asked words after n rest (subst (λ b. TakesFlag (codes "-c") words b after) e f) h)
 
 -- the number that was read is none that may stand there
-pub not_zero : (words : List (List ℕ)) (n : ℕ) (word : List ℕ) (rest more : List (List ℕ)) → words ≡ word ∷ more → IsNumber word most_concepts 0
+pub not_zero : (words : List (List ℕ)) (n : ℕ) (word : List ℕ) (rest more : List (List ℕ)) → words ≡ word ∷ more → IsNumberWord word most_concepts 0
     → BoundAfter true words n rest → ⊥
 not_zero words n word rest more e z h =
     let same : h.0 ≡ word = let g = h.1 in cc in
     let same_number : n ≡ 0 = decimal_injective n 0 (omega (arith, h.2.small)) (omega arith) (sym h.2.digits ∙ same ∙ z.digits) in
     omega (arith, h.3, same_number)
 
-pub no_number : (words : List (List ℕ)) (word : List ℕ) (more : List (List ℕ)) → words ≡ word ∷ more → ((n : ℕ) → IsNumber word most_concepts n → ⊥)
+pub no_number : (words : List (List ℕ)) (word : List ℕ) (more : List (List ℕ)) → words ≡ word ∷ more → ((n : ℕ) → IsNumberWord word most_concepts n → ⊥)
     → (n : ℕ) (rest : List (List ℕ)) → BoundAfter true words n rest → ⊥
 no_number words word more e none n rest h =
     let same : h.0 ≡ word = let g = h.1 in cc in
-    none n (subst (λ w. IsNumber w most_concepts n) same h.2)
+    none n (subst (λ w. IsNumberWord w most_concepts n) same h.2)
 
 -- the words after `lattice` do not fit
 pub no_bound : (words after : List (List ℕ)) (asked : Bool) → TakesFlag (codes "-j") words asked after
@@ -147,10 +147,10 @@ pub no_bound_for_edit : (words : List (List ℕ)) → ((n : ℕ) (rest : List (L
 no_bound_for_edit words none bound file script h = none bound h.rest h.takes_bound
 
 abbrev pub Reads : List ℕ → Option ℕ → Type 0
-Reads word read = MatchOption read ((n : ℕ) → IsNumber word most_concepts n → ⊥) (λ n. IsNumber word most_concepts n)
+Reads word read = MatchOption read ((n : ℕ) → IsNumberWord word most_concepts n → ⊥) (λ n. IsNumberWord word most_concepts n)
 
-pub zero_read : (word : List ℕ) (read : Option ℕ) (m : ℕ) → read ≡ Some m → m ≡ 0 → Reads word read → IsNumber word most_concepts 0
-zero_read word read m e z h = subst (IsNumber word most_concepts) z (subst (Reads word) e h)
+pub zero_read : (word : List ℕ) (read : Option ℕ) (m : ℕ) → read ≡ Some m → m ≡ 0 → Reads word read → IsNumberWord word most_concepts 0
+zero_read word read m e z h = subst (IsNumberWord word most_concepts) z (subst (Reads word) e h)
 
 -- a fault is the same whatever else might have been answered
 pub same_fault : {A B E : Type 0} (x y : E) → ◌≡◌ {A = Result A E} (Err x) (Err y) → ◌≡◌ {A = Result B E} (Err x) (Err y)
@@ -163,17 +163,17 @@ no_number_to_make words after asked f none prints n h =
     none h.word ((flag_same (codes "-p") words asked prints after h.after f h.flag).1 ∙ h.word_is)
 
 pub none_to_make : (words after : List (List ℕ)) (asked : Bool) (word : List ℕ) → TakesFlag (codes "-p") words asked after → after ≡ word ∷ []
-    → ((n : ℕ) → IsNumber word most_samples n → 0 < n → ⊥) → NoMake words
+    → ((n : ℕ) → IsNumberWord word most_samples n → 0 < n → ⊥) → NoMake words
 none_to_make words after asked word f e none prints n h =
     let same : h.word ≡ word = let g = (flag_same (codes "-p") words asked prints after h.after f h.flag).1 in let k = h.word_is in cc in
-    none n (subst (λ w. IsNumber w most_samples n) same h.number) h.some
+    none n (subst (λ w. IsNumberWord w most_samples n) same h.number) h.some
 
 -- a word that is read as 0 writes no number above
-pub only_zero : (word : List ℕ) (n : ℕ) → IsNumber word most_samples 0 → IsNumber word most_samples n → 0 < n → ⊥
+pub only_zero : (word : List ℕ) (n : ℕ) → IsNumberWord word most_samples 0 → IsNumberWord word most_samples n → 0 < n → ⊥
 only_zero word n z h some = omega (arith, some, decimal_injective n 0 (omega (arith, h.small)) (omega arith) (sym h.digits ∙ z.digits))
 
 abbrev pub ReadsSample : List ℕ → Option ℕ → Type 0
-ReadsSample word read = MatchOption read ((n : ℕ) → IsNumber word most_samples n → ⊥) (λ n. IsNumber word most_samples n)
+ReadsSample word read = MatchOption read ((n : ℕ) → IsNumberWord word most_samples n → ⊥) (λ n. IsNumberWord word most_samples n)
 
-pub zero_to_make : (word : List ℕ) (read : Option ℕ) (m : ℕ) → read ≡ Some m → m ≡ 0 → ReadsSample word read → IsNumber word most_samples 0
-zero_to_make word read m e z h = subst (IsNumber word most_samples) z (subst (ReadsSample word) e h)
+pub zero_to_make : (word : List ℕ) (read : Option ℕ) (m : ℕ) → read ≡ Some m → m ≡ 0 → ReadsSample word read → IsNumberWord word most_samples 0
+zero_to_make word read m e z h = subst (IsNumberWord word most_samples) z (subst (ReadsSample word) e h)

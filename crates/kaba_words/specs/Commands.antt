@@ -40,7 +40,7 @@ command_of commands.Help = help
 command_of commands.Version = version
 
 -- the word is the number n, in decimal digits without a leading zero, and n is within the limit
-pub record IsNumber (word : List ℕ) (limit n : ℕ) : Type 0 where
+pub record IsNumberWord (word : List ℕ) (limit n : ℕ) : Type 0 where
   pub digits : word ≡ decimal n
   pub small : n ≤ limit
 
@@ -56,7 +56,7 @@ most_units = 2147483647
 pub record FitsRun (words : List (List ℕ)) (file : List ℕ) (steps : ℕ) (more : List (List ℕ)) : Type 0 where
   pub number : List ℕ
   pub words_are : words ≡ file ∷ number ∷ more
-  pub is_number : IsNumber number most_steps steps
+  pub is_number : IsNumberWord number most_steps steps
   pub few : length more ≤ most_units
   pub short : All (λ word. length word ≤ most_units) more
 
@@ -76,7 +76,7 @@ usual_concepts = 4096
 -- N after `-c`
 abbrev pub BoundAfter : Bool → List (List ℕ) → ℕ → List (List ℕ) → Type 0
 BoundAfter false words n rest = (words ≡ rest) × (n ≡ usual_concepts)
-BoundAfter true words n rest = (word : List ℕ) × (words ≡ word ∷ rest) × IsNumber word most_concepts n × (0 < n)
+BoundAfter true words n rest = (word : List ℕ) × (words ≡ word ∷ rest) × IsNumberWord word most_concepts n × (0 < n)
 
 -- [-c N]
 pub record TakesBound (words : List (List ℕ)) (n : ℕ) (rest : List (List ℕ)) : Type 0 where
@@ -131,7 +131,7 @@ pub record FitsMake (words : List (List ℕ)) (prints : Bool) (n : ℕ) : Type 0
   pub flag : TakesFlag (codes "-p") words prints after
   pub word : List ℕ
   pub word_is : after ≡ word ∷ []
-  pub number : IsNumber word most_samples n
+  pub number : IsNumberWord word most_samples n
   pub some : 0 < n
 
 -- the words are no NUMBER with or without a flag

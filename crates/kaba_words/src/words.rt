@@ -3,7 +3,7 @@
 
 ghost use Rattle.std.specs.Prelude.{◌≡◌, ◌∷◌, ◌≤◌, ℕ, Bool, true, false, List, [], Err, IfOk, MatchOption, IsTrue, ◌↔◌, length, codes, string_bytes};
 ghost use Rattle.std.specs.List.{All};
-ghost use Rattle.kaba_words.specs.Commands.{Cmd, texts, command_of, IsNumber, Fits, FitsNone, FitsRun, TakesFlag, BoundAfter, TakesBound, FitsLattice, FitsWhy, row_word, column_word, FitsEdit, NoEdit, FitsMake, NoMake, most_units, most_numbers};
+ghost use Rattle.kaba_words.specs.Commands.{Cmd, texts, command_of, IsNumberWord, Fits, FitsNone, FitsRun, TakesFlag, BoundAfter, TakesBound, FitsLattice, FitsWhy, row_word, column_word, FitsEdit, NoEdit, FitsMake, NoMake, most_units, most_numbers};
 ghost use Rattle.kaba_words.specs.declared.words.WordsFault.TheVariants as WordsFault;
 
 use std::alloc::{AllocError, Global};
@@ -111,7 +111,7 @@ impl<'a> Arguments<'a> {
 /// The number that the word writes, in decimal digits without a leading zero, where it is at most `limit`;
 /// `AllocError` comes where memory is short.
 pub fn number(alloc: Global, word: &str, limit: u32) -> Result<Option<u32>, AllocError>
-    ensures { IfOk result (λ read. MatchOption read ((n : ℕ) → IsNumber word.now limit n → ⊥) (λ n. IsNumber word.now limit n)) }
+    ensures { IfOk result (λ read. MatchOption read ((n : ℕ) → IsNumberWord word.now limit n → ⊥) (λ n. IsNumberWord word.now limit n)) }
 {
     match word.parse::<u32>() {
         Err(_) => Ok(None),

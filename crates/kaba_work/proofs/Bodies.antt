@@ -13,7 +13,7 @@ use Rattle.name_rules.specs.declared.parts.Bound.{Bound}
 use Rattle.name_rules.specs.declared.parts.Here.{Here}
 use Rattle.name_rules.specs.Outline.{outline}
 use Rattle.name_rules.specs.Meanings.{in_scope, is_bound, bound_names, a_class}
-use Rattle.name_rules.specs.Resolves.{Counts, no_number, next_number, ResolvesTo, r_number, r_this, r_local, r_field, r_call, r_super_call, r_create, r_binary, r_no_more, r_some, bound, IsLocal, StsResolve, r_declare, r_assign, r_print, r_return, r_no_statements, r_and_then, declares_all, here_of, params_from, BodyResolves, r_body, BodiesResolve, r_no_methods, r_method}
+use Rattle.name_rules.specs.Resolves.{Counts, no_number, next_number, ResolvesTo, r_number, r_this, r_local, r_field, r_call, r_super_call, r_create, r_binary, r_no_more, r_some, bound, IsDeclaredLocal, StsResolve, r_declare, r_assign, r_print, r_return, r_no_statements, r_and_then, declares_all, here_of, params_from, BodyResolves, r_body, BodiesResolve, r_no_methods, r_method}
 use Rattle.kaba_work.specs.Sample.{nowhere, variable_name, class_type as type_of, total, steps, statements, main_body, sample_tree}
 use Rattle.kaba_work.specs.Program.{total_made, method_made, main_body_made, local_made, main_made}
 use Rattle.kaba_work.proofs.Places.{mapped_at}
@@ -68,7 +68,7 @@ module _ (n : ℕ) (most : n ≤ 100) where
   variable_stands : (i : ℕ) → i < n → slice_get (variables_of (main_made n)) (suc i) ≡ Some (local_made i)
   variable_stands i h = mapped_at local_made n i h
 
-  is_local : (bs : List Bound) (i : ℕ) → i < n → Fresh bs i → IsLocal O (main_made n) bs (type_of i) (variable_name i) nowhere (suc i)
+  is_local : (bs : List Bound) (i : ℕ) → i < n → Fresh bs i → IsDeclaredLocal O (main_made n) bs (type_of i) (variable_name i) nowhere (suc i)
   is_local bs i h f = record {
     ty = class_type (suc i);
     means = record { base = a_class refl (named n most i h); dim = refl };

@@ -4,7 +4,7 @@ use Rattle.std.specs.Prelude.{pos, codes}
 use Rattle.std.specs.List.{range_with_len, flat_map}
 use Rattle.java_tree.specs.Syntax.{IntLit, and_then, MethodTree, ClassTree}
 use Rattle.java_tree.specs.Places.{stmts_unplaced, decl_unplaced, unplaced}
-use Rattle.java_tree.specs.Formed.{Each, IsFormed, a_small, AreFormedStmts, IsFormedMember, IsFormedParent, IsFormedDecl, IsFormedTree, IsGiven}
+use Rattle.java_tree.specs.Formed.{Each, IsFormedExpression, a_small, AreFormedStmts, IsFormedMember, IsFormedParent, IsFormedDecl, IsFormedTree, IsGiven}
 use Rattle.java_print.proofs.DeclParsed.{formed_given}
 use Rattle.kaba_work.specs.Sample.{nowhere, field_name, own_field, extra, total, method_tree, parent_named, class_tree, steps, creation, setting, printing, statements, main_head, main_body, main_tree, sample_tree}
 use Rattle.kaba_work.proofs.Words.{AreWords, words, method_word, main_words}
@@ -20,16 +20,16 @@ each_mapped P f a (suc n) h = (h a (omega arith), each_mapped P f (a + 1) n (λ 
 few : (i : ℕ) → i < 100 → AreWords i
 few i h = words i (omega (arith, h))
 
-number : (i : ℕ) → i ≤ 100 → IsFormed (IntLit (pos i) nowhere)
+number : (i : ℕ) → i ≤ 100 → IsFormedExpression (IntLit (pos i) nowhere)
 number i h = a_small (record { value = i; is = refl; small = omega (arith, h) })
 
-total_formed : (i : ℕ) → i < 100 → IsFormed (total i)
+total_formed : (i : ℕ) → i < 100 → IsFormedExpression (total i)
 total_formed zero h = (tt, (few 0 h).field)
 total_formed (suc i) h = (omega arith, (method_word, tt), (tt, (few (suc i) h).field))
 
 method_formed : (i : ℕ) → i < 100 → IsFormedMember (method_tree i)
 method_formed i h =
-    let own : IsFormed (own_field (field_name i)) = (tt, (few i h).field) in
+    let own : IsFormedExpression (own_field (field_name i)) = (tt, (few i h).field) in
     ((tt, tt, method_word, tt), ((refl, own, (omega arith, own, number (i + 1) (omega (arith, h)))), (total_formed i h, tt)))
 
 parent_formed : (i : ℕ) → i < 100 → IsFormedParent (parent_named i)
@@ -45,7 +45,7 @@ steps_formed a zero h = tt
 steps_formed a (suc n) h =
     let small : a < 100 = omega (arith, h) in
     let word = few a small in
-    let field : IsFormed (extra a) = (word.variable, word.extra) in (
+    let field : IsFormedExpression (extra a) = (word.variable, word.extra) in (
       (word.class, word.variable, (word.class, tt)),
       (
         (refl, field, number a (omega (arith, h))),

@@ -4,7 +4,7 @@ use Rattle.std.specs.Option.{option_and_then}
 use Rattle.kaba_base.specs.declared.Place.{Place}
 use Rattle.java_tree.specs.declared.Id.{Id}
 use Rattle.name_rules.specs.declared.Refusal.{Refusal}
-use Rattle.name_laws.specs.Answers.{with, Gives}
+use Rattle.name_laws.specs.Answers.{with, GivesValue}
 use Rattle.name_laws.specs.Names.{asked}
 use Rattle.name_laws.specs.Tables.{Table}
 use Rattle.name_laws.specs.Expressions.{static_at, static_member}
@@ -22,8 +22,8 @@ found_is n p f (Some k) = go (f k)
 -- the class before the dot, and then its member
 pub static_given : (t : Table) (c : Id) (n : List ℕ) (p : Place) (own : ℕ → Option ℕ) (f : ℕ → Option Bool) (r : Result ℕ Refusal) {owner : ℕ}
     {found : Option ℕ} {static : Option Bool} → asked t.known c.name c.place ≡ Ok owner → found ≡ own owner → static ≡ option_and_then f found
-    → Gives (λ k. k) r (member_found n p found static)
-    → Gives (λ k. k) r (with (asked t.known c.name c.place) (λ k. static_member n p f (own k)))
+    → GivesValue (λ k. k) r (member_found n p found static)
+    → GivesValue (λ k. k) r (with (asked t.known c.name c.place) (λ k. static_member n p f (own k)))
 static_given t c n p own f r {found = found} known is kind g =
     follows (λ k. k) r (λ k. static_member n p f (own k)) known
-    (subst (Gives (λ k. k) r) (ap (member_found n p found) kind ∙ found_is n p f found ∙ ap (static_member n p f) is) g)
+    (subst (GivesValue (λ k. k) r) (ap (member_found n p found) kind ∙ found_is n p f found ∙ ap (static_member n p f) is) g)

@@ -17,7 +17,7 @@ use Rattle.name_rules.specs.declared.Refusal.TheVariants.{NotInProfile}
 use Rattle.name_rules.specs.declared.parts.Bound.{Bound}
 use Rattle.name_rules.specs.declared.parts.Here.{Here}
 use Rattle.name_laws.specs.Tables.{Table}
-use Rattle.name_laws.specs.Answers.{Gives}
+use Rattle.name_laws.specs.Answers.{GivesValue}
 use Rattle.name_laws.specs.Expressions.{ex_last, Receiver, on_super, receiver, class_before, call_meaning, called_on, after, walk, walk_all}
 use Rattle.name_bodies.proofs.Steps.{follows}
 
@@ -44,27 +44,27 @@ on_shown {x = x} {n = n} {p = p} args h k = ap tree.expr_of (h ∙ ap (λ b. Cal
 
 -- what is given of a tree is given of what it is
 pub carry : {A : Type 0} (f : A → Ex × ℕ) (r : Result A Refusal) (t : Table) (h : Here) (scope : List Bound) (k : ℕ) {x y : tree.Expression} → x ≡ y
-    → Gives f r (walk t h scope k y) → Gives f r (walk t h scope k x)
-carry f r t h scope k e g = subst (λ z. Gives f r (walk t h scope k z)) (sym e) g
+    → GivesValue f r (walk t h scope k y) → GivesValue f r (walk t h scope k x)
+carry f r t h scope k e g = subst (λ z. GivesValue f r (walk t h scope k z)) (sym e) g
 
 -- a call: what it is on, and then the call
 pub on_given : {A : Type 0} (f : A → Ex × ℕ) (r : Result A Refusal) (t : Table) (h : Here) (scope : List Bound) (k j : ℕ) (on : Receiver)
     {x e d : tree.Expression} {n : List ℕ} {es : tree.Expressions} {p : Place} → x ≡ tree.CallOn e n es p → d ≡ e →
     receiver t k n p (class_before t h scope d) (walk t h scope k d) ≡ Ok (on, j)
-    → Gives f r (after (walk_all t h scope no_ex j es) (λ xs. called_on on n xs p)) → Gives f r (walk t h scope k x)
+    → GivesValue f r (after (walk_all t h scope no_ex j es) (λ xs. called_on on n xs p)) → GivesValue f r (walk t h scope k x)
 on_given f r t h scope k j on {n = n} {es = es} {p = p} shown same given g =
     carry f r t h scope k shown (follows f r (λ r. after (walk_all t h scope no_ex r.1 es) (λ xs. called_on r.0 n xs p))
     (ap (λ d. receiver t k n p (class_before t h scope d) (walk t h scope k d)) (sym same) ∙ given) g)
 
 pub own_given : {A : Type 0} (f : A → Ex × ℕ) (r : Result A Refusal) (t : Table) (h : Here) (scope : List Bound) (k : ℕ) (on : Receiver)
     {x : tree.Expression} {n : List ℕ} {es : tree.Expressions} {p : Place} → x ≡ tree.CallOf n es p → call_meaning t h n p ≡ Ok on
-    → Gives f r (after (walk_all t h scope no_ex k es) (λ xs. called_on on n xs p)) → Gives f r (walk t h scope k x)
+    → GivesValue f r (after (walk_all t h scope no_ex k es) (λ xs. called_on on n xs p)) → GivesValue f r (walk t h scope k x)
 own_given f r t h scope k on {n = n} {es = es} {p = p} shown given g =
     carry f r t h scope k shown (follows f r (λ r. after (walk_all t h scope no_ex k es) (λ xs. called_on r n xs p)) given g)
 
 pub super_given : {A : Type 0} (f : A → Ex × ℕ) (r : Result A Refusal) (t : Table) (h : Here) (scope : List Bound) (k : ℕ)
     {x : tree.Expression} {n : List ℕ} {es : tree.Expressions} {p : Place} → x ≡ tree.SuperCallOf n es p → h.is_static ≡ false
-    → Gives f r (after (walk_all t h scope no_ex k es) (λ xs. called_on on_super n xs p)) → Gives f r (walk t h scope k x)
+    → GivesValue f r (after (walk_all t h scope no_ex k es) (λ xs. called_on on_super n xs p)) → GivesValue f r (walk t h scope k x)
 super_given f r t h scope k {n = n} {es = es} {p = p} shown on g =
     let go = after (walk_all t h scope no_ex k es) (λ xs. called_on on_super n xs p) in
-    carry f r t h scope k shown (subst (λ b. Gives f r (if b then Err (NotInProfile ThisInStatic p) else go)) (sym on) g)
+    carry f r t h scope k shown (subst (λ b. GivesValue f r (if b then Err (NotInProfile ThisInStatic p) else go)) (sym on) g)

@@ -4,7 +4,7 @@ use Rattle.java_core.specs.declared.RExpr.{RExpr}
 use Rattle.java_core.specs.declared.RExpr.TheBlock as rex
 use Rattle.java_core.specs.declared.RStmt.{RStmt}
 use Rattle.java_core.specs.declared.RArm.{RArm}
-use Rattle.java_core.specs.Trees.{st_then, Arms, no_other, arm, expr_of, target_of, stmt_of, stmts, arms_seen}
+use Rattle.java_core.specs.Trees.{st_then, IfArms, no_other, arm, expr_of, target_of, stmt_of, stmts, arms_seen}
 use Rattle.java_tree.specs.declared.Expr.{Expr}
 use Rattle.java_tree.specs.declared.Stmt.{Stmt, Block, If, While, For}
 use Rattle.java_tree.specs.declared.Stmt.TheBlock.{hidden-the_row-Stmt-0}
@@ -22,7 +22,7 @@ pub arms_push : (xs : List RArm) (a : RArm) → arms_seen (xs ++ a ∷ []) no_ot
 arms_push [] a = refl
 arms_push (x ∷ xs) a = ap (arm (expr_of x.test) (stmts x.body.items)) (arms_push xs a)
 
-pub arms_ending : (xs : List RArm) (other : Arms) → ending (arms_seen xs no_other) other ≡ arms_seen xs other
+pub arms_ending : (xs : List RArm) (other : IfArms) → ending (arms_seen xs no_other) other ≡ arms_seen xs other
 arms_ending [] other = refl
 arms_ending (x ∷ xs) other = ap (arm (expr_of x.test) (stmts x.body.items)) (arms_ending xs other)
 

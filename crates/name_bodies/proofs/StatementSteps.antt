@@ -8,13 +8,13 @@ use Rattle.java_tree.specs.Arms.{arm_size}
 use Rattle.java_core.specs.declared.RStmt.{RStmt}
 use Rattle.java_core.specs.declared.RArm.{RArm}
 use Rattle.kaba_base.specs.declared.Place.{Place}
-use Rattle.java_core.specs.Trees.{at_place, Ex, St, no_other, choose, loop, Sts, Arms, no_st, expr_of, stmt_of, stmts, arms_seen}
+use Rattle.java_core.specs.Trees.{at_place, Ex, St, no_other, choose, loop, Sts, IfArms, no_st, expr_of, stmt_of, stmts, arms_seen}
 use Rattle.name_rules.specs.declared.Refusal.{Refusal}
 use Rattle.name_laws.specs.Tables.{Table}
 use Rattle.name_rules.specs.declared.parts.Bound.{Bound}
 use Rattle.name_rules.specs.declared.parts.Here.{Here}
-use Rattle.name_laws.specs.Answers.{with, IsRefused, Gives}
-use Rattle.name_laws.specs.Statements.{State, Stepped, walk_expr, walk_st, walk_sts, walk_arm, walk_arms, walk_else, walk_value, walk_optional, st_last, arm_last, ending, kept}
+use Rattle.name_laws.specs.Answers.{with, IsRefused, GivesValue}
+use Rattle.name_laws.specs.Statements.{LocalsState, StatementStepped, walk_expr, walk_st, walk_sts, walk_arm, walk_arms, walk_else, walk_value, walk_optional, st_last, arm_last, ending, kept}
 use Rattle.name_bodies.proofs.StatementRows.{stmts_push, arms_push}
 use Rattle.name_bodies.proofs.Steps.{passes, follows}
 use Rattle.std.proofs.Common.{subst}
@@ -22,8 +22,8 @@ use Rattle.kaba_base.proofs.ListLemmas.{drop_at}
 
 module _ (t : Table) (h : Here) (inside : Bool) where
   -- one statement more
-  pub sts_next : (scope after : List Bound) (k j : State) (done pushed : List RStmt) (list : List Stmt) (n : ℕ) (s : Stmt) (e : RStmt)
-      (o : Result (Sts × State) Refusal) → n < length list → s ≡ get_or list n s →
+  pub sts_next : (scope after : List Bound) (k j : LocalsState) (done pushed : List RStmt) (list : List Stmt) (n : ℕ) (s : Stmt) (e : RStmt)
+      (o : Result (Sts × LocalsState) Refusal) → n < length list → s ≡ get_or list n s →
       walk_st t h inside scope k (tree.stmt_of s) ≡ Ok (stmt_of e, after, j) → pushed ≡ done ++ e ∷ [] →
       walk_sts t h inside (stmts done) scope k (tree.stmts (drop n list)) ≡ o → walk_sts t h inside (stmts pushed) after j
       (tree.stmts (drop (n + 1) list)) ≡ o
@@ -34,18 +34,18 @@ module _ (t : Table) (h : Here) (inside : Bool) where
       ∙ ap (λ x. walk_sts t h inside (stmts done) scope k (tree.stmts x)) (sym (drop_at list n s below at))
       ∙ before
 
-  in_arm : {D : Type 0} (x : Ex) (b : Result (Sts × State) Refusal) (go : Ex × Sts × State → Result D Refusal)
+  in_arm : {D : Type 0} (x : Ex) (b : Result (Sts × LocalsState) Refusal) (go : Ex × Sts × LocalsState → Result D Refusal)
       → with (with b (λ b. Ok (x, b.0, b.1))) go ≡ with b (λ b. go (x, b.0, b.1))
   in_arm x (Ok b) go = refl
   in_arm x (Err r) go = refl
 
   -- an arm is its test and then its statements
-  arm_parts : {D : Type 0} (a : Result (Ex × State) Refusal) (b : State → Result (Sts × State) Refusal) (go : Ex × Sts × State → Result D Refusal)
+  arm_parts : {D : Type 0} (a : Result (Ex × LocalsState) Refusal) (b : LocalsState → Result (Sts × LocalsState) Refusal) (go : Ex × Sts × LocalsState → Result D Refusal)
       → with (with a (λ x. with (b x.1) (λ b. Ok (x.0, b.0, b.1)))) go ≡ with a (λ x. with (b x.1) (λ b. go (x.0, b.0, b.1)))
   arm_parts (Ok x) b go = in_arm x.0 (b x.1) go
   arm_parts (Err r) b go = refl
 
-  arm_split : (scope : List Bound) (k : State) (done : Arms) (list : List Arm) (n : ℕ) (s : Arm) → n < length list → s ≡ get_or list n s →
+  arm_split : (scope : List Bound) (k : LocalsState) (done : IfArms) (list : List Arm) (n : ℕ) (s : Arm) → n < length list → s ≡ get_or list n s →
       with (walk_arm t h inside scope k (tree.expr_of s.test) (tree.stmts s.body.items)) (λ a. walk_arms t h inside (arm_last done a.0 a.1) scope a.2
       (tree.arms_seen (drop (n + 1) list))) ≡ walk_arms t h inside done scope k (tree.arms_seen (drop n list))
   arm_split scope k done list n s below at =
@@ -54,8 +54,8 @@ module _ (t : Table) (h : Here) (inside : Bool) where
       ∙ ap (λ x. walk_arms t h inside done scope k (tree.arms_seen x)) (sym (drop_at list n s below at))
 
   -- one arm more
-  pub arms_next : (scope : List Bound) (k j : State) (done pushed : List RArm) (list : List Arm) (n : ℕ) (s : Arm) (e : RArm)
-      (o : Result (Arms × State) Refusal) → n < length list → s ≡ get_or list n s →
+  pub arms_next : (scope : List Bound) (k j : LocalsState) (done pushed : List RArm) (list : List Arm) (n : ℕ) (s : Arm) (e : RArm)
+      (o : Result (IfArms × LocalsState) Refusal) → n < length list → s ≡ get_or list n s →
       walk_arm t h inside scope k (tree.expr_of s.test) (tree.stmts s.body.items) ≡ Ok (expr_of e.test, stmts e.body.items, j)
       → pushed ≡ done ++ e ∷ [] →
       walk_arms t h inside (arms_seen done no_other) scope k (tree.arms_seen (drop n list)) ≡ o
@@ -68,8 +68,8 @@ module _ (t : Table) (h : Here) (inside : Bool) where
       ∙ before
 
   -- an arm with a fault
-  pub arms_fault : (r : Refusal) (scope : List Bound) (k : State) (done : List RArm) (list : List Arm) (n : ℕ) (s : Arm)
-      (o : Result (Arms × State) Refusal) → n < length list → s ≡ get_or list n s →
+  pub arms_fault : (r : Refusal) (scope : List Bound) (k : LocalsState) (done : List RArm) (list : List Arm) (n : ℕ) (s : Arm)
+      (o : Result (IfArms × LocalsState) Refusal) → n < length list → s ≡ get_or list n s →
       IsRefused r (walk_arm t h inside scope k (tree.expr_of s.test) (tree.stmts s.body.items))
       → walk_arms t h inside (arms_seen done no_other) scope k (tree.arms_seen (drop n list)) ≡ o → IsRefused r o
   arms_fault r scope k done list n s o below at given before =
@@ -78,12 +78,12 @@ module _ (t : Table) (h : Here) (inside : Bool) where
       (λ a. walk_arms t h inside (arm_last (arms_seen done no_other) a.0 a.1) scope a.2 (tree.arms_seen (drop (n + 1) list))) given)
 
 -- what is given of a tree is given of what it is
-pub carry_st : {A : Type 0} (f : A → St × List Bound × State) (r : Result A Refusal) (t : Table) (h : Here) (inside : Bool) (scope : List Bound)
-    (k : State) {x y : tree.Statement} → x ≡ y → Gives f r (walk_st t h inside scope k y) → Gives f r (walk_st t h inside scope k x)
-carry_st f r t h inside scope k e g = subst (λ z. Gives f r (walk_st t h inside scope k z)) (sym e) g
+pub carry_st : {A : Type 0} (f : A → St × List Bound × LocalsState) (r : Result A Refusal) (t : Table) (h : Here) (inside : Bool) (scope : List Bound)
+    (k : LocalsState) {x y : tree.Statement} → x ≡ y → GivesValue f r (walk_st t h inside scope k y) → GivesValue f r (walk_st t h inside scope k x)
+carry_st f r t h inside scope k e g = subst (λ z. GivesValue f r (walk_st t h inside scope k z)) (sym e) g
 
 -- a fault of the arms of an `if`
-pub if_fault : (r : Refusal) (t : Table) (h : Here) (inside : Bool) (scope : List Bound) (k : State) {x : tree.Statement} {arms : tree.Arms}
+pub if_fault : (r : Refusal) (t : Table) (h : Here) (inside : Bool) (scope : List Bound) (k : LocalsState) {x : tree.Statement} {arms : tree.Arms}
     {other : tree.Else} {p : Place} → x ≡ tree.IfOf arms other p →
     IsRefused r (walk_arms t h inside no_other scope k arms) → IsRefused r (walk_st t h inside scope k x)
 if_fault r t h inside scope k {arms = arms} {other = other} {p = p} e g =
@@ -102,24 +102,24 @@ arm_within (x ∷ xs) zero a h e = omega (arith, ap arm_size e)
 arm_within (x ∷ xs) (suc i) a h e = let k = arm_within xs i a (omega (arith, h)) e in omega (arith, k)
 
 -- an `if`: its arms, and then the rest
-pub if_given : {A : Type 0} (f : A → St × List Bound × State) (r : Result A Refusal) (t : Table) (h : Here) (inside : Bool) (scope : List Bound)
-    (k j : State) (a : Arms) {x : tree.Statement} {arms : tree.Arms} {other : tree.Else} {p : Place} → x ≡ tree.IfOf arms other p →
+pub if_given : {A : Type 0} (f : A → St × List Bound × LocalsState) (r : Result A Refusal) (t : Table) (h : Here) (inside : Bool) (scope : List Bound)
+    (k j : LocalsState) (a : IfArms) {x : tree.Statement} {arms : tree.Arms} {other : tree.Else} {p : Place} → x ≡ tree.IfOf arms other p →
     walk_arms t h inside no_other scope k arms ≡ Ok (a, j)
-    → Gives f r (kept (walk_else t h inside scope j other) scope (λ o. choose (at_place p) (ending a o)))
-    → Gives f r (walk_st t h inside scope k x)
+    → GivesValue f r (kept (walk_else t h inside scope j other) scope (λ o. choose (at_place p) (ending a o)))
+    → GivesValue f r (walk_st t h inside scope k x)
 if_given f r t h inside scope k j a {other = other} {p = p} shown given g =
     carry_st f r t h inside scope k shown
     (follows f r (λ a. kept (walk_else t h inside scope a.1 other) scope (λ o. choose (at_place p) (ending a.0 o))) given g)
 
 -- a `for`: its head, and then its body
-pub for_given : {A : Type 0} (f : A → St × List Bound × State) (r : Result A Refusal) (t : Table) (h : Here) (inside : Bool)
-    (scope inner : List Bound) (k : State) (a : Sts × List Bound × State) (b : Option Ex × State) (c : Sts × List Bound × State)
+pub for_given : {A : Type 0} (f : A → St × List Bound × LocalsState) (r : Result A Refusal) (t : Table) (h : Here) (inside : Bool)
+    (scope inner : List Bound) (k : LocalsState) (a : Sts × List Bound × LocalsState) (b : Option Ex × LocalsState) (c : Sts × List Bound × LocalsState)
     {x : tree.Statement} {u w : tree.OptionalStatement} {v : Option tree.Expression} {ss : tree.Statements} {p : Place} → x ≡ tree.ForOf u v w ss p
     → inner ≡ scope →
     walk_optional t h inside inner k u ≡ Ok a → walk_value t h a.1 a.2 v ≡ Ok b → walk_optional t h inside a.1 b.1 w ≡ Ok c →
-    Gives f r (kept (walk_sts t h true no_st c.1 c.2 ss) scope (loop (at_place p) false a.0 b.0 c.0)) → Gives f r (walk_st t h inside scope k x)
+    GivesValue f r (kept (walk_sts t h true no_st c.1 c.2 ss) scope (loop (at_place p) false a.0 b.0 c.0)) → GivesValue f r (walk_st t h inside scope k x)
 for_given f r t h inside scope inner k a b c {u = u} {w = w} {v = v} {ss = ss} {p = p} shown same first test last g =
-    let run : Sts × List Bound × State → Option Ex × State → Sts × List Bound × State → Stepped = λ a b c.
+    let run : Sts × List Bound × LocalsState → Option Ex × LocalsState → Sts × List Bound × LocalsState → StatementStepped = λ a b c.
     kept (walk_sts t h true no_st c.1 c.2 ss) scope (loop (at_place p) false a.0 b.0 c.0) in
     carry_st f r t h inside scope k shown
     (follows f r (λ a. with (walk_value t h a.1 a.2 v) (λ b. with (walk_optional t h inside a.1 b.1 w) (run a b)))
@@ -127,8 +127,8 @@ for_given f r t h inside scope inner k a b c {u = u} {w = w} {v = v} {ss = ss} {
     (follows f r (λ b. with (walk_optional t h inside a.1 b.1 w) (run a b)) test (follows f r (run a b) last g)))
 
 -- a fault of its last part
-pub for_fault : (r : Refusal) (t : Table) (h : Here) (inside : Bool) (scope inner : List Bound) (k : State) (a : Sts × List Bound × State)
-    (b : Option Ex × State) {x : tree.Statement} {u w : tree.OptionalStatement} {v : Option tree.Expression} {ss : tree.Statements} {p : Place}
+pub for_fault : (r : Refusal) (t : Table) (h : Here) (inside : Bool) (scope inner : List Bound) (k : LocalsState) (a : Sts × List Bound × LocalsState)
+    (b : Option Ex × LocalsState) {x : tree.Statement} {u w : tree.OptionalStatement} {v : Option tree.Expression} {ss : tree.Statements} {p : Place}
     → x ≡ tree.ForOf u v w ss p → inner ≡ scope → walk_optional t h inside inner k u ≡ Ok a → walk_value t h a.1 a.2 v ≡ Ok b →
     IsRefused r (walk_optional t h inside a.1 b.1 w) → IsRefused r (walk_st t h inside scope k x)
 for_fault r t h inside scope inner k a b {u = u} {w = w} {v = v} {ss = ss} {p = p} shown same first test g =

@@ -2,7 +2,7 @@
 use Rattle.std.proofs.Common.{◌≡◌, Result, Ok, ap, sym, subst}
 use Rattle.name_rules.specs.declared.Refusal.{Refusal}
 use Rattle.name_rules.specs.declared.Refusal.TheVariants as refusals
-use Rattle.name_laws.specs.Answers.{with, Gives, IsRefused}
+use Rattle.name_laws.specs.Answers.{with, GivesValue, IsRefused}
 
 -- a fault passes on
 pub passes : {B D : Type 0} (r : Refusal) (o : Result B Refusal) (go : B → Result D Refusal) → IsRefused r o → IsRefused r (with o go)
@@ -18,5 +18,5 @@ passes (refusals.NotInProfile f p) o go h = ap (λ x. with x go) h
 
 -- what is given of what follows a step is given of both
 pub follows : {A B D : Type 0} (f : A → B) (r : Result A Refusal) {o : Result D Refusal} {d : D} (go : D → Result B Refusal) → o ≡ Ok d
-    → Gives f r (go d) → Gives f r (with o go)
-follows f r go e g = subst (λ o. Gives f r (with o go)) (sym e) g
+    → GivesValue f r (go d) → GivesValue f r (with o go)
+follows f r go e g = subst (λ o. GivesValue f r (with o go)) (sym e) g

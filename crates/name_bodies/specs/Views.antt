@@ -4,7 +4,7 @@ use Rattle.java_core.specs.Trees.{expr_of}
 use Rattle.java_core.specs.Programs.{local_seen, method_seen}
 use Rattle.name_laws.specs.Tables.{Table}
 use Rattle.name_laws.specs.Expressions.{Receiver, an_object, on_this, on_super, no_object}
-use Rattle.name_laws.specs.Statements.{State}
+use Rattle.name_laws.specs.Statements.{LocalsState}
 use Rattle.name_laws.specs.Resolved.{Methods}
 use Rattle.name_bodies.specs.declared.declarations.Tables.{Tables}
 use Rattle.name_bodies.specs.declared.declarations.Enclosing.{Enclosing}
@@ -29,7 +29,7 @@ receiver_of callee.Super = on_super
 receiver_of (callee.Static m) = no_object m
 
 -- the state in which a body stands: its locals, how many variables there are, and the next free number
-abbrev pub state_of : Body → State
+abbrev pub state_of : Body → LocalsState
 state_of b = record { locals = map local_seen b.locals.items; count = b.count; number = b.number }
 
 -- the methods that are written so far, and the next free number

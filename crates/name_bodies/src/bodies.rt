@@ -11,7 +11,7 @@ ghost use Rattle.java_core.specs.declared.Method.{Method};
 ghost use Rattle.java_core.specs.declared.Local.{Local};
 ghost use Rattle.java_core.specs.declared.RStmt.{RStmt};
 ghost use Rattle.java_core.specs.Programs.{PlainLocal, PlainMethod, local_seen, method_seen};
-ghost use Rattle.name_laws.specs.Answers.{Gives, run};
+ghost use Rattle.name_laws.specs.Answers.{GivesValue, run};
 ghost use Rattle.name_bodies.specs.Views.{table_of, table_at};
 ghost use Rattle.name_laws.specs.Resolved.{Methods, bounds_from, body_of, method_step, body_step, head_body_step, decl_bodies, methods_of, slot_at};
 ghost use Rattle.name_bodies.specs.Views.{methods_seen};
@@ -53,7 +53,7 @@ fn body_of(
 ) -> Named<(Vec<Local>, Option<Vec<RStmt>>)>
     requires bound { scope.now ≡ bounds_from 0 params.now.items }
     requires outside { within.now.inside ≡ false }
-    ensures { Gives {A = Vec Local Global × Option (Vec RStmt Global)} {B = List PlainLocal × Option Sts × ℕ}
+    ensures { GivesValue {A = Vec Local Global × Option (Vec RStmt Global)} {B = List PlainLocal × Option Sts × ℕ}
         (λ b. (map local_seen b.0.items, core.body_seen b.1, number.new)) result
         (body_of (table_at within.now) within.now.here params.now.items number.old (body_seen tree.now)) }
 {
@@ -89,7 +89,7 @@ fn method_step(
     head: &Head,
     tree: &Option<Vec<Stmt>>,
 ) -> Named<()>
-    ensures { Gives (λ _. methods_seen written.new) result (method_step (table_of owner.now.tables.now) owner.now.number kind
+    ensures { GivesValue (λ _. methods_seen written.new) result (method_step (table_of owner.now.tables.now) owner.now.number kind
         (methods_seen written.old) (head_of head.now) (body_seen tree.now)) }
 {
     let flags = flags_of(kind, head.mods.as_slice())?;
@@ -131,7 +131,7 @@ fn method_step(
 
 /// One member more of a class.
 fn body_step(owner: &Owner, written: &mut Written, member: &Member) -> Named<()>
-    ensures { Gives (λ _. methods_seen written.new) result (body_step (table_of owner.now.tables.now) owner.now.number
+    ensures { GivesValue (λ _. methods_seen written.new) result (body_step (table_of owner.now.tables.now) owner.now.number
         (methods_seen written.old) (member_of member.now)) }
 {
     match member {
@@ -144,7 +144,7 @@ fn body_step(owner: &Owner, written: &mut Written, member: &Member) -> Named<()>
 
 /// The methods of a class.
 fn class_bodies(owner: &Owner, written: &mut Written, list: &Vec<Member>) -> Named<()>
-    ensures { Gives (λ _. methods_seen written.new) result (run (body_step (table_of owner.now.tables.now) owner.now.number)
+    ensures { GivesValue (λ _. methods_seen written.new) result (run (body_step (table_of owner.now.tables.now) owner.now.number)
         (methods_seen written.old) (members list.now.items)) }
 {
     for member in list {
@@ -155,7 +155,7 @@ fn class_bodies(owner: &Owner, written: &mut Written, list: &Vec<Member>) -> Nam
 
 /// The methods of an interface.
 fn interface_bodies(owner: &Owner, written: &mut Written, list: &Vec<Head>) -> Named<()>
-    ensures { Gives (λ _. methods_seen written.new) result (run (head_body_step (table_of owner.now.tables.now) owner.now.number)
+    ensures { GivesValue (λ _. methods_seen written.new) result (run (head_body_step (table_of owner.now.tables.now) owner.now.number)
         (methods_seen written.old) (heads list.now.items)) }
 {
     for head in list {
@@ -166,7 +166,7 @@ fn interface_bodies(owner: &Owner, written: &mut Written, list: &Vec<Head>) -> N
 
 /// The methods of one type more, and the number of the next type.
 fn decl_bodies(owner: &Owner, written: &mut Written, decl: &Decl) -> Named<u32>
-    ensures { Gives {A = ℕ} {B = ℕ × Methods} (λ k. (k, methods_seen written.new)) result
+    ensures { GivesValue {A = ℕ} {B = ℕ × Methods} (λ k. (k, methods_seen written.new)) result
         (decl_bodies (table_of owner.now.tables.now) (owner.now.number, methods_seen written.old) (decl_of decl.now)) }
 {
     match decl {
@@ -178,7 +178,7 @@ fn decl_bodies(owner: &Owner, written: &mut Written, decl: &Decl) -> Named<u32>
 
 /// All methods of a tree.
 pub fn methods_of(alloc: Global, tables: &Tables, list: &[Decl]) -> Named<Vec<Method>>
-    ensures { Gives {A = Vec Method Global} {B = List PlainMethod} (λ v. map method_seen v.items)
+    ensures { GivesValue {A = Vec Method Global} {B = List PlainMethod} (λ v. map method_seen v.items)
         result (methods_of (table_of tables.now) (decls list.now)) }
 {
     let mut written = Written {

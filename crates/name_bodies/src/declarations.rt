@@ -3,7 +3,7 @@
 
 ghost use Rattle.std.specs.Prelude.{◌≡◌, true};
 ghost use Rattle.java_core.specs.Tables.{AreFieldTables};
-ghost use Rattle.name_tables.specs.Declarations.{AreListed};
+ghost use Rattle.name_tables.specs.Declarations.{AreDeclarationsListed};
 ghost use Rattle.name_bodies.specs.Met.{AreBlocksOf};
 
 use java_core::{FieldTables, Hierarchy};
@@ -26,7 +26,7 @@ pub struct Tables {
     pub blocks: Vec<Vec<BitRow>>,
     /// Which fields are nearest above a class.
     pub field_tables: FieldTables,
-    ghost found: { AreListed declared },
+    ghost found: { AreDeclarationsListed declared },
     ghost blocks_found: { AreBlocksOf above declared.headings.items declared.method_spots blocks.items },
     ghost above_found: { AreFieldTables parents.items declared.fields.items field_tables },
 }

@@ -10,7 +10,7 @@ ghost use Rattle.java_core.specs.declared.RExpr.{RExpr};
 ghost use Rattle.name_bodies.specs.declared.meanings.Callee.{Callee};
 ghost use Rattle.std.specs.declared.vec.Vec.{Vec};
 ghost use Rattle.std.specs.declared.alloc.Global.{Global};
-ghost use Rattle.name_laws.specs.Answers.{Gives};
+ghost use Rattle.name_laws.specs.Answers.{GivesValue};
 ghost use Rattle.name_laws.specs.Expressions.{class_before, Receiver, receiver, called_on, after, walk, walk_all};
 ghost use Rattle.name_bodies.specs.Views.{table_at, receiver_of};
 ghost use Rattle.name_rules.specs.Resolves.{un_op, bin_op};
@@ -126,7 +126,7 @@ fn bin_op(mark: Mark) -> BinOp
 /// an `instanceof`.
 #[cycle(exprs)]
 pub fn expr(within: &Enclosing, scope: &Scope, number: &mut u32, tree: &Expr) -> Named<RExpr>
-    ensures given { Gives {A = RExpr} {B = Ex × ℕ} (λ e. (core.expr_of e, number.new)) result
+    ensures given { GivesValue {A = RExpr} {B = Ex × ℕ} (λ e. (core.expr_of e, number.new)) result
         (walk (table_at within.now) within.now.here scope.now number.old (expr_of tree.now)) }
 {
     match tree {
@@ -270,7 +270,7 @@ pub fn expr(within: &Enclosing, scope: &Scope, number: &mut u32, tree: &Expr) ->
 /// The same, as a part of another.
 #[cycle(exprs)]
 fn boxed(within: &Enclosing, scope: &Scope, number: &mut u32, tree: &Expr) -> Named<Box<RExpr>>
-    ensures given { Gives {A = Box RExpr Global} {B = Ex × ℕ} (λ e. (core.expr_of e.value, number.new)) result
+    ensures given { GivesValue {A = Box RExpr Global} {B = Ex × ℕ} (λ e. (core.expr_of e.value, number.new)) result
         (walk (table_at within.now) within.now.here scope.now number.old (expr_of tree.now)) }
 {
     let expr = expr(within, scope, number, tree)?;
@@ -287,7 +287,7 @@ fn callee_of(
     name: &Name,
     place: Place,
 ) -> Named<Callee>
-    ensures given { Gives {A = Callee} {B = Receiver × ℕ} (λ c. (receiver_of c, number.new)) result
+    ensures given { GivesValue {A = Callee} {B = Receiver × ℕ} (λ c. (receiver_of c, number.new)) result
         (receiver (table_at within.now) number.old name.now place
         (class_before (table_at within.now) within.now.here scope.now (expr_of base.now))
         (walk (table_at within.now) within.now.here scope.now number.old (expr_of base.now))) }
@@ -312,7 +312,7 @@ fn applied(
     args: &Vec<Expr>,
     place: Place,
 ) -> Named<RExpr>
-    ensures given { Gives {A = RExpr} {B = Ex × ℕ} (λ e. (core.expr_of e, number.new)) result
+    ensures given { GivesValue {A = RExpr} {B = Ex × ℕ} (λ e. (core.expr_of e, number.new)) result
         (after (walk_all (table_at within.now) within.now.here scope.now no_ex number.old (exprs args.now.items))
         (λ xs. called_on (receiver_of on) name.now xs place)) }
 {
@@ -331,7 +331,7 @@ fn new_object(
     args: &Vec<Expr>,
     place: Place,
 ) -> Named<RExpr>
-    ensures given { Gives {A = RExpr} {B = Ex × ℕ} (λ e. (core.expr_of e, number.new)) result
+    ensures given { GivesValue {A = RExpr} {B = Ex × ℕ} (λ e. (core.expr_of e, number.new)) result
         (walk (table_at within.now) within.now.here scope.now number.old
         (NewOf class.now (exprs args.now.items) place)) }
 {
@@ -345,7 +345,7 @@ fn new_object(
 #[cycle(exprs)]
 #[tactic(auto, using(crate::proofs::Rows::exprs_push))]
 fn all(within: &Enclosing, scope: &Scope, number: &mut u32, list: &Vec<Expr>) -> Named<Vec<RExpr>>
-    ensures given { Gives {A = Vec RExpr Global} {B = Exs × ℕ} (λ v. (core.exprs v.items, number.new)) result
+    ensures given { GivesValue {A = Vec RExpr Global} {B = Exs × ℕ} (λ v. (core.exprs v.items, number.new)) result
         (walk_all (table_at within.now) within.now.here scope.now no_ex number.old (exprs list.now.items)) }
 {
     let mut done = Vec::new(within.alloc);

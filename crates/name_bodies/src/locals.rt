@@ -8,8 +8,8 @@ ghost use Rattle.java_core.specs.Trees.{Ex, St};
 ghost use Rattle.java_core.specs.declared.RExpr.{RExpr};
 ghost use Rattle.java_core.specs.declared.RStmt.{RStmt};
 ghost use Rattle.name_rules.specs.declared.parts.Bound.{Bound};
-ghost use Rattle.name_laws.specs.Answers.{Gives};
-ghost use Rattle.name_laws.specs.Statements.{State, clash, walk_expr, walk_value, walk_local};
+ghost use Rattle.name_laws.specs.Answers.{GivesValue};
+ghost use Rattle.name_laws.specs.Statements.{LocalsState, clash, walk_expr, walk_value, walk_local};
 ghost use Rattle.name_bodies.specs.Views.{table_at, state_of};
 
 use crate::Named;
@@ -52,7 +52,7 @@ fn clash(
 
 /// An expression of a statement.
 pub fn part(within: &Enclosing, scope: &Scope, body: &mut Body, tree: &Expr) -> Named<RExpr>
-    ensures given { Gives {A = RExpr} {B = Ex × State} (λ e. (core.expr_of e, state_of body.new))
+    ensures given { GivesValue {A = RExpr} {B = Ex × LocalsState} (λ e. (core.expr_of e, state_of body.new))
         result (walk_expr (table_at within.now) within.now.here scope.now (state_of body.old) (expr_of tree.now)) }
 {
     expr(within, scope, &mut body.number, tree)
@@ -65,7 +65,7 @@ pub fn value(
     body: &mut Body,
     tree: &Option<Expr>,
 ) -> Named<Option<RExpr>>
-    ensures given { Gives {A = Option RExpr} {B = Option Ex × State}
+    ensures given { GivesValue {A = Option RExpr} {B = Option Ex × LocalsState}
         (λ e. (core.value_of e, state_of body.new)) result
         (walk_value (table_at within.now) within.now.here scope.now (state_of body.old) (value_of tree.now)) }
 {
@@ -85,7 +85,7 @@ pub fn declaration(
     first: &Option<Expr>,
     place: Place,
 ) -> Named<RStmt>
-    ensures given { Gives {A = RStmt} {B = St × List Bound × State}
+    ensures given { GivesValue {A = RStmt} {B = St × List Bound × LocalsState}
         (λ s. (core.stmt_of s, scope.new, state_of body.new)) result
         (walk_local (table_at within.now) within.now.here scope.old (state_of body.old) ty.now name.now
         (value_of first.now) place) }

@@ -4,7 +4,7 @@
 ghost use Rattle.std.specs.Prelude.{◌≡◌, ℕ, Ok, suc, option_and_then};
 ghost use Rattle.java_tree.specs.Syntax.{expr_of};
 ghost use Rattle.java_core.specs.Trees as core;
-ghost use Rattle.name_laws.specs.Answers.{Gives};
+ghost use Rattle.name_laws.specs.Answers.{GivesValue};
 ghost use Rattle.name_bodies.specs.Members.{member_found};
 ghost use Rattle.name_bodies.specs.Views.{table_at, receiver_of};
 ghost use Rattle.name_laws.specs.Expressions.{cast_type, cast_base, name_meaning, is_variable, class_before, is_static_field, is_static_method, static_field_of, static_method_of, call_meaning};
@@ -29,7 +29,7 @@ pub enum Callee {
 }
 
 fn cast_base(within: &Enclosing, base: &TypeBase, place: Place) -> Named<TyBase>
-    ensures { Gives (λ b. b) result (cast_base (table_at within.now) base.now place) }
+    ensures { GivesValue (λ b. b) result (cast_base (table_at within.now) base.now place) }
 {
     match base {
         TypeBase::Int => Ok(TyBase::Int),
@@ -44,7 +44,7 @@ fn cast_base(within: &Enclosing, base: &TypeBase, place: Place) -> Named<TyBase>
 
 /// The type of a cast.
 pub fn cast_type(within: &Enclosing, ty: &TypeName) -> Named<Ty>
-    ensures { Gives (λ t. t) result (cast_type (table_at within.now) ty.now) }
+    ensures { GivesValue (λ t. t) result (cast_type (table_at within.now) ty.now) }
 {
     let base = cast_base(within, &ty.base, ty.place)?;
     Ok(Ty { base, dim: ty.dim })
@@ -52,7 +52,7 @@ pub fn cast_type(within: &Enclosing, ty: &TypeName) -> Named<Ty>
 
 /// The number of a field or method.
 fn id_of(number: usize) -> Named<u32>
-    ensures { Gives (λ k. k) result (Ok number) }
+    ensures { GivesValue (λ k. k) result (Ok number) }
 {
     match u32::try_from(number) {
         Ok(number) => Ok(number),
@@ -62,7 +62,7 @@ fn id_of(number: usize) -> Named<u32>
 
 /// A field by its simple name.
 fn field_use(within: &Enclosing, name: &Name, place: Place, found: Option<usize>) -> Named<RExpr>
-    ensures { Gives (λ e. core.expr_of e) result (spec.field_named (table_at within.now) within.now.here name.now place found) }
+    ensures { GivesValue (λ e. core.expr_of e) result (spec.field_named (table_at within.now) within.now.here name.now place found) }
 {
     let Some(number) = found else {
         return Err(Refusal::Unknown(name.copy(within.alloc)?, place));
@@ -94,7 +94,7 @@ fn field_use(within: &Enclosing, name: &Name, place: Place, found: Option<usize>
 /// What a simple name means.
 #[tactic(auto, unfolding(name_laws::specs::Expressions::name_meaning))]
 pub fn name_meaning(within: &Enclosing, scope: &Scope, name: &Name, place: Place) -> Named<RExpr>
-    ensures { Gives (λ e. core.expr_of e) result (name_meaning (table_at within.now) within.now.here scope.now name.now place) }
+    ensures { GivesValue (λ e. core.expr_of e) result (name_meaning (table_at within.now) within.now.here scope.now name.now place) }
 {
     match scope.number_of(name) {
         Some(local) => Ok(RExpr::Local { local, place }),
@@ -117,7 +117,7 @@ fn is_variable(within: &Enclosing, scope: &Scope, name: &Name) -> bool
 
 /// The name before a dot that is no variable.
 pub fn class_before(within: &Enclosing, scope: &Scope, base: &Expr) -> Named<Option<Id>>
-    ensures { Gives (λ c. c) result (Ok (class_before (table_at within.now) within.now.here scope.now (expr_of base.now))) }
+    ensures { GivesValue (λ c. c) result (Ok (class_before (table_at within.now) within.now.here scope.now (expr_of base.now))) }
 {
     match base {
         Expr::Name { name, place } => {
@@ -158,7 +158,7 @@ fn static_member(
     found: Option<usize>,
     is_static: Option<bool>,
 ) -> Named<u32>
-    ensures { Gives (λ k. k) result (member_found name.now place found is_static) }
+    ensures { GivesValue (λ k. k) result (member_found name.now place found is_static) }
 {
     match is_static {
         Some(true) => match found {
@@ -171,7 +171,7 @@ fn static_member(
 
 /// The static field of a class itself.
 pub fn static_field_of(within: &Enclosing, class: &Id, name: &Name, place: Place) -> Named<u32>
-    ensures { Gives (λ k. k) result (static_field_of (table_at within.now) class.now name.now place) }
+    ensures { GivesValue (λ k. k) result (static_field_of (table_at within.now) class.now name.now place) }
 {
     let owner = asked(within.alloc, &within.tables.known, &class.name, class.place)?;
     let found = own_field(within.tables, owner, name);
@@ -180,7 +180,7 @@ pub fn static_field_of(within: &Enclosing, class: &Id, name: &Name, place: Place
 
 /// The static method of a class itself.
 pub fn static_method_of(within: &Enclosing, class: &Id, name: &Name, place: Place) -> Named<u32>
-    ensures { Gives (λ k. k) result (static_method_of (table_at within.now) class.now name.now place) }
+    ensures { GivesValue (λ k. k) result (static_method_of (table_at within.now) class.now name.now place) }
 {
     let owner = asked(within.alloc, &within.tables.known, &class.name, class.place)?;
     let found = own_method(within.tables, owner, name);
@@ -188,7 +188,7 @@ pub fn static_method_of(within: &Enclosing, class: &Id, name: &Name, place: Plac
 }
 
 fn method_use(within: &Enclosing, name: &Name, place: Place, found: Option<usize>) -> Named<Callee>
-    ensures { Gives (λ c. receiver_of c) result (spec.method_named (table_at within.now) within.now.here name.now place found) }
+    ensures { GivesValue (λ c. receiver_of c) result (spec.method_named (table_at within.now) within.now.here name.now place found) }
 {
     let Some(number) = found else {
         return Err(Refusal::Unknown(name.copy(within.alloc)?, place));
@@ -212,7 +212,7 @@ fn method_use(within: &Enclosing, name: &Name, place: Place, found: Option<usize
 /// What a call by a simple name is on.
 #[tactic(auto, unfolding(name_laws::specs::Expressions::call_meaning))]
 pub fn call_meaning(within: &Enclosing, name: &Name, place: Place) -> Named<Callee>
-    ensures { Gives (λ c. receiver_of c) result (call_meaning (table_at within.now) within.now.here name.now place) }
+    ensures { GivesValue (λ c. receiver_of c) result (call_meaning (table_at within.now) within.now.here name.now place) }
 {
     let found = method_met(within.tables, within.here.owner, name);
     method_use(within, name, place, found)
@@ -220,7 +220,7 @@ pub fn call_meaning(within: &Enclosing, name: &Name, place: Place) -> Named<Call
 
 /// The next number of a creation, a cast or an `instanceof`.
 pub fn next(number: &mut u32) -> Named<u32>
-    ensures { Gives {A = ℕ} {B = ℕ × ℕ} (λ k. (k, number.new)) result (Ok (number.old, suc number.old)) }
+    ensures { GivesValue {A = ℕ} {B = ℕ × ℕ} (λ k. (k, number.new)) result (Ok (number.old, suc number.old)) }
 {
     let own = *number;
     if own == u32::MAX {

@@ -7,13 +7,13 @@ ghost use Rattle.std.specs.declared.boxed.Box.{Box};
 ghost use Rattle.std.specs.declared.alloc.Global.{Global};
 ghost use Rattle.java_tree.specs.Syntax.{expr_of, stmt_of, stmts, arms_seen, else_seen, boxed_step, AssignOf, BlockOf, WhileOf};
 ghost use Rattle.java_core.specs.Trees as core;
-ghost use Rattle.java_core.specs.Trees.{at_place, Ex, St, Sts, Arms, no_st, no_other, choose, loop};
+ghost use Rattle.java_core.specs.Trees.{at_place, Ex, St, Sts, IfArms, no_st, no_other, choose, loop};
 ghost use Rattle.java_core.specs.declared.RExpr.{RExpr};
 ghost use Rattle.java_core.specs.declared.RStmt.{RStmt};
 ghost use Rattle.java_core.specs.declared.RArm.{RArm};
 ghost use Rattle.name_rules.specs.declared.parts.Bound.{Bound};
-ghost use Rattle.name_laws.specs.Answers.{Gives};
-ghost use Rattle.name_laws.specs.Statements.{State, kept, ending, walk_arm, walk_st, walk_sts, walk_arms, walk_else, walk_optional};
+ghost use Rattle.name_laws.specs.Answers.{GivesValue};
+ghost use Rattle.name_laws.specs.Statements.{LocalsState, kept, ending, walk_arm, walk_st, walk_sts, walk_arms, walk_else, walk_optional};
 ghost use Rattle.name_bodies.specs.Views.{table_at, state_of};
 
 use crate::declarations::{Enclosing, in_loop};
@@ -28,7 +28,7 @@ use name_tables::Scope;
 /// A statement.
 #[cycle(stmts)]
 fn stmt(within: &Enclosing, scope: &mut Scope, body: &mut Body, tree: &Stmt) -> Named<RStmt>
-    ensures given { Gives {A = RStmt} {B = St × List Bound × State}
+    ensures given { GivesValue {A = RStmt} {B = St × List Bound × LocalsState}
         (λ s. (core.stmt_of s, scope.new, state_of body.new)) result
         (walk_st (table_at within.now) within.now.here within.now.inside scope.old (state_of body.old) (stmt_of tree.now)) }
 {
@@ -135,7 +135,7 @@ fn assign(
     value: &Expr,
     place: Place,
 ) -> Named<RStmt>
-    ensures given { Gives {A = RStmt} {B = St × List Bound × State}
+    ensures given { GivesValue {A = RStmt} {B = St × List Bound × LocalsState}
         (λ s. (core.stmt_of s, scope.now, state_of body.new)) result
         (walk_st (table_at within.now) within.now.here true scope.now (state_of body.old)
         (AssignOf (expr_of target.now) (expr_of value.now) place)) }
@@ -158,7 +158,7 @@ fn block(
     items: &Vec<Stmt>,
     place: Place,
 ) -> Named<RStmt>
-    ensures given { Gives {A = RStmt} {B = St × List Bound × State}
+    ensures given { GivesValue {A = RStmt} {B = St × List Bound × LocalsState}
         (λ s. (core.stmt_of s, scope.now, state_of body.new)) result
         (walk_st (table_at within.now) within.now.here within.now.inside scope.now (state_of body.old)
         (BlockOf (stmts items.now.items) place)) }
@@ -178,7 +178,7 @@ fn choice(
     other: &Option<Vec<Stmt>>,
     place: Place,
 ) -> Named<RStmt>
-    ensures given { Gives {A = RStmt} {B = St × List Bound × State}
+    ensures given { GivesValue {A = RStmt} {B = St × List Bound × LocalsState}
         (λ s. (core.stmt_of s, scope.now, state_of body.new)) result
         (kept (walk_else (table_at within.now) within.now.here within.now.inside scope.now (state_of body.old)
         (else_seen other.now)) scope.now
@@ -198,7 +198,7 @@ fn while_loop(
     run: &Vec<Stmt>,
     place: Place,
 ) -> Named<RStmt>
-    ensures given { Gives {A = RStmt} {B = St × List Bound × State}
+    ensures given { GivesValue {A = RStmt} {B = St × List Bound × LocalsState}
         (λ s. (core.stmt_of s, scope.now, state_of body.new)) result
         (walk_st (table_at within.now) within.now.here true scope.now (state_of body.old)
         (WhileOf (expr_of test.now) (stmts run.now.items) place)) }
@@ -220,7 +220,7 @@ fn for_body(
     run: &Vec<Stmt>,
     place: Place,
 ) -> Named<RStmt>
-    ensures given { (outer : List Bound) → Gives {A = RStmt} {B = St × List Bound × State}
+    ensures given { (outer : List Bound) → GivesValue {A = RStmt} {B = St × List Bound × LocalsState}
         (λ s. (core.stmt_of s, outer, state_of body.new)) result
         (kept (walk_sts (table_at within.now) within.now.here true no_st inner.now (state_of body.old)
         (stmts run.now.items)) outer (loop (at_place place) false (core.step_seen first)
@@ -238,7 +238,7 @@ fn optional(
     body: &mut Body,
     tree: &Option<Box<Stmt>>,
 ) -> Named<Option<Box<RStmt>>>
-    ensures given { Gives {A = Option (Box RStmt Global)} {B = Sts × List Bound × State}
+    ensures given { GivesValue {A = Option (Box RStmt Global)} {B = Sts × List Bound × LocalsState}
         (λ s. (core.step_seen s, scope.new, state_of body.new)) result
         (walk_optional (table_at within.now) within.now.here within.now.inside scope.old (state_of body.old)
         (boxed_step tree.now)) }
@@ -260,7 +260,7 @@ fn otherwise(
     body: &mut Body,
     tree: &Option<Vec<Stmt>>,
 ) -> Named<Option<Vec<RStmt>>>
-    ensures given { Gives {A = Option (Vec RStmt Global)} {B = Arms × State}
+    ensures given { GivesValue {A = Option (Vec RStmt Global)} {B = IfArms × LocalsState}
         (λ o. (core.else_seen o, state_of body.new)) result
         (walk_else (table_at within.now) within.now.here within.now.inside scope.now (state_of body.old)
         (else_seen tree.now)) }
@@ -274,7 +274,7 @@ fn otherwise(
 /// An arm of an `if`.
 #[cycle(stmts)]
 fn arm(within: &Enclosing, scope: &Scope, body: &mut Body, tree: &Arm) -> Named<RArm>
-    ensures given { Gives {A = RArm} {B = Ex × Sts × State}
+    ensures given { GivesValue {A = RArm} {B = Ex × Sts × LocalsState}
         (λ a. (core.expr_of a.test, core.stmts a.body.items, state_of body.new)) result
         (walk_arm (table_at within.now) within.now.here within.now.inside scope.now (state_of body.old)
         (expr_of tree.now.test) (stmts tree.now.body.items)) }
@@ -287,7 +287,7 @@ fn arm(within: &Enclosing, scope: &Scope, body: &mut Body, tree: &Arm) -> Named<
 /// The arms of an `if`.
 #[cycle(stmts)]
 fn arms(within: &Enclosing, scope: &Scope, body: &mut Body, list: &Vec<Arm>) -> Named<Vec<RArm>>
-    ensures given { Gives {A = Vec RArm Global} {B = Arms × State}
+    ensures given { GivesValue {A = Vec RArm Global} {B = IfArms × LocalsState}
         (λ v. (core.arms_seen v.items no_other, state_of body.new)) result
         (walk_arms (table_at within.now) within.now.here within.now.inside no_other scope.now (state_of body.old)
         (arms_seen list.now.items)) }
@@ -310,7 +310,7 @@ pub fn statements(
     body: &mut Body,
     list: &Vec<Stmt>,
 ) -> Named<Vec<RStmt>>
-    ensures given { Gives {A = Vec RStmt Global} {B = Sts × State}
+    ensures given { GivesValue {A = Vec RStmt Global} {B = Sts × LocalsState}
         (λ v. (core.stmts v.items, state_of body.new)) result
         (walk_sts (table_at within.now) within.now.here within.now.inside no_st scope.now (state_of body.old)
         (stmts list.now.items)) }

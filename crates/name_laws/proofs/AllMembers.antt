@@ -11,7 +11,7 @@ use Rattle.name_rules.specs.declared.Form.TheVariants as forms
 use Rattle.name_rules.specs.declared.Refusal.TheVariants.{NotInProfile}
 use Rattle.name_rules.specs.declared.parts.Kind.TheVariants as kinds
 use Rattle.name_laws.specs.declared.parts.Flags.{Flags}
-use Rattle.name_laws.specs.Known.{Known}
+use Rattle.name_laws.specs.Known.{KnownClass}
 use Rattle.name_laws.specs.Answers.{run}
 use Rattle.name_laws.specs.Classes.{flags_of}
 use Rattle.name_laws.specs.Members.{Members, head_step, is_wrong_body, field_step, member_step, interface_step, decl_step, no_members, members_of}
@@ -43,7 +43,7 @@ inside before here after xs ys zs e f =
     e ∙ ap (λ z. before ++ (z ++ after)) f ∙ ap (λ z. before ++ z) (append_assoc xs (ys ++ zs) after ∙ ap (λ z. xs ++ z) (append_assoc ys zs after))
     ∙ sym (append_assoc before xs (ys ++ (zs ++ after)))
 
-module _ (tree : List DeclTree) (known : List Known) (are : AreKnown tree known) where
+module _ (tree : List DeclTree) (known : List KnownClass) (are : AreKnown tree known) where
   abbrev AreAll : List FieldAt → List MethodAt → Members → Type 0
   AreAll fs ms m = AreMembers tree known are fs ms m
 

@@ -15,7 +15,7 @@ use Rattle.java_core.specs.declared.TyBase.{TyBase}
 use Rattle.java_core.specs.Programs.{Plain, PlainMethod, PlainSlot}
 use Rattle.java_core.specs.Formed.{IsMain}
 use Rattle.java_tree.specs.Formed.{IsFormedTree}
-use Rattle.name_laws.specs.Known.{Known}
+use Rattle.name_laws.specs.Known.{KnownClass}
 use Rattle.name_laws.specs.declared.parts.Heading.{Heading}
 use Rattle.name_laws.specs.Members.{Members}
 use Rattle.name_laws.specs.Resolved.{slot_at, program}
@@ -59,7 +59,7 @@ first-least p xs i j x e at f =
 -- all that the steps tell of a tree that they go through
 pub record Steps (tree : List DeclTree) : Type 0 where
   pub formed : IsFormedTree tree
-  pub known : List Known
+  pub known : List KnownClass
   pub are : AreKnown tree known
   pub supers : (i : ℕ) (d : DeclTree) → slice_get tree i ≡ Some d → HasSupers tree d
   pub rows : List (List Bool)

@@ -9,7 +9,7 @@ use Rattle.java_tree.specs.declared.TypeBase.{TypeBase}
 use Rattle.java_tree.specs.declared.TypeBase.TheVariants as bases
 use Rattle.java_core.specs.declared.TyBase.{TyBase}
 use Rattle.java_tree.specs.Syntax.{Expression, NameRef, Expressions, Statement, Statements, OptionalStatement}
-use Rattle.java_core.specs.Trees.{Ex, Exs, St, Sts, Arms}
+use Rattle.java_core.specs.Trees.{Ex, Exs, St, Sts, IfArms}
 use Rattle.java_core.specs.Programs.{Plain, PlainField, PlainMethod}
 use Rattle.java_core.specs.Classes.{field_of}
 use Rattle.name_rules.specs.declared.Refusal.{Refusal}
@@ -152,7 +152,7 @@ module _ (O : Plain) (here : Here) (k : PlainMethod) where
   part-names q (r_present h) = after-names q h
 
   -- the `else` behind some arms
-  else-resolves : {inside : Bool} {scope : List Bound} {a : tree.Arms} {ss : Statements} {xs : Arms}
+  else-resolves : {inside : Bool} {scope : List Bound} {a : tree.Arms} {ss : Statements} {xs : IfArms}
       → ArmsResolve O here k inside scope a (tree.otherwise ss) xs → (ys : Sts) × StsResolve O here k inside scope ss ys
   else-resolves (r_else {xs = xs} h) = (xs, h)
   else-resolves (r_arm t h more) = else-resolves more
@@ -188,7 +188,7 @@ module _ (O : Plain) (here : Here) (k : PlainMethod) where
     sts-holds q (in_statement f) (r_and_then h hs) = st-holds q f h
     sts-holds q (in_rest f) (r_and_then h hs) = sts-holds (after-names q h) f hs
 
-    arms-hold : {inside : Bool} {scope : List Bound} {names : List (List ℕ)} {a : tree.Arms} {o : tree.Else} {xs : Arms} {r : Refusal}
+    arms-hold : {inside : Bool} {scope : List Bound} {names : List (List ℕ)} {a : tree.Arms} {o : tree.Else} {xs : IfArms} {r : Refusal}
         → names ≡ bound_names scope → ArmsFault O here inside names a r → ArmsResolve O here k inside scope a o xs → ⊥
     arms-hold q (in_test f) (r_arm t h more) = expr-holds q f t
     arms-hold q (in_arm f) (r_arm t h more) = sts-holds q f h

@@ -19,9 +19,9 @@ use Rattle.java_tree.specs.Syntax.{Expression, NameRef, FieldOf, IndexOf, CallOf
 use Rattle.java_tree.specs.Syntax as tree
 use Rattle.java_core.specs.declared.Ty.{Ty}
 use Rattle.java_core.specs.declared.TyBase.{TyBase}
-use Rattle.java_core.specs.Trees.{at_place, Ex, Exs, St, choose, Sts, Arms}
+use Rattle.java_core.specs.Trees.{at_place, Ex, Exs, St, choose, Sts, IfArms}
 use Rattle.java_core.specs.Programs.{Plain, PlainLocal, PlainField, PlainMethod}
-use Rattle.java_core.specs.Formed.{IsLiteral, small, least, IsClass, IsKnownBase, IsType, IsCastType, variables_of, IsNewLocal, IsStaticField, IsStaticMethod, IsOwnField, is_at_most_one, is_first, of_while, of_for, FormedEx, f_number, f_character, f_text, f_truth, f_null, f_this, f_local, f_static_field, f_own_field, f_field, f_index, f_call, f_static_call, f_super_call, f_create, f_create_array, f_cast, f_instance_of, f_unary, f_binary, FormedExs, f_no_ex, f_ex_then, FormedTarget, f_to_local, f_to_static, f_to_own, f_to_field, f_to_element, FormedOption, f_none, f_some, FormedSt, f_declare, f_block, f_assign, f_act, f_print, f_choose, f_loop, f_return, f_break, f_continue, FormedSts, f_no_st, f_st_then, FormedArms, f_no_other, f_otherwise, f_arm}
+use Rattle.java_core.specs.Formed.{IsLiteral, small, least, IsClass, IsKnownBase, IsProgramType, IsCastType, variables_of, IsNewLocal, IsStaticField, IsStaticMethod, IsOwnField, is_at_most_one, is_first, of_while, of_for, FormedEx, f_number, f_character, f_text, f_truth, f_null, f_this, f_local, f_static_field, f_own_field, f_field, f_index, f_call, f_static_call, f_super_call, f_create, f_create_array, f_cast, f_instance_of, f_unary, f_binary, FormedExs, f_no_ex, f_ex_then, FormedTarget, f_to_local, f_to_static, f_to_own, f_to_field, f_to_element, FormedOption, f_none, f_some, FormedSt, f_declare, f_block, f_assign, f_act, f_print, f_choose, f_loop, f_return, f_break, f_continue, FormedSts, f_no_st, f_st_then, FormedArms, f_no_other, f_otherwise, f_arm}
 use Rattle.java_core.specs.Formed as core
 use Rattle.name_rules.specs.declared.parts.Bound.{Bound}
 use Rattle.name_rules.specs.declared.parts.Here.{Here}
@@ -29,8 +29,8 @@ use Rattle.name_rules.specs.Meanings.{local_of}
 use Rattle.name_rules.specs.Resolves.{target, bound}
 use Rattle.name_rules.specs.Outline.{is_type_name}
 use Rattle.name_rules.specs.Meanings.{type_names, class_named, Means, MeansBase, an_int, a_boolean, a_char, a_text, a_class, MeansCast, MeansCastBase, to_int, to_boolean, to_char, to_class, is_bound, bound_names, IsNearestField}
-use Rattle.java_tree.specs.Formed.{IsNumber, a_small, the_least, IsCastBase, is_target, is_call, is_act, is_simple, IsFormed, AreFormed, IsFormedValue, IsFormedStmt, AreFormedStmts, AreFormedArms, IsFormedElse, IsFormedFirst, IsFormedStep, has_arm}
-use Rattle.name_rules.specs.Resolves.{Counts, no_number, next_number, ResolvesTo, r_number, r_character, r_text, r_truth, r_null, r_this, r_local, r_static_field, r_own_field, r_class_field, r_field, r_index, r_own_static_call, r_own_call, r_static_call, r_call, r_super_call, r_create, r_create_array, r_cast, r_instance_of, r_unary, r_binary, AllResolve, r_no_more, r_and_more, ResolvesIf, r_none, r_some, scope_after, scope_after_part, IsLocal, StResolves, r_declare, r_block, r_assign, r_act, r_print, r_choose, r_while, r_for, r_return, r_break, r_continue, StsResolve, r_no_statements, r_and_then, ArmsResolve, r_no_else, r_else, r_arm, PartResolves, r_absent, r_present, declares, declares_all, declares_arms}
+use Rattle.java_tree.specs.Formed.{IsNumber, a_small, the_least, IsCastBase, is_target, is_call, is_act, is_simple, IsFormedExpression, AreFormed, IsFormedValue, IsFormedStmt, AreFormedStmts, AreFormedArms, IsFormedElse, IsFormedFirst, IsFormedStep, has_arm}
+use Rattle.name_rules.specs.Resolves.{Counts, no_number, next_number, ResolvesTo, r_number, r_character, r_text, r_truth, r_null, r_this, r_local, r_static_field, r_own_field, r_class_field, r_field, r_index, r_own_static_call, r_own_call, r_static_call, r_call, r_super_call, r_create, r_create_array, r_cast, r_instance_of, r_unary, r_binary, AllResolve, r_no_more, r_and_more, ResolvesIf, r_none, r_some, scope_after, scope_after_part, IsDeclaredLocal, StResolves, r_declare, r_block, r_assign, r_act, r_print, r_choose, r_while, r_for, r_return, r_break, r_continue, StsResolve, r_no_statements, r_and_then, ArmsResolve, r_no_else, r_else, r_arm, PartResolves, r_absent, r_present, declares, declares_all, declares_arms}
 use Rattle.name_laws.proofs.Sees.{same_some}
 use Rattle.name_laws.proofs.Statements.{IsFormedPart, of-first, of-step}
 
@@ -89,7 +89,7 @@ module _ (O : Plain) (here : Here) (P : Plain) (k : PlainMethod) (suits : Suits 
   known-base (bases.Named n) x (a_text e) = tt
   known-base (bases.Named n) x (a_class {c = c} e f) = suits.classes n c f
 
-  pub known-type : (u : TypeName) (t : Ty) → Means O u t → IsType P t
+  pub known-type : (u : TypeName) (t : Ty) → Means O u t → IsProgramType P t
   known-type u t m = known-base u.base t.base m.base
 
   cast-base : (b : TypeBase) (x : TyBase) → IsCastBase b → MeansCastBase O b x → IsCastType P (record { base = x; dim = 0 })
@@ -107,7 +107,7 @@ module _ (O : Plain) (here : Here) (P : Plain) (k : PlainMethod) (suits : Suits 
 
   module _ (scope : List Bound) (nums : List ℕ) (s : ScopeIs k scope nums) where
     mutual
-      pub formed : {e : Expression} {x : Ex} → ResolvesTo O here scope e x → IsFormed e → FormedEx P k nums x
+      pub formed : {e : Expression} {x : Ex} → ResolvesTo O here scope e x → IsFormedExpression e → FormedEx P k nums x
       formed r_number g = f_number (literal g)
       formed r_character g = f_character g
       formed r_text g = f_text g
@@ -140,7 +140,7 @@ module _ (O : Plain) (here : Here) (P : Plain) (k : PlainMethod) (suits : Suits 
     formed-if r_none g = f_none
     formed-if (r_some h) g = f_some (formed h g)
 
-    formed-target : (e : Expression) (x : Ex) → is_target e ≡ true → ResolvesTo O here scope e x → IsFormed e → FormedTarget P k nums (target x)
+    formed-target : (e : Expression) (x : Ex) → is_target e ≡ true → ResolvesTo O here scope e x → IsFormedExpression e → FormedTarget P k nums (target x)
     formed-target (NameRef n p) x t (r_local {i = i} h) g = let f = s.found n i h in f_to_local f.0 f.1
     formed-target (NameRef n p) x t (r_static_field {f = f} {k = y} h near st own) g = f_to_static (suits.static_field f y near.stands st)
     formed-target (NameRef n p) x t (r_own_field {f = f} {k = y} h near st own) g = f_to_own (suits.static ∙ own) (suits.own n f y near st)
@@ -207,7 +207,7 @@ module _ (O : Plain) (here : Here) (P : Plain) (k : PlainMethod) (suits : Suits 
   behind-right [] ys h = h
   behind-right (x ∷ xs) ys h = behind-right xs ys h.1
 
-  new-local : {scope : List Bound} {nums : List ℕ} {u : TypeName} {n : List ℕ} {p : Place} {i : ℕ} → IsLocal O k scope u n p i → ScopeIs k scope nums
+  new-local : {scope : List Bound} {nums : List ℕ} {u : TypeName} {n : List ℕ} {p : Place} {i : ℕ} → IsDeclaredLocal O k scope u n p i → ScopeIs k scope nums
       → length k.params ≤ i → IsNewLocal k nums i
   new-local {scope} {nums} {n = n} {i = i} l s b =
       record {
@@ -250,7 +250,7 @@ module _ (O : Plain) (here : Here) (P : Plain) (k : PlainMethod) (suits : Suits 
     formed-sts (r_and_then {x = x} {xs = xs} h hs) s g b = f_st_then (formed-st h s g.0 (behind-left (declares x) (declares_all xs) b))
         (formed-sts hs (after-scope h s) g.1 (behind-right (declares x) (declares_all xs) b))
 
-    formed-arms : {in_loop : Bool} {scope : List Bound} {nums : List ℕ} {a : tree.Arms} {other : Else} {ys : Arms}
+    formed-arms : {in_loop : Bool} {scope : List Bound} {nums : List ℕ} {a : tree.Arms} {other : Else} {ys : IfArms}
         → ArmsResolve O here k in_loop scope a other ys → ScopeIs k scope nums → AreFormedArms a → IsFormedElse other → Behind (declares_arms ys)
         → FormedArms P k in_loop nums ys
     formed-arms r_no_else s g e b = f_no_other
@@ -259,7 +259,7 @@ module _ (O : Plain) (here : Here) (P : Plain) (k : PlainMethod) (suits : Suits 
         f_arm (formed _ _ s h g.0) (formed-sts i s g.1 (behind-left (declares_all xs) (declares_arms more) b))
         (formed-arms hs s g.2 e (behind-right (declares_all xs) (declares_arms more) b))
 
-    some-arm : {in_loop : Bool} {scope : List Bound} {nums : List ℕ} {a : tree.Arms} {other : Else} {ys : Arms} {p : Place}
+    some-arm : {in_loop : Bool} {scope : List Bound} {nums : List ℕ} {a : tree.Arms} {other : Else} {ys : IfArms} {p : Place}
         → ArmsResolve O here k in_loop scope a other ys → ScopeIs k scope nums → (has_arm a ≡ true) × AreFormedArms a × IsFormedElse other
         → Behind (declares_arms ys)
         → FormedSt P k in_loop nums (choose (at_place p) ys)
@@ -292,7 +292,7 @@ pub record GoodLocal (O : Plain) (P : Plain) (k : PlainMethod) (i : ℕ) : Type 
   pub stands : slice_get (variables_of k) i ≡ Some local
   pub name : IsName local.name
   pub no_type : is_type_name (type_names O) local.name ≡ false
-  pub type : IsType P local.ty
+  pub type : IsProgramType P local.ty
 
 module _ (O : Plain) (here : Here) (P : Plain) (k : PlainMethod) (suits : Suits O here P k) where
   abbrev pub Good : List ℕ → Type 0
@@ -324,7 +324,7 @@ module _ (O : Plain) (here : Here) (P : Plain) (k : PlainMethod) (suits : Suits 
     good-sts r_no_statements g = tt
     good-sts (r_and_then {x = x} {xs = xs} h hs) g = good-both (declares x) (declares_all xs) (good-st h g.0) (good-sts hs g.1)
 
-    good-arms : {in_loop : Bool} {scope : List Bound} {a : tree.Arms} {other : Else} {ys : Arms} → ArmsResolve O here k in_loop scope a other ys
+    good-arms : {in_loop : Bool} {scope : List Bound} {a : tree.Arms} {other : Else} {ys : IfArms} → ArmsResolve O here k in_loop scope a other ys
         → AreFormedArms a → IsFormedElse other → Good (declares_arms ys)
     good-arms r_no_else g e = tt
     good-arms (r_else h) g e = good-sts h e

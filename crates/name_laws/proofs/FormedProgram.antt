@@ -20,7 +20,7 @@ use Rattle.java_tree.specs.declared.TypeBase.{TypeBase}
 use Rattle.java_tree.specs.declared.TypeBase.TheVariants as bases
 use Rattle.java_core.specs.Programs.{Plain, PlainClass}
 use Rattle.java_core.specs.Classes.{parent_of, IsSubclass, same_class, through, IsProperSubclass, first_or, nearest, own_field_of, field_of, is_field_of}
-use Rattle.java_core.specs.Formed.{IsClass, IsKnownBase, IsType, IsVariableName, HasObject, IsFormedClass, HasNoTwice}
+use Rattle.java_core.specs.Formed.{IsClass, IsKnownBase, IsProgramType, IsVariableName, HasObject, IsFormedClass, HasNoTwice}
 use Rattle.java_core.proofs.Subclasses.{supers-within}
 use Rattle.name_rules.specs.Outline.{types_in, type_named, is_known, is_type_name, id_meant, parent_named, faces_named, parent_meant, type_meant, name_of, is_interface_of, object, class_outline, outline}
 use Rattle.name_rules.specs.Meanings.{type_names, class_named, Means, MeansBase, an_int, a_boolean, a_char, a_text, a_class}
@@ -155,6 +155,6 @@ module _ (tree : List DeclTree) (s : Steps tree) where
   known-base (bases.Named n) x (a_class {c = c} e f) = within-classes n c f
 
   -- the type that the outline has for a name is one of the program
-  pub meant-type : (u : TypeName) (t : Ty) → Means (outline tree) u t → IsType (P tree s) (type_meant (types_in tree) u)
-  meant-type u t m = subst (IsType (P tree s)) (type-meant (outline tree) u t m ∙ ap (λ z. type_meant z u) (type_names-outline tree))
+  pub meant-type : (u : TypeName) (t : Ty) → Means (outline tree) u t → IsProgramType (P tree s) (type_meant (types_in tree) u)
+  meant-type u t m = subst (IsProgramType (P tree s)) (type-meant (outline tree) u t m ∙ ap (λ z. type_meant z u) (type_names-outline tree))
       (known-base u.base t.base m.base)

@@ -5,7 +5,7 @@ use Rattle.std.proofs.lemmas.Bool.{false≢true, eqb-true, cases_lt}
 use Rattle.java_tree.specs.Syntax.{DeclTree}
 use Rattle.java_core.specs.Programs.{PlainMethod, PlainSlot}
 use Rattle.java_core.specs.Classes.{IsSubclass}
-use Rattle.java_core.specs.Formed.{HasNoTwice, IsFormedSlot, IsMain, AreCounted, IsFormed}
+use Rattle.java_core.specs.Formed.{HasNoTwice, IsFormedSlot, IsMain, HasSmallNumbers, IsFormed}
 use Rattle.name_laws.specs.declared.parts.Heading.{Heading}
 use Rattle.name_rules.specs.Outline.{MethodAt, fields_in, methods_in, types_in, method_outline, outline}
 use Rattle.name_rules.specs.Resolves.{heading_of, Counts, no_number, next_number, Resolves}
@@ -88,7 +88,7 @@ module _ (tree : List DeclTree) (s : Steps tree) where
       let r = owners-rise 1 tree s.formed s.main j x.0 y.0 x.1 y.1 le in
       let p = ap (λ z. z.owner) x.2 in let q = ap (λ z. z.owner) y.2 in omega (arith, r, p, q)
 
-  pub is-formed : AreCounted (P tree s) → IsFormed (P tree s)
+  pub is-formed : HasSmallNumbers (P tree s) → IsFormed (P tree s)
   is-formed counted = record {
     object = formed-object tree s;
     classes = formed-class tree s;

@@ -14,7 +14,7 @@ use Rattle.java_core.specs.Formed.{HasNoTwice}
 use Rattle.name_rules.specs.declared.Refusal.{Refusal}
 use Rattle.name_rules.specs.declared.Refusal.TheVariants.{Twice, TwoKinds, Unknown}
 use Rattle.name_rules.specs.declared.parts.Kind.TheVariants as kinds
-use Rattle.name_laws.specs.Known.{Known}
+use Rattle.name_laws.specs.Known.{KnownClass}
 use Rattle.name_laws.specs.Names.{number_of, asked, or_unknown}
 use Rattle.name_laws.specs.Classes.{flags_of, is_face_in, is_face, class_id, parent_tree, has_id, face, faces_of, class_tree, class_step, object_class, classes_of}
 use Rattle.name_rules.specs.Outline.{name_of, mods_of, is_interface_of, parent_named, faces_named, types_in, type_named, class_at, id_meant, parent_meant, object, class_outline, outline}
@@ -67,7 +67,7 @@ pub record HasSupers (tree : List DeclTree) (d : DeclTree) : Type 0 where
   pub once : HasNoTwice (map (id_meant (types_in tree)) (faces_named d))
   pub fit : AreFit (kind_of d) (mods_of d)
 
-module _ (tree : List DeclTree) (known : List Known) (are : AreKnown tree known) where
+module _ (tree : List DeclTree) (known : List KnownClass) (are : AreKnown tree known) where
   pub known-named : (n : List ℕ) → number_of known n ≡ class_named (outline tree) n
   known-named n = number_of-named known n ∙ ap (λ z. type_named z n) are.names ∙ sym (class_named-outline tree n)
 

@@ -20,7 +20,7 @@ use Rattle.java_core.proofs.Positions.{position-passes}
 use Rattle.name_rules.specs.declared.Refusal.TheVariants.{Twice, TwoKinds}
 use Rattle.name_rules.specs.declared.parts.Kind.TheVariants as kinds
 use Rattle.name_laws.specs.declared.parts.Flags.{Flags}
-use Rattle.name_laws.specs.Known.{Known}
+use Rattle.name_laws.specs.Known.{KnownClass}
 use Rattle.name_laws.specs.declared.parts.Heading.{Heading}
 use Rattle.name_laws.specs.Answers.{with}
 use Rattle.name_laws.specs.Names.{names_type, type_of}
@@ -69,7 +69,7 @@ fields_from-append = each_append fields_declared fields_from (λ c. refl) (λ c 
 pub methods_from-append : (c : ℕ) (xs ys : List DeclTree) → methods_from c (xs ++ ys) ≡ methods_from c xs ++ methods_from (c + length xs) ys
 methods_from-append = each_append methods_declared methods_from (λ c. refl) (λ c d ds. refl)
 
-module _ (tree : List DeclTree) (known : List Known) (are : AreKnown tree known) where
+module _ (tree : List DeclTree) (known : List KnownClass) (are : AreKnown tree known) where
   -- a method as the headings have it
   pub record HeadIs (h : Heading) (m : MethodAt) : Type 0 where
     pub owner : h.owner ≡ m.owner

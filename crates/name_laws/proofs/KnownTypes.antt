@@ -10,7 +10,7 @@ use Rattle.java_tree.specs.Syntax.{DeclTree}
 use Rattle.java_core.specs.Formed.{HasNoTwice}
 use Rattle.java_core.proofs.Positions.{position-map, position-passes}
 use Rattle.name_rules.specs.declared.Refusal.TheVariants.{Twice}
-use Rattle.name_laws.specs.Known.{Known}
+use Rattle.name_laws.specs.Known.{KnownClass}
 use Rattle.name_laws.specs.Names.{number_of}
 use Rattle.name_laws.specs.Classes.{object_known, know_named, know, known_of}
 use Rattle.name_rules.specs.Outline.{name_of, place_of, is_interface_of, is_known, types_in, type_named}
@@ -18,7 +18,7 @@ use Rattle.name_rules.specs.Conditions.{ConditionAt, type_twice, known_twice}
 use Rattle.name_laws.proofs.Sees.{Tells}
 use Rattle.name_laws.proofs.Runs.{run-tells, stands-at, earlier-stands, push-cases, once-push, none-passes}
 
-pub number_of-named : (ks : List Known) (n : List ℕ) → number_of ks n ≡ type_named (map (λ x. x.name) ks) n
+pub number_of-named : (ks : List KnownClass) (n : List ℕ) → number_of ks n ≡ type_named (map (λ x. x.name) ks) n
 number_of-named ks n = sym (position-map (λ x. x.name) (λ m. bytes_eq m n) ks)
 
 -- the type of a name stands under it
@@ -29,13 +29,13 @@ pub unnamed-stands : (types : List (List ℕ)) (n : List ℕ) → type_named typ
 unnamed-stands types n e i h = none-passes (λ m. bytes_eq m n) types e i n h ((bytes_eq-Decides n n).1 refl)
 
 -- the types of the declarations so far
-pub record AreKnown (done : List DeclTree) (ks : List Known) : Type 0 where
+pub record AreKnown (done : List DeclTree) (ks : List KnownClass) : Type 0 where
   pub names : map (λ k. k.name) ks ≡ types_in done
   pub faces : map (λ k. k.is_interface) ks ≡ false ∷ map is_interface_of done
   pub once : HasNoTwice (types_in done)
   pub apart : (i : ℕ) (d : DeclTree) → slice_get done i ≡ Some d → is_known (name_of d) ≡ false
 
-know-tells : (whole done rest : List DeclTree) (d : DeclTree) (ks : List Known) → whole ≡ done ++ d ∷ rest → AreKnown done ks
+know-tells : (whole done rest : List DeclTree) (d : DeclTree) (ks : List KnownClass) → whole ≡ done ++ d ∷ rest → AreKnown done ks
     → Tells (AreKnown (done ++ d ∷ [])) (ConditionAt whole) (know ks d)
 unfolding chars
 know-tells whole done rest d ks e h = go (is_known (name_of d)) refl (type_named (types_in done) (name_of d)) refl

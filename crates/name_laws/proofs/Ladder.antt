@@ -8,7 +8,7 @@ use Rattle.java_tree.specs.Syntax.{DeclTree, ClassTree, InterfaceTree}
 use Rattle.java_core.specs.Programs.{PlainClass}
 use Rattle.java_core.specs.Classes.{parent_of, faces_of, supers_of}
 use Rattle.name_rules.specs.Outline.{is_interface_of, parent_named, faces_named, types_in, id_meant, parent_meant, class_outline, outline}
-use Rattle.name_laws.specs.Known.{Known}
+use Rattle.name_laws.specs.Known.{KnownClass}
 use Rattle.name_laws.proofs.Sees.{same_some}
 use Rattle.name_laws.proofs.KnownTypes.{AreKnown}
 use Rattle.name_laws.proofs.KnownClasses.{HasSupers, id-meant}
@@ -41,7 +41,7 @@ module _ (tree : List DeclTree) where
       rw at (ap (λ z. z.parent) (sym d.2)) in
       ap (λ z. z.0) (sym (same_some (sym parent ∙ up))) ∙ interface-parent d.0 (ap (λ z. z.is_interface) d.2 ∙ i)
 
-  module _ (known : List Known) (are : AreKnown tree known) (supers : (i : ℕ) (d : DeclTree) → slice_get tree i ≡ Some d → HasSupers tree d) where
+  module _ (known : List KnownClass) (are : AreKnown tree known) (supers : (i : ℕ) (d : DeclTree) → slice_get tree i ≡ Some d → HasSupers tree d) where
     -- what is named as an interface is one
     pub face-stands : (c : ℕ) (f : ClassId) → Contains (faces_of (outline tree) c) f
         → (k : PlainClass) × (slice_get (outline tree).classes f.0 ≡ Some k) × (k.is_interface ≡ true)

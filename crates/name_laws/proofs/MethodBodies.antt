@@ -14,12 +14,12 @@ use Rattle.java_core.specs.Programs.{Plain, PlainMethod, PlainLocal, local_seen}
 use Rattle.java_core.specs.Formed.{variables_of, numbers_body, numbers_methods}
 use Rattle.name_rules.specs.declared.parts.Kind.TheVariants as kinds
 use Rattle.name_laws.specs.declared.parts.Flags.{Flags}
-use Rattle.name_laws.specs.Known.{Known}
+use Rattle.name_laws.specs.Known.{KnownClass}
 use Rattle.name_laws.specs.Answers.{run}
 use Rattle.name_laws.specs.Tables.{Table}
 use Rattle.name_laws.specs.Classes.{flags_of}
 use Rattle.name_laws.specs.Members.{params_of, result_of}
-use Rattle.name_laws.specs.Statements.{State, walk_sts}
+use Rattle.name_laws.specs.Statements.{LocalsState, walk_sts}
 use Rattle.name_laws.specs.Resolved.{bounds_from, slot_at, body_of, Methods, method_of, method_step, body_step, head_body_step, numbered, decl_bodies}
 use Rattle.name_laws.specs.Resolved as resolved
 use Rattle.name_rules.specs.Outline.{MethodAt, method_member, methods_of, heads_of, methods_declared, methods_from, methods_in, has_word, is_abstract_word, types_in, type_meant, method_outline, outline}
@@ -63,7 +63,7 @@ each-at : {A : Type 0} (P : A → Type 0) (done : List A) (x : A) (rest : List A
 each-at P [] x rest h = h.0
 each-at P (y ∷ done) x rest h = each-at P done x rest h.1
 
-module _ (tree : List DeclTree) (known : List Known) (are : AreKnown tree known) (t : Table) (same : t.known ≡ known) (sees : Sees t (outline tree)) where
+module _ (tree : List DeclTree) (known : List KnownClass) (are : AreKnown tree known) (t : Table) (same : t.known ≡ known) (sees : Sees t (outline tree)) where
   -- what a body resolves to, numbered from n on
   record BodyIs (x : MethodAt) (ls : List Local) (n : ℕ) (r : List PlainLocal × Option Sts × ℕ) : Type 0 where
     pub to : (k : PlainMethod) → k.params ≡ map local_seen ls → k.locals ≡ r.0 → k.body ≡ r.1 → BodyResolves (outline tree) x k
@@ -83,24 +83,24 @@ module _ (tree : List DeclTree) (known : List Known) (are : AreKnown tree known)
       })
       (λ r f. in_body has e (subst (λ z. StsFault (outline tree) (here_of x) false z ss r) (bounds-names 0 ls ∙ p.names) f))
     where
-      start : State
+      start : LocalsState
       start = record { locals = []; count = length ls; number = n }
 
       params-size : (k : PlainMethod) → k.params ≡ map local_seen ls → length k.params ≡ length ls
       params-size k a = ap length a ∙ length-map ls _
 
-      count-is : (r : Sts × State) → StsWalks t (outline tree) sees (here_of x) false no_st (bounds_from 0 ls) start ss r → (k : PlainMethod)
+      count-is : (r : Sts × LocalsState) → StsWalks t (outline tree) sees (here_of x) false no_st (bounds_from 0 ls) start ss r → (k : PlainMethod)
           → k.params ≡ map local_seen ls → r.1.count ≡ length k.params + length r.1.locals
       count-is r h k a = let c = h.grown.count in let d = params-size k a in let l = ap length h.grown.locals in omega (arith, c, d, l)
 
-      resolves : (r : Sts × State) → StsWalks t (outline tree) sees (here_of x) false no_st (bounds_from 0 ls) start ss r → (k : PlainMethod)
+      resolves : (r : Sts × LocalsState) → StsWalks t (outline tree) sees (here_of x) false no_st (bounds_from 0 ls) start ss r → (k : PlainMethod)
           → k.params ≡ map local_seen ls → k.locals ≡ r.1.locals
           → StsResolve (outline tree) (here_of x) k false (params_from 0 k.params) ss r.0
       resolves r h k a b =
           subst (λ z. StsResolve (outline tree) (here_of x) k false z ss r.0) (bounds-params 0 ls ∙ ap (params_from 0) (sym a))
           (whole-to t (outline tree) sees (here_of x) h k (record { rest = []; locals = b ∙ sym (append-nil r.1.locals); count = count-is r h k a }))
 
-      counted : (r : Sts × State) → StsWalks t (outline tree) sees (here_of x) false no_st (bounds_from 0 ls) start ss r → (k : PlainMethod)
+      counted : (r : Sts × LocalsState) → StsWalks t (outline tree) sees (here_of x) false no_st (bounds_from 0 ls) start ss r → (k : PlainMethod)
           → k.params ≡ map local_seen ls → k.locals ≡ r.1.locals
           → Counts (length k.params) (declares_all r.0) (length (variables_of k))
       counted r h k a b =

@@ -13,7 +13,7 @@ use Rattle.java_core.specs.Formed.{IsMain}
 use Rattle.java_core.proofs.Positions.{position-passes}
 use Rattle.name_rules.specs.declared.Refusal.{Refusal}
 use Rattle.name_rules.specs.declared.Refusal.TheVariants.{Overload, PrivateReused}
-use Rattle.name_laws.specs.Known.{Known}
+use Rattle.name_laws.specs.Known.{KnownClass}
 use Rattle.name_laws.specs.declared.parts.Heading.{Heading}
 use Rattle.name_laws.specs.Answers.{unless, run}
 use Rattle.name_laws.specs.Tables.{is_above}
@@ -95,7 +95,7 @@ one-test true false false true r q a b e = absurd (cc e)
 one-test true private same false r q a b e = absurd (false≢true b)
 one-test false private same meeting r q a b e = absurd (false≢true a)
 
-module _ (tree : List DeclTree) (known : List Known) (are : AreKnown tree known) (rows : List (List Bool)) (above : AreAbove (outline tree) rows)
+module _ (tree : List DeclTree) (known : List KnownClass) (are : AreKnown tree known) (rows : List (List Bool)) (above : AreAbove (outline tree) rows)
     (fs : List _) (m : Members) (members : AreMembers tree known are fs (methods_in tree) m) where
   -- methods whose signatures agree have one slot
   one-slot : (i j : ℕ) (a b : Heading) (x y : MethodAt) → slice_get m.headings i ≡ Some a → slice_get m.headings j ≡ Some b

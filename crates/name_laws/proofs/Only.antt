@@ -9,7 +9,7 @@ use Rattle.java_tree.specs.declared.TypeName.{TypeName}
 use Rattle.java_tree.specs.Syntax.{Expression, NameRef, Expressions, Statement, Statements, Else, OptionalStatement}
 use Rattle.java_core.specs.declared.Ty.{Ty}
 use Rattle.java_core.specs.declared.TyBase.{TyBase}
-use Rattle.java_core.specs.Trees.{at_place, Ex, local, static_field, own_field, Exs, St, Sts, Arms}
+use Rattle.java_core.specs.Trees.{at_place, Ex, local, static_field, own_field, Exs, St, Sts, IfArms}
 use Rattle.java_core.specs.Programs.{Plain, PlainField, PlainMethod}
 use Rattle.java_core.specs.Classes.{IsSubclass, same_class}
 use Rattle.java_core.specs.Formed.{numbers, numbers_all, numbers_if, variables_of, numbers_target, numbers_st, numbers_sts, numbers_arms}
@@ -251,7 +251,7 @@ module _ (O : Plain) (one : OneMet O) (here : Here) (k l : PlainMethod) where
         (from a.2 q1.2) in
         (rw (a.0, b.0) refl, b.1, b.2, agree-append k l (declares x) (declares_all xs) a.3 b.3)
 
-    arms-only : {inside : Bool} {scope : List Bound} {arms : tree.Arms} {o : Else} {x y : Arms} {a i j b m n : ℕ} → AreFormedArms arms
+    arms-only : {inside : Bool} {scope : List Bound} {arms : tree.Arms} {o : Else} {x y : IfArms} {a i j b m n : ℕ} → AreFormedArms arms
         → IsFormedElse o → ArmsResolve O here k inside scope arms o x → ArmsResolve O here l inside scope arms o y
         → Counts a (numbers_arms x) i → Counts a (numbers_arms y) j → Counts b (declares_arms x) m → Counts b (declares_arms y) n
         → Same x y i j m n (declares_arms x)

@@ -18,7 +18,7 @@ use Rattle.java_core.specs.Programs.{local_seen}
 use Rattle.java_core.specs.Formed.{HasNoTwice}
 use Rattle.name_rules.specs.declared.Refusal.{Refusal}
 use Rattle.name_rules.specs.declared.Refusal.TheVariants.{Twice, TwoKinds}
-use Rattle.name_laws.specs.Known.{Known}
+use Rattle.name_laws.specs.Known.{KnownClass}
 use Rattle.name_laws.specs.Names.{names_type, type_of}
 use Rattle.name_laws.specs.Members.{has_local, param, params_of, result_of}
 use Rattle.name_rules.specs.Outline.{MethodAt, methods_in, types_in, type_named, is_known, is_type_name, type_meant, param_outline, outline}
@@ -31,7 +31,7 @@ use Rattle.name_laws.proofs.TypeNames.{type-tells, type-meant}
 use Rattle.name_laws.proofs.KnownTypes.{AreKnown}
 use Rattle.name_laws.proofs.KnownClasses.{known-named, type_names-outline}
 
-module _ (tree : List DeclTree) (known : List Known) (are : AreKnown tree known) where
+module _ (tree : List DeclTree) (known : List KnownClass) (are : AreKnown tree known) where
   -- a type that a declaration names
   pub declared-tells : (u : TypeName) → IsDeclared tree u → Tells (λ t. (t ≡ type_meant (types_in tree) u) × Means (outline tree) u t)
       (ConditionAt tree) (type_of known u)

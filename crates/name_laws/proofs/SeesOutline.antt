@@ -15,7 +15,7 @@ use Rattle.java_core.specs.Classes.{IsSubclass, parent_of, faces_of, first_or, n
 use Rattle.java_core.proofs.Positions.{position-map, position-passes, passes-position}
 use Rattle.java_core.proofs.Subclasses.{nearest_of-nearest, supers-within}
 use Rattle.java_core.proofs.Upwards.{nearest-own}
-use Rattle.name_laws.specs.Known.{Known}
+use Rattle.name_laws.specs.Known.{KnownClass}
 use Rattle.name_laws.specs.declared.parts.Heading.{Heading}
 use Rattle.name_laws.specs.Tables as table
 use Rattle.name_laws.specs.Tables.{Table, parent_in, or_above, nearest_in, nearest_field, own_field, own_method, method_met, is_above}
@@ -34,7 +34,7 @@ use Rattle.name_laws.proofs.Ladder.{nothing-above, face-stands, interface-object
 use Rattle.name_laws.proofs.KnownMembers.{AreMembers, both-true, true-both}
 use Rattle.name_laws.proofs.MethodClashes.{owner-within, not-object, method_at-outline, outline-method}
 
-module _ (tree : List DeclTree) (known : List Known) (are : AreKnown tree known) (rows : List (List Bool)) (above : AreAbove (outline tree) rows)
+module _ (tree : List DeclTree) (known : List KnownClass) (are : AreKnown tree known) (rows : List (List Bool)) (above : AreAbove (outline tree) rows)
     (m : Members) (members : AreMembers tree known are (fields_in tree) (methods_in tree) m) where
   abbrev O : Plain
   O = outline tree

@@ -9,7 +9,7 @@ use Rattle.java_tree.specs.declared.TypeName.{TypeName}
 use Rattle.java_tree.specs.Syntax.{Expression, NameRef, FieldOf, IndexOf, Statement, LocalOf, BlockOf, AssignOf, DoOf, PrintOf, IfOf, WhileOf, ForOf, ReturnOf, BreakOf, ContinueOf, Statements, no_statements, and_then, Else, no_else, OptionalStatement, absent, present}
 use Rattle.java_tree.specs.Syntax as tree
 use Rattle.java_core.specs.declared.Ty.{Ty}
-use Rattle.java_core.specs.Trees.{at_place, Ex, St, break, continue, Sts, no_st, st_then, Arms, no_other, otherwise, arm}
+use Rattle.java_core.specs.Trees.{at_place, Ex, St, break, continue, Sts, no_st, st_then, IfArms, no_other, otherwise, arm}
 use Rattle.java_core.specs.Programs.{Plain, PlainLocal, PlainMethod}
 use Rattle.java_core.specs.Formed.{variables_of, numbers, numbers_if, numbers_target, numbers_st, numbers_sts, numbers_arms}
 use Rattle.name_rules.specs.declared.Refusal.{Refusal}
@@ -21,7 +21,7 @@ use Rattle.name_laws.specs.Names.{names_type, type_of}
 use Rattle.name_laws.specs.Tables.{Table}
 use Rattle.name_rules.specs.Meanings.{local_of}
 use Rattle.name_laws.specs.Expressions.{walk}
-use Rattle.name_laws.specs.Statements.{State, st_last, arm_last, ending, in_loop, with_local, walk_expr, walk_value, declared, walk_local, walk_st, walk_sts, walk_arms, walk_else, walk_optional}
+use Rattle.name_laws.specs.Statements.{LocalsState, st_last, arm_last, ending, in_loop, with_local, walk_expr, walk_value, declared, walk_local, walk_st, walk_sts, walk_arms, walk_else, walk_optional}
 use Rattle.name_rules.specs.Resolves.{target, bound}
 use Rattle.name_rules.specs.Outline.{is_type_name, is_known}
 use Rattle.name_rules.specs.Meanings.{type_names, Means, is_bound, bound_names}
@@ -36,14 +36,14 @@ use Rattle.name_laws.proofs.Expressions.{counts_append, walk-tells}
 -- ---- states
 
 -- what a part adds: its locals, and how far it counts
-pub record Grown (a b : State) (ds ns : List ℕ) : Type 0 where
+pub record Grown (a b : LocalsState) (ds ns : List ℕ) : Type 0 where
   pub more : List PlainLocal
   pub locals : b.locals ≡ a.locals ++ more
   pub count : b.count ≡ a.count + length more
   pub declared : Counts a.count ds b.count
   pub numbered : Counts a.number ns b.number
 
-pub grown-then : {a b c : State} {ds es ms ns : List ℕ} → Grown a b ds ms → Grown b c es ns → Grown a c (ds ++ es) (ms ++ ns)
+pub grown-then : {a b c : LocalsState} {ds es ms ns : List ℕ} → Grown a b ds ms → Grown b c es ns → Grown a c (ds ++ es) (ms ++ ns)
 grown-then {a} {b} {c} g h = record {
   more = g.more ++ h.more;
   locals = h.locals ∙ ap (λ x. x ++ h.more) g.locals ∙ append_assoc a.locals g.more h.more;
@@ -52,16 +52,16 @@ grown-then {a} {b} {c} g h = record {
   numbered = counts_append g.numbered h.numbered;
 }
 
-pub grown-same : (a : State) → Grown a a [] []
+pub grown-same : (a : LocalsState) → Grown a a [] []
 grown-same a = record { more = []; locals = sym (append-nil a.locals); count = omega arith; declared = no_number; numbered = no_number }
 
 -- the locals of the method begin with those so far, numbered behind its parameters
-pub record Within (k : PlainMethod) (s : State) : Type 0 where
+pub record Within (k : PlainMethod) (s : LocalsState) : Type 0 where
   pub rest : List PlainLocal
   pub locals : k.locals ≡ s.locals ++ rest
   pub count : s.count ≡ length k.params + length s.locals
 
-pub within-before : {k : PlainMethod} {a b : State} {ds ns : List ℕ} → Grown a b ds ns → Within k b → Within k a
+pub within-before : {k : PlainMethod} {a b : LocalsState} {ds ns : List ℕ} → Grown a b ds ns → Within k b → Within k a
 within-before {k} {a} {b} g w = record {
   rest = g.more ++ w.rest;
   locals = w.locals ∙ ap (λ x. x ++ w.rest) g.locals ∙ append_assoc a.locals g.more w.rest;
@@ -76,7 +76,7 @@ sts xs = listed no_st st_then xs
 sts-pushed : (xs : List St) → pushed st_last no_st xs ≡ sts xs
 sts-pushed = pushed-all no_st st_then st_last (λ x. refl) (λ x xs y. refl)
 
-pub arms_append-last : (xs : Arms) (e : Ex) (ss : Sts) (ys : Arms) → ending (arm_last xs e ss) ys ≡ ending xs (arm e ss ys)
+pub arms_append-last : (xs : IfArms) (e : Ex) (ss : Sts) (ys : IfArms) → ending (arm_last xs e ss) ys ≡ ending xs (arm e ss ys)
 arms_append-last no_other e ss ys = refl
 arms_append-last (otherwise old) e ss ys = refl
 arms_append-last (arm d us more) e ss ys = ap (arm d us) (arms_append-last more e ss ys)
@@ -126,15 +126,15 @@ module _ (t : Table) (O : Plain) (sees : Sees t O) (here : Here) where
 
   -- ---- expressions in a state
 
-  pub record ExWalks (scope : List Bound) (s : State) (e : Expression) (r : Ex × State) : Type 0 where
+  pub record ExWalks (scope : List Bound) (s : LocalsState) (e : Expression) (r : Ex × LocalsState) : Type 0 where
     pub to : ResolvesTo O here scope e r.0
     pub grown : Grown s r.1 [] (numbers r.0)
 
-  pub record IfWalks (scope : List Bound) (s : State) (e : Option Expression) (r : Option Ex × State) : Type 0 where
+  pub record IfWalks (scope : List Bound) (s : LocalsState) (e : Option Expression) (r : Option Ex × LocalsState) : Type 0 where
     pub to : ResolvesIf O here scope e r.0
     pub grown : Grown s r.1 [] (numbers_if r.0)
 
-  pub expr-tells : (scope : List Bound) (s : State) (e : Expression) → Tells (ExWalks scope s e) (Bad scope e) (walk_expr t here scope s e)
+  pub expr-tells : (scope : List Bound) (s : LocalsState) (e : Expression) → Tells (ExWalks scope s e) (Bad scope e) (walk_expr t here scope s e)
   expr-tells scope s e =
       tell (ExWalks scope s e) (Bad scope e) (walk t here scope s.number e) _ (walk-tells t O sees here scope s.number e)
       (λ x h. record {
@@ -149,7 +149,7 @@ module _ (t : Table) (O : Plain) (sees : Sees t O) (here : Here) where
       })
       (λ r f. f)
 
-  pub value-tells : (scope : List Bound) (s : State) (v : Option Expression) → Tells (IfWalks scope s v) (FaultInValue O here (bound_names scope) v)
+  pub value-tells : (scope : List Bound) (s : LocalsState) (v : Option Expression) → Tells (IfWalks scope s v) (FaultInValue O here (bound_names scope) v)
       (walk_value t here scope s v)
   value-tells scope s None = record { to = r_none; grown = grown-same s }
   value-tells scope s (Some e) =
@@ -158,38 +158,38 @@ module _ (t : Table) (O : Plain) (sees : Sees t O) (here : Here) where
 
   -- ---- statements
 
-  pub record StWalks (inside : Bool) (scope : List Bound) (s : State) (x : Statement) (r : St × List Bound × State) : Type 0 where
+  pub record StWalks (inside : Bool) (scope : List Bound) (s : LocalsState) (x : Statement) (r : St × List Bound × LocalsState) : Type 0 where
     pub grown : Grown s r.2 (declares r.0) (numbers_st r.0)
     pub scope_then : r.1 ≡ scope_after scope x r.0
     pub names_then : bound_names r.1 ≡ names_after (bound_names scope) x
     pub to : (k : PlainMethod) → Within k r.2 → StResolves O here k inside scope x r.0
 
-  pub record StsWalks (inside : Bool) (done : Sts) (scope : List Bound) (s : State) (xs : Statements) (r : Sts × State) : Type 0 where
+  pub record StsWalks (inside : Bool) (done : Sts) (scope : List Bound) (s : LocalsState) (xs : Statements) (r : Sts × LocalsState) : Type 0 where
     pub more : List St
     pub joined : r.0 ≡ pushed st_last done more
     pub grown : Grown s r.1 (declares_all (sts more)) (numbers_sts (sts more))
     pub to : (k : PlainMethod) → Within k r.1 → StsResolve O here k inside scope xs (sts more)
 
-  pub record PartWalks (inside : Bool) (scope : List Bound) (s : State) (x : OptionalStatement) (r : Sts × List Bound × State) : Type 0 where
+  pub record PartWalks (inside : Bool) (scope : List Bound) (s : LocalsState) (x : OptionalStatement) (r : Sts × List Bound × LocalsState) : Type 0 where
     pub grown : Grown s r.2 (declares_all r.0) (numbers_sts r.0)
     pub scope_then : r.1 ≡ scope_after_part scope x r.0
     pub names_then : bound_names r.1 ≡ names_after_part (bound_names scope) x
     pub to : (k : PlainMethod) → Within k r.2 → PartResolves O here k inside scope x r.0
 
-  pub record ElseWalks (inside : Bool) (scope : List Bound) (s : State) (other : Else) (r : Arms × State) : Type 0 where
+  pub record ElseWalks (inside : Bool) (scope : List Bound) (s : LocalsState) (other : Else) (r : IfArms × LocalsState) : Type 0 where
     pub grown : Grown s r.1 (declares_arms r.0) (numbers_arms r.0)
     pub to : (k : PlainMethod) → Within k r.1 → ArmsResolve O here k inside scope tree.no_arms other r.0
 
-  pub record ArmsWalk (inside : Bool) (done : Arms) (scope : List Bound) (s : State) (xs : tree.Arms) (r : Arms × State) : Type 0 where
-    pub more : Arms
-    pub joined : (o : Arms) → ending r.0 o ≡ ending done (ending more o)
-    pub grown : (o : Arms) (c : State) → Grown r.1 c (declares_arms o) (numbers_arms o)
+  pub record ArmsWalk (inside : Bool) (done : IfArms) (scope : List Bound) (s : LocalsState) (xs : tree.Arms) (r : IfArms × LocalsState) : Type 0 where
+    pub more : IfArms
+    pub joined : (o : IfArms) → ending r.0 o ≡ ending done (ending more o)
+    pub grown : (o : IfArms) (c : LocalsState) → Grown r.1 c (declares_arms o) (numbers_arms o)
         → Grown s c (declares_arms (ending more o)) (numbers_arms (ending more o))
     pub before : (k : PlainMethod) → Within k r.1 → Within k s
-    pub to : (k : PlainMethod) → Within k r.1 → (other : Else) (o : Arms) → ArmsResolve O here k inside scope tree.no_arms other o
+    pub to : (k : PlainMethod) → Within k r.1 → (other : Else) (o : IfArms) → ArmsResolve O here k inside scope tree.no_arms other o
         → ArmsResolve O here k inside scope xs other (ending more o)
 
-  local-tells : (inside final : Bool) (scope : List Bound) (s : State) (u : TypeName) (n : List ℕ) (v : Option Expression) (p : Place) →
+  local-tells : (inside final : Bool) (scope : List Bound) (s : LocalsState) (u : TypeName) (n : List ℕ) (v : Option Expression) (p : Place) →
       Tells (StWalks inside scope s (LocalOf final u n v p)) (StFault O here inside (bound_names scope) (LocalOf final u n v p))
       (walk_local t here scope s u n v p)
   unfolding chars within-before grown-then
@@ -251,21 +251,21 @@ module _ (t : Table) (O : Plain) (sees : Sees t O) (here : Here) where
 
   -- ---- the walk
 
-  pub whole-grown : {inside : Bool} {scope : List Bound} {s : State} {xs : Statements} {r : Sts × State} → StsWalks inside no_st scope s xs r
+  pub whole-grown : {inside : Bool} {scope : List Bound} {s : LocalsState} {xs : Statements} {r : Sts × LocalsState} → StsWalks inside no_st scope s xs r
       → Grown s r.1 (declares_all r.0) (numbers_sts r.0)
   whole-grown h = rw (h.joined ∙ sts-pushed h.more) (h.grown)
 
-  pub whole-to : {inside : Bool} {scope : List Bound} {s : State} {xs : Statements} {r : Sts × State} → StsWalks inside no_st scope s xs r
+  pub whole-to : {inside : Bool} {scope : List Bound} {s : LocalsState} {xs : Statements} {r : Sts × LocalsState} → StsWalks inside no_st scope s xs r
       → (k : PlainMethod) → Within k r.1 → StsResolve O here k inside scope xs r.0
   whole-to h k w = rw (h.joined ∙ sts-pushed h.more) (h.to k w)
 
-  break-tells : (inside : Bool) (scope : List Bound) (s : State) (p : Place)
+  break-tells : (inside : Bool) (scope : List Bound) (s : LocalsState) (p : Place)
       → Tells (StWalks inside scope s (BreakOf p)) (StFault O here inside (bound_names scope) (BreakOf p))
       (in_loop inside p (break (at_place p)) scope s)
   break-tells true scope s p = record { grown = grown-same s; scope_then = refl; names_then = refl; to = λ k w. r_break }
   break-tells false scope s p = break_outside
 
-  continue-tells : (inside : Bool) (scope : List Bound) (s : State) (p : Place)
+  continue-tells : (inside : Bool) (scope : List Bound) (s : LocalsState) (p : Place)
       → Tells (StWalks inside scope s (ContinueOf p)) (StFault O here inside (bound_names scope) (ContinueOf p))
       (in_loop inside p (continue (at_place p)) scope s)
   continue-tells true scope s p = record { grown = grown-same s; scope_then = refl; names_then = refl; to = λ k w. r_continue }
@@ -281,7 +281,7 @@ module _ (t : Table) (O : Plain) (sees : Sees t O) (here : Here) where
   else-bad inside names a (tree.otherwise ss) p r f = in_else f
 
   mutual
-    pub st-tells : (inside : Bool) (scope : List Bound) (s : State) (x : Statement) → IsFormedStmt x
+    pub st-tells : (inside : Bool) (scope : List Bound) (s : LocalsState) (x : Statement) → IsFormedStmt x
         → Tells (StWalks inside scope s x) (StFault O here inside (bound_names scope) x) (walk_st t here inside scope s x)
     st-tells inside scope s (LocalOf final u n v p) g = local-tells inside final scope s u n v p
     st-tells inside scope s (BlockOf ss p) g =
@@ -372,7 +372,7 @@ module _ (t : Table) (O : Plain) (sees : Sees t O) (here : Here) where
     st-tells inside scope s (BreakOf p) g = break-tells inside scope s p
     st-tells inside scope s (ContinueOf p) g = continue-tells inside scope s p
 
-    pub sts-tells : (inside : Bool) (done : Sts) (scope : List Bound) (s : State) (xs : Statements) → AreFormedStmts xs
+    pub sts-tells : (inside : Bool) (done : Sts) (scope : List Bound) (s : LocalsState) (xs : Statements) → AreFormedStmts xs
         → Tells (StsWalks inside done scope s xs) (StsFault O here inside (bound_names scope) xs) (walk_sts t here inside done scope s xs)
     sts-tells inside done scope s no_statements g =
         record { more = []; joined = refl; grown = grown-same s; to = λ k w. r_no_statements }
@@ -389,7 +389,7 @@ module _ (t : Table) (O : Plain) (sees : Sees t O) (here : Here) where
         (λ r f. in_rest (subst (λ z. StsFault O here inside z xs r) h.names_then f)))
         (λ r f. in_statement f)
 
-    arms-tells : (inside : Bool) (done : Arms) (scope : List Bound) (s : State) (xs : tree.Arms) → AreFormedArms xs
+    arms-tells : (inside : Bool) (done : IfArms) (scope : List Bound) (s : LocalsState) (xs : tree.Arms) → AreFormedArms xs
         → Tells (ArmsWalk inside done scope s xs) (ArmsFault O here inside (bound_names scope) xs) (walk_arms t here inside done scope s xs)
     arms-tells inside done scope s tree.no_arms g =
         record { more = no_other; joined = λ o. refl; grown = λ o c h. h; before = λ k w. w; to = λ k w other o h. h }
@@ -410,7 +410,7 @@ module _ (t : Table) (O : Plain) (sees : Sees t O) (here : Here) where
         (λ r f. in_arm f))
         (λ r f. in_test f)
 
-    else-tells : (inside : Bool) (scope : List Bound) (s : State) (other : Else) → IsFormedElse other
+    else-tells : (inside : Bool) (scope : List Bound) (s : LocalsState) (other : Else) → IsFormedElse other
         → Tells (ElseWalks inside scope s other) (ElseBad inside (bound_names scope) other) (walk_else t here inside scope s other)
     else-tells inside scope s no_else g = record { grown = grown-same s; to = λ k w. r_no_else }
     else-tells inside scope s (tree.otherwise ss) g =
@@ -418,7 +418,7 @@ module _ (t : Table) (O : Plain) (sees : Sees t O) (here : Here) where
         (walk_sts t here inside no_st scope s ss) _ (sts-tells inside no_st scope s ss g)
         (λ x h. record { grown = whole-grown h; to = λ k w. r_else (whole-to h k w) }) (λ r f. f)
 
-    part-tells : (inside : Bool) (scope : List Bound) (s : State) (x : OptionalStatement) → IsFormedPart x
+    part-tells : (inside : Bool) (scope : List Bound) (s : LocalsState) (x : OptionalStatement) → IsFormedPart x
         → Tells (PartWalks inside scope s x) (PartFault O here inside (bound_names scope) x) (walk_optional t here inside scope s x)
     part-tells inside scope s absent g = record { grown = grown-same s; scope_then = refl; names_then = refl; to = λ k w. r_absent }
     part-tells inside scope s (present x) g =

@@ -9,14 +9,14 @@ use Rattle.java_core.specs.declared.Ty.{Ty}
 use Rattle.java_core.specs.declared.TyBase.{TyBase}
 use Rattle.java_core.specs.Programs.{Plain}
 use Rattle.name_rules.specs.declared.Refusal.TheVariants.{Unknown}
-use Rattle.name_laws.specs.Known.{Known}
+use Rattle.name_laws.specs.Known.{KnownClass}
 use Rattle.name_laws.specs.Names.{number_of, asked, or_unknown, base_of, type_of}
 use Rattle.name_rules.specs.Outline.{is_text_type, base_meant, type_meant}
 use Rattle.name_rules.specs.Meanings.{type_names, class_named, Means, MeansBase, an_int, a_boolean, a_char, a_text, a_class}
 use Rattle.name_rules.specs.Conditions.{IsUnknownType, no_such_type}
 use Rattle.name_laws.proofs.Sees.{Tells, tell}
 
-module _ (known : List Known) (O : Plain) (types : (n : List ℕ) → number_of known n ≡ class_named O n) where
+module _ (known : List KnownClass) (O : Plain) (types : (n : List ℕ) → number_of known n ≡ class_named O n) where
   pub asked-tells : (n : List ℕ) (p : Place) → Tells (λ k. class_named O n ≡ Some k) (λ r. (r ≡ Unknown n p) × (class_named O n ≡ None)) (asked known n p)
   asked-tells n p = go (number_of known n) refl
     where

@@ -3,8 +3,8 @@ use Rattle.std.proofs.Common.{◌≡◌, ℕ, List, Some, refl, sym, subst}
 use Rattle.std.specs.Prelude.{slice_get}
 use Rattle.java_tree.specs.Syntax.{DeclTree}
 use Rattle.java_core.specs.Programs.{Plain}
-use Rattle.java_core.specs.Formed.{AreCounted, IsFormed}
-use Rattle.name_laws.specs.Known.{Known}
+use Rattle.java_core.specs.Formed.{HasSmallNumbers, IsFormed}
+use Rattle.name_laws.specs.Known.{KnownClass}
 use Rattle.name_laws.specs.Answers.{with}
 use Rattle.name_laws.specs.Classes.{known_of, classes_of, above_of, loops_of}
 use Rattle.name_laws.specs.Members.{members_of, clashes_of, main_of}
@@ -30,7 +30,7 @@ use Rattle.name_laws.proofs.ExcludesWhole.{none-holds}
 -- what a tree resolves to is its program, formed where its numbers fit, and no condition holds of the tree; else one does
 pub record ResolvesFormed (tree : List DeclTree) (P : Plain) : Type 0 where
   pub resolves : Resolves tree P
-  pub formed : AreCounted P → IsFormed P
+  pub formed : HasSmallNumbers P → IsFormed P
   pub none : HasNoCondition tree
 
 goes-through : (tree : List DeclTree) (s : Steps tree) → ResolvesFormed tree (P tree s)
@@ -47,7 +47,7 @@ resolved-formed tree formed =
     (λ r q. q))
     (λ r q. q)
   where
-    from-classes : (known : List Known) (are : AreKnown tree known) → ((i : ℕ) (d : DeclTree) → slice_get tree i ≡ Some d → HasSupers tree d)
+    from-classes : (known : List KnownClass) (are : AreKnown tree known) → ((i : ℕ) (d : DeclTree) → slice_get tree i ≡ Some d → HasSupers tree d)
         → Tells (ResolvesFormed tree) (ConditionAt tree) (with (above_of (outline tree).classes) (λ rows. with (loops_of rows (outline tree).classes)
         (λ _. with (members_of known tree) (λ m. with_bodies tree known (outline tree).classes rows m))))
     from-classes known are supers =

@@ -31,6 +31,6 @@ IsRefused refusals.NoMain o = o ≡ Err refusals.NoMain
 IsRefused (refusals.NotInProfile f p) o = o ≡ Err (refusals.NotInProfile f p)
 
 -- the call gave this, or there was no memory
-abbrev pub Gives : {A B : Type 0} → (A → B) → Result A Refusal → Result B Refusal → Type 0
-Gives f (Ok a) o = o ≡ Ok (f a)
-Gives f (Err r) o = IsRefused r o
+abbrev pub GivesValue : {A B : Type 0} → (A → B) → Result A Refusal → Result B Refusal → Type 0
+GivesValue f (Ok a) o = o ≡ Ok (f a)
+GivesValue f (Err r) o = IsRefused r o

@@ -15,7 +15,7 @@ use Rattle.name_rules.specs.Outline.{name_of, place_of, is_interface_of}
 use Rattle.name_rules.specs.Conditions.{is_unfit}
 use Rattle.name_rules.specs.declared.Refusal.{Refusal}
 use Rattle.name_rules.specs.declared.Refusal.TheVariants.{Twice, TwoKinds, Loop, NotInProfile}
-use Rattle.name_laws.specs.Known.{Known}
+use Rattle.name_laws.specs.Known.{KnownClass}
 use Rattle.name_rules.specs.declared.parts.Kind.{Kind}
 use Rattle.name_rules.specs.declared.parts.Kind.TheVariants as kinds
 use Rattle.name_laws.specs.declared.parts.Flags.{Flags}
@@ -26,19 +26,19 @@ pub use Rattle.java_core.specs.Classes.{class_id}
 pub use Rattle.java_core.specs.Subtypes.{of_classes, subtype_rows}
 
 -- Object, as the other declarations know it
-abbrev pub object_known : Known
+abbrev pub object_known : KnownClass
 object_known = record { name = chars (codes "Object"); is_interface = false }
 
 -- the types so far, and one more; a class of a known name is there twice
-abbrev pub know_named : List Known → List ℕ → Bool → Place → Result (List Known) Refusal
+abbrev pub know_named : List KnownClass → List ℕ → Bool → Place → Result (List KnownClass) Refusal
 know_named ks n interface p = if is_apart n || is_some (number_of ks n) then Err (Twice n p) else Ok (ks ++ record { name = n; is_interface = interface } ∷ [])
 
 -- the types so far, and that of one more declaration
-abbrev pub know : List Known → DeclTree → Result (List Known) Refusal
+abbrev pub know : List KnownClass → DeclTree → Result (List KnownClass) Refusal
 know ks d = know_named ks (name_of d) (is_interface_of d) (place_of d)
 
 -- the names of all types, Object first
-abbrev pub known_of : List DeclTree → Result (List Known) Refusal
+abbrev pub known_of : List DeclTree → Result (List KnownClass) Refusal
 known_of tree = run know (object_known ∷ []) tree
 
 -- ---- modifiers
@@ -78,16 +78,16 @@ flags_of k mods = run (flag k) no_flags mods
 -- ---- supertypes
 
 -- whether the type that was found is an interface
-abbrev pub is_face_in : Option Known → Bool
+abbrev pub is_face_in : Option KnownClass → Bool
 is_face_in None = false
 is_face_in (Some k) = k.is_interface
 
 -- whether the type of this number is an interface
-abbrev pub is_face : List Known → ℕ → Bool
+abbrev pub is_face : List KnownClass → ℕ → Bool
 is_face known k = is_face_in (slice_get known k)
 
 -- the superclass: Object where none is named; an interface is none
-abbrev pub parent_tree : List Known → Option Id → Result ℕ Refusal
+abbrev pub parent_tree : List KnownClass → Option Id → Result ℕ Refusal
 parent_tree known None = Ok 0
 parent_tree known (Some i) = with (asked known i.name i.place) (λ k. if is_face known k then Err (TwoKinds i.name i.place) else Ok k)
 
@@ -97,12 +97,12 @@ has_id [] k = false
 has_id (c ∷ cs) k = if c.0 == k then true else has_id cs k
 
 -- the interfaces so far, and one more, which is no class and not there yet
-abbrev pub face : List Known → List ClassId → Id → Result (List ClassId) Refusal
+abbrev pub face : List KnownClass → List ClassId → Id → Result (List ClassId) Refusal
 face known fs i = with (asked known i.name i.place) (λ k. if not (is_face known k) then Err (TwoKinds i.name i.place) else if has_id fs k then Err
     (Twice i.name i.place) else Ok (fs ++ class_id k ∷ []))
 
 -- the interfaces that the names of a list name, each of which is there once
-abbrev pub faces_of : List Known → List Id → Result (List ClassId) Refusal
+abbrev pub faces_of : List KnownClass → List Id → Result (List ClassId) Refusal
 faces_of known ids = run (face known) [] ids
 
 -- a class or interface of these parts
@@ -111,7 +111,7 @@ plain_class n interface abstract parent faces p =
     record { name = n; is_interface = interface; is_abstract = abstract; parent = parent; faces = faces; tag = at_place p }
 
 -- the class or interface of a declaration
-abbrev pub class_tree : List Known → DeclTree → Result PlainClass Refusal
+abbrev pub class_tree : List KnownClass → DeclTree → Result PlainClass Refusal
 class_tree known (ClassTree mods n parent faces ms p) =
     with (flags_of kinds.Class mods)
     (λ f. with (parent_tree known parent)
@@ -120,7 +120,7 @@ class_tree known (InterfaceTree mods n parents hs p) =
     with (flags_of kinds.Interface mods) (λ f. with (faces_of known parents) (λ fs. Ok (plain_class n true f.is_abstract (Some (class_id 0)) fs p)))
 
 -- the classes and interfaces so far, and that of one more declaration
-abbrev pub class_step : List Known → List PlainClass → DeclTree → Result (List PlainClass) Refusal
+abbrev pub class_step : List KnownClass → List PlainClass → DeclTree → Result (List PlainClass) Refusal
 class_step known cs d = with (class_tree known d) (λ c. Ok (cs ++ c ∷ []))
 
 -- Object: its place is that of nothing
@@ -136,7 +136,7 @@ object_class = record {
 }
 
 -- all classes and interfaces, Object first
-abbrev pub classes_of : List Known → List DeclTree → Result (List PlainClass) Refusal
+abbrev pub classes_of : List KnownClass → List DeclTree → Result (List PlainClass) Refusal
 classes_of known tree = run (class_step known) (object_class ∷ []) tree
 
 -- ---- which types are above which

@@ -14,7 +14,7 @@ use Rattle.java_core.specs.Programs.{PlainSlot}
 use Rattle.name_rules.specs.declared.Form.TheVariants as forms
 use Rattle.name_rules.specs.declared.Refusal.{Refusal}
 use Rattle.name_rules.specs.declared.Refusal.TheVariants.{Twice, TwoKinds, Overload, PrivateReused, NoMain, NotInProfile}
-use Rattle.name_laws.specs.Known.{Known}
+use Rattle.name_laws.specs.Known.{KnownClass}
 use Rattle.name_rules.specs.declared.parts.Kind.TheVariants as kinds
 use Rattle.name_laws.specs.declared.parts.Flags.{Flags}
 use Rattle.name_laws.specs.declared.parts.Heading.{Heading}
@@ -38,17 +38,17 @@ has_local n [] = false
 has_local n (l ∷ ls) = if bytes_eq l.name n then true else has_local n ls
 
 -- the parameters so far, and one more
-abbrev pub param : List Known → List Local → Param → Result (List Local) Refusal
+abbrev pub param : List KnownClass → List Local → Param → Result (List Local) Refusal
 param known ls q =
     with (type_of known q.ty) (λ u. if names_type known q.name then Err (TwoKinds q.name q.place) else if has_local q.name ls then Err (Twice q.name q.place)
     else Ok (ls ++ record { name = q.name; ty = u; place = q.place } ∷ []))
 
 -- the parameters of a method, each of a name of its own
-abbrev pub params_of : List Known → List Param → Result (List Local) Refusal
+abbrev pub params_of : List KnownClass → List Param → Result (List Local) Refusal
 params_of known ps = run (param known) [] ps
 
 -- the result of a method, where it has one
-abbrev pub result_of : List Known → Option TypeName → Result (Option Ty) Refusal
+abbrev pub result_of : List KnownClass → Option TypeName → Result (Option Ty) Refusal
 result_of known None = Ok None
 result_of known (Some u) = with (type_of known u) (λ u. Ok (Some u))
 
@@ -130,7 +130,7 @@ add_heading m owner h f ls r =
     }
 
 -- a method that is not there yet
-abbrev pub head_step : List Known → ℕ → Members → HeadTree → Flags → Result Members Refusal
+abbrev pub head_step : List KnownClass → ℕ → Members → HeadTree → Flags → Result Members Refusal
 head_step known owner m h f =
     if is_some (method_in m.headings owner h.name) then Err (Twice h.name h.place)
     else with (params_of known h.params) (λ ls. with (result_of known h.type) (λ r. Ok (add_heading m owner h f ls r)))
@@ -140,7 +140,7 @@ abbrev pub is_wrong_body : Bool → Bool → Bool → Bool
 is_wrong_body in_abstract abstract body = if abstract then body || not in_abstract else not body
 
 -- the members so far, and one more field, of a name that no type and no field of the class has
-abbrev pub field_step : List Known → ℕ → Members → Flags → TypeName → List ℕ → Place → Result Members Refusal
+abbrev pub field_step : List KnownClass → ℕ → Members → Flags → TypeName → List ℕ → Place → Result Members Refusal
 field_step known owner m f u n p =
     with (type_of known u) (λ u. if names_type known n then Err (TwoKinds n p) else if is_some (field_in m.fields owner n) then Err (Twice n p)
     else Ok (record {
@@ -151,14 +151,14 @@ field_step known owner m f u n p =
     }))
 
 -- the members so far, and one more of a class
-abbrev pub member_step : List Known → ℕ → Bool → Members → MemberTree → Result Members Refusal
+abbrev pub member_step : List KnownClass → ℕ → Bool → Members → MemberTree → Result Members Refusal
 member_step known owner in_abstract m (FieldTree mods u n p) = with (flags_of kinds.Field mods) (λ f. field_step known owner m f u n p)
 member_step known owner in_abstract m (MethodTree h body p) =
     with (flags_of kinds.Method h.mods) (λ f. if is_wrong_body in_abstract f.is_abstract (is_some body) then Err (NotInProfile forms.Body h.place)
     else head_step known owner m h f)
 
 -- the members so far, and one more method of an interface
-abbrev pub interface_step : List Known → ℕ → Members → HeadTree → Result Members Refusal
+abbrev pub interface_step : List KnownClass → ℕ → Members → HeadTree → Result Members Refusal
 interface_step known owner m h = with (flags_of kinds.Head h.mods) (λ f. head_step known owner m h f)
 
 -- the number of the next type, and the members so far; and those of one type more
@@ -166,7 +166,7 @@ abbrev pub numbered : ℕ → Result Members Refusal → Result (ℕ × Members)
 numbered k w = with w (λ m. Ok (k + 1, m))
 
 -- the number of the next type and the members so far, with those of one declaration more
-abbrev pub decl_step : List Known → ℕ × Members → DeclTree → Result (ℕ × Members) Refusal
+abbrev pub decl_step : List KnownClass → ℕ × Members → DeclTree → Result (ℕ × Members) Refusal
 decl_step known s (ClassTree mods n parent faces ms p) = with (flags_of kinds.Class mods) (λ f. numbered s.0 (run (member_step known s.0 f.is_abstract) s.1 ms))
 decl_step known s (InterfaceTree mods n parents hs p) = numbered s.0 (run (interface_step known s.0) s.1 hs)
 
@@ -175,7 +175,7 @@ abbrev pub no_members : Members
 no_members = record { fields = []; headings = []; slots = [] }
 
 -- the members of all declarations, the first of which has the number 1 behind Object
-abbrev pub members_of : List Known → List DeclTree → Result Members Refusal
+abbrev pub members_of : List KnownClass → List DeclTree → Result Members Refusal
 members_of known tree = with (run (decl_step known) (1, no_members) tree) (λ s. Ok s.1)
 
 -- ---- where methods of one name meet

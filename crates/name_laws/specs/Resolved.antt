@@ -7,7 +7,7 @@ use Rattle.java_core.specs.declared.Local.{Local}
 use Rattle.java_core.specs.Trees.{at_place, Sts, no_st}
 use Rattle.java_core.specs.Programs.{PlainClass, PlainLocal, PlainMethod, Plain, local_seen, field_seen}
 use Rattle.name_rules.specs.declared.Refusal.{Refusal}
-use Rattle.name_laws.specs.Known.{Known}
+use Rattle.name_laws.specs.Known.{KnownClass}
 use Rattle.name_rules.specs.declared.parts.Kind.{Kind}
 use Rattle.name_rules.specs.declared.parts.Kind.TheVariants as kinds
 use Rattle.name_laws.specs.declared.parts.Flags.{Flags}
@@ -91,7 +91,7 @@ abbrev pub parents_of : List PlainClass → List (Option ClassId)
 parents_of cs = map (λ c. c.parent) cs
 
 -- the declarations as a body sees them, of these parts
-abbrev pub table : List Known → List PlainClass → List (List Bool) → Members → Table
+abbrev pub table : List KnownClass → List PlainClass → List (List Bool) → Members → Table
 table known cs rows m = record { known = known; parents = parents_of cs; above = rows; fields = m.fields; headings = m.headings }
 
 -- the program of these parts
@@ -99,7 +99,7 @@ abbrev pub program : List PlainClass → Members → ℕ → List PlainMethod �
 program cs m main methods = record { classes = cs; fields = map field_seen m.fields; methods = methods; slots = m.slots; main = main }
 
 -- the program of a tree whose types, members and main method are these
-abbrev pub with_bodies : List DeclTree → List Known → List PlainClass → List (List Bool) → Members → Result Plain Refusal
+abbrev pub with_bodies : List DeclTree → List KnownClass → List PlainClass → List (List Bool) → Members → Result Plain Refusal
 with_bodies tree known cs rows m =
     with (clashes_of rows m.headings) (λ _. with (main_of m.headings) (λ main. with (methods_of (table known cs rows m) tree)
     (λ methods. Ok (program cs m main methods))))

@@ -3,13 +3,13 @@ use Rattle.std.specs.Prelude.{ℕ, ◌&&◌, ◌==◌, Bool, List, [], ◌∷◌
 use Rattle.std.specs.Str.{bytes_eq}
 use Rattle.kaba_base.specs.declared.ClassId.{ClassId}
 use Rattle.java_core.specs.declared.Field.{Field}
-use Rattle.name_laws.specs.Known.{Known}
+use Rattle.name_laws.specs.Known.{KnownClass}
 use Rattle.name_laws.specs.declared.parts.Heading.{Heading}
 pub use Rattle.java_core.specs.Squares.{bit_in, row_in, is_above}
 
 -- the declarations: types, superclasses, which types are at or above which, fields and methods
 pub record Table : Type 0 where
-  pub known : List Known
+  pub known : List KnownClass
   pub parents : List (Option ClassId)
   pub above : List (List Bool)
   pub fields : List Field

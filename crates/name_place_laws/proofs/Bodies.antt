@@ -8,14 +8,14 @@ use Rattle.java_tree.specs.declared.TypeName.{TypeName}
 use Rattle.java_tree.specs.Syntax.{Expression, Expressions, Statement, Statements, Else, OptionalStatement}
 use Rattle.java_tree.specs.Syntax as tree
 use Rattle.java_tree.specs.Places.{nowhere, type_unplaced, expr_unplaced, exprs_unplaced, value_unplaced, stmt_unplaced, stmts_unplaced, arms_unplaced, else_unplaced, step_unplaced, may_unplaced}
-use Rattle.java_core.specs.Trees.{Ex, Exs, local, St, block, assign, choose, loop, Sts, no_st, st_then, Arms, no_other, otherwise, arm}
+use Rattle.java_core.specs.Trees.{Ex, Exs, local, St, block, assign, choose, loop, Sts, no_st, st_then, IfArms, no_other, otherwise, arm}
 use Rattle.java_core.specs.Programs.{Plain, PlainLocal, PlainMethod}
 use Rattle.java_core.specs.Formed.{variables_of}
 use Rattle.name_rules.specs.declared.parts.Bound.{Bound}
 use Rattle.name_rules.specs.declared.parts.Here.{Here}
 use Rattle.name_rules.specs.Outline.{MethodAt, is_static_word, is_type_name}
 use Rattle.name_rules.specs.Meanings.{bound_names}
-use Rattle.name_rules.specs.Resolves.{target, bound, Counts, ResolvesTo, r_number, r_character, r_text, r_truth, r_null, r_this, r_local, r_static_field, r_own_field, r_class_field, r_field, r_index, r_own_static_call, r_own_call, r_static_call, r_call, r_super_call, r_create, r_create_array, r_cast, r_instance_of, r_unary, r_binary, AllResolve, r_no_more, r_and_more, ResolvesIf, r_none, r_some, scope_after, scope_after_part, IsLocal, StResolves, r_declare, r_block, r_assign, r_act, r_print, r_choose, r_while, r_for, r_return, r_break, r_continue, StsResolve, r_no_statements, r_and_then, ArmsResolve, r_no_else, r_else, r_arm, PartResolves, r_absent, r_present, declares, declares_all, declares_arms, params_from, here_of, BodyResolves, r_no_body, r_body, BodiesResolve, r_no_methods, r_method}
+use Rattle.name_rules.specs.Resolves.{target, bound, Counts, ResolvesTo, r_number, r_character, r_text, r_truth, r_null, r_this, r_local, r_static_field, r_own_field, r_class_field, r_field, r_index, r_own_static_call, r_own_call, r_static_call, r_call, r_super_call, r_create, r_create_array, r_cast, r_instance_of, r_unary, r_binary, AllResolve, r_no_more, r_and_more, ResolvesIf, r_none, r_some, scope_after, scope_after_part, IsDeclaredLocal, StResolves, r_declare, r_block, r_assign, r_act, r_print, r_choose, r_while, r_for, r_return, r_break, r_continue, StsResolve, r_no_statements, r_and_then, ArmsResolve, r_no_else, r_else, r_arm, PartResolves, r_absent, r_present, declares, declares_all, declares_arms, params_from, here_of, BodyResolves, r_no_body, r_body, BodiesResolve, r_no_methods, r_method}
 use Rattle.java_core.specs.Untagged.{bare_tag, bare, bare_all, bare_if, bare_target, bare_st, bare_sts, bare_arms, untag_local, untag_method, untagged, untag_body}
 use Rattle.name_place_laws.proofs.Outlines.{word-same, method_at_unplaced}
 use Rattle.name_place_laws.proofs.Meanings.{names-same, named-same, means, means-cast, class-name-same, static-field, static-method, nearest-field}
@@ -40,7 +40,7 @@ mutual
   all-declare-same no_st = refl
   all-declare-same (st_then x xs) = ap₂ (λ y ys. y ++ ys) (declares-same x) (all-declare-same xs)
 
-  arms-declare-same : (xs : Arms) → declares_arms (bare_arms xs) ≡ declares_arms xs
+  arms-declare-same : (xs : IfArms) → declares_arms (bare_arms xs) ≡ declares_arms xs
   arms-declare-same no_other = refl
   arms-declare-same (otherwise xs) = all-declare-same xs
   arms-declare-same (arm e xs more) = ap₂ (λ y ys. y ++ ys) (all-declare-same xs) (arms-declare-same more)
@@ -91,8 +91,8 @@ module _ (O : Plain) (here : Here) where
     maybe (r_some h) = r_some (ex h)
 
   module _ (k : PlainMethod) where
-    local-same : {scope : List Bound} {u : TypeName} {n : List ℕ} {p : Place} {i : ℕ} → IsLocal O k scope u n p i
-        → IsLocal bare-outline (untag_method k) scope (type_unplaced u) n nowhere i
+    local-same : {scope : List Bound} {u : TypeName} {n : List ℕ} {p : Place} {i : ℕ} → IsDeclaredLocal O k scope u n p i
+        → IsDeclaredLocal bare-outline (untag_method k) scope (type_unplaced u) n nowhere i
     local-same {n = n} {i = i} l = record {
       ty = l.ty;
       means = means O l.means;
@@ -139,7 +139,7 @@ module _ (O : Plain) (here : Here) where
       sts (r_and_then {in_loop = in_loop} {ss = ss} {xs = xs} h hs) =
           r_and_then (st h) (subst (λ z. StsResolve bare-outline here (untag_method k) in_loop z (stmts_unplaced ss) (bare_sts xs)) (sym (after h)) (sts hs))
 
-      arms : {in_loop : Bool} {scope : List Bound} {a : tree.Arms} {other : Else} {xs : Arms} → ArmsResolve O here k in_loop scope a other xs
+      arms : {in_loop : Bool} {scope : List Bound} {a : tree.Arms} {other : Else} {xs : IfArms} → ArmsResolve O here k in_loop scope a other xs
           → ArmsResolve bare-outline here (untag_method k) in_loop scope (arms_unplaced a) (else_unplaced other) (bare_arms xs)
       arms r_no_else = r_no_else
       arms (r_else h) = r_else (sts h)

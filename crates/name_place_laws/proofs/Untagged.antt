@@ -1,7 +1,7 @@
 -- Without its tags a program has the same numbers of creations, casts and instanceof, and a method variables of the same types.
 use Rattle.std.proofs.Common.{◌≡◌, List, [], ◌∷◌, ◌++◌, map, Option, Some, None, refl, sym, ap, ℕ, ap₂}
 use Rattle.std.proofs.lemmas.List.{map-append}
-use Rattle.java_core.specs.Trees.{Ex, Exs, no_ex, ex_then, field, index, call, static_call, super_call, create, create_array, cast, instance_of, unary, binary, Target, to_field, to_element, St, Sts, Arms, declare, block, assign, act, print, choose, loop, return, no_st, st_then, no_other, otherwise, arm}
+use Rattle.java_core.specs.Trees.{Ex, Exs, no_ex, ex_then, field, index, call, static_call, super_call, create, create_array, cast, instance_of, unary, binary, Target, to_field, to_element, St, Sts, IfArms, declare, block, assign, act, print, choose, loop, return, no_st, st_then, no_other, otherwise, arm}
 use Rattle.java_core.specs.Programs.{PlainMethod, PlainLocal}
 use Rattle.java_core.specs.Types.{types_of}
 use Rattle.java_core.specs.Formed.{variables_of, numbers, numbers_all, numbers_if, numbers_target, numbers_st, numbers_sts, numbers_arms, numbers_body, numbers_methods}
@@ -54,7 +54,7 @@ mutual
   sts-same no_st = refl
   sts-same (st_then x xs) = both (st-same x) (sts-same xs)
 
-  arms-same : (xs : Arms) → numbers_arms (bare_arms xs) ≡ numbers_arms xs
+  arms-same : (xs : IfArms) → numbers_arms (bare_arms xs) ≡ numbers_arms xs
   arms-same no_other = refl
   arms-same (otherwise xs) = sts-same xs
   arms-same (arm e xs more) = both (both (ex-same e) (sts-same xs)) (arms-same more)

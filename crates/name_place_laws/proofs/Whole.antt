@@ -8,7 +8,7 @@ use Rattle.java_parse.proofs.CompleteDeclarations.{one_derived}
 use Rattle.java_tree.specs.Formed.{IsFormedTree}
 use Rattle.java_tree.proofs.Gives.{given_formed}
 use Rattle.java_core.specs.Programs.{Plain}
-use Rattle.java_core.specs.Formed.{AreCounted}
+use Rattle.java_core.specs.Formed.{HasSmallNumbers}
 use Rattle.name_rules.specs.declared.Refusal.{Refusal}
 use Rattle.name_rules.specs.Conditions.{ConditionAt}
 use Rattle.name_rules.specs.Resolves.{Resolves}
@@ -62,7 +62,7 @@ told tree (Ok P) t none = (P, t)
 told tree (Err r) t none = absurd (none r t)
 
 -- programs that are one, places aside, have as many of each
-counted : (P Q : Plain) → untagged P ≡ untagged Q → AreCounted Q → AreCounted P
+counted : (P Q : Plain) → untagged P ≡ untagged Q → HasSmallNumbers Q → HasSmallNumbers P
 counted P Q e c = record {
   classes = subst (λ n. n < 4294967295) (sym (length-map Q.classes untag_class) ∙ sym (ap (λ z. length z.classes) e) ∙ length-map P.classes untag_class)
       c.classes;

@@ -4,7 +4,7 @@ use Rattle.java_tree.specs.Syntax.{DeclTree}
 use Rattle.java_tree.specs.Places.{unplaced}
 use Rattle.java_tree.specs.Formed.{IsFormedTree, IsGiven, IsReadAs}
 use Rattle.java_core.specs.Programs.{Plain}
-use Rattle.java_core.specs.Formed.{AreCounted, IsFormed}
+use Rattle.java_core.specs.Formed.{HasSmallNumbers, IsFormed}
 use Rattle.java_core.specs.Untagged.{untagged}
 use Rattle.name_rules.specs.Resolves.{Resolves}
 use Rattle.name_rules.specs.Causes.{HasNoCondition}
@@ -41,4 +41,4 @@ pub record IsProgramAside (tree : List DeclTree) (other P : Plain) : Type 0 wher
 -- a tree of a text that is one, places aside, with a tree that resolves to a program and that no condition refuses, resolves to that program, places aside
 unfoldable pub HasProgramAside : Type 0
 HasProgramAside = (tree other : List DeclTree) (Q : Plain) → unplaced tree ≡ unplaced other → IsGiven tree → IsFormedTree tree
-    → HasNoCondition other → Resolves other Q → AreCounted Q → (P : Plain) × IsProgramAside tree Q P
+    → HasNoCondition other → Resolves other Q → HasSmallNumbers Q → (P : Plain) × IsProgramAside tree Q P

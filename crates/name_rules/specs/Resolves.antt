@@ -15,7 +15,7 @@ use Rattle.java_core.specs.declared.UnOp.TheVariants as un
 use Rattle.java_core.specs.declared.BinOp.{BinOp}
 use Rattle.java_core.specs.declared.BinOp.TheVariants as bin
 use Rattle.java_core.specs.declared.Op.TheVariants as op
-use Rattle.java_core.specs.Trees.{at_place, Ex, number, character, text, truth, null, this, local, static_field, own_field, field, index, call, static_call, super_call, create, create_array, cast, instance_of, unary, binary, Exs, no_ex, ex_then, Target, to_local, to_static, to_own, to_field, to_element, no_target, St, declare, block, assign, act, print, choose, loop, return, break, continue, Sts, no_st, st_then, Arms, no_other, otherwise, arm}
+use Rattle.java_core.specs.Trees.{at_place, Ex, number, character, text, truth, null, this, local, static_field, own_field, field, index, call, static_call, super_call, create, create_array, cast, instance_of, unary, binary, Exs, no_ex, ex_then, Target, to_local, to_static, to_own, to_field, to_element, no_target, St, declare, block, assign, act, print, choose, loop, return, break, continue, Sts, no_st, st_then, IfArms, no_other, otherwise, arm}
 use Rattle.java_core.specs.Programs.{Plain, PlainLocal, PlainField, PlainMethod, PlainSlot}
 use Rattle.java_core.specs.Types.{types_of}
 use Rattle.java_core.specs.Formed.{variables_of, numbers_methods, IsMain}
@@ -201,7 +201,7 @@ scope_after_part scope (present s) (st_then x xs) = scope_after scope s x
 scope_after_part scope _ _ = scope
 
 -- the local i of the method is this one, and its name is no type's and no other's in scope
-pub record IsLocal (O : Plain) (k : PlainMethod) (scope : List Bound) (u : TypeName) (n : List ℕ) (p : Place) (i : ℕ) : Type 0 where
+pub record IsDeclaredLocal (O : Plain) (k : PlainMethod) (scope : List Bound) (u : TypeName) (n : List ℕ) (p : Place) (i : ℕ) : Type 0 where
   pub ty : Ty
   pub means : Means O u ty
   pub stands : slice_get (variables_of k) i ≡ Some (record { name = n; ty = ty; tag = at_place p })
@@ -215,7 +215,7 @@ module _ (O : Plain) (here : Here) (k : PlainMethod) where
     pub data StResolves : Bool → List Bound → Statement → St → Type 0 where
       -- the scope of a local begins with its own first value
       r_declare : {in_loop final : Bool} {scope : List Bound} {u : TypeName} {n : List ℕ} {v : Option Expression} {x : Option Ex} {p : Place} {i : ℕ}
-          → IsLocal O k scope u n p i
+          → IsDeclaredLocal O k scope u n p i
           → ResolvesIf O here (bound scope n i) v x → StResolves in_loop scope (LocalOf final u n v p) (declare (at_place p) i x)
       r_block : {in_loop : Bool} {scope : List Bound} {ss : Statements} {xs : Sts} {p : Place} → StsResolve in_loop scope ss xs
           → StResolves in_loop scope (BlockOf ss p) (block (at_place p) xs)
@@ -225,7 +225,7 @@ module _ (O : Plain) (here : Here) (k : PlainMethod) where
           → StResolves in_loop scope (DoOf e p) (act (at_place p) x)
       r_print : {in_loop line : Bool} {scope : List Bound} {v : Option Expression} {x : Option Ex} {p : Place} → ResolvesIf O here scope v x
           → StResolves in_loop scope (PrintOf line v p) (print (at_place p) line x)
-      r_choose : {in_loop : Bool} {scope : List Bound} {a : tree.Arms} {other : Else} {xs : Arms} {p : Place} → ArmsResolve in_loop scope a other xs
+      r_choose : {in_loop : Bool} {scope : List Bound} {a : tree.Arms} {other : Else} {xs : IfArms} {p : Place} → ArmsResolve in_loop scope a other xs
           → StResolves in_loop scope (IfOf a other p) (choose (at_place p) xs)
       r_while : {in_loop : Bool} {scope : List Bound} {e : Expression} {x : Ex} {ss : Statements} {xs : Sts} {p : Place} → ResolvesTo O here scope e x
           → StsResolve true scope ss xs
@@ -248,12 +248,12 @@ module _ (O : Plain) (here : Here) (k : PlainMethod) where
           → StsResolve in_loop scope (and_then s ss) (st_then x xs)
 
     -- the arms of an `if`, and behind them its `else` or none
-    pub data ArmsResolve : Bool → List Bound → tree.Arms → Else → Arms → Type 0 where
+    pub data ArmsResolve : Bool → List Bound → tree.Arms → Else → IfArms → Type 0 where
       r_no_else : {in_loop : Bool} {scope : List Bound} → ArmsResolve in_loop scope tree.no_arms no_else no_other
       r_else : {in_loop : Bool} {scope : List Bound} {ss : Statements} {xs : Sts} → StsResolve in_loop scope ss xs
           → ArmsResolve in_loop scope tree.no_arms (tree.otherwise ss) (otherwise xs)
       r_arm : {in_loop : Bool} {scope : List Bound} {e : Expression} {x : Ex} {ss : Statements} {xs : Sts} {a : tree.Arms} {other : Else}
-          {more : Arms} → ResolvesTo O here scope e x → StsResolve in_loop scope ss xs
+          {more : IfArms} → ResolvesTo O here scope e x → StsResolve in_loop scope ss xs
           → ArmsResolve in_loop scope a other more → ArmsResolve in_loop scope (tree.and_arm e ss a) other (arm x xs more)
 
     -- the first or last part of a `for`
@@ -283,7 +283,7 @@ abbrev mutual
   declares_all (st_then x xs) = declares x ++ declares_all xs
 
   -- the locals that the arms of an `if` declare, in the order of the text
-  pub declares_arms : Arms → List ℕ
+  pub declares_arms : IfArms → List ℕ
   declares_arms no_other = []
   declares_arms (otherwise xs) = declares_all xs
   declares_arms (arm e xs more) = declares_all xs ++ declares_arms more

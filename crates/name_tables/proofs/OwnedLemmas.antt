@@ -12,7 +12,7 @@ use Rattle.std.proofs.lemmas.Slice.Eq.{bytes_eq-Decides}
 use Rattle.kaba_base.proofs.Texts.{text_test}
 use Rattle.indexmap.specs.IndexMap.{get}
 use Rattle.java_core.specs.Classes.{first_or}
-use Rattle.name_tables.specs.Owned.{AreOwned, owned_in}
+use Rattle.name_tables.specs.Owned.{AreNamesOwned, owned_in}
 use Rattle.name_tables.specs.declared.owned.Owned.{Owned}
 
 -- ---- the table
@@ -64,9 +64,9 @@ module _ {A : Type 0} (owner : A → ℕ) (name : A → List ℕ) where
   abbrev pub find : List A → ℕ → List ℕ → Option ℕ
   find xs c n = position (λ x. (owner x == c) && bytes_eq (name x) n) xs
 
-  pub noted_more : (xs ys : List A) (x : A) (k : ℕ) (old new : Owned) → ys ≡ xs ++ x ∷ [] → AreOwned (find xs) old
+  pub noted_more : (xs ys : List A) (x : A) (k : ℕ) (old new : Owned) → ys ≡ xs ++ x ∷ [] → AreNamesOwned (find xs) old
       → k ≡ length xs → is_some (find xs (owner x) (name x)) ≡ false
-      → ((c : ℕ) (n : List ℕ) → owned_in new c n ≡ cond ((owner x == c) && bytes_eq (name x) n) (Some k) (owned_in old c n)) → AreOwned (find ys) new
+      → ((c : ℕ) (n : List ℕ) → owned_in new c n ≡ cond ((owner x == c) && bytes_eq (name x) n) (Some k) (owned_in old c n)) → AreNamesOwned (find ys) new
   noted_more xs ys x k old new push are long fresh put = record {
     exact = λ c n. put c n ∙ ap (cond ((owner x == c) && bytes_eq (name x) n) (Some k)) (are.exact c n)
         ∙ go ((owner x == c) && bytes_eq (name x) n) c n refl

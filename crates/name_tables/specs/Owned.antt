@@ -10,5 +10,5 @@ abbrev pub owned_in : Owned → ℕ → List ℕ → Option ℕ
 owned_in s c n = option_map_or (λ m. get nat_eq m c) (get_by_text s.numbers (encode_utf8_all n)) None
 
 -- the table has under each class and name what is found there
-pub record AreOwned (find : ℕ → List ℕ → Option ℕ) (s : Owned) : Type 0 where
+pub record AreNamesOwned (find : ℕ → List ℕ → Option ℕ) (s : Owned) : Type 0 where
   pub exact : (c : ℕ) (n : List ℕ) → owned_in s c n ≡ find c n

@@ -2,7 +2,7 @@
 #![tactic(auto)]
 
 ghost use Rattle.std.specs.Prelude.{◌≡◌};
-ghost use Rattle.name_laws.specs.Answers.{Gives};
+ghost use Rattle.name_laws.specs.Answers.{GivesValue};
 ghost use Rattle.name_laws.specs.Classes.{is_taken, noted, flag, flags_of};
 ghost use Rattle.name_rules.specs.Conditions.{is_unfit};
 
@@ -61,7 +61,7 @@ fn noted(flags: Flags, word: Keyword) -> Flags
 
 /// One modifier more.
 fn flag(kind: Kind, flags: Flags, modifier: &Modifier) -> Result<Flags, Refusal>
-    ensures { Gives (λ f. f) result (flag kind flags modifier.now) }
+    ensures { GivesValue (λ f. f) result (flag kind flags modifier.now) }
 {
     if is_taken(flags, modifier.word) | is_unfit(kind, modifier.word) {
         return Err(Refusal::NotInProfile(Form::Modifier, modifier.place));
@@ -71,7 +71,7 @@ fn flag(kind: Kind, flags: Flags, modifier: &Modifier) -> Result<Flags, Refusal>
 
 /// The modifiers before something; `NotInProfile` where one stands twice or does not fit.
 pub fn flags_of(kind: Kind, mods: &[Modifier]) -> Result<Flags, Refusal>
-    ensures { Gives (λ f. f) result (flags_of kind mods.now) }
+    ensures { GivesValue (λ f. f) result (flags_of kind mods.now) }
 {
     let mut flags = Flags {
         is_public: false,

@@ -3,7 +3,7 @@
 
 ghost use Rattle.std.specs.Prelude.{◌≡◌, ◌||◌, ◌∷◌, [], IfOk, Ok};
 ghost use Rattle.std.specs.Str.{bytes_eq, chars};
-ghost use Rattle.name_laws.specs.Answers.{Gives};
+ghost use Rattle.name_laws.specs.Answers.{GivesValue};
 ghost use Rattle.name_laws.specs.Names.{is_apart, number_of, names_type, asked, type_of};
 ghost use Rattle.name_laws.specs.Names as spec;
 ghost use Rattle.name_laws.specs.Classes.{object_known, know_named, is_face};
@@ -25,10 +25,10 @@ pub struct Types {
 
 impl Model for Types {
     ghost use Rattle.std.specs.Prelude.{List, map};
-    ghost use Rattle.name_laws.specs.Known.{Known};
+    ghost use Rattle.name_laws.specs.Known.{KnownClass};
     ghost use Rattle.name_tables.specs.Known.{known_seen};
 
-    ghost Value = { List Known };
+    ghost Value = { List KnownClass };
 
     ghost view = { λ types. map known_seen types.kinds.entries };
 }
@@ -36,7 +36,7 @@ impl Model for Types {
 impl Types {
     /// `Object` alone, or `AllocError` where memory is short.
     pub fn new(alloc: Global) -> Result<Types, Refusal>
-        ensures value { Gives (λ types. types) result (Ok (object_known ∷ [])) }
+        ensures value { GivesValue (λ types. types) result (Ok (object_known ∷ [])) }
     {
         let mut kinds = IndexMap::new(alloc);
         kinds.insert(String::from_str(alloc, "Object")?, false)?;
@@ -51,7 +51,7 @@ impl Types {
         is_interface: bool,
         place: Place,
     ) -> Result<(), Refusal>
-        ensures value { Gives (λ _. self.new) result (know_named self.old name.now is_interface place) }
+        ensures value { GivesValue (λ _. self.new) result (know_named self.old name.now is_interface place) }
     {
         let apart = is_apart(alloc, name)?;
         if apart | self.number_of(name).is_some() {
@@ -114,7 +114,7 @@ pub fn names_type(alloc: Global, known: &Types, name: &Name) -> Result<bool, All
 
 /// The number of the class or interface of this name; `Unknown` where there is none.
 pub fn asked(alloc: Global, known: &Types, name: &Name, place: Place) -> Result<u32, Refusal>
-    ensures { Gives (λ k. k) result (asked known.now name.now place) }
+    ensures { GivesValue (λ k. k) result (asked known.now name.now place) }
 {
     match known.number_of(name) {
         Some(number) => match u32::try_from(number) {
@@ -126,7 +126,7 @@ pub fn asked(alloc: Global, known: &Types, name: &Name, place: Place) -> Result<
 }
 
 fn base_named(alloc: Global, known: &Types, name: &Name, place: Place) -> Result<TyBase, Refusal>
-    ensures { Gives (λ b. b) result (spec.base_named known.now name.now place) }
+    ensures { GivesValue (λ b. b) result (spec.base_named known.now name.now place) }
 {
     if is_text(alloc, name, "String")? {
         return Ok(TyBase::Str);
@@ -135,7 +135,7 @@ fn base_named(alloc: Global, known: &Types, name: &Name, place: Place) -> Result
 }
 
 fn base_of(alloc: Global, known: &Types, base: &TypeBase, place: Place) -> Result<TyBase, Refusal>
-    ensures { Gives (λ b. b) result (spec.base_of known.now base.now place) }
+    ensures { GivesValue (λ b. b) result (spec.base_of known.now base.now place) }
 {
     match base {
         TypeBase::Int => Ok(TyBase::Int),
@@ -147,7 +147,7 @@ fn base_of(alloc: Global, known: &Types, base: &TypeBase, place: Place) -> Resul
 
 /// The type that a type's name means; `Unknown` where there is no such class.
 pub fn type_of(alloc: Global, known: &Types, ty: &TypeName) -> Result<Ty, Refusal>
-    ensures { Gives (λ t. t) result (type_of known.now ty.now) }
+    ensures { GivesValue (λ t. t) result (type_of known.now ty.now) }
 {
     let base = base_of(alloc, known, &ty.base, ty.place)?;
     Ok(Ty { base, dim: ty.dim })

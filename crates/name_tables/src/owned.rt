@@ -5,7 +5,7 @@ ghost use Rattle.std.specs.Prelude.{◌≡◌, ◌&&◌, ◌==◌, ℕ, List, []
 ghost use Rattle.std.specs.Option.{option_map_or};
 ghost use Rattle.std.specs.Str.{bytes_eq};
 ghost use Rattle.indexmap.specs.IndexMap.{get};
-ghost use Rattle.name_tables.specs.Owned.{AreOwned, owned_in};
+ghost use Rattle.name_tables.specs.Owned.{AreNamesOwned, owned_in};
 
 use indexmap::IndexMap;
 use kaba_base::Name;
@@ -20,7 +20,7 @@ pub struct Owned {
 impl Owned {
     /// Of no member.
     pub fn new(alloc: Global) -> Owned
-        ensures { AreOwned (λ _ _. None) result }
+        ensures { AreNamesOwned (λ _ _. None) result }
     {
         Owned {
             numbers: IndexMap::new(alloc),

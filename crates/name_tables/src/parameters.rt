@@ -5,7 +5,7 @@ ghost use Rattle.std.specs.Prelude.{◌≡◌, List, [], IfOk, OnOk};
 ghost use Rattle.std.specs.declared.vec.Vec.{Vec};
 ghost use Rattle.std.specs.declared.alloc.Global.{Global};
 ghost use Rattle.java_core.specs.declared.Local.{Local};
-ghost use Rattle.name_laws.specs.Answers.{Gives};
+ghost use Rattle.name_laws.specs.Answers.{GivesValue};
 ghost use Rattle.name_laws.specs.Members.{param, params_of, result_of};
 ghost use Rattle.name_laws.specs.Resolved.{bounds_from};
 
@@ -27,7 +27,7 @@ fn param(
     one: &Param,
 ) -> Result<(), Refusal>
     requires bound { scope.old ≡ bounds_from 0 locals.old.items }
-    ensures given { Gives (λ _. locals.new.items) result (param known.now locals.old.items one.now) }
+    ensures given { GivesValue (λ _. locals.new.items) result (param known.now locals.old.items one.now) }
     ensures bound { OnOk result (scope.new ≡ bounds_from 0 locals.new.items) }
 {
     let ty = type_of(alloc, known, &one.ty)?;
@@ -55,7 +55,7 @@ pub fn params_in(
     list: &[Param],
 ) -> Result<Vec<Local>, Refusal>
     requires none { scope.old ≡ [] }
-    ensures given { Gives {A = Vec Local Global} {B = List Local} (λ v. v.items) result (params_of known.now list.now) }
+    ensures given { GivesValue {A = Vec Local Global} {B = List Local} (λ v. v.items) result (params_of known.now list.now) }
     ensures bound { IfOk result (λ v. scope.new ≡ bounds_from 0 v.items) }
 {
     let mut locals = Vec::new(alloc);
@@ -67,7 +67,7 @@ pub fn params_in(
 
 /// The parameters of a method.
 pub fn params_of(alloc: Global, known: &Types, list: &[Param]) -> Result<Vec<Local>, Refusal>
-    ensures { Gives {A = Vec Local Global} {B = List Local} (λ v. v.items) result (params_of known.now list.now) }
+    ensures { GivesValue {A = Vec Local Global} {B = List Local} (λ v. v.items) result (params_of known.now list.now) }
 {
     let mut scope = Scope::new(alloc);
     params_in(alloc, known, &mut scope, list)
@@ -75,7 +75,7 @@ pub fn params_of(alloc: Global, known: &Types, list: &[Param]) -> Result<Vec<Loc
 
 /// What a method gives back.
 pub fn result_of(alloc: Global, known: &Types, ty: &Option<TypeName>) -> Result<Option<Ty>, Refusal>
-    ensures { Gives (λ t. t) result (result_of known.now ty.now) }
+    ensures { GivesValue (λ t. t) result (result_of known.now ty.now) }
 {
     match ty {
         None => Ok(None),

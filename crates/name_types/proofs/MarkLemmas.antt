@@ -20,7 +20,7 @@ use Rattle.name_types.proofs.ClashSpots.{not-below}
 use Rattle.name_tables.specs.declared.spots.Spots.{Spots}
 use Rattle.name_tables.specs.Spots.{AreSpots, spots_from, spots_of}
 use Rattle.name_tables.proofs.SpotLemmas.{first-named}
-use Rattle.name_types.specs.Marks.{mark_of, mark_at, merged, may_join, is_reached, Grows, MarkedFrom, mark_in, is_suspect, clash_between, AreTested, HaveTested, HaveTestedAt, TestedOne, TestedNext, TestedBefore, begins_from, Marking, Testing}
+use Rattle.name_types.specs.Marks.{mark_of, mark_at, merged, may_join, is_reached, GrowsMark, MarkedFrom, mark_in, is_suspect, clash_between, AreTested, HaveTested, HaveTestedAt, TestedOne, TestedNext, TestedBefore, begins_from, Marking, Testing}
 
 -- ---- one mark
 
@@ -36,10 +36,10 @@ set-other (x ∷ xs) zero (suc t) w e = refl
 set-other (x ∷ xs) (suc u) zero w e = refl
 set-other (x ∷ xs) (suc u) (suc t) w e = set-other xs u t w (ne_eqb t u (λ h. eqb-false (suc t) (suc u) e (ap suc h)))
 
-merged-grows : (was mark : ℕ) → Grows was (merged was mark)
+merged-grows : (was mark : ℕ) → GrowsMark was (merged was mark)
 merged-grows was mark = go (was == 0) refl (was == mark) refl
   where
-    go : (b : Bool) → (was == 0) ≡ b → (c : Bool) → (was == mark) ≡ c → Grows was (if b || c then mark else 1)
+    go : (b : Bool) → (was == 0) ≡ b → (c : Bool) → (was == mark) ≡ c → GrowsMark was (if b || c then mark else 1)
     go true e c f = inr (inl (eqb-true was 0 e))
     go false e true f = inl (sym (eqb-true was mark f))
     go false e false f = inr (inr refl)
@@ -55,8 +55,8 @@ module _ (marks : List ℕ) (u mark : ℕ) where
   abbrev put : List ℕ
   put = set marks u (merged (mark_at marks u) mark)
 
-  put-grows : Grows (mark_at marks u) (mark_at put u)
-  put-grows = ⊎_elim (λ e. subst (Grows (mark_at marks u)) (sym e) (merged-grows (mark_at marks u) mark)) (λ h. inr (inr h.1))
+  put-grows : GrowsMark (mark_at marks u) (mark_at put u)
+  put-grows = ⊎_elim (λ e. subst (GrowsMark (mark_at marks u)) (sym e) (merged-grows (mark_at marks u) mark)) (λ h. inr (inr h.1))
       (set-there marks u (merged (mark_at marks u) mark))
 
   put-reached : (mark_at put u ≡ mark) ⊎ (mark_at put u ≡ 1)
@@ -90,9 +90,9 @@ module _ (rows : List (List Bool)) (owner mark : ℕ) (old cur : List ℕ) (quie
   other-more : (at == owner) ≡ false → Marking rows owner mark old (put cur at mark) (quiet && may_join (mark_at cur at) mark) (at + 1)
   other-more ne = record {
     len = length-set cur at (merged (mark_at cur at) mark) ∙ m.len;
-    grows = λ t. by_type t (λ z. Grows (mark_at old z) (mark_at (put cur at mark) z))
-        (subst (λ w. Grows w (mark_at (put cur at mark) at)) here (put-grows cur at mark))
-        (λ e. subst (Grows (mark_at old t)) (sym (set-other cur at t (merged (mark_at cur at) mark) e)) (m.grows t));
+    grows = λ t. by_type t (λ z. GrowsMark (mark_at old z) (mark_at (put cur at mark) z))
+        (subst (λ w. GrowsMark w (mark_at (put cur at mark) at)) here (put-grows cur at mark))
+        (λ e. subst (GrowsMark (mark_at old t)) (sym (set-other cur at t (merged (mark_at cur at) mark) e)) (m.grows t));
     rest = λ t le no. set-other cur at t (merged (mark_at cur at) mark) (ne_eqb t at (λ e. omega (arith, le, e)))
         ∙ m.rest t (let low = first.low in omega (arith, low, le)) no;
     reached = λ t s r. by_type t (λ z. (mark_at (put cur at mark) z ≡ mark) ⊎ (mark_at (put cur at mark) z ≡ 1)) (put-reached cur at mark)
@@ -236,11 +236,11 @@ module _ (rows : List (List Bool)) (all : List Heading) (list marks : List ℕ) 
     lengths None e = ap length e
     lengths (Some h) g = g.len
 
-    grown : (o : Option Heading) → MarkedFrom rows o marks after one.quiet → (t : ℕ) → Grows (mark_at marks t) (mark_at after t)
+    grown : (o : Option Heading) → MarkedFrom rows o marks after one.quiet → (t : ℕ) → GrowsMark (mark_at marks t) (mark_at after t)
     grown None e t = inl (ap (λ z. mark_at z t) e)
     grown (Some h) g t = g.grows t
 
-    stays : (w v k : ℕ) → Grows w v → k ≢ 0 → (w ≡ k) ⊎ (w ≡ 1) → (v ≡ k) ⊎ (v ≡ 1)
+    stays : (w v k : ℕ) → GrowsMark w v → k ≢ 0 → (w ≡ k) ⊎ (w ≡ 1) → (v ≡ k) ⊎ (v ≡ 1)
     stays w v k (inl same) ne (inl e) = inl (same ∙ e)
     stays w v k (inl same) ne (inr e) = inr (same ∙ e)
     stays w v k (inr (inl none)) ne (inl e) = absurd (ne (sym e ∙ none))

@@ -9,7 +9,7 @@ use Rattle.name_types.specs.declared.members.Draft.{Draft}
 use Rattle.name_types.specs.Keys.{AreKeyed}
 use Rattle.name_laws.specs.declared.parts.Heading.{Heading}
 use Rattle.name_laws.specs.Members.{Members, is_signature, slotted}
-use Rattle.name_tables.specs.Declarations.{AreListed}
+use Rattle.name_tables.specs.Declarations.{AreDeclarationsListed}
 
 -- the members of a draft
 abbrev pub members_seen : Draft → Members
@@ -34,6 +34,6 @@ slot_of static n ls r m =
     else let s = slotted n ls r (length m.headings) m.slots in (Some s.0, record { fields = m.fields; headings = m.headings; slots = s.1 })
 
 -- what is declared is found by its tables, and the slots of each key stand where the draft says
-pub record AreFound (d : Draft) : Type 0 where
-  pub listed : AreListed d.declared
+pub record AreDeclarationsFound (d : Draft) : Type 0 where
+  pub listed : AreDeclarationsListed d.declared
   pub slots : AreKeyed d.slots.items d.keyed_slots.items

@@ -29,13 +29,13 @@ abbrev pub is_reached : List (List Bool) → ℕ → ℕ → Bool
 is_reached rows t x = (t == x) || is_above rows t x
 
 -- a mark stays, was none, or is that of what may not meet
-abbrev pub Grows : ℕ → ℕ → Type 0
-Grows was now = (now ≡ was) ⊎ ((was ≡ 0) ⊎ (now ≡ 1))
+abbrev pub GrowsMark : ℕ → ℕ → Type 0
+GrowsMark was now = (now ≡ was) ⊎ ((was ≡ 0) ⊎ (now ≡ 1))
 
 -- the types at or below an owner have its mark, or that of what may not meet; and where the answer is true it may have joined each
 pub record Marked (rows : List (List Bool)) (owner mark : ℕ) (old new : List ℕ) (quiet : Bool) : Type 0 where
   pub len : length new ≡ length old
-  pub grows : (t : ℕ) → Grows (mark_at old t) (mark_at new t)
+  pub grows : (t : ℕ) → GrowsMark (mark_at old t) (mark_at new t)
   pub reached : (t : ℕ) → is_reached rows t owner ≡ true → (mark_at new t ≡ mark) ⊎ (mark_at new t ≡ 1)
   pub joins : quiet ≡ true → (t : ℕ) → is_reached rows t owner ≡ true → may_join (mark_at old t) mark ≡ true
 
@@ -105,7 +105,7 @@ pub record TestedBefore (rows : List (List Bool)) (all : List Heading) (spots : 
 -- the types so far, and the owner, are marked
 pub record Marking (rows : List (List Bool)) (owner mark : ℕ) (old new : List ℕ) (quiet : Bool) (from : ℕ) : Type 0 where
   pub len : length new ≡ length old
-  pub grows : (t : ℕ) → Grows (mark_at old t) (mark_at new t)
+  pub grows : (t : ℕ) → GrowsMark (mark_at old t) (mark_at new t)
   pub rest : (t : ℕ) → from ≤ t → (t == owner) ≡ false → mark_at new t ≡ mark_at old t
   pub reached : (t : ℕ) → (t < from) ⊎ ((t == owner) ≡ true) → is_reached rows t owner ≡ true → (mark_at new t ≡ mark) ⊎ (mark_at new t ≡ 1)
   pub joins : quiet ≡ true → (t : ℕ) → (t < from) ⊎ ((t == owner) ≡ true) → is_reached rows t owner ≡ true → may_join (mark_at old t) mark ≡ true

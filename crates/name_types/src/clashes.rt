@@ -2,7 +2,7 @@
 #![tactic(auto)]
 
 ghost use Rattle.std.specs.Prelude.{◌≡◌, ℕ, ◌+◌, ◌&&◌, ◌||◌, not, nat_lt, List, map, position, slice_get, Some, Ok, IfOk};
-ghost use Rattle.name_laws.specs.Answers.{Gives, unless};
+ghost use Rattle.name_laws.specs.Answers.{GivesValue, unless};
 ghost use Rattle.name_laws.specs.Tables.{is_above};
 ghost use Rattle.name_laws.specs.Members.{meet, same_slot, clash_of, clash_step, clashes_of, main_of};
 ghost use Rattle.name_types.specs.Clashes.{clash_at, clash_among};
@@ -113,7 +113,7 @@ fn clash_among(
 
 /// The number after `k`, unless there is a clash.
 fn after_unless(clash: Option<Refusal>, k: u32) -> Result<u32, Refusal>
-    ensures gives { Gives (λ n. n) result (unless clash (Ok (k + 1))) }
+    ensures gives { GivesValue (λ n. n) result (unless clash (Ok (k + 1))) }
     ensures next { IfOk result (λ n. n ≡ k + 1) }
 {
     match clash {
@@ -135,7 +135,7 @@ fn clash_step(
     requires spots { AreSpots (map (λ h. h.name) all.now.items) spots.now }
     requires tested { (n : List ℕ) → AreTested rows.now all.now.items (spots_of spots.now n) suspects.now }
     requires stands { slice_get all.now.items k ≡ Some b.now }
-    ensures gives { Gives (λ n. n) result (clash_step rows.now all.now.items k b.now) }
+    ensures gives { GivesValue (λ n. n) result (clash_step rows.now all.now.items k b.now) }
     ensures next { IfOk result (λ n. n ≡ k + 1) }
 {
     if is_suspect(suspects, k) {
@@ -154,7 +154,7 @@ pub fn clashes_of(
     all: &Vec<Heading>,
 ) -> Result<u32, Refusal>
     requires { AreSpots (map (λ h. h.name) all.now.items) spots.now }
-    ensures { Gives (λ n. n) result (clashes_of rows.now all.now.items) }
+    ensures { GivesValue (λ n. n) result (clashes_of rows.now all.now.items) }
 {
     let suspects = suspects_of(alloc, rows, count, spots, all)?;
     let mut k = 0;
@@ -177,7 +177,7 @@ fn main_from(all: &Vec<Heading>) -> Option<usize>
 
 /// The main method; `NoMain` where there is none.
 pub fn main_of(all: &Vec<Heading>) -> Result<u32, Refusal>
-    ensures { Gives (λ k. k) result (main_of all.now.items) }
+    ensures { GivesValue (λ k. k) result (main_of all.now.items) }
 {
     match main_from(all) {
         Some(main) => number_at(main),

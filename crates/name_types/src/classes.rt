@@ -9,7 +9,7 @@ ghost use Rattle.java_tree.specs.Syntax.{decl_of, decls};
 ghost use Rattle.java_core.specs.Programs.{PlainClass, class_seen};
 ghost use Rattle.java_core.specs.declared.Class.{Class};
 ghost use Rattle.java_core.specs.Subtypes.{subtype_rows};
-ghost use Rattle.name_laws.specs.Answers.{Gives};
+ghost use Rattle.name_laws.specs.Answers.{GivesValue};
 ghost use Rattle.name_laws.specs.Classes.{object_class, known_of, parent_tree, has_id, face, faces_of, class_tree, classes_of, above_of, any_above, above_by, loops_of};
 
 use java_core::{Class, Hierarchy, subtypes_of};
@@ -21,7 +21,7 @@ use std::alloc::{AllocError, Global};
 
 /// The names of all types, `Object` first; `Twice` where one stands again.
 pub fn known_of(alloc: Global, list: &[Decl]) -> Result<Types, Refusal>
-    ensures { Gives (λ types. types) result (known_of (decls list.now)) }
+    ensures { GivesValue (λ types. types) result (known_of (decls list.now)) }
 {
     let mut known = Types::new(alloc)?;
     for decl in list {
@@ -35,7 +35,7 @@ pub fn known_of(alloc: Global, list: &[Decl]) -> Result<Types, Refusal>
 
 /// The superclass: `Object` where none is named.
 fn parent_tree(alloc: Global, known: &Types, parent: &Option<Id>) -> Result<u32, Refusal>
-    ensures { Gives (λ k. k) result (parent_tree known.now parent.now) }
+    ensures { GivesValue (λ k. k) result (parent_tree known.now parent.now) }
 {
     match parent {
         None => Ok(0),
@@ -63,7 +63,7 @@ fn has_id(list: &[ClassId], class: u32) -> bool
 
 /// One interface more.
 fn face(alloc: Global, known: &Types, faces: &mut Vec<ClassId>, id: &Id) -> Result<(), Refusal>
-    ensures { Gives (λ _. faces.new.items) result (face known.now faces.old.items id.now) }
+    ensures { GivesValue (λ _. faces.new.items) result (face known.now faces.old.items id.now) }
 {
     let class = asked(alloc, known, &id.name, id.place)?;
     if !known.is_interface(class) {
@@ -78,7 +78,7 @@ fn face(alloc: Global, known: &Types, faces: &mut Vec<ClassId>, id: &Id) -> Resu
 
 /// The interfaces of a list.
 fn faces_of(alloc: Global, known: &Types, ids: &Vec<Id>) -> Result<Vec<ClassId>, Refusal>
-    ensures { Gives {A = Vec ClassId Global} {B = List ClassId} (λ v. v.items) result (faces_of known.now ids.now.items) }
+    ensures { GivesValue {A = Vec ClassId Global} {B = List ClassId} (λ v. v.items) result (faces_of known.now ids.now.items) }
 {
     let mut faces = Vec::new(alloc);
     for id in ids {
@@ -89,7 +89,7 @@ fn faces_of(alloc: Global, known: &Types, ids: &Vec<Id>) -> Result<Vec<ClassId>,
 
 /// The class or interface of a declaration.
 fn class_tree(alloc: Global, known: &Types, decl: &Decl) -> Result<Class, Refusal>
-    ensures { Gives {A = Class} {B = PlainClass} class_seen result (class_tree known.now (decl_of decl.now)) }
+    ensures { GivesValue {A = Class} {B = PlainClass} class_seen result (class_tree known.now (decl_of decl.now)) }
 {
     match decl {
         Decl::Class {
@@ -149,7 +149,7 @@ fn object(alloc: Global) -> Result<Class, AllocError>
 
 /// All classes and interfaces, `Object` first.
 pub fn classes_of(alloc: Global, known: &Types, list: &[Decl]) -> Result<Vec<Class>, Refusal>
-    ensures { Gives {A = Vec Class Global} {B = List PlainClass} (λ v. map class_seen v.items) result (classes_of known.now (decls list.now)) }
+    ensures { GivesValue {A = Vec Class Global} {B = List PlainClass} (λ v. map class_seen v.items) result (classes_of known.now (decls list.now)) }
 {
     let mut classes = Vec::new(alloc);
     classes.push(object(alloc)?)?;
@@ -162,7 +162,7 @@ pub fn classes_of(alloc: Global, known: &Types, list: &[Decl]) -> Result<Vec<Cla
 /// Which types are above which.
 #[tactic(auto, unfolding(name_laws::specs::Classes::above_of))]
 pub fn above_of(alloc: Global, all: &Vec<Class>) -> Result<Hierarchy, Refusal>
-    ensures gives { Gives {A = List (List Bool)} {B = List (List Bool)} (λ r. r) result (above_of (map class_seen all.now.items)) }
+    ensures gives { GivesValue {A = List (List Bool)} {B = List (List Bool)} (λ r. r) result (above_of (map class_seen all.now.items)) }
     ensures rows { IfOk result (λ r. r ≡ subtype_rows (map class_seen all.now.items)) }
 {
     let count = number_at(all.len())?;
@@ -194,7 +194,7 @@ fn above_by(rows: &Hierarchy, class: &Class, b: u32) -> bool
 
 /// `Loop` where a class is its own ancestor.
 pub fn loops_of(alloc: Global, rows: &Hierarchy, all: &Vec<Class>) -> Result<u32, Refusal>
-    ensures { Gives (λ k. k) result (loops_of rows.now (map class_seen all.now.items)) }
+    ensures { GivesValue (λ k. k) result (loops_of rows.now (map class_seen all.now.items)) }
 {
     let mut a = 0;
     for class in all {

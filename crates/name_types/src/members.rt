@@ -8,8 +8,8 @@ ghost use Rattle.java_tree.specs.Syntax.{head_of, member_of, members, heads, dec
 ghost use Rattle.java_tree.specs.declared.Head.{Head};
 ghost use Rattle.java_core.specs.declared.Ty.{Ty};
 ghost use Rattle.name_types.specs.declared.members.Draft.{Draft};
-ghost use Rattle.name_laws.specs.Answers.{Gives, run};
-ghost use Rattle.name_types.specs.Found.{AreFound, members_seen, with_method, with_field, slot_of};
+ghost use Rattle.name_laws.specs.Answers.{GivesValue, run};
+ghost use Rattle.name_types.specs.Found.{AreDeclarationsFound, members_seen, with_method, with_field, slot_of};
 ghost use Rattle.name_laws.specs.Tables.{field_in, method_in};
 ghost use Rattle.name_laws.specs.Members.{Members, is_texts, takes_texts, is_main, add_heading, head_step, is_wrong_body, field_step, member_step, interface_step, decl_step, members_of, no_members};
 
@@ -61,7 +61,7 @@ fn is_main(
 
 /// Whether a class has a method of this name.
 fn has_method(draft: &Draft, owner: u32, name: &Name) -> bool
-    requires { AreFound draft.now }
+    requires { AreDeclarationsFound draft.now }
     ensures { result ≡ is_some (method_in draft.now.declared.headings.items owner name.now) }
 {
     draft.declared.own_methods.at(owner, name).is_some()
@@ -69,7 +69,7 @@ fn has_method(draft: &Draft, owner: u32, name: &Name) -> bool
 
 /// Whether a class has a field of this name.
 fn has_field(draft: &Draft, owner: u32, name: &Name) -> bool
-    requires { AreFound draft.now }
+    requires { AreDeclarationsFound draft.now }
     ensures { result ≡ is_some (field_in draft.now.declared.fields.items owner name.now) }
 {
     draft.declared.own_fields.at(owner, name).is_some()
@@ -77,17 +77,17 @@ fn has_field(draft: &Draft, owner: u32, name: &Name) -> bool
 
 /// The number of the next method.
 fn next_method(draft: &Draft) -> Result<u32, Refusal>
-    ensures { Gives (λ k. k) result (Ok (length draft.now.declared.headings.items)) }
+    ensures { GivesValue (λ k. k) result (Ok (length draft.now.declared.headings.items)) }
 {
     number_at(draft.declared.headings.len())
 }
 
 /// One method more, which its class does not have yet.
 fn add_method(alloc: Global, draft: &mut Draft, heading: Heading) -> Result<(), Refusal>
-    requires found { AreFound draft.old }
+    requires found { AreDeclarationsFound draft.old }
     requires fresh { is_some (method_in draft.old.declared.headings.items heading.owner heading.name) ≡ false }
-    ensures given { Gives (λ _. members_seen draft.new) result (Ok (with_method (members_seen draft.old) heading)) }
-    ensures found { OnOk result (AreFound draft.new) }
+    ensures given { GivesValue (λ _. members_seen draft.new) result (Ok (with_method (members_seen draft.old) heading)) }
+    ensures found { OnOk result (AreDeclarationsFound draft.new) }
 {
     let number = next_method(draft)?;
     draft
@@ -104,10 +104,10 @@ fn add_method(alloc: Global, draft: &mut Draft, heading: Heading) -> Result<(), 
 
 /// One field more, which its class does not have yet.
 fn add_field(alloc: Global, draft: &mut Draft, field: Field) -> Result<(), Refusal>
-    requires found { AreFound draft.old }
+    requires found { AreDeclarationsFound draft.old }
     requires fresh { is_some (field_in draft.old.declared.fields.items field.owner.0 field.name) ≡ false }
-    ensures given { Gives (λ _. members_seen draft.new) result (Ok (with_field (members_seen draft.old) field)) }
-    ensures found { OnOk result (AreFound draft.new) }
+    ensures given { GivesValue (λ _. members_seen draft.new) result (Ok (with_field (members_seen draft.old) field)) }
+    ensures found { OnOk result (AreDeclarationsFound draft.new) }
 {
     let number = number_at(draft.declared.fields.len())?;
     draft
@@ -127,10 +127,10 @@ fn slot_of(
     locals: &[Local],
     outcome: Option<Ty>,
 ) -> Result<Option<u32>, Refusal>
-    requires found { AreFound draft.old }
-    ensures given { Gives {A = Option ℕ} {B = Option ℕ × Members} (λ k. (k, members_seen draft.new)) result
+    requires found { AreDeclarationsFound draft.old }
+    ensures given { GivesValue {A = Option ℕ} {B = Option ℕ × Members} (λ k. (k, members_seen draft.new)) result
         (Ok (slot_of is_static name.now locals.now outcome (members_seen draft.old))) }
-    ensures found { OnOk result (AreFound draft.new) }
+    ensures found { OnOk result (AreDeclarationsFound draft.new) }
 {
     if is_static {
         return Ok(None);
@@ -157,10 +157,10 @@ fn head_step(
     head: &Head,
     flags: Flags,
 ) -> Result<(), Refusal>
-    requires found { AreFound draft.old }
-    ensures given { Gives (λ _. members_seen draft.new) result (head_step known.now owner (members_seen draft.old)
+    requires found { AreDeclarationsFound draft.old }
+    ensures given { GivesValue (λ _. members_seen draft.new) result (head_step known.now owner (members_seen draft.old)
         (head_of head.now) flags) }
-    ensures found { OnOk result (AreFound draft.new) }
+    ensures found { OnOk result (AreDeclarationsFound draft.new) }
 {
     if has_method(draft, owner, &head.name) {
         return Err(Refusal::Twice(head.name.copy(alloc)?, head.place));
@@ -205,10 +205,10 @@ fn field_step(
     name: &Name,
     place: Place,
 ) -> Result<(), Refusal>
-    requires found { AreFound draft.old }
-    ensures given { Gives (λ _. members_seen draft.new) result (field_step known.now owner (members_seen draft.old)
+    requires found { AreDeclarationsFound draft.old }
+    ensures given { GivesValue (λ _. members_seen draft.new) result (field_step known.now owner (members_seen draft.old)
         flags ty.now name.now place) }
-    ensures found { OnOk result (AreFound draft.new) }
+    ensures found { OnOk result (AreDeclarationsFound draft.new) }
 {
     let ty = type_of(alloc, known, ty)?;
     if names_type(alloc, known, name)? {
@@ -236,10 +236,10 @@ fn member_step(
     draft: &mut Draft,
     member: &Member,
 ) -> Result<(), Refusal>
-    requires found { AreFound draft.old }
-    ensures given { Gives (λ _. members_seen draft.new) result (member_step known.now owner in_abstract (members_seen draft.old)
+    requires found { AreDeclarationsFound draft.old }
+    ensures given { GivesValue (λ _. members_seen draft.new) result (member_step known.now owner in_abstract (members_seen draft.old)
         (member_of member.now)) }
-    ensures found { OnOk result (AreFound draft.new) }
+    ensures found { OnOk result (AreDeclarationsFound draft.new) }
 {
     match member {
         Member::Field {
@@ -269,10 +269,10 @@ fn interface_step(
     draft: &mut Draft,
     head: &Head,
 ) -> Result<(), Refusal>
-    requires found { AreFound draft.old }
-    ensures given { Gives (λ _. members_seen draft.new) result (interface_step known.now owner (members_seen draft.old)
+    requires found { AreDeclarationsFound draft.old }
+    ensures given { GivesValue (λ _. members_seen draft.new) result (interface_step known.now owner (members_seen draft.old)
         (head_of head.now)) }
-    ensures found { OnOk result (AreFound draft.new) }
+    ensures found { OnOk result (AreDeclarationsFound draft.new) }
 {
     let flags = flags_of(Kind::Head, head.mods.as_slice())?;
     head_step(alloc, known, owner, draft, head, flags)
@@ -287,10 +287,10 @@ fn class_members(
     draft: &mut Draft,
     list: &Vec<Member>,
 ) -> Result<(), Refusal>
-    requires found { AreFound draft.old }
-    ensures given { Gives (λ _. members_seen draft.new) result (run (member_step known.now owner in_abstract) (members_seen draft.old)
+    requires found { AreDeclarationsFound draft.old }
+    ensures given { GivesValue (λ _. members_seen draft.new) result (run (member_step known.now owner in_abstract) (members_seen draft.old)
         (members list.now.items)) }
-    ensures found { OnOk result (AreFound draft.new) }
+    ensures found { OnOk result (AreDeclarationsFound draft.new) }
 {
     for member in list {
         member_step(alloc, known, owner, in_abstract, draft, member)?;
@@ -306,10 +306,10 @@ fn interface_members(
     draft: &mut Draft,
     list: &Vec<Head>,
 ) -> Result<(), Refusal>
-    requires found { AreFound draft.old }
-    ensures given { Gives (λ _. members_seen draft.new) result (run (interface_step known.now owner) (members_seen draft.old)
+    requires found { AreDeclarationsFound draft.old }
+    ensures given { GivesValue (λ _. members_seen draft.new) result (run (interface_step known.now owner) (members_seen draft.old)
         (heads list.now.items)) }
-    ensures found { OnOk result (AreFound draft.new) }
+    ensures found { OnOk result (AreDeclarationsFound draft.new) }
 {
     for head in list {
         interface_step(alloc, known, owner, draft, head)?;
@@ -325,10 +325,10 @@ fn decl_step(
     draft: &mut Draft,
     decl: &Decl,
 ) -> Result<u32, Refusal>
-    requires found { AreFound draft.old }
-    ensures given { Gives {A = ℕ} {B = ℕ × Members} (λ k. (k, members_seen draft.new)) result
+    requires found { AreDeclarationsFound draft.old }
+    ensures given { GivesValue {A = ℕ} {B = ℕ × Members} (λ k. (k, members_seen draft.new)) result
         (decl_step known.now (owner, members_seen draft.old) (decl_of decl.now)) }
-    ensures found { OnOk result (AreFound draft.new) }
+    ensures found { OnOk result (AreDeclarationsFound draft.new) }
 {
     match decl {
         Decl::Class { mods, members, .. } => {
@@ -347,10 +347,10 @@ fn all_members(
     draft: &mut Draft,
     list: &[Decl],
 ) -> Result<u32, Refusal>
-    requires found { AreFound draft.old }
-    ensures given { Gives {A = ℕ} {B = ℕ × Members} (λ k. (k, members_seen draft.new)) result
+    requires found { AreDeclarationsFound draft.old }
+    ensures given { GivesValue {A = ℕ} {B = ℕ × Members} (λ k. (k, members_seen draft.new)) result
         (run (decl_step known.now) (1, members_seen draft.old) (decls list.now)) }
-    ensures found { OnOk result (AreFound draft.new) }
+    ensures found { OnOk result (AreDeclarationsFound draft.new) }
 {
     let mut owner = 1;
     for decl in list {
@@ -361,8 +361,8 @@ fn all_members(
 
 /// All members of a tree.
 pub fn members_of(alloc: Global, known: &Types, list: &[Decl]) -> Result<Draft, Refusal>
-    ensures given { Gives {A = Draft} {B = Members} members_seen result (members_of known.now (decls list.now)) }
-    ensures found { IfOk result AreFound }
+    ensures given { GivesValue {A = Draft} {B = Members} members_seen result (members_of known.now (decls list.now)) }
+    ensures found { IfOk result AreDeclarationsFound }
 {
     let mut draft = Draft {
         declared: Declared {

@@ -4,7 +4,7 @@
 ghost use Rattle.std.specs.Prelude.{◌≡◌, ℕ, List, IfOk, OnOk, Ok, map, slice_get};
 ghost use Rattle.java_core.specs.Types.{is_base};
 ghost use Rattle.java_core.specs.Programs.{PlainSlot, slot_seen};
-ghost use Rattle.name_laws.specs.Answers.{Gives};
+ghost use Rattle.name_laws.specs.Answers.{GivesValue};
 ghost use Rattle.java_core.specs.Owned.{passes, first_among};
 ghost use Rattle.name_types.specs.Keys.{AreKeyed};
 ghost use Rattle.name_types.specs.Found.{fits};
@@ -144,7 +144,7 @@ pub fn slotted(
     first: u32,
 ) -> Result<u32, Refusal>
     requires found { AreKeyed slots.old.items keyed.old.items }
-    ensures given { Gives {A = ℕ} {B = ℕ × List PlainSlot} (λ k. (k, map slot_seen slots.new.items))
+    ensures given { GivesValue {A = ℕ} {B = ℕ × List PlainSlot} (λ k. (k, map slot_seen slots.new.items))
         result (Ok (slotted name.now locals.now outcome first (map slot_seen slots.old.items))) }
     ensures found { OnOk result (AreKeyed slots.new.items keyed.new.items) }
 {

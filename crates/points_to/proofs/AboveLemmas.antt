@@ -14,7 +14,7 @@ use Rattle.fact_model.specs.Classes.{supers_of, IsBelow, same, through}
 use Rattle.fact_model.specs.InRange.{IsClass}
 use Rattle.fact_model.specs.Items.{site_class}
 use Rattle.fact_model.proofs.ClassLemmas.{below-then}
-use Rattle.points_to.specs.Above.{class_id, IsAboveRow, AreSitesBelow, HasSite, Gained, Walked}
+use Rattle.points_to.specs.Above.{class_id, IsAboveRow, AreSitesBelow, HaveGainedSite, GainedClasses, WalkedAbove}
 
 -- ---- what a row gains
 
@@ -22,7 +22,7 @@ pub set-bits : (r : List Bool) (x y : ℕ) → bit (set r x true) y ≡ true →
 set-bits r x y h = ⊎_elim (λ e. inr e) (λ ne. inl (sym (get_or-set_other r x y true false ne) ∙ h)) (cases_eq y x)
 
 pub gained-then : (first second : List ClassId) (r0 r1 r2 : List Bool) (w0 w1 w2 : List ClassId)
-    → Gained first r0 r1 w0 w1 → Gained second r1 r2 w1 w2 → Gained (first ++ second) r0 r2 w0 w2
+    → GainedClasses first r0 r1 w0 w1 → GainedClasses second r1 r2 w1 w2 → GainedClasses (first ++ second) r0 r2 w0 w2
 gained-then first second r0 r1 r2 w0 w1 w2 g h = record {
   len = h.len ∙ g.len;
   kept = λ y k. h.kept y (g.kept y k);
@@ -45,16 +45,16 @@ gained-then first second r0 r1 r2 w0 w1 w2 g h = record {
 }
 
 pub gained-more : (xs : List ClassId) (i : ℕ) (d : ClassId) (r0 r1 r2 : List Bool) (w0 w1 w2 : List ClassId) → i < length xs
-    → Gained (take i xs) r0 r1 w0 w1 → Gained (get_or xs i d ∷ []) r1 r2 w1 w2 → Gained (take (i + 1) xs) r0 r2 w0 w2
+    → GainedClasses (take i xs) r0 r1 w0 w1 → GainedClasses (get_or xs i d ∷ []) r1 r2 w1 w2 → GainedClasses (take (i + 1) xs) r0 r2 w0 w2
 gained-more xs i d r0 r1 r2 w0 w1 w2 lt g h =
-    subst (λ l. Gained l r0 r2 w0 w2) (sym (ap (λ k. take k xs) (add-one i) ∙ take-suc xs i d lt))
+    subst (λ l. GainedClasses l r0 r2 w0 w2) (sym (ap (λ k. take k xs) (add-one i) ∙ take-suc xs i d lt))
     (gained-then (take i xs) (get_or xs i d ∷ []) r0 r1 r2 w0 w1 w2 g h)
 
 -- ---- the walk
 
 module _ (F : Facts) where
   pub walked-start : (a : ClassId) (r s : List Bool) (w : List ClassId) → length r ≡ length F.classes.items → ((y : ℕ) → bit r y ≡ true → ⊥) → IsClass F a
-      → Gained (a ∷ []) r s [] w → Walked F a.0 s w
+      → GainedClasses (a ∷ []) r s [] w → WalkedAbove F a.0 s w
   walked-start a r s w len none in_range g = record {
     len = g.len ∙ len;
     start = g.told a (Contains-push [] a);
@@ -66,8 +66,8 @@ module _ (F : Facts) where
   }
 
   module _ (a : ℕ) where
-    pub walked-step : (r s : List Bool) (rest after : List ClassId) (x : ClassId) → Walked F a r (rest ++ x ∷ [])
-        → Gained (supers_of F x.0) r s rest after → Walked F a s after
+    pub walked-step : (r s : List Bool) (rest after : List ClassId) (x : ClassId) → WalkedAbove F a r (rest ++ x ∷ [])
+        → GainedClasses (supers_of F x.0) r s rest after → WalkedAbove F a s after
     walked-step r s rest after x w g = record {
       len = g.len ∙ w.len;
       start = g.kept a w.start;
@@ -87,7 +87,7 @@ module _ (F : Facts) where
             (λ e. inr (λ z d. g.told z (subst (λ (v : ClassId). Contains (supers_of F v.0) z) (sym e) d))) (Contains-push_cases rest x (class_id y) c)
         old y (inr c) = inr (λ z d. g.kept z.0 (c z d))
 
-  pub walked-end : (a : ℕ) (r : List Bool) → Walked F a r [] → IsAboveRow F a r
+  pub walked-end : (a : ℕ) (r : List Bool) → WalkedAbove F a r [] → IsAboveRow F a r
   walked-end a r w = record { len = w.len; sound = w.sound; whole = λ b h. reached w.start h }
     where
       reached : {x y : ℕ} → bit r x ≡ true → IsBelow F x y → bit r y ≡ true
@@ -98,9 +98,9 @@ module _ (F : Facts) where
 -- ---- the sites at or below a class
 
 -- one class more
-pub site_more : (old mid new : List (List Bool)) (classes : List Bool) (s at k : ℕ) → HasSite old mid classes s at → IsNoneFrom (bit classes) at k
+pub site_more : (old mid new : List (List Bool)) (classes : List Bool) (s at k : ℕ) → HaveGainedSite old mid classes s at → IsNoneFrom (bit classes) at k
     → bit classes k ≡ true → length new ≡ length mid → ((j : ℕ) → length (row new j) ≡ length (row mid j)) → GainsBit mid new k s
-    → HasSite old new classes s (k + 1)
+    → HaveGainedSite old new classes s (k + 1)
 site_more old mid new classes s at k h none here len widths gains = record {
   len = len ∙ h.len;
   widths = λ j. widths j ∙ h.widths j;
@@ -125,8 +125,8 @@ site_more old mid new classes s at k h none here len widths gains = record {
         (cases_eq j k)
 
 -- no class more
-pub site_rest : (old new : List (List Bool)) (classes : List Bool) (s at : ℕ) → HasSite old new classes s at → IsNoneFrom (bit classes) at (length classes)
-    → HasSite old new classes s (length classes)
+pub site_rest : (old new : List (List Bool)) (classes : List Bool) (s at : ℕ) → HaveGainedSite old new classes s at → IsNoneFrom (bit classes) at (length classes)
+    → HaveGainedSite old new classes s (length classes)
 site_rest old new classes s at h none = record {
   len = h.len;
   widths = h.widths;
@@ -137,7 +137,7 @@ site_rest old new classes s at h none = record {
 
 -- one site more in each row
 pub sites_more : (F : Facts) (old new : List (List Bool)) (classes : List Bool) (s : ℕ) → AreSitesBelow F s old → IsAboveRow F (site_class F s) classes
-    → HasSite old new classes s (length classes) → AreSitesBelow F (s + 1) new
+    → HaveGainedSite old new classes s (length classes) → AreSitesBelow F (s + 1) new
 sites_more F old new classes s before above h = record {
   len = h.len ∙ before.len;
   widths = λ k lt. h.widths k ∙ before.widths k (omega (arith, lt, h.len));

@@ -18,9 +18,9 @@ use Rattle.fact_model.specs.InRange.{InRange}
 use Rattle.fact_model.specs.Flowing.{point_at}
 use Rattle.fact_model.specs.Items.{site_class}
 use Rattle.fact_model.specs.Classes.{finds}
-use Rattle.points_to.specs.Work.{slot_of, IsBodyNode, AreTargets, IsEdge, IsTold, IsRead, IsWrite, IsRun, IsEdgeClosed, IsShown, IsReadClosed, IsWriteClosed, IsRunClosed, AreFound}
-use Rattle.points_to.specs.Listed.{numbers_at, IsIndex, HasBody}
-use Rattle.points_to.specs.Closed.{told_of_new, edge_of_flow, edge_of_cast, read_of_load, write_of_store, run_of_call, read_of_result, write_of_argument, writes_of_call, asked_told, asked_edges, asked_reads, asked_writes, asked_runs, AreFixed, AreAsked, AreClosed}
+use Rattle.points_to.specs.Work.{slot_of, IsBodyNode, AreTargets, IsEdge, IsSiteTold, IsReadIn, IsWrite, IsRun, IsEdgeClosed, IsSiteShown, IsReadClosed, IsWriteClosed, IsRunClosed, AreFound}
+use Rattle.points_to.specs.Listed.{numbers_at, IsIndex, ListsBody}
+use Rattle.points_to.specs.Closed.{told_of_new, edge_of_flow, edge_of_cast, read_of_load, write_of_store, run_of_call, read_of_result, write_of_argument, writes_of_call, asked_told, asked_edges, asked_reads, asked_writes, asked_runs, AreFixed, AreAskedFound, AreSetsClosed}
 use Rattle.points_to.specs.declared.work.Edge.{Edge}
 use Rattle.points_to.specs.declared.work.Told.{Told}
 use Rattle.points_to.specs.declared.work.Read.{Read}
@@ -35,22 +35,22 @@ use Rattle.points_to.proofs.MadeLemmas.{all_among, all_some, all_flat, has_some,
 
 -- what is asked for holds
 module _ (F : Facts) (R : InRange F) where
-  asked_result : (x : CallInfo) → Contains F.calls.items x → (y : Read) → read_of_result x ≡ Some y → IsRead F y
-  asked_result x is y e = of_mapped (IsRead F) (λ p. record { base = x.receiver; member = Returned x.slot; into = p }) x.result y e (result_read F R x is)
+  asked_result : (x : CallInfo) → Contains F.calls.items x → (y : Read) → read_of_result x ≡ Some y → IsReadIn F y
+  asked_result x is y e = of_mapped (IsReadIn F) (λ p. record { base = x.receiver; member = Returned x.slot; into = p }) x.result y e (result_read F R x is)
 
   asked_argument : (x : CallInfo) → Contains F.calls.items x → (k : ℕ) (y : Write) → write_of_argument x k ≡ Some y → IsWrite F y
   asked_argument x is k y e = of_mapped (IsWrite F) (λ p. record { base = x.receiver; member = Parameter x.slot k; value = p }) (point_at x.args.items k) y e
       (argument_write F R x is k)
 
-  pub asked_holds : AreFixed F (IsEdge F) (IsTold F) (IsRead F) (IsWrite F) (IsRun F)
+  pub asked_holds : AreFixed F (IsEdge F) (IsSiteTold F) (IsReadIn F) (IsWrite F) (IsRun F)
   asked_holds = record {
-    told = All-map (IsTold F) told_of_new F.news.items (all_of (λ x. IsTold F (told_of_new x)) F.news.items (new_told F R));
+    told = All-map (IsSiteTold F) told_of_new F.news.items (all_of (λ x. IsSiteTold F (told_of_new x)) F.news.items (new_told F R));
     edges = All-append (IsEdge F) (map edge_of_flow F.flows.items) (map edge_of_cast F.casts.items)
         (All-map (IsEdge F) edge_of_flow F.flows.items (all_of (λ x. IsEdge F (edge_of_flow x)) F.flows.items (flow_edge F R)))
         (All-map (IsEdge F) edge_of_cast F.casts.items (all_of (λ x. IsEdge F (edge_of_cast x)) F.casts.items (cast_edge F R)));
-    reads = All-append (IsRead F) (map read_of_load F.loads.items) (filter_map read_of_result F.calls.items)
-        (All-map (IsRead F) read_of_load F.loads.items (all_of (λ x. IsRead F (read_of_load x)) F.loads.items (load_read F R)))
-        (all_some (IsRead F) read_of_result F.calls.items (all_of (λ x. (y : Read) → read_of_result x ≡ Some y → IsRead F y) F.calls.items asked_result));
+    reads = All-append (IsReadIn F) (map read_of_load F.loads.items) (filter_map read_of_result F.calls.items)
+        (All-map (IsReadIn F) read_of_load F.loads.items (all_of (λ x. IsReadIn F (read_of_load x)) F.loads.items (load_read F R)))
+        (all_some (IsReadIn F) read_of_result F.calls.items (all_of (λ x. (y : Read) → read_of_result x ≡ Some y → IsReadIn F y) F.calls.items asked_result));
     writes = All-append (IsWrite F) (map write_of_store F.stores.items) (flat_map writes_of_call F.calls.items)
         (All-map (IsWrite F) write_of_store F.stores.items (all_of (λ x. IsWrite F (write_of_store x)) F.stores.items (store_write F R)))
         (all_flat (IsWrite F) writes_of_call F.calls.items (all_of (λ x. All (IsWrite F) (writes_of_call x)) F.calls.items (λ x is.
@@ -60,12 +60,12 @@ module _ (F : Facts) (R : InRange F) where
 
   -- it was found, in another order
   pub found_asked : (x : Found) → x.told.items ≡ asked_told F → x.edges.items ≡ asked_edges F → IsPermutation (asked_reads F) x.members.reads.items
-      → IsPermutation (asked_writes F) x.members.writes.items → IsPermutation (asked_runs F) x.members.runs.items → AreFound F x × AreAsked F x
+      → IsPermutation (asked_writes F) x.members.writes.items → IsPermutation (asked_runs F) x.members.runs.items → AreFound F x × AreAskedFound F x
   found_asked x told edges reads writes runs = (
     record {
-      told = subst (All (IsTold F)) (sym told) asked_holds.told;
+      told = subst (All (IsSiteTold F)) (sym told) asked_holds.told;
       edges = subst (All (IsEdge F)) (sym edges) asked_holds.edges;
-      reads = All-permutation (IsRead F) (asked_reads F) x.members.reads.items reads asked_holds.reads;
+      reads = All-permutation (IsReadIn F) (asked_reads F) x.members.reads.items reads asked_holds.reads;
       writes = All-permutation (IsWrite F) (asked_writes F) x.members.writes.items writes asked_holds.writes;
       runs = All-permutation (IsRun F) (asked_runs F) x.members.runs.items runs asked_holds.runs;
     },
@@ -112,12 +112,12 @@ module _ {F : Facts} {E : Edge → Type 0} {S : Told → Type 0} {R : Read → T
         (has_some (write_of_argument x) (range_with_len 0 (length x.args.items)) k y (has_number (length x.args.items) k lt) e)))
 
 -- where all that was found is closed, the sets are
-pub asked_closed : (F : Facts) (x : Found) (sets : List (List Bool)) → AreAsked F x → All (IsEdgeClosed F sets) x.edges.items → All (IsShown sets) x.told.items
+pub asked_closed : (F : Facts) (x : Found) (sets : List (List Bool)) → AreAskedFound F x → All (IsEdgeClosed F sets) x.edges.items → All (IsSiteShown sets) x.told.items
     → All (IsReadClosed F sets sets) x.members.reads.items → All (IsWriteClosed F sets sets) x.members.writes.items
     → All (IsRunClosed F sets sets) x.members.runs.items
-    → AreClosed F sets
+    → AreSetsClosed F sets
 asked_closed F x sets a edges told reads writes runs = record {
-  told = all_among (IsShown sets) x.told.items _ told a.told;
+  told = all_among (IsSiteShown sets) x.told.items _ told a.told;
   edges = all_among (IsEdgeClosed F sets) x.edges.items _ edges a.edges;
   reads = all_among (IsReadClosed F sets sets) x.members.reads.items _ reads a.reads;
   writes = all_among (IsWriteClosed F sets sets) x.members.writes.items _ writes a.writes;
@@ -125,11 +125,11 @@ asked_closed F x sets a edges told reads writes runs = record {
 }
 
 -- a turn over all that was found
-module _ (F : Facts) (x : Found) (s1 s2 s3 s4 s5 : List (List Bool)) (asked : AreAsked F x) where
-  pub turn_closed : (a b c d e : Bool) → IsStep s1 s2 b → IsStep s2 s3 c → IsStep s3 s4 d → IsStep s4 s5 e → OnFalse a (All (IsShown s1) x.told.items)
+module _ (F : Facts) (x : Found) (s1 s2 s3 s4 s5 : List (List Bool)) (asked : AreAskedFound F x) where
+  pub turn_closed : (a b c d e : Bool) → IsStep s1 s2 b → IsStep s2 s3 c → IsStep s3 s4 d → IsStep s4 s5 e → OnFalse a (All (IsSiteShown s1) x.told.items)
       → OnFalse b (All (IsEdgeClosed F s2) x.edges.items) → OnFalse c (All (IsReadClosed F s2 s3) x.members.reads.items)
       → OnFalse d (All (IsWriteClosed F s2 s4) x.members.writes.items) → OnFalse e (All (IsRunClosed F s2 s5) x.members.runs.items)
-      → OnFalse ((((a || b) || c) || d) || e) (AreClosed F s5)
+      → OnFalse ((((a || b) || c) || d) || e) (AreSetsClosed F s5)
   turn_closed true b c d e p2 p3 p4 p5 told edges reads writes runs = tt
   turn_closed false true c d e p2 p3 p4 p5 told edges reads writes runs = tt
   turn_closed false false true d e p2 p3 p4 p5 told edges reads writes runs = tt
@@ -139,7 +139,7 @@ module _ (F : Facts) (x : Found) (s1 s2 s3 s4 s5 : List (List Bool)) (asked : Ar
       let r = p5 ∙ (p4 ∙ p3) in
       asked_closed F x s5 asked
       (subst (λ s. All (IsEdgeClosed F s) x.edges.items) (sym r) edges)
-      (subst (λ s. All (IsShown s) x.told.items) (sym (r ∙ p2)) told)
+      (subst (λ s. All (IsSiteShown s) x.told.items) (sym (r ∙ p2)) told)
       (subst (λ s. All (IsReadClosed F s s5) x.members.reads.items) (sym r) (subst (λ s. All (IsReadClosed F s2 s) x.members.reads.items)
       (sym (p5 ∙ p4)) reads))
       (subst (λ s. All (IsWriteClosed F s s5) x.members.writes.items) (sym r) (subst (λ s. All (IsWriteClosed F s2 s) x.members.writes.items) (sym p5) writes))
@@ -147,7 +147,7 @@ module _ (F : Facts) (x : Found) (s1 s2 s3 s4 s5 : List (List Bool)) (asked : Ar
 
 -- the members of a body that was found
 pub found_targets : (F : Facts) (index : Index) → IsIndex F index → (m : Member) (slot o d : ℕ) (list : List ℕ) → slot_of m ≡ Some slot
-    → finds F (site_class F o) slot ≡ Some d → All (IsBodyNode F m slot o) list → All (HasBody F m d list) (numbers_at index.bodies.items d)
+    → finds F (site_class F o) slot ≡ Some d → All (IsBodyNode F m slot o) list → All (ListsBody F m d list) (numbers_at index.bodies.items d)
     → AreTargets F m o list
 found_targets F index is m slot o d list e found sound here = record {
   sound = λ k n lt. body_target F m slot o (get_or list k n) e (sound k n lt);
@@ -155,6 +155,6 @@ found_targets F index is m slot o d list e found sound here = record {
       let x = target_body F m slot o n e t in
       let at = x.listed in
       let same : x.body.column.0 ≡ d = cc (x.found, found) in
-      All-contains (HasBody F m d list) (numbers_at index.bodies.items d) at.0 here
+      All-contains (ListsBody F m d list) (numbers_at index.bodies.items d) at.0 here
       (subst (λ k. Contains (numbers_at index.bodies.items k) at.0) same (is.bodies at.0 at.1 x.body (at.1, at.2))) x.body (at.1, at.2) same n x.node;
 }

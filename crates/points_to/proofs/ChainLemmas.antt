@@ -12,7 +12,7 @@ use Rattle.fact_model.specs.Classes.{is_def, is_slot, is_body, own_body}
 use Rattle.fact_model.specs.declared.facts.Facts.{Facts}
 use Rattle.fact_model.specs.declared.facts.ColKind.{ColKind}
 use Rattle.fact_model.specs.declared.facts.ColKind.TheVariants.{Fld, Dcl, Def, Is}
-use Rattle.points_to.specs.Chains.{column_bucket, bucket_in, IsBodyOf, IsFirstAt, IsFirst, AreChained, IsWalk}
+use Rattle.points_to.specs.Chains.{column_bucket, bucket_in, IsBodyOf, IsFirstAt, IsFirstBody, AreChained, IsWalk}
 
 pub position_found : {X : Type 0} (p : X → Bool) (xs : List X) (i : ℕ) (d : X) → i < length xs → p (get_or xs i d) ≡ true
     → ((k : ℕ) → k < i → p (get_or xs k d) ≡ false) → position p xs ≡ Some i
@@ -33,7 +33,7 @@ position_missing p xs d before =
 
 module _ (F : Facts) where
   -- one column on, that is no body of the number
-  pub first_more : (a c : ℕ) (o : Option ℕ) → (IsBodyOf F a c → ⊥) → IsFirst F a (c + 1) o → IsFirst F a c o
+  pub first_more : (a c : ℕ) (o : Option ℕ) → (IsBodyOf F a c → ⊥) → IsFirstBody F a (c + 1) o → IsFirstBody F a c o
   first_more a c o lacks x = record {
     some = λ d e.
         let h = x.some d e in
@@ -47,7 +47,7 @@ module _ (F : Facts) where
   }
 
   -- a body of the number is the first from itself on
-  pub first_here : (a c : ℕ) → c < length F.columns.items → IsBodyOf F a c → IsFirst F a c (Some c)
+  pub first_here : (a c : ℕ) → c < length F.columns.items → IsBodyOf F a c → IsFirstBody F a c (Some c)
   first_here a c lt b = record {
     some = λ d e. let same : c ≡ d = cc in subst (IsFirstAt F a c) same
         (record { low = omega arith; high = lt; body = b; least = λ k le l _. omega (arith, le, l) });
@@ -59,10 +59,10 @@ module _ (F : Facts) where
     in_range = mod-lt _ (omega arith)
 
     next_more : (k : ℕ) → c ≤ k → k < length F.columns.items
-        → IsFirst F (column_bucket F k) (k + 1) (get_or (set next c (get_or first (column_bucket F c) None)) k None)
+        → IsFirstBody F (column_bucket F k) (k + 1) (get_or (set next c (get_or first (column_bucket F c) None)) k None)
     next_more k le high =
         ⊎_elim
-        (λ same. subst (λ j. IsFirst F (column_bucket F j) (j + 1) (get_or (set next c (get_or first (column_bucket F c) None)) j None)) (sym same)
+        (λ same. subst (λ j. IsFirstBody F (column_bucket F j) (j + 1) (get_or (set next c (get_or first (column_bucket F c) None)) j None)) (sym same)
         (rw (get_or-set_same next c (get_or first (column_bucket F c) None) None (omega (arith, lt, old.next_len))) (old.firsts (column_bucket F c) in_range)))
         (λ ne. rw (get_or-set_other next c k (get_or first (column_bucket F c) None) None ne) (old.nexts k (omega (arith, le, ne)) high))
         (cases_eq k c)
@@ -73,7 +73,7 @@ module _ (F : Facts) where
       next_len = length-set next c (get_or first (column_bucket F c) None) ∙ old.next_len;
       firsts = λ a la.
           ⊎_elim
-          (λ same. subst (λ j. IsFirst F j c (get_or (set first (column_bucket F c) (Some c)) j None)) (sym same)
+          (λ same. subst (λ j. IsFirstBody F j c (get_or (set first (column_bucket F c) (Some c)) j None)) (sym same)
           (rw (get_or-set_same first (column_bucket F c) (Some c) None (omega (arith, in_range, old.first_len)))
           (first_here (column_bucket F c) c lt (record { kind = def; bucket = refl }))))
           (λ ne. rw (get_or-set_other first (column_bucket F c) a (Some c) None ne) (first_more a c _ (λ b. ne (sym b.bucket)) (old.firsts a la)))
@@ -125,7 +125,7 @@ module _ (F : Facts) where
   own_found a x k def own = rw def own
 
   -- a walk on the first body at or after a number, where none before it is one of the slot
-  pub walk_from : (a x from : ℕ) (o : Option ℕ) → IsFirst F (bucket_in F a x) from o → ((k : ℕ) → k < from → is_body a x (column_at F k) ≡ false)
+  pub walk_from : (a x from : ℕ) (o : Option ℕ) → IsFirstBody F (bucket_in F a x) from o → ((k : ℕ) → k < from → is_body a x (column_at F k) ≡ false)
       → IsWalk F a x o
   walk_from a x from o f none = record {
     high = λ d e. (f.some d e).high;
@@ -140,7 +140,7 @@ module _ (F : Facts) where
       → IsWalk F a x (get_or next d None)
   walk_on a x d first next chained w none =
       walk_from a x (d + 1) (get_or next d None)
-      (subst (λ b. IsFirst F b (d + 1) (get_or next d None)) ((w.body d refl).bucket) (chained.nexts d (omega arith) (w.high d refl)))
+      (subst (λ b. IsFirstBody F b (d + 1) (get_or next d None)) ((w.body d refl).bucket) (chained.nexts d (omega arith) (w.high d refl)))
       (λ k lt. ⊎_elim (λ same. subst (λ j. is_body a x (column_at F j) ≡ false) (sym same) (own_missing a x d none))
       (λ ne. w.before d k refl (omega (arith, lt, ne))) (cases_eq k d))
 

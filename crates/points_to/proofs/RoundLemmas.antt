@@ -13,8 +13,8 @@ use Rattle.kaba_bits.proofs.StepLemmas.{IsStep-then, closed_more, closed-both}
 use Rattle.fact_model.specs.InRange.{InRange, IsClass}
 use Rattle.fact_model.specs.declared.facts.Facts.{Facts}
 use Rattle.points_to.specs.Sound.{node_count, InNode, AreSound}
-use Rattle.points_to.specs.Work.{Passes, IsTarget, AreTargets, wanted, IsRead, IsWrite, IsReadClosed, IsWriteClosed, IsRunClosed}
-use Rattle.points_to.specs.Rounds.{IsIn, IsGathered, IsWhole, IsPending, IsFlushedAt, IsFlushed, IsDone, HasRow, HasSite, IsRunAt, AreBegun}
+use Rattle.points_to.specs.Work.{PassesClass, IsMemberSet, AreTargets, wanted, IsReadIn, IsWrite, IsReadClosed, IsWriteClosed, IsRunClosed}
+use Rattle.points_to.specs.Rounds.{IsInSome, IsGathered, IsWhole, IsPending, IsFlushedAt, IsFlushed, IsDone, HasRow, HasSite, IsRunAt, AreBegun}
 use Rattle.points_to.specs.declared.work.Member.{Member}
 use Rattle.points_to.specs.declared.work.Member.TheVariants.{Field, This, Parameter, Returned}
 use Rattle.points_to.specs.declared.work.Edge.{Edge}
@@ -133,7 +133,7 @@ module _ (F : Facts) where
   module _ (u v : Union) (o : ℕ) (sets : List (List Bool)) (list : List ℕ) (same : v.member ≡ u.member) (is : v.sites ≡ set u.sites o true)
       (t : AreTargets F u.member o list) (site : o < length u.sites) where
     pub gathered_more : AreSound F sets → IsGathered F u → length v.sites ≡ length F.sites.items → length v.held ≡ length F.sites.items
-        → ((s : ℕ) → bit v.held s ≡ true → (bit u.held s ≡ true) ⊎ IsIn sets list s) → IsGathered F v
+        → ((s : ℕ) → bit v.held s ≡ true → (bit u.held s ≡ true) ⊎ IsInSome sets list s) → IsGathered F v
     gathered_more sound g width len gained = record {
       sites = width;
       held = len;
@@ -144,14 +144,14 @@ module _ (F : Facts) where
             site = x.site;
             node = x.node;
             has = set_keeps u.sites u.sites v.sites o 0 is site x.site x.has;
-            target = subst (λ m. IsTarget F m x.site x.node) (sym same) x.target;
+            target = subst (λ m. IsMemberSet F m x.site x.node) (sym same) x.target;
             holds = x.holds;
           })
           (λ i. record {
             site = o;
             node = i.node;
             has = set_has u.sites u.sites v.sites o 0 is site;
-            target = subst (λ m. IsTarget F m o i.node) (sym same) (All-contains (IsTarget F u.member o) list i.node t.sound i.listed);
+            target = subst (λ m. IsMemberSet F m o i.node) (sym same) (All-contains (IsMemberSet F u.member o) list i.node t.sound i.listed);
             holds = sound.sound i.node s i.has;
           })
           (gained s h);
@@ -160,18 +160,18 @@ module _ (F : Facts) where
     pub whole_more : IsSubset u.held v.held → All (λ n. IsSubset (row sets n) v.held) list → IsWhole F sets u → IsWhole F sets v
     whole_more kept all w p n b target s h =
         let b' = subst (λ r. bit r p ≡ true) is b in
-        let t' = subst (λ m. IsTarget F m p n) same target in
+        let t' = subst (λ m. IsMemberSet F m p n) same target in
         ⊎_elim
-        (λ e. All-contains (λ n. IsSubset (row sets n) v.held) list n all (t.whole n (subst (λ k. IsTarget F u.member k n) e t')) s h)
+        (λ e. All-contains (λ n. IsSubset (row sets n) v.held) list n all (t.whole n (subst (λ k. IsMemberSet F u.member k n) e t')) s h)
         (λ ne. kept s (w p n (sym (get_or-set_other u.sites o p true false ne) ∙ b') t' s h))
         (cases_eq p o)
 
   -- a read
-  pub read_holds : (bases : List (List Bool)) (u : Union) (x : Read) → AreSound F bases → IsGathered F u → IsRead F x → u.member ≡ x.member
+  pub read_holds : (bases : List (List Bool)) (u : Union) (x : Read) → AreSound F bases → IsGathered F u → IsReadIn F x → u.member ≡ x.member
       → IsSubset u.sites (row bases x.base) → (s : ℕ) → bit u.held s ≡ true → InNode F x.into s
   read_holds bases u x sound g r same within s h =
       let a = g.sound s h in
-      r.flows a.site a.node s (sound.sound x.base a.site (within a.site a.has)) (subst (λ m. IsTarget F m a.site a.node) same a.target) a.holds
+      r.flows a.site a.node s (sound.sound x.base a.site (within a.site a.has)) (subst (λ m. IsMemberSet F m a.site a.node) same a.target) a.holds
 
   pub read_closed : (bases old new : List (List Bool)) (u : Union) (x : Read) (W : Type 0) (g : Bool) → IsStep old new g → (W → IsWhole F old u)
       → u.member ≡ x.member → IsSubset (row bases x.base) u.sites → OnFalse g (IsSubset u.held (row new x.into))
@@ -179,7 +179,7 @@ module _ (F : Facts) where
   read_closed bases old new u x W true step f same all sub = tt
   read_closed bases old new u x W false step f same all sub = λ w.
       let whole : IsWhole F new u = subst (λ s. IsWhole F s u) (sym step) (f w) in
-      (whole, λ o n b t s h. sub s (whole o n (all o b) (subst (λ m. IsTarget F m o n) (sym same) t) s h))
+      (whole, λ o n b t s h. sub s (whole o n (all o b) (subst (λ m. IsMemberSet F m o n) (sym same) t) s h))
 
   -- a write
   pub wanted_class : InRange F → (m : Member) (o : ℕ) (k : ClassId) → o < length F.sites.items → wanted F m o ≡ Some k → IsClass F k
@@ -192,11 +192,11 @@ module _ (F : Facts) where
 
   module _ (p : Pending) (o : ℕ) (list : List ℕ) (extra : List Bool) (t : AreTargets F p.member o list) where
     pub into_holds : IsPending F p → bit p.sites o ≡ true
-        → ((s : ℕ) → bit extra s ≡ true → (bit p.values s ≡ true) × Passes F (wanted F p.member o) s) → All (λ n. (s : ℕ) → bit extra s ≡ true
+        → ((s : ℕ) → bit extra s ≡ true → (bit p.values s ≡ true) × PassesClass F (wanted F p.member o) s) → All (λ n. (s : ℕ) → bit extra s ≡ true
         → InNode F n s) list
     into_holds is site f = λ k d lt s h. let x = f s h in is.sound o s (get_or list k d) site x.0 (t.sound k d lt) x.1
 
-    pub into_flushed : (new : List (List Bool)) (g : Bool) → ((s : ℕ) → bit p.values s ≡ true → Passes F (wanted F p.member o) s → bit extra s ≡ true)
+    pub into_flushed : (new : List (List Bool)) (g : Bool) → ((s : ℕ) → bit p.values s ≡ true → PassesClass F (wanted F p.member o) s → bit extra s ≡ true)
         → OnFalse g (All (HasRow extra new) list) → OnFalse g (IsFlushedAt F new p o)
     into_flushed new true f all = tt
     into_flushed new false f all = λ n s target b h. All-contains (HasRow extra new) list n all (t.whole n target) s (f s h b)
@@ -210,11 +210,11 @@ module _ (F : Facts) where
       values = len;
       sound = λ o s n site h target pass.
           let here = subst (λ r. bit r o ≡ true) same_sites site in
-          let t = subst (λ m. IsTarget F m o n) same_member target in
-          let b = subst (λ m. Passes F (wanted F m o) s) same_member pass in
+          let t = subst (λ m. IsMemberSet F m o n) same_member target in
+          let b = subst (λ m. PassesClass F (wanted F m o) s) same_member pass in
           ⊎_elim (λ a. is.sound o s n here a t b)
-          (λ v. w.flows o n s (holds.sound x.base o (subst (λ r. bit r o ≡ true) base here)) (subst (λ m. IsTarget F m o n) member t)
-          (subst (λ m. Passes F (wanted F m o) s) member b) (sound.sound x.value s v))
+          (λ v. w.flows o n s (holds.sound x.base o (subst (λ r. bit r o ≡ true) base here)) (subst (λ m. IsMemberSet F m o n) member t)
+          (subst (λ m. PassesClass F (wanted F m o) s) member b) (sound.sound x.value s v))
           (gained s h);
     }
 
@@ -230,7 +230,7 @@ module _ (F : Facts) where
     flushed_write : (sets : List (List Bool)) (p : Pending) (y : Write) → IsFlushed F sets p → IsDone F bases sets p y → IsWriteClosed F bases sets y
     flushed_write sets p y all (inl a) = a
     flushed_write sets p y all (inr a) = λ o n s b t pass h.
-        all o (a.sites o b) n s (subst (λ m. IsTarget F m o n) (sym a.member) t) (subst (λ m. Passes F (wanted F m o) s) (sym a.member) pass) (a.values s h)
+        all o (a.sites o b) n s (subst (λ m. IsMemberSet F m o n) (sym a.member) t) (subst (λ m. PassesClass F (wanted F m o) s) (sym a.member) pass) (a.values s h)
 
     pub flush_closes : (old new : List (List Bool)) (p : Pending) (g : Bool) → IsStep old new g → OnFalse g (IsFlushed F new p)
         → OnFalse g ((y : Write) → IsDone F bases old p y → IsWriteClosed F bases new y)
@@ -254,9 +254,9 @@ module _ (F : Facts) where
   begun_more first old new b0 b c o true h step lt slot is here before = tt
   begun_more first old new b0 b c o false true step lt slot is here before = tt
   begun_more first old new b0 b c o false false step lt slot is here before = λ w k h n target.
-      let t = subst (λ s. IsTarget F (This s) k n) slot target in
+      let t = subst (λ s. IsMemberSet F (This s) k n) slot target in
       ⊎_elim (λ a. subst (λ s. bit (row s n) k ≡ true) (sym step) (before w k a n t))
-      (λ e. subst (λ j. IsTarget F (This b.slot) j n → bit (row new n) j ≡ true) (sym e) (here n) t)
+      (λ e. subst (λ j. IsMemberSet F (This b.slot) j n → bit (row new n) j ≡ true) (sym e) (here n) t)
       (set-bits b.sites o k (subst (λ r. bit r k ≡ true) is h))
 
   pub run_closed : (bases first sets : List (List Bool)) (b0 b : Begun) (x : Run) (g : Bool) → b.slot ≡ x.slot
@@ -264,7 +264,7 @@ module _ (F : Facts) where
       → OnFalse g (AreBegun F first b0 → AreBegun F sets b × IsRunClosed F bases sets x)
   run_closed bases first sets b0 b x true slot begun all = tt
   run_closed bases first sets b0 b x false slot begun all = λ w.
-      (begun w, λ o n h t. begun w o (all o h) n (subst (λ s. IsTarget F (This s) o n) (sym slot) t))
+      (begun w, λ o n h t. begun w o (all o h) n (subst (λ s. IsMemberSet F (This s) o n) (sym slot) t))
 
 -- what was done, one element on
 pub done_step : {X : Type 0} (D E : X → Type 0) (xs : List X) (k : ℕ) (d : X) (g h : Bool) → k < length xs → OnFalse h ((x : X) → D x → E x)

@@ -8,7 +8,7 @@ use Rattle.kaba_derivations.proofs.Derivations.{derivable_by}
 use Rattle.fact_model.specs.Items.{site_class}
 use Rattle.fact_model.specs.Classes.{IsBelow}
 use Rattle.fact_model.specs.InRange.{IsPoint}
-use Rattle.fact_model.specs.Flowing.{in_point, in_cell, IsCell, Fits, Runs, point_at, Inclusion, by_new, by_flow, by_load, by_store, by_this, by_argument, by_result, by_cast, Holds}
+use Rattle.fact_model.specs.Flowing.{in_point, in_cell, IsCell, FitsStore, CallRuns, point_at, Inclusion, by_new, by_flow, by_load, by_store, by_this, by_argument, by_result, by_cast, Holds}
 use Rattle.fact_model.specs.declared.facts.Facts.{Facts}
 use Rattle.fact_model.specs.declared.facts.NewInfo.{NewInfo}
 use Rattle.fact_model.specs.declared.facts.FlowInfo.{FlowInfo}
@@ -30,7 +30,7 @@ module _ (F : Facts) where
   load_holds x c o s is cell base h = derivable_by (Inclusion F) (in_point x.base o ∷ in_cell c s ∷ []) (in_point x.into s)
       (by_load x c o s is cell) (base, (h, tt))
 
-  pub store_holds : (x : StoreInfo) (c o s : ℕ) → Contains F.stores.items x → IsCell F c o x.column → Fits F x.column s o
+  pub store_holds : (x : StoreInfo) (c o s : ℕ) → Contains F.stores.items x → IsCell F c o x.column → FitsStore F x.column s o
       → Holds F (in_point x.base o) → Holds F (in_point x.value s) → Holds F (in_cell c s)
   store_holds x c o s is cell fits base h =
       derivable_by (Inclusion F) (in_point x.base o ∷ in_point x.value s ∷ []) (in_cell c s) (by_store x c o s is cell fits) (base, (h, tt))
@@ -39,7 +39,7 @@ module _ (F : Facts) where
       → Holds F (in_point x.into s)
   cast_holds x s is b h = derivable_by (Inclusion F) (in_point x.from s ∷ []) (in_point x.into s) (by_cast x s is b) (h, tt)
 
-  module _ (call : CallInfo) (o : ℕ) (body : BodyInfo) (runs : Runs F call o body) (receiver : Holds F (in_point call.receiver o)) where
+  module _ (call : CallInfo) (o : ℕ) (body : BodyInfo) (runs : CallRuns F call o body) (receiver : Holds F (in_point call.receiver o)) where
     pub this_holds : Holds F (in_point body.this o)
     this_holds = derivable_by (Inclusion F) (in_point call.receiver o ∷ []) (in_point body.this o) (by_this call o body runs) (receiver, tt)
 

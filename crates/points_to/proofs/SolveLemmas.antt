@@ -12,7 +12,7 @@ use Rattle.fact_model.specs.declared.facts.Facts.{Facts}
 use Rattle.fact_model.specs.declared.facts.BodyInfo.{BodyInfo}
 use Rattle.fact_model.specs.declared.sets.PointsTo.{PointsTo}
 use Rattle.points_to.specs.Sound.{AreSound, ArePoints, AreCells, AreUnions}
-use Rattle.points_to.specs.Closed.{AreClosed, AreSolved, PointsJoined, CellsJoined}
+use Rattle.points_to.specs.Closed.{AreSetsClosed, AreSolved, PointsJoined, CellsJoined}
 use Rattle.points_to.specs.declared.work.Member.TheVariants.{Parameter, Returned}
 use Rattle.points_to.proofs.NodeLemmas.{node_point, node_cell}
 use Rattle.points_to.proofs.RuleLemmas.{point_below, points_of}
@@ -24,7 +24,7 @@ abbrev pub IsSeen : Facts → List (List Bool) → Fact → Type 0
 IsSeen F sets (in_point p s) = (p < length F.points.items) × (bit (row sets p) s ≡ true)
 IsSeen F sets (in_cell c s) = (c < length F.cells.items) × (bit (row sets (length F.points.items + c)) s ≡ true)
 
-module _ (F : Facts) (R : InRange F) (sets : List (List Bool)) (closed : AreClosed F sets) where
+module _ (F : Facts) (R : InRange F) (sets : List (List Bool)) (closed : AreSetsClosed F sets) where
   body_is : (body : BodyInfo) → Contains F.bodies.items body → IsCol F body.column × IsPoint F body.this
       × All (λ p. IfSome p (IsPoint F)) body.params.items × IfSome body.result (IsPoint F)
   body_is body c = All-contains (λ x. IsCol F x.column × IsPoint F x.this × All (λ p. IfSome p (IsPoint F)) x.params.items × IfSome x.result (IsPoint F))

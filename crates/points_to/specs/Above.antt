@@ -25,7 +25,7 @@ pub record AreSitesBelow (F : Facts) (n : ℕ) (rows : List (List Bool)) : Type 
   pub whole : (k s : ℕ) → s < n → IsBelow F (site_class F s) k → bit (row rows k) s ≡ true
 
 -- the rows of those of the first n classes that are in a set have gained a site
-pub record HasSite (old new : List (List Bool)) (classes : List Bool) (s n : ℕ) : Type 0 where
+pub record HaveGainedSite (old new : List (List Bool)) (classes : List Bool) (s n : ℕ) : Type 0 where
   pub len : length new ≡ length old
   pub widths : (k : ℕ) → length (row new k) ≡ length (row old k)
   pub kept : (k x : ℕ) → bit (row old k) x ≡ true → bit (row new k) x ≡ true
@@ -33,7 +33,7 @@ pub record HasSite (old new : List (List Bool)) (classes : List Bool) (s n : ℕ
   pub all : (k : ℕ) → k < n → bit classes k ≡ true → bit (row new k) s ≡ true
 
 -- a row has gained these classes, and each that is new waits
-pub record Gained (more : List ClassId) (old new : List Bool) (before after : List ClassId) : Type 0 where
+pub record GainedClasses (more : List ClassId) (old new : List Bool) (before after : List ClassId) : Type 0 where
   pub len : length new ≡ length old
   pub kept : (y : ℕ) → bit old y ≡ true → bit new y ≡ true
   pub news : (y : ℕ) → bit new y ≡ true → (bit old y ≡ true) ⊎ Contains more (class_id y)
@@ -45,7 +45,7 @@ pub record Gained (more : List ClassId) (old new : List Bool) (before after : Li
   pub work : length after + size old ≤ length before + size new
 
 -- the walk so far: what is in the row is at or above a, and what stands directly above that is in the row too, or it waits
-pub record Walked (F : Facts) (a : ℕ) (r : List Bool) (waiting : List ClassId) : Type 0 where
+pub record WalkedAbove (F : Facts) (a : ℕ) (r : List Bool) (waiting : List ClassId) : Type 0 where
   pub len : length r ≡ length F.classes.items
   pub start : bit r a ≡ true
   pub sound : (y : ℕ) → bit r y ≡ true → IsBelow F a y

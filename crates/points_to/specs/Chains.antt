@@ -32,7 +32,7 @@ pub record IsFirstAt (F : Facts) (a from d : ℕ) : Type 0 where
   pub least : (k : ℕ) → from ≤ k → k < d → IsBodyOf F a k → ⊥
 
 -- the first body of the number a at or after `from`, if there is one
-pub record IsFirst (F : Facts) (a from : ℕ) (o : Option ℕ) : Type 0 where
+pub record IsFirstBody (F : Facts) (a from : ℕ) (o : Option ℕ) : Type 0 where
   pub some : (d : ℕ) → o ≡ Some d → IsFirstAt F a from d
   pub none : o ≡ None → (k : ℕ) → from ≤ k → k < length F.columns.items → IsBodyOf F a k → ⊥
 
@@ -40,8 +40,8 @@ pub record IsFirst (F : Facts) (a from : ℕ) (o : Option ℕ) : Type 0 where
 pub record AreChained (F : Facts) (first next : List (Option ℕ)) (from : ℕ) : Type 0 where
   pub first_len : length first ≡ length F.columns.items + 1
   pub next_len : length next ≡ length F.columns.items
-  pub firsts : (a : ℕ) → a < length F.columns.items + 1 → IsFirst F a from (slice_index_or first a None)
-  pub nexts : (c : ℕ) → from ≤ c → c < length F.columns.items → IsFirst F (column_bucket F c) (c + 1) (slice_index_or next c None)
+  pub firsts : (a : ℕ) → a < length F.columns.items + 1 → IsFirstBody F a from (slice_index_or first a None)
+  pub nexts : (c : ℕ) → from ≤ c → c < length F.columns.items → IsFirstBody F (column_bucket F c) (c + 1) (slice_index_or next c None)
 
 -- the two lists hold a chain of body columns for each number
 abbrev pub AreBodies : Facts → Bodies → Type 0

@@ -13,7 +13,7 @@ use Rattle.fact_model.specs.declared.facts.StoreInfo.{StoreInfo}
 use Rattle.fact_model.specs.declared.facts.CallInfo.{CallInfo}
 use Rattle.fact_model.specs.Flowing.{in_point, in_cell, Holds, point_at}
 use Rattle.points_to.specs.Sound.{AreSound}
-use Rattle.points_to.specs.Work.{between, IsEdgeClosed, IsShown, IsReadClosed, IsWriteClosed, IsRunClosed}
+use Rattle.points_to.specs.Work.{between, IsEdgeClosed, IsSiteShown, IsReadClosed, IsWriteClosed, IsRunClosed}
 use Rattle.points_to.specs.declared.work.Edge.{Edge}
 use Rattle.points_to.specs.declared.work.Told.{Told}
 use Rattle.points_to.specs.declared.work.Read.{Read}
@@ -87,13 +87,13 @@ pub record AreFixed (F : Facts) (E : Edge → Type 0) (S : Told → Type 0) (R :
   pub runs : All U (asked_runs F)
 
 -- what the facts ask for was found
-abbrev pub AreAsked : Facts → Found → Type 0
-AreAsked F x = AreFixed F (Contains x.edges.items) (Contains x.told.items) (Contains x.members.reads.items) (Contains x.members.writes.items)
+abbrev pub AreAskedFound : Facts → Found → Type 0
+AreAskedFound F x = AreFixed F (Contains x.edges.items) (Contains x.told.items) (Contains x.members.reads.items) (Contains x.members.writes.items)
     (Contains x.members.runs.items)
 
 -- the sets are closed under the inclusions
-abbrev pub AreClosed : Facts → List (List Bool) → Type 0
-AreClosed F sets = AreFixed F (IsEdgeClosed F sets) (IsShown sets) (IsReadClosed F sets sets) (IsWriteClosed F sets sets) (IsRunClosed F sets sets)
+abbrev pub AreSetsClosed : Facts → List (List Bool) → Type 0
+AreSetsClosed F sets = AreFixed F (IsEdgeClosed F sets) (IsSiteShown sets) (IsReadClosed F sets sets) (IsWriteClosed F sets sets) (IsRunClosed F sets sets)
 
 -- exactly what holds is in the sets
 pub record AreSolved (F : Facts) (sets : List (List Bool)) : Type 0 where

@@ -17,8 +17,8 @@ abbrev pub numbers_at : List (Vec ℕ Global) → ℕ → List ℕ
 numbers_at lists k = option_map_or (λ v. v.items) (slice_get lists k) []
 
 -- x is the element of a place
-abbrev pub IsAt : {X : Type 0} → List X → ℕ → X → Type 0
-IsAt xs i x = (i < length xs) × (slice_index_or xs i x ≡ x)
+abbrev pub IsElementAt : {X : Type 0} → List X → ℕ → X → Type 0
+IsElementAt xs i x = (i < length xs) × (slice_index_or xs i x ≡ x)
 
 -- the lists have at least what they had
 pub record KeepNumbers (old new : List (Vec ℕ Global)) : Type 0 where
@@ -27,7 +27,7 @@ pub record KeepNumbers (old new : List (Vec ℕ Global)) : Type 0 where
 
 -- each of the first n items is listed where it belongs; so the cells and the bodies
 abbrev pub HaveItems : {X : Type 0} → (X → ℕ) → List X → List (Vec ℕ Global) → ℕ → Type 0
-HaveItems {X} to xs lists n = (k : ℕ) → k < n → (x : X) → IsAt xs k x → Contains (numbers_at lists (to x)) k
+HaveItems {X} to xs lists n = (k : ℕ) → k < n → (x : X) → IsElementAt xs k x → Contains (numbers_at lists (to x)) k
 
 -- each of the first n cells is listed under its site
 abbrev pub HaveCells : Facts → List (Vec ℕ Global) → ℕ → Type 0
@@ -45,5 +45,5 @@ pub record IsIndex (F : Facts) (index : Index) : Type 0 where
   pub below : AreSitesBelow F (length F.sites.items) index.below.items
 
 -- the member of the body of a number is listed, where that is of the column d
-abbrev pub HasBody : Facts → Member → ℕ → List ℕ → ℕ → Type 0
-HasBody F m d xs b = (body : BodyInfo) → IsAt F.bodies.items b body → body.column.0 ≡ d → (n : ℕ) → body_node m body ≡ Some n → Contains xs n
+abbrev pub ListsBody : Facts → Member → ℕ → List ℕ → ℕ → Type 0
+ListsBody F m d xs b = (body : BodyInfo) → IsElementAt F.bodies.items b body → body.column.0 ≡ d → (n : ℕ) → body_node m body ≡ Some n → Contains xs n

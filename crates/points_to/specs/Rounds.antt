@@ -3,7 +3,7 @@ use Rattle.std.specs.Prelude.{◌≡◌, ℕ, ◌<◌, ◌≤◌, ◌⊎◌, Boo
 use Rattle.kaba_bits.specs.Sets.{bit, row, IsSubset}
 use Rattle.fact_model.specs.declared.facts.Facts.{Facts}
 use Rattle.points_to.specs.Sound.{InNode}
-use Rattle.points_to.specs.Work.{IsTarget, Passes, wanted, IsWriteClosed}
+use Rattle.points_to.specs.Work.{IsMemberSet, PassesClass, wanted, IsWriteClosed}
 use Rattle.points_to.specs.declared.work.Member.TheVariants.{This}
 use Rattle.points_to.specs.declared.work.Write.{Write}
 use Rattle.points_to.specs.declared.reads.Union.{Union}
@@ -11,7 +11,7 @@ use Rattle.points_to.specs.declared.writes.Pending.{Pending}
 use Rattle.points_to.specs.declared.runs.Begun.{Begun}
 
 -- s is in a set of the list
-pub record IsIn (sets : List (List Bool)) (list : List ℕ) (s : ℕ) : Type 0 where
+pub record IsInSome (sets : List (List Bool)) (list : List ℕ) (s : ℕ) : Type 0 where
   pub node : ℕ
   pub listed : Contains list node
   pub has : bit (row sets node) s ≡ true
@@ -22,32 +22,32 @@ IsNextBeyond w a b at None = (k : ℕ) → at ≤ k → bit a k ≡ true → bit
 IsNextBeyond w a b at (Some s) = (at ≤ s) × (s < w) × (bit a s ≡ true) × ((k : ℕ) → at ≤ k → k < s → bit a k ≡ true → bit b k ≡ true)
 
 -- s holds of a set of the member of one of the sites
-pub record IsHeld (F : Facts) (u : Union) (s : ℕ) : Type 0 where
+pub record IsMemberHeld (F : Facts) (u : Union) (s : ℕ) : Type 0 where
   pub site : ℕ
   pub node : ℕ
   pub has : bit u.sites site ≡ true
-  pub target : IsTarget F u.member site node
+  pub target : IsMemberSet F u.member site node
   pub holds : InNode F node s
 
 -- a union shows only what holds
 pub record IsGathered (F : Facts) (u : Union) : Type 0 where
   pub sites : length u.sites ≡ length F.sites.items
   pub held : length u.held ≡ length F.sites.items
-  pub sound : (s : ℕ) → bit u.held s ≡ true → IsHeld F u s
+  pub sound : (s : ℕ) → bit u.held s ≡ true → IsMemberHeld F u s
 
 -- and all that the sets of the member of its sites have
 abbrev pub IsWhole : Facts → List (List Bool) → Union → Type 0
-IsWhole F sets u = (o n : ℕ) → bit u.sites o ≡ true → IsTarget F u.member o n → IsSubset (row sets n) u.held
+IsWhole F sets u = (o n : ℕ) → bit u.sites o ≡ true → IsMemberSet F u.member o n → IsSubset (row sets n) u.held
 
 -- the values fit and hold where they are to be written
 pub record IsPending (F : Facts) (p : Pending) : Type 0 where
   pub sites : length p.sites ≡ length F.sites.items
   pub values : length p.values ≡ length F.sites.items
-  pub sound : (o s n : ℕ) → bit p.sites o ≡ true → bit p.values s ≡ true → IsTarget F p.member o n → Passes F (wanted F p.member o) s → InNode F n s
+  pub sound : (o s n : ℕ) → bit p.sites o ≡ true → bit p.values s ≡ true → IsMemberSet F p.member o n → PassesClass F (wanted F p.member o) s → InNode F n s
 
 -- the values were written for one site, or for each
 abbrev pub IsFlushedAt : Facts → List (List Bool) → Pending → ℕ → Type 0
-IsFlushedAt F sets p o = (n s : ℕ) → IsTarget F p.member o n → Passes F (wanted F p.member o) s → bit p.values s ≡ true → bit (row sets n) s ≡ true
+IsFlushedAt F sets p o = (n s : ℕ) → IsMemberSet F p.member o n → PassesClass F (wanted F p.member o) s → bit p.values s ≡ true → bit (row sets n) s ≡ true
 
 -- the pending values were written for each of the pending sites
 abbrev pub IsFlushed : Facts → List (List Bool) → Pending → Type 0
@@ -73,7 +73,7 @@ HasSite o sets n = bit (row sets n) o ≡ true
 
 -- a site is in the `this` of its body for the slot
 abbrev pub IsRunAt : Facts → List (List Bool) → ℕ → ℕ → Type 0
-IsRunAt F sets slot o = (n : ℕ) → IsTarget F (This slot) o n → bit (row sets n) o ≡ true
+IsRunAt F sets slot o = (n : ℕ) → IsMemberSet F (This slot) o n → bit (row sets n) o ≡ true
 
 -- so is each of these sites
 abbrev pub AreBegun : Facts → List (List Bool) → Begun → Type 0

@@ -5,7 +5,7 @@ ghost use Rattle.std.specs.Option.{option_to_list};
 ghost use Rattle.fact_model.specs.InRange.{InRange, IsClass};
 ghost use Rattle.fact_model.specs.Classes.{supers_of, IsBelow};
 ghost use Rattle.kaba_bits.specs.Sets.{row, bit, HasWidth};
-ghost use Rattle.points_to.specs.Above.{Gained, IsAboveRow, AreSitesBelow, HasSite};
+ghost use Rattle.points_to.specs.Above.{GainedClasses, IsAboveRow, AreSitesBelow, HaveGainedSite};
 
 use crate::work::site_at;
 use fact_model::{Facts, class_at};
@@ -26,7 +26,7 @@ pub fn is_below(facts: &Facts, above: &BitRow, a: ClassId, b: ClassId) -> bool
 /// One class, which waits where it is new.
 fn reach(row: &mut BitRow, waiting: &mut Vec<ClassId>, x: ClassId) -> Result<(), AllocError>
     requires { x.0 < length row.old }
-    ensures { OnOk result (Gained (x ∷ []) row.old row.new waiting.old.items waiting.new.items) }
+    ensures { OnOk result (GainedClasses (x ∷ []) row.old row.new waiting.old.items waiting.new.items) }
 {
     if row.set(x.0) {
         waiting.push(x)?;
@@ -41,7 +41,7 @@ fn reach_all(
     more: &[ClassId],
 ) -> Result<(), AllocError>
     requires { All (λ x. x.0 < length row.old) more.now }
-    ensures { OnOk result (Gained more.now row.old row.new waiting.old.items waiting.new.items) }
+    ensures { OnOk result (GainedClasses more.now row.old row.new waiting.old.items waiting.new.items) }
 {
     for x in more {
         reach(row, waiting, *x)?;
@@ -56,7 +56,7 @@ fn reach_parent(
     parent: Option<ClassId>,
 ) -> Result<(), AllocError>
     requires { IfSome parent (λ x. x.0 < length row.old) }
-    ensures { OnOk result (Gained (option_to_list parent) row.old row.new waiting.old.items waiting.new.items) }
+    ensures { OnOk result (GainedClasses (option_to_list parent) row.old row.new waiting.old.items waiting.new.items) }
 {
     match parent {
         Some(x) => reach(row, waiting, x),
@@ -74,7 +74,7 @@ fn reach_supers(
     requires facts { InRange facts.now }
     requires class { IsClass facts.now x }
     requires len { length row.old ≡ length facts.now.classes.items }
-    ensures { OnOk result (Gained (supers_of facts.now x.0) row.old row.new waiting.old.items waiting.new.items) }
+    ensures { OnOk result (GainedClasses (supers_of facts.now x.0) row.old row.new waiting.old.items waiting.new.items) }
 {
     let class = class_at(facts, x);
     reach_parent(row, waiting, class.parent)?;
@@ -101,7 +101,7 @@ pub fn classes_above(alloc: Global, facts: &Facts, a: ClassId) -> Result<BitRow,
 fn put_site(rows: &mut [BitRow], classes: &BitRow, s: u32)
     requires len { length rows.old ≡ length classes.now }
     requires widths { (k : ℕ) → k < length rows.old → s < length (row rows.old k) }
-    ensures { HasSite rows.old rows.new classes.now s (length classes.now) }
+    ensures { HaveGainedSite rows.old rows.new classes.now s (length classes.now) }
 {
     let count = classes.width();
     let mut at = 0;

@@ -1,9 +1,9 @@
 //! One turn over everything that the facts ask for, until nothing is new: this shows that nothing was left out.
 
 ghost use Rattle.std.specs.Prelude.{All, IfOk, OnOk};
-ghost use Rattle.points_to.specs.Work.{IsEdge, IsTold, IsRead, IsWrite, IsRun, IsEdgeClosed, IsShown, IsReadClosed, IsWriteClosed, IsRunClosed};
-ghost use Rattle.points_to.specs.Closed.{AreClosed};
-ghost use Rattle.points_to.specs.Words.{OnFalse, IsStep, AreSound, IsGiven};
+ghost use Rattle.points_to.specs.Work.{IsEdge, IsSiteTold, IsReadIn, IsWrite, IsRun, IsEdgeClosed, IsSiteShown, IsReadClosed, IsWriteClosed, IsRunClosed};
+ghost use Rattle.points_to.specs.Closed.{AreSetsClosed};
+ghost use Rattle.points_to.specs.Words.{OnFalse, IsStep, AreSound, IsSolverInput};
 
 use crate::found::Given;
 use crate::queue::Queue;
@@ -22,7 +22,7 @@ fn close_edges(
     grown: &mut Queue,
     edges: &[Edge],
 ) -> Result<bool, AllocError>
-    requires given { IsGiven given.now }
+    requires given { IsSolverInput given.now }
     requires sets { AreSound given.now.facts.now sets.old }
     requires edges { All (IsEdge given.now.facts.now) edges.now }
     ensures sets { OnOk result (AreSound given.now.facts.now sets.new) }
@@ -47,10 +47,10 @@ fn close_edges(
 /// Each site of a list.
 pub fn close_told(facts: &Facts, sets: &mut [BitRow], grown: &mut Queue, told: &[Told]) -> bool
     requires sets { AreSound facts.now sets.old }
-    requires told { All (IsTold facts.now) told.now }
+    requires told { All (IsSiteTold facts.now) told.now }
     ensures sets { AreSound facts.now sets.new }
     ensures step { IsStep sets.old sets.new result }
-    ensures closed { OnFalse result (All (IsShown sets.new) told.now) }
+    ensures closed { OnFalse result (All (IsSiteShown sets.new) told.now) }
 {
     let mut grew = false;
     for x in told {
@@ -67,10 +67,10 @@ pub fn close_reads(
     grown: &mut Queue,
     reads: &[Read],
 ) -> Result<bool, AllocError>
-    requires given { IsGiven given.now }
+    requires given { IsSolverInput given.now }
     requires bases { AreSound given.now.facts.now bases.now }
     requires sets { AreSound given.now.facts.now sets.old }
-    requires reads { All (IsRead given.now.facts.now) reads.now }
+    requires reads { All (IsReadIn given.now.facts.now) reads.now }
     ensures sets { OnOk result (AreSound given.now.facts.now sets.new) }
     ensures step { IfOk result (IsStep sets.old sets.new) }
     ensures closed { IfOk result (λ grew. OnFalse grew (All (IsReadClosed given.now.facts.now bases.now sets.new) reads.now)) }
@@ -95,7 +95,7 @@ pub fn close_writes(
     grown: &mut Queue,
     writes: &[Write],
 ) -> Result<bool, AllocError>
-    requires given { IsGiven given.now }
+    requires given { IsSolverInput given.now }
     requires bases { AreSound given.now.facts.now bases.now }
     requires sets { AreSound given.now.facts.now sets.old }
     requires writes { All (IsWrite given.now.facts.now) writes.now }
@@ -122,7 +122,7 @@ pub fn close_runs(
     grown: &mut Queue,
     runs: &[Run],
 ) -> Result<bool, AllocError>
-    requires given { IsGiven given.now }
+    requires given { IsSolverInput given.now }
     requires bases { AreSound given.now.facts.now bases.now }
     requires sets { AreSound given.now.facts.now sets.old }
     requires runs { All (IsRun given.now.facts.now) runs.now }
@@ -142,11 +142,11 @@ pub fn close_runs(
 
 /// Everything once, and whether anything was new. An error comes only for want of memory.
 pub fn close_all(given: &Given, sets: &mut [BitRow], grown: &mut Queue) -> Result<bool, AllocError>
-    requires given { IsGiven given.now }
+    requires given { IsSolverInput given.now }
     requires sets { AreSound given.now.facts.now sets.old }
     ensures sets { OnOk result (AreSound given.now.facts.now sets.new) }
     ensures step { IfOk result (IsStep sets.old sets.new) }
-    ensures closed { IfOk result (λ grew. OnFalse grew (AreClosed given.now.facts.now sets.new)) }
+    ensures closed { IfOk result (λ grew. OnFalse grew (AreSetsClosed given.now.facts.now sets.new)) }
 {
     let found = given.found;
     let told = close_told(given.facts, sets, grown, &found.told);

@@ -3,7 +3,7 @@
 ghost use Rattle.std.specs.Prelude.{◌≡◌, IfOk};
 ghost use Rattle.fact_model.specs.InRange.{InRange};
 ghost use Rattle.points_to.specs.Work.{AreFound};
-ghost use Rattle.points_to.specs.Closed.{asked_told, asked_edges, AreAsked};
+ghost use Rattle.points_to.specs.Closed.{asked_told, asked_edges, AreAskedFound};
 
 use crate::index::Index;
 use crate::members::{Members, order_of, reads, runs, writes};
@@ -61,7 +61,7 @@ fn edges(alloc: Global, facts: &Facts) -> Result<Vec<Edge>, AllocError>
 pub fn found_of(alloc: Global, facts: &Facts) -> Result<Found, AllocError>
     requires { InRange facts.now }
     ensures found { IfOk result (AreFound facts.now) }
-    ensures asked { IfOk result (AreAsked facts.now) }
+    ensures asked { IfOk result (AreAskedFound facts.now) }
 {
     let told = told(alloc, facts)?;
     let edges = edges(alloc, facts)?;

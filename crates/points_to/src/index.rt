@@ -4,7 +4,7 @@ ghost use Rattle.std.specs.Prelude.{◌≡◌, ℕ, ◌<◌, length, All, Contai
 ghost use Rattle.fact_model.specs.Items.{cell_at};
 ghost use Rattle.fact_model.specs.InRange.{InRange};
 ghost use Rattle.fact_model.specs.declared.facts.BodyInfo.{BodyInfo};
-ghost use Rattle.points_to.specs.Listed.{numbers_at, IsAt, IsIndex, HaveItems, KeepNumbers};
+ghost use Rattle.points_to.specs.Listed.{numbers_at, IsElementAt, IsIndex, HaveItems, KeepNumbers};
 
 use crate::above::sites_below;
 use crate::bodies::{Bodies, bodies_of};
@@ -25,7 +25,7 @@ pub struct Index {
 /// One body.
 pub fn body_at(facts: &Facts, b: usize) -> &BodyInfo
     requires { b < length facts.now.bodies.items }
-    ensures { IsAt facts.now.bodies.items b result.now }
+    ensures { IsElementAt facts.now.bodies.items b result.now }
 {
     &facts.bodies[b]
 }

@@ -6,8 +6,8 @@ ghost use Rattle.std.specs.Prelude.{◌≡◌, ℕ, ◌+◌, ◌<◌, length, Co
 ghost use Rattle.fact_model.specs.InRange.{InRange};
 ghost use Rattle.fact_model.specs.Flowing.{AreSets};
 ghost use Rattle.points_to.specs.Sound.{AreSound};
-ghost use Rattle.points_to.specs.Closed.{AreClosed, AreSolved};
-ghost use Rattle.points_to.specs.Given.{IsGiven};
+ghost use Rattle.points_to.specs.Closed.{AreSetsClosed, AreSolved};
+ghost use Rattle.points_to.specs.Given.{IsSolverInput};
 
 use fact_model::{Facts, PointsTo};
 use kaba_bits::{BitRow, empty_rows};
@@ -100,10 +100,10 @@ fn fill(alloc: Global, facts: &Facts, sets: &mut [BitRow]) -> Result<(), AllocEr
 
 /// Turns over everything, until nothing is new. An error comes only for want of memory.
 fn run_rounds(given: &Given, sets: &mut [BitRow], grown: &mut Queue) -> Result<(), AllocError>
-    requires given { IsGiven given.now }
+    requires given { IsSolverInput given.now }
     requires sets { AreSound given.now.facts.now sets.old }
     ensures sets { OnOk result (AreSound given.now.facts.now sets.new) }
-    ensures closed { OnOk result (AreClosed given.now.facts.now sets.new) }
+    ensures closed { OnOk result (AreSetsClosed given.now.facts.now sets.new) }
 {
     loop {
         let more = close_all(given, sets, grown)?;

@@ -2,8 +2,8 @@
 //! the same member whose base has all of these sites.
 
 ghost use Rattle.std.specs.Prelude.{◌≡◌, ℕ, ◌<◌, ◌⊎◌, ◌↔◌, Bool, true, List, length, slice_set, All, IsTrue, IfOk, OnOk};
-ghost use Rattle.points_to.specs.Rounds.{IsIn, IsNextBeyond, IsGathered, IsWhole};
-ghost use Rattle.points_to.specs.Words.{bit, row, IsSubset, InRange, node_count, AreSound, IsGiven};
+ghost use Rattle.points_to.specs.Rounds.{IsInSome, IsNextBeyond, IsGathered, IsWhole};
+ghost use Rattle.points_to.specs.Words.{bit, row, IsSubset, InRange, node_count, AreSound, IsSolverInput};
 
 use crate::found::Given;
 use crate::targets::list_targets;
@@ -65,7 +65,7 @@ fn hold_all(facts: &Facts, sets: &[BitRow], held: &mut BitRow, list: &[usize])
     requires list { All (λ n. n < node_count facts.now) list.now }
     ensures width { length held.new ≡ length facts.now.sites.items }
     ensures kept { IsSubset held.old held.new }
-    ensures gained { (s : ℕ) → bit held.new s ≡ true → (bit held.old s ≡ true) ⊎ IsIn sets.now list.now s }
+    ensures gained { (s : ℕ) → bit held.new s ≡ true → (bit held.old s ≡ true) ⊎ IsInSome sets.now list.now s }
     ensures whole { All (λ n. IsSubset (row sets.now n) held.new) list.now }
 {
     let _ = facts;
@@ -82,7 +82,7 @@ fn gather_site(
     list: &mut Vec<usize>,
     o: u32,
 ) -> Result<(), AllocError>
-    requires given { IsGiven given.now }
+    requires given { IsSolverInput given.now }
     requires sets { AreSound given.now.facts.now sets.now }
     requires gathered { IsGathered given.now.facts.now union.old }
     requires site { o < length given.now.facts.now.sites.items }
@@ -115,7 +115,7 @@ pub fn gather(
     list: &mut Vec<usize>,
     set: &BitRow,
 ) -> Result<(), AllocError>
-    requires given { IsGiven given.now }
+    requires given { IsSolverInput given.now }
     requires sets { AreSound given.now.facts.now sets.now }
     requires gathered { IsGathered given.now.facts.now union.old }
     requires width { length set.now ≡ length given.now.facts.now.sites.items }

@@ -3,7 +3,7 @@
 ghost use Rattle.std.specs.Prelude.{◌≡◌, ◌<◌, Bool, List, length, All, IfOk, OnOk};
 ghost use Rattle.points_to.specs.Work.{IsRun, IsRunClosed};
 ghost use Rattle.points_to.specs.Rounds.{HasSite, IsRunAt, AreBegun};
-ghost use Rattle.points_to.specs.Words.{OnFalse, IsStep, InRange, node_count, AreSound, InNode, IsGiven};
+ghost use Rattle.points_to.specs.Words.{OnFalse, IsStep, InRange, node_count, AreSound, InNode, IsSolverInput};
 
 use crate::found::Given;
 use crate::queue::Queue;
@@ -59,7 +59,7 @@ fn run_site(
     x: Run,
     o: u32,
 ) -> Result<bool, AllocError>
-    requires given { IsGiven given.now }
+    requires given { IsSolverInput given.now }
     requires sets { AreSound given.now.facts.now sets.old }
     requires run { IsRun given.now.facts.now x }
     requires site { o < length given.now.facts.now.sites.items }
@@ -96,7 +96,7 @@ pub fn close_run(
     list: &mut Vec<usize>,
     x: Run,
 ) -> Result<bool, AllocError>
-    requires given { IsGiven given.now }
+    requires given { IsSolverInput given.now }
     requires bases { AreSound given.now.facts.now bases.now }
     requires sets { AreSound given.now.facts.now sets.old }
     requires width { length begun.old.sites ≡ length given.now.facts.now.sites.items }

@@ -3,8 +3,8 @@
 ghost use Rattle.std.specs.Prelude.{◌≡◌, ℕ, ◌+◌, ◌<◌, ◌↔◌, [], length, All, Contains, Some, IsTrue, OnOk};
 ghost use Rattle.fact_model.specs.Flowing.{IsCell, point_at};
 ghost use Rattle.points_to.specs.Called.{IsCalled, IsCalledNode};
-ghost use Rattle.points_to.specs.Listed.{HasBody};
-ghost use Rattle.points_to.specs.Words.{InRange, IsGiven};
+ghost use Rattle.points_to.specs.Listed.{ListsBody};
+ghost use Rattle.points_to.specs.Words.{InRange, IsSolverInput};
 ghost use Rattle.points_to.specs.Work.{IsCellNode, AreTargets, slot_of, body_node};
 ghost use Rattle.points_to.specs.declared.work.Member.TheVariants.{Field};
 
@@ -107,7 +107,7 @@ fn add_body(facts: &Facts, list: &mut Vec<usize>, x: &Called, b: usize) -> Resul
     requires sound { All (IsCalledNode facts.now x.now) list.old.items }
     ensures sound { OnOk result (All (IsCalledNode facts.now x.now) list.new.items) }
     ensures kept { OnOk result ((n : ℕ) → Contains list.old.items n → Contains list.new.items n) }
-    ensures here { OnOk result (HasBody facts.now x.now.member x.now.column list.new.items b) }
+    ensures here { OnOk result (ListsBody facts.now x.now.member x.now.column list.new.items b) }
 {
     if b >= facts.bodies.len() {
         return Ok(());
@@ -133,7 +133,7 @@ fn add_bodies(
     requires called { IsCalled facts.now x.now }
     requires sound { All (IsCalledNode facts.now x.now) list.old.items }
     ensures sound { OnOk result (All (IsCalledNode facts.now x.now) list.new.items) }
-    ensures here { OnOk result (All (HasBody facts.now x.now.member x.now.column list.new.items) bodies.now) }
+    ensures here { OnOk result (All (ListsBody facts.now x.now.member x.now.column list.new.items) bodies.now) }
 {
     for b in bodies {
         add_body(facts, list, x, *b)?;
@@ -149,7 +149,7 @@ fn add_found(
     slot: u32,
     o: u32,
 ) -> Result<(), AllocError>
-    requires given { IsGiven given.now }
+    requires given { IsSolverInput given.now }
     requires site { o < length given.now.facts.now.sites.items }
     requires empty { list.old.items ≡ [] }
     requires slot { slot_of member ≡ Some slot }
@@ -180,7 +180,7 @@ fn add_field(
     column: Option<ColId>,
     o: u32,
 ) -> Result<(), AllocError>
-    requires given { IsGiven given.now }
+    requires given { IsSolverInput given.now }
     requires empty { list.old.items ≡ [] }
     ensures { OnOk result (AreTargets given.now.facts.now (Field column) o list.new.items) }
 {
@@ -201,7 +201,7 @@ pub fn list_targets(
     member: Member,
     o: u32,
 ) -> Result<(), AllocError>
-    requires given { IsGiven given.now }
+    requires given { IsSolverInput given.now }
     requires site { o < length given.now.facts.now.sites.items }
     ensures { OnOk result (AreTargets given.now.facts.now member o list.new.items) }
 {

@@ -2,7 +2,7 @@
 //! it concerns are gone over once.
 
 ghost use Rattle.std.specs.Prelude.{All, Contains, IfOk, IfSome, OnOk};
-ghost use Rattle.points_to.specs.Words.{InRange, AreSound, IsGiven};
+ghost use Rattle.points_to.specs.Words.{InRange, AreSound, IsSolverInput};
 
 use crate::closing::{close_reads, close_runs, close_told, close_writes};
 use crate::found::Given;
@@ -29,7 +29,7 @@ fn pass_all(
     grown: &mut Queue,
     list: &[usize],
 ) -> Result<(), AllocError>
-    requires given { IsGiven given.now }
+    requires given { IsSolverInput given.now }
     requires sets { AreSound given.now.facts.now sets.old }
     ensures { OnOk result (AreSound given.now.facts.now sets.new) }
 {
@@ -56,7 +56,7 @@ fn flow(
     grown: &mut Queue,
     due: &mut Due,
 ) -> Result<(), AllocError>
-    requires given { IsGiven given.now }
+    requires given { IsSolverInput given.now }
     requires sets { AreSound given.now.facts.now sets.old }
     ensures { OnOk result (AreSound given.now.facts.now sets.new) }
 {
@@ -164,7 +164,7 @@ fn turn(
     grown: &mut Queue,
     due: &mut Due,
 ) -> Result<(), AllocError>
-    requires given { IsGiven given.now }
+    requires given { IsSolverInput given.now }
     requires now { AreSound given.now.facts.now bases.old.now.items }
     requires sets { AreSound given.now.facts.now sets.old }
     ensures now { OnOk result (AreSound given.now.facts.now bases.new.now.items) }
@@ -191,7 +191,7 @@ fn turn(
 
 /// The sets, as far as the worklist finds them: turns, until nothing has to be gone over. An error comes only for want of memory.
 pub fn grow(given: &Given, sets: &mut [BitRow], grown: &mut Queue) -> Result<(), AllocError>
-    requires given { IsGiven given.now }
+    requires given { IsSolverInput given.now }
     requires sets { AreSound given.now.facts.now sets.old }
     ensures { OnOk result (AreSound given.now.facts.now sets.new) }
 {

@@ -4,7 +4,7 @@ ghost use Rattle.std.specs.Prelude.{◌≡◌, ℕ, ◌<◌, ◌↔◌, true, le
 ghost use Rattle.fact_model.specs.Items.{site_at, site_class};
 ghost use Rattle.fact_model.specs.Classes.{IsBelow};
 ghost use Rattle.fact_model.specs.InRange.{IsClass};
-ghost use Rattle.points_to.specs.Work.{IsEdge, IsEdgeClosed, IsTold, IsShown};
+ghost use Rattle.points_to.specs.Work.{IsEdge, IsEdgeClosed, IsSiteTold, IsSiteShown};
 ghost use Rattle.points_to.specs.Words.{OnFalse, bit, row, IsSubset, IsStep, AreSitesBelow, node_count, AreSound, InNode};
 
 use crate::queue::{Queue, wait};
@@ -176,10 +176,10 @@ pub fn pass(
 /// One site into its set, and whether it is new there.
 pub fn show(facts: &Facts, sets: &mut [BitRow], grown: &mut Queue, x: Told) -> bool
     requires sets { AreSound facts.now sets.old }
-    requires told { IsTold facts.now x }
+    requires told { IsSiteTold facts.now x }
     ensures sets { AreSound facts.now sets.new }
     ensures step { IsStep sets.old sets.new result }
-    ensures shown { OnFalse result (IsShown sets.new x) }
+    ensures shown { OnFalse result (IsSiteShown sets.new x) }
 {
     put(facts, sets, grown, x.node, x.site)
 }

@@ -5,7 +5,7 @@ ghost use Rattle.std.specs.Bool.{OnTrue};
 ghost use Rattle.points_to.specs.Work.{IsWrite, AreTargets, wanted};
 ghost use Rattle.points_to.specs.declared.work.Write.{Write};
 ghost use Rattle.points_to.specs.Rounds.{IsPending, IsFlushedAt, IsFlushed, IsPended, IsDone, HasRow};
-ghost use Rattle.points_to.specs.Words.{OnFalse, bit, row, IsStep, InRange, node_count, AreSound, InNode, IsGiven};
+ghost use Rattle.points_to.specs.Words.{OnFalse, bit, row, IsStep, InRange, node_count, AreSound, InNode, IsSolverInput};
 
 use crate::found::Given;
 use crate::queue::Queue;
@@ -82,7 +82,7 @@ fn write_into(
     list: &[usize],
     o: u32,
 ) -> Result<bool, AllocError>
-    requires given { IsGiven given.now }
+    requires given { IsSolverInput given.now }
     requires sets { AreSound given.now.facts.now sets.old }
     requires pending { IsPending given.now.facts.now pending.now }
     requires site { bit pending.now.sites o ≡ true }
@@ -114,7 +114,7 @@ pub fn flush(
     pending: &Pending,
     list: &mut Vec<usize>,
 ) -> Result<bool, AllocError>
-    requires given { IsGiven given.now }
+    requires given { IsSolverInput given.now }
     requires sets { AreSound given.now.facts.now sets.old }
     requires pending { IsPending given.now.facts.now pending.now }
     ensures sets { OnOk result (AreSound given.now.facts.now sets.new) }
@@ -216,7 +216,7 @@ pub fn take_write(
     list: &mut Vec<usize>,
     x: Write,
 ) -> Result<bool, AllocError>
-    requires given { IsGiven given.now }
+    requires given { IsSolverInput given.now }
     requires bases { AreSound given.now.facts.now bases.now }
     requires sets { AreSound given.now.facts.now sets.old }
     requires pending { IsPending given.now.facts.now pending.old }

@@ -6,7 +6,7 @@ use Rattle.std.specs.Option.{is_some}
 use Rattle.java_core.specs.declared.Ty.{Ty}
 use Rattle.java_core.specs.declared.UnOp.{UnOp}
 use Rattle.java_core.specs.declared.BinOp.{BinOp}
-use Rattle.java_core.specs.Trees.{Tag, Ex, Exs, no_ex, ex_then, number, character, text, truth, null, this, local, static_field, own_field, field, index, call, static_call, super_call, create, create_array, cast, instance_of, unary, binary, Target, to_local, to_static, to_own, to_field, to_element, St, Sts, Arms}
+use Rattle.java_core.specs.Trees.{Tag, Ex, Exs, no_ex, ex_then, number, character, text, truth, null, this, local, static_field, own_field, field, index, call, static_call, super_call, create, create_array, cast, instance_of, unary, binary, Target, to_local, to_static, to_own, to_field, to_element, St, Sts, IfArms}
 use Rattle.java_core.specs.Programs.{Plain, PlainField, PlainMethod}
 use Rattle.java_core.specs.Classes.{declaration_of, super_method}
 use Rattle.java_core.specs.Types.{Env, class_of, element_of, is_string, field_in, static}
@@ -99,5 +99,5 @@ module _ (P W : Plain) (R : Renaming) where
     MatchesSts = PairedSts Matches (λ a b c. MatchesTarget b c)
 
     -- the arms of two `if`s, and their `else`, match one by one
-    abbrev pub MatchesArms : Arms → Arms → Type 0
+    abbrev pub MatchesArms : IfArms → IfArms → Type 0
     MatchesArms = PairedArms Matches (λ a b c. MatchesTarget b c)

@@ -8,7 +8,7 @@ use Rattle.java_core.specs.declared.TyBase.{TyBase}
 use Rattle.java_core.specs.declared.TyBase.TheVariants.{Int, Boolean, Char, Str, Class}
 use Rattle.java_core.specs.declared.UnOp.{UnOp}
 use Rattle.java_core.specs.declared.BinOp.{BinOp}
-use Rattle.java_core.specs.Trees.{Tag, Ex, Exs, no_ex, ex_then, number, character, text, truth, null, this, local, static_field, own_field, field, index, call, static_call, super_call, create, create_array, cast, instance_of, unary, binary, Target, to_local, to_static, to_own, to_field, to_element, St, Sts, Arms}
+use Rattle.java_core.specs.Trees.{Tag, Ex, Exs, no_ex, ex_then, number, character, text, truth, null, this, local, static_field, own_field, field, index, call, static_call, super_call, create, create_array, cast, instance_of, unary, binary, Target, to_local, to_static, to_own, to_field, to_element, St, Sts, IfArms}
 use Rattle.java_core.specs.Programs.{Plain, PlainClass, PlainField, PlainMethod}
 use Rattle.java_meaning.specs.Paired.{PairedIf, PairedSt, PairedSts, PairedArms}
 
@@ -114,5 +114,5 @@ module _ (P Q : Plain) where
   OneSts = PairedSts One (λ a b c. OneTarget b c)
 
   -- the arms of two `if`s, and their `else`, are one, one by one
-  abbrev pub OneArms : Arms → Arms → Type 0
+  abbrev pub OneArms : IfArms → IfArms → Type 0
   OneArms = PairedArms One (λ a b c. OneTarget b c)

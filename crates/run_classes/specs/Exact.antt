@@ -12,7 +12,7 @@ use Rattle.run_classes.specs.declared.classes.Classes.TheInside.{Inside}
 use Rattle.run_classes.specs.Known.{known, known_in}
 
 -- the program is well formed, and each entry of the tables agrees with it
-pub record IsExact (c : Inside) : Type 0 where
+pub record AreExactTables (c : Inside) : Type 0 where
   pub formed : IsFormed (program_of c.program.now)
   -- by class and slot, the method that runs
   pub bodies : (a s m : ℕ) → known_in c.bodies.items a s ≡ Some m → lookup (program_of c.program.now) a s ≡ Some m

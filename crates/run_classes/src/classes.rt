@@ -34,11 +34,11 @@ impl<'a> Model for Classes<'a> {
 
     ghost coded = { the_row.coded };
 
-    ghost use Rattle.run_classes.specs.Exact.{IsExact};
+    ghost use Rattle.run_classes.specs.Exact.{AreExactTables};
 
     ghost view = { λ c. c.program.now };
 
-    ghost invariant = { IsExact };
+    ghost invariant = { AreExactTables };
 }
 
 impl<'a> Classes<'a> {

@@ -2,7 +2,7 @@
 
 ghost use Rattle.std.specs.Prelude.{◌≡◌, ◌+◌, ◌++◌, ◌∷◌, Option, Some, None, Bool, OnOk};
 ghost use Rattle.std.specs.Option.{option_map, option_map_or};
-ghost use Rattle.run_compile.specs.Words.{Tag, expr_of, value_of, default_of, operand_of, operand, plain, env, IsReady};
+ghost use Rattle.run_compile.specs.Words.{Tag, expr_of, value_of, default_of, operand_of, operand, plain, env, IsScopeReady};
 ghost use Rattle.java_core.specs.Trees.{target_of, to_field, to_element};
 ghost use Rattle.java_meaning.specs.Moment.{Nothing};
 ghost use Rattle.run_code.specs.Ops.{slot, constant};
@@ -19,7 +19,7 @@ use run_code::{Calc, Destination, Effect, Instr, Operand, Tried};
 
 /// A local is set.
 fn compile_local(code: &mut Code, site: Site, local: u32, value: &RExpr) -> Tried<()>
-    requires { IsReady site.scope.now }
+    requires { IsScopeReady site.scope.now }
     ensures { OnOk result (code.new ≡ code_local (plain site.entry.scope.now) (env site.entry.scope.now) local
         (expr_of value.now) site.entry.at ++ code.old) }
 {
@@ -56,7 +56,7 @@ fn default_in(ty: Ty) -> Operand
 
 /// A local has the value that something of its type has by itself.
 fn set_default(code: &mut Code, scope: &Scope, local: u32) -> Tried<()>
-    requires { IsReady scope.now }
+    requires { IsScopeReady scope.now }
     ensures { OnOk result (code.new ≡ default_op (plain scope.now) (env scope.now) local ∷ code.old) }
 {
     let slot = further(1, local)?;
@@ -71,7 +71,7 @@ pub fn compile_declaration(
     local: u32,
     value: &Option<RExpr>,
 ) -> Tried<()>
-    requires { IsReady site.scope.now }
+    requires { IsScopeReady site.scope.now }
     ensures { OnOk result (code.new ≡ default_op (plain site.entry.scope.now) (env site.entry.scope.now) local ∷ (code_initial (plain site.entry.scope.now)
         (env site.entry.scope.now) local (value_of value.now) site.entry.at ++ code.old)) }
 {
@@ -86,7 +86,7 @@ pub fn compile_declaration(
 
 /// An assignment.
 pub fn compile_assignment(code: &mut Code, site: Site, target: &RExpr, value: &RExpr) -> Tried<()>
-    requires { IsReady site.scope.now }
+    requires { IsScopeReady site.scope.now }
     ensures { OnOk result (code.new ≡ code_assign (plain site.entry.scope.now) (env site.entry.scope.now) (target_of target.now)
         (expr_of value.now) site.entry.at ++ code.old) }
 {
@@ -120,7 +120,7 @@ fn store(
     object: Operand,
     value: Operand,
 ) -> Tried<()>
-    requires { IsReady scope.now }
+    requires { IsScopeReady scope.now }
     ensures { OnOk result (code.new ≡ store_op (plain scope.now) (env scope.now) (option_map (λ f. f.0) field) (operand_of object) (operand_of value) ∷
         code.old) }
 {
@@ -136,7 +136,7 @@ fn store(
 
 /// A field of what an expression gives is set.
 fn store_field(code: &mut Code, site: Site, base: &RExpr, name: &Name, value: &RExpr) -> Tried<()>
-    requires { IsReady site.scope.now }
+    requires { IsScopeReady site.scope.now }
     ensures { (t : Tag) → OnOk result (code.new ≡ code_assign (plain site.entry.scope.now) (env site.entry.scope.now)
         (to_field t (expr_of base.now) name.now) (expr_of value.now) site.entry.at ++ code.old) }
 {
@@ -161,7 +161,7 @@ fn store_element(
     index: &RExpr,
     value: &RExpr,
 ) -> Tried<()>
-    requires { IsReady site.scope.now }
+    requires { IsScopeReady site.scope.now }
     ensures { (t : Tag) → OnOk result (code.new ≡ code_assign (plain site.entry.scope.now) (env site.entry.scope.now) (to_element t (expr_of base.now)
         (expr_of index.now)) (expr_of value.now) site.entry.at ++ code.old) }
 {

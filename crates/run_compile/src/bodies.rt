@@ -2,11 +2,11 @@
 
 ghost use Rattle.std.specs.Prelude.{◌≡◌, ◌+◌, ◌++◌, [], map, IfOk, OnOk};
 ghost use Rattle.std.specs.Option.{option_map};
-ghost use Rattle.run_compile.specs.Words.{Sts, stmts, method_seen, local_seen, types_of, body_with, default_of, op_of, is_int, plain, IsReady};
+ghost use Rattle.run_compile.specs.Words.{Sts, stmts, method_seen, local_seen, types_of, body_with, default_of, op_of, is_int, plain, IsScopeReady};
 ghost use Rattle.java_heap.specs.Seen.{value_of};
 ghost use Rattle.run_code.specs.Seen.{entry_of};
 ghost use Rattle.run_code.specs.Code.{body_slots, body_code};
-ghost use Rattle.run_compile.specs.Bodies.{IsBody, IsMethod};
+ghost use Rattle.run_compile.specs.Bodies.{IsBodyCode, IsMethodCode};
 
 use crate::assignments::default_operand;
 use crate::code::{Code, further, small};
@@ -29,7 +29,7 @@ fn slots(method: &Method) -> Tried<u32>
 /// The code of a body.
 #[tactic(auto, unfolding(crate::specs::Scopes::env))]
 fn compile_body(code: &mut Code, scope: &Scope, body: &Vec<RStmt>) -> Tried<()>
-    requires { IsReady scope.now }
+    requires { IsScopeReady scope.now }
     ensures { OnOk result (code.new ≡ body_code (plain scope.now) (body_with scope.now.number.0 (method_seen scope.now.method.now)
         (stmts body.now.items)) ++ code.old) }
 {
@@ -81,8 +81,8 @@ fn append(code: &mut Vec<Instr>, part: &mut Code) -> Tried<()>
 
 /// A body is put behind the code that stands already; and where it begins.
 fn add_body(code: &mut Vec<Instr>, scope: &Scope, body: &Vec<RStmt>) -> Tried<Entry>
-    requires { IsReady scope.now }
-    ensures { IfOk result (λ e. IsBody (plain scope.now) (body_with scope.now.number.0 (method_seen scope.now.method.now)
+    requires { IsScopeReady scope.now }
+    ensures { IfOk result (λ e. IsBodyCode (plain scope.now) (body_with scope.now.number.0 (method_seen scope.now.method.now)
         (stmts body.now.items)) (map op_of code.old.items) (map op_of code.new.items) (entry_of e)) }
 {
     let mut part = Code::new(scope.alloc);
@@ -98,8 +98,8 @@ fn add_body(code: &mut Vec<Instr>, scope: &Scope, body: &Vec<RStmt>) -> Tried<En
 
 /// The body of a method, where it has one, is put behind the code that stands already.
 pub fn add_method(code: &mut Vec<Instr>, scope: &Scope) -> Tried<Option<Entry>>
-    requires { IsReady scope.now }
-    ensures { IfOk result (λ o. IsMethod (plain scope.now) scope.now.number.0 (method_seen scope.now.method.now) (map op_of code.old.items)
+    requires { IsScopeReady scope.now }
+    ensures { IfOk result (λ o. IsMethodCode (plain scope.now) scope.now.number.0 (method_seen scope.now.method.now) (map op_of code.old.items)
         (map op_of code.new.items) (option_map entry_of o)) }
 {
     match &scope.method.body {

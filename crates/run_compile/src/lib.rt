@@ -4,7 +4,7 @@
 ghost use Rattle.std.specs.Prelude.{IfOk};
 ghost use Rattle.run_compile.specs.Words.{program_of, IsFormed};
 ghost use Rattle.run_code.specs.Seen.{tables_of};
-ghost use Rattle.run_code.specs.Fits.{Fits};
+ghost use Rattle.run_code.specs.Fits.{FitsProgram};
 
 /// A slot, which holds a result as it is.
 macro_rules! plainly {
@@ -51,7 +51,7 @@ use std::alloc::{AllocError, Global};
 /// place of the code or a jump passes 32 bits.
 pub fn compile(alloc: Global, p: &Program) -> Result<Image, AllocError>
     requires formed { IsFormed (program_of p.now) }
-    ensures fits { IfOk result (λ i. Fits (program_of p.now) (tables_of i)) }
+    ensures fits { IfOk result (λ i. FitsProgram (program_of p.now) (tables_of i)) }
 {
     let places = places(alloc, p)?;
     let mut code = Vec::new(alloc);

@@ -2,7 +2,7 @@
 
 ghost use Rattle.std.specs.Prelude.{◌≡◌, slice_get, Option};
 ghost use Rattle.std.specs.Option.{option_map};
-ghost use Rattle.run_compile.specs.Words.{Place, expr_of, base_seen, field_in, static, slot_in, place_of, is_int, plain, env, IsReady};
+ghost use Rattle.run_compile.specs.Words.{Place, expr_of, base_seen, field_in, static, slot_in, place_of, is_int, plain, env, IsScopeReady};
 ghost use Rattle.java_core.specs.Classes.{super_method};
 ghost use Rattle.java_core.specs.Types.{field_type};
 
@@ -73,7 +73,7 @@ pub fn is_int_field(scope: &Scope, field: MemberId) -> bool
 
 /// The place of a field in the objects of its class.
 pub fn place_of(scope: &Scope, field: MemberId) -> u32
-    requires { IsReady scope.now }
+    requires { IsScopeReady scope.now }
     ensures { result ≡ place_of (plain scope.now) field.0 }
 {
     match scope.places.get(field.0 as usize) {
@@ -85,7 +85,7 @@ pub fn place_of(scope: &Scope, field: MemberId) -> u32
 /// The field that the object of an expression has under a name.
 #[tactic(auto, unfolding(crate::specs::Scopes::plain, crate::specs::Scopes::env))]
 pub fn field_of(scope: &Scope, e: &RExpr, name: &Name) -> Option<MemberId>
-    requires { IsReady scope.now }
+    requires { IsScopeReady scope.now }
     ensures { option_map (λ d. d.0) result ≡ field_in (plain scope.now) (static (plain scope.now) (env scope.now) (expr_of e.now)) name.now }
 {
     field_in(
@@ -98,7 +98,7 @@ pub fn field_of(scope: &Scope, e: &RExpr, name: &Name) -> Option<MemberId>
 /// The slot that a call of a name on a receiver calls.
 #[tactic(auto, unfolding(crate::specs::Scopes::plain, crate::specs::Scopes::env))]
 pub fn slot_of(scope: &Scope, base: &Option<Box<RExpr>>, name: &Name) -> Option<u32>
-    requires { IsReady scope.now }
+    requires { IsScopeReady scope.now }
     ensures { (p : Place) → result ≡ slot_in (plain scope.now) (env scope.now) (base_seen base.now p) name.now }
 {
     match base {
@@ -118,7 +118,7 @@ pub fn slot_of(scope: &Scope, base: &Option<Box<RExpr>>, name: &Name) -> Option<
 /// The method that the superclass has under a name.
 #[tactic(auto, unfolding(crate::specs::Scopes::plain, crate::specs::Scopes::env))]
 pub fn super_of(scope: &Scope, name: &Name) -> Option<u32>
-    requires { IsReady scope.now }
+    requires { IsScopeReady scope.now }
     ensures { result ≡ super_method (plain scope.now) (env scope.now).self name.now }
 {
     match super_method(scope.program, scope.method.owner, name) {

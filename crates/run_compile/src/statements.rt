@@ -1,10 +1,10 @@
 //! The code of statements.
 
 ghost use Rattle.std.specs.Prelude.{◌≡◌, ◌≤◌, ◌-◌, ◌++◌, List, length, OnOk};
-ghost use Rattle.run_compile.specs.Words.{expr_of, value_of, stmts, Op, plain, env, IsReady};
-ghost use Rattle.java_core.specs.Trees.{Arms, stmt_of, arms_seen, step_seen};
+ghost use Rattle.run_compile.specs.Words.{expr_of, value_of, stmts, Op, plain, env, IsScopeReady};
+ghost use Rattle.java_core.specs.Trees.{IfArms, stmt_of, arms_seen, step_seen};
 ghost use Rattle.run_code.specs.Code.{code_print, code_return, code_st, code_sts, code_arms};
-ghost use Rattle.run_compile.specs.Exits.{IsWithin, arm_code};
+ghost use Rattle.run_compile.specs.Exits.{AreExitsWithin, arm_code};
 
 use crate::assignments::{compile_assignment, compile_declaration};
 use crate::code::Code;
@@ -35,7 +35,7 @@ macro_rules! exits {
 
 /// The code of a `System.out.println` or a `System.out.print`.
 fn compile_print(code: &mut Code, site: Site, newline: bool, value: &Option<RExpr>) -> Tried<()>
-    requires { IsReady site.scope.now }
+    requires { IsScopeReady site.scope.now }
     ensures { OnOk result (code.new ≡ code_print (plain site.entry.scope.now) (env site.entry.scope.now) newline
         (value_of value.now) site.entry.at ++ code.old) }
 {
@@ -50,7 +50,7 @@ fn compile_print(code: &mut Code, site: Site, newline: bool, value: &Option<RExp
 
 /// The code of a `return`.
 fn compile_return(code: &mut Code, site: Site, value: &Option<RExpr>) -> Tried<()>
-    requires { IsReady site.scope.now }
+    requires { IsScopeReady site.scope.now }
     ensures { OnOk result (code.new ≡ code_return (plain site.entry.scope.now) (env site.entry.scope.now)
         (value_of value.now) site.entry.at ++ code.old) }
 {
@@ -66,8 +66,8 @@ fn compile_return(code: &mut Code, site: Site, value: &Option<RExpr>) -> Tried<(
 /// The code of a statement: a `break` and a `continue` go to its exits.
 #[cycle(statements)]
 fn compile_stmt(code: &mut Code, site: Site, s: &RStmt, exits: Exits) -> Tried<()>
-    requires ready { IsReady site.scope.now }
-    requires within { IsWithin exits (length code.old) }
+    requires ready { IsScopeReady site.scope.now }
+    requires within { AreExitsWithin exits (length code.old) }
     ensures { OnOk result (code.new ≡ code_st (plain site.entry.scope.now) (env site.entry.scope.now) (stmt_of s.now) site.entry.at
         (length code.old - exits.broke) (length code.old - exits.next) ++ code.old) }
 {
@@ -119,8 +119,8 @@ fn compile_stmt(code: &mut Code, site: Site, s: &RStmt, exits: Exits) -> Tried<(
 /// The code of statements.
 #[cycle(statements)]
 pub fn compile_stmts(code: &mut Code, site: Site, list: &Vec<RStmt>, exits: Exits) -> Tried<()>
-    requires ready { IsReady site.scope.now }
-    requires within { IsWithin exits (length code.old) }
+    requires ready { IsScopeReady site.scope.now }
+    requires within { AreExitsWithin exits (length code.old) }
     ensures { OnOk result (code.new ≡ code_sts (plain site.entry.scope.now) (env site.entry.scope.now) (stmts list.now.items) site.entry.at
         (length code.old - exits.broke) (length code.old - exits.next) ++ code.old) }
 {
@@ -133,8 +133,8 @@ pub fn compile_stmts(code: &mut Code, site: Site, list: &Vec<RStmt>, exits: Exit
 /// The code of the first or the last part of a `for`.
 #[cycle(statements)]
 fn compile_step(code: &mut Code, site: Site, step: &Option<Box<RStmt>>, exits: Exits) -> Tried<()>
-    requires ready { IsReady site.scope.now }
-    requires within { IsWithin exits (length code.old) }
+    requires ready { IsScopeReady site.scope.now }
+    requires within { AreExitsWithin exits (length code.old) }
     ensures { OnOk result (code.new ≡ code_sts (plain site.entry.scope.now) (env site.entry.scope.now) (step_seen step.now) site.entry.at
         (length code.old - exits.broke) (length code.old - exits.next) ++ code.old) }
 {
@@ -153,10 +153,10 @@ fn compile_arms(
     end: usize,
     exits: Exits,
 ) -> Tried<()>
-    requires ready { IsReady site.scope.now }
-    requires within { IsWithin exits end }
+    requires ready { IsScopeReady site.scope.now }
+    requires within { AreExitsWithin exits end }
     requires placed { end ≤ length code.old }
-    ensures { OnOk result ((other : Arms) (rest : List Op) → length rest ≡ end
+    ensures { OnOk result ((other : IfArms) (rest : List Op) → length rest ≡ end
         → code.old ≡ code_arms (plain site.entry.scope.now) (env site.entry.scope.now) other site.entry.at (end - exits.broke) (end - exits.next) ++ rest
         → code.new ≡ code_arms (plain site.entry.scope.now) (env site.entry.scope.now) (arms_seen arms.now.items other) site.entry.at
         (end - exits.broke) (end - exits.next) ++ rest) }
@@ -170,8 +170,8 @@ fn compile_arms(
 /// The code of an arm of an `if`, behind which that of the others stands.
 #[cycle(statements)]
 fn compile_arm(code: &mut Code, site: Site, arm: &RArm, end: usize, exits: Exits) -> Tried<()>
-    requires ready { IsReady site.scope.now }
-    requires within { IsWithin exits end }
+    requires ready { IsScopeReady site.scope.now }
+    requires within { AreExitsWithin exits end }
     requires placed { end ≤ length code.old }
     ensures placed { OnOk result (end ≤ length code.new) }
     ensures code { OnOk result ((more rest : List Op) → length rest ≡ end → code.old ≡ more ++ rest

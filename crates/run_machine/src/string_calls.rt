@@ -10,7 +10,7 @@ ghost use Rattle.java_meaning.specs.Moment.{State, CodeUnit, with_some, or_fault
 ghost use Rattle.java_meaning.specs.Values.{natural_of};
 ghost use Rattle.java_meaning.specs.Meaning.{ToValue, string_call};
 ghost use Rattle.run_code.specs.Ops.{text_call};
-ghost use Rattle.run_state.specs.Founds.{gives, Finds};
+ghost use Rattle.run_state.specs.Founds.{gives, FindsOnHeap};
 ghost use Rattle.run_state.specs.Turns.{to_slot, Does};
 
 use crate::calls::class_at;
@@ -45,7 +45,7 @@ fn char_at(units: &Vec<u16>, index: Value) -> Found
 
 /// `equals(other)`
 fn string_equals(heap: &Heap, units: &Vec<u16>, other: Value) -> Found
-    ensures { Finds heap.now result (λ s k. string_call Equals units.now.items (value_of other ∷ []) s k) }
+    ensures { FindsOnHeap heap.now result (λ s k. string_call Equals units.now.items (value_of other ∷ []) s k) }
 {
     match equals(heap, units, other) {
         Some(truth) => Found::Value(Value::Bool(truth)),
@@ -66,7 +66,7 @@ fn call_bare(method: StringMethod, units: &Vec<u16>) -> Found
 
 /// A call of a method of a string with one argument.
 fn call_with(heap: &Heap, method: StringMethod, units: &Vec<u16>, argument: Value) -> Found
-    ensures { Finds heap.now result (λ s k. string_call (string_seen method) units.now.items (value_of argument ∷ []) s k) }
+    ensures { FindsOnHeap heap.now result (λ s k. string_call (string_seen method) units.now.items (value_of argument ∷ []) s k) }
 {
     match method {
         StringMethod::Length => Found::Stuck,

@@ -7,5 +7,5 @@ pub use Rattle.java_meaning.specs.Meaning.{set_value}
 pub use Rattle.java_meaning.specs.Languages.{language_of}
 pub use Rattle.run_code.specs.Machine.{nothing}
 pub use Rattle.run_state.specs.Run.{state_of, config_of}
-pub use Rattle.run_state.specs.Founds.{at_heap, Finds, Keeps, gives, makes}
+pub use Rattle.run_state.specs.Founds.{at_heap, FindsOnHeap, KeepsMeaning, gives, makes}
 pub use Rattle.run_state.specs.Turns.{to_slot, Turns}

@@ -4,7 +4,7 @@ ghost use Rattle.std.specs.Prelude.{◌≡◌, ◌^◌, ◌<◌, slice_get, Some
 ghost use Rattle.java_core.specs.Types.{element_in};
 ghost use Rattle.java_core.specs.declared.Ty.{Ty};
 ghost use Rattle.java_core.specs.declared.Fault.TheVariants as fault;
-ghost use Rattle.run_state.specs.Shared.{program_of, value_of, State, Outcome, Object, step, with_some, or_fault, on_bool, stop, Faulted, set_value, language_of, nothing, state_of, at_heap, Keeps, to_slot, Turns};
+ghost use Rattle.run_state.specs.Shared.{program_of, value_of, State, Outcome, Object, step, with_some, or_fault, on_bool, stop, Faulted, set_value, language_of, nothing, state_of, at_heap, KeepsMeaning, to_slot, Turns};
 ghost use Rattle.java_core.specs.Programs.{Plain};
 ghost use Rattle.java_meaning.specs.Moment as moment;
 ghost use Rattle.java_meaning.specs.Moment.{Cell, an_array};
@@ -92,7 +92,7 @@ pub fn write_element<'a>(
     value: Value,
 ) -> Tried<Kept>
     ensures same { classes.new ≡ classes.old }
-    ensures kept { IfOk result (λ r. Keeps heap.old heap.new r
+    ensures kept { IfOk result (λ r. KeepsMeaning heap.old heap.new r
         (λ s k. write_element (language_of (program_of classes.old)) (value_of array) index (value_of value) s k)) }
 {
     match array {
@@ -121,7 +121,7 @@ fn write_at<'a>(
 ) -> Tried<Kept>
     ensures same { classes.new ≡ classes.old }
     ensures kept { IfOk result (λ r. (c : Cell) → slice_get heap.old.cells at ≡ Some c
-        → Keeps heap.old heap.new r (λ s k. or_fault fault.Bounds (place_in c index) s
+        → KeepsMeaning heap.old heap.new r (λ s k. or_fault fault.Bounds (place_in c index) s
         (λ n. on_fitting (language_of (program_of classes.old)) (value_of value) element s
         (λ s1. k (set_value at c n (convert element (value_of value)) s1))))) }
 {
@@ -146,7 +146,7 @@ fn store<'a>(
 ) -> Tried<Kept>
     ensures same { classes.new ≡ classes.old }
     ensures kept { IfOk result (λ r. (c : Cell) (u : moment.Value) → slice_get heap.old.cells at ≡ Some c → slice_get c.values place ≡ Some u
-        → Keeps heap.old heap.new r (λ s k. on_fitting (language_of (program_of classes.old)) (value_of value) element s
+        → KeepsMeaning heap.old heap.new r (λ s k. on_fitting (language_of (program_of classes.old)) (value_of value) element s
         (λ s1. k (set_value at c place (convert element (value_of value)) s1)))) }
 {
     match value {

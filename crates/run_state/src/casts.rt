@@ -3,7 +3,7 @@
 ghost use Rattle.std.specs.Prelude.{◌≡◌, slice_get, IfOk};
 ghost use Rattle.std.specs.Option.{option_map};
 ghost use Rattle.java_core.specs.Types.{is_subtype};
-ghost use Rattle.run_state.specs.Shared.{program_of, value_of, language_of, nothing, Finds};
+ghost use Rattle.run_state.specs.Shared.{program_of, value_of, language_of, nothing, FindsOnHeap};
 ghost use Rattle.java_heap.specs.Seen.{kind_of};
 ghost use Rattle.java_meaning.specs.Moment.{own_type};
 ghost use Rattle.java_meaning.specs.Meaning.{is_number_type, cast_to, cast_object, test_class};
@@ -25,7 +25,7 @@ fn is_number_type(ty: Ty) -> bool
 /// What a cast gives.
 pub fn cast_value<'a>(classes: &mut Classes<'a>, heap: &Heap, ty: Ty, value: Value) -> Tried<Found>
     ensures same { classes.new ≡ classes.old }
-    ensures found { IfOk result (λ r. Finds heap.now r (λ s k. cast_to (language_of (program_of classes.old)) 0 nothing ty (value_of value) s k)) }
+    ensures found { IfOk result (λ r. FindsOnHeap heap.now r (λ s k. cast_to (language_of (program_of classes.old)) 0 nothing ty (value_of value) s k)) }
 {
     if is_number_type(ty) {
         match value.number() {
@@ -40,7 +40,7 @@ pub fn cast_value<'a>(classes: &mut Classes<'a>, heap: &Heap, ty: Ty, value: Val
 /// What a cast to a type that is not a number's gives.
 fn cast_object<'a>(classes: &mut Classes<'a>, heap: &Heap, ty: Ty, value: Value) -> Tried<Found>
     ensures same { classes.new ≡ classes.old }
-    ensures found { IfOk result (λ r. Finds heap.now r (λ s k. cast_object (language_of (program_of classes.old)) 0 nothing ty (value_of value) s k)) }
+    ensures found { IfOk result (λ r. FindsOnHeap heap.now r (λ s k. cast_object (language_of (program_of classes.old)) 0 nothing ty (value_of value) s k)) }
 {
     match value {
         Value::Null => Ok(Found::Value(Value::Null)),
@@ -90,7 +90,7 @@ pub fn has_class<'a>(
     value: Value,
 ) -> Tried<Found>
     ensures same { classes.new ≡ classes.old }
-    ensures found { IfOk result (λ r. Finds heap.now r (λ s k. test_class (language_of (program_of classes.old)) 0 nothing class
+    ensures found { IfOk result (λ r. FindsOnHeap heap.now r (λ s k. test_class (language_of (program_of classes.old)) 0 nothing class
         (value_of value) s k)) }
 {
     let ty = Ty {

@@ -3,7 +3,7 @@
 ghost use Rattle.std.specs.Prelude.{◌≡◌, length, slice_get, IsTrue, IsFalse};
 ghost use Rattle.std.specs.Option.{option_and_then};
 ghost use Rattle.java_core.specs.declared.Fault.TheVariants as fault;
-ghost use Rattle.run_state.specs.Shared.{value_of, Number, State, Outcome, with_some, or_fault, stop, Faulted, int_of, natural_of, number_of, set_value, at_heap, Finds, Keeps};
+ghost use Rattle.run_state.specs.Shared.{value_of, Number, State, Outcome, with_some, or_fault, stop, Faulted, int_of, natural_of, number_of, set_value, at_heap, FindsOnHeap, KeepsMeaning};
 ghost use Rattle.java_meaning.specs.Meaning.{with_cell};
 
 use crate::counts::{int_of, natural};
@@ -14,7 +14,7 @@ use java_heap::{Heap, Value};
 /// The value in a place of an object.
 #[inline(always)]
 pub fn loaded(heap: &Heap, object: Value, place: u32) -> Found
-    ensures { Finds heap.now result (λ s k. with_cell (value_of object) s (λ a d. with_some (slice_get d.values place) s (λ u. k u s))) }
+    ensures { FindsOnHeap heap.now result (λ s k. with_cell (value_of object) s (λ a d. with_some (slice_get d.values place) s (λ u. k u s))) }
 {
     match object {
         Value::Ref(at) => match heap.value(at, place) {
@@ -29,7 +29,7 @@ pub fn loaded(heap: &Heap, object: Value, place: u32) -> Found
 /// The length of an array.
 #[inline(always)]
 pub fn length_of(heap: &Heap, array: Value) -> Found
-    ensures { Finds heap.now result (λ s k. with_cell (value_of array) s (λ a d. k (Number (int_of (length d.values))) s)) }
+    ensures { FindsOnHeap heap.now result (λ s k. with_cell (value_of array) s (λ a d. k (Number (int_of (length d.values))) s)) }
 {
     match array {
         Value::Ref(at) => {
@@ -47,7 +47,7 @@ pub fn length_of(heap: &Heap, array: Value) -> Found
 /// The element of an array at an index.
 #[inline(always)]
 pub fn element(heap: &Heap, array: Value, index: Value) -> Found
-    ensures { Finds heap.now result (λ s k. with_some (number_of (value_of index)) s
+    ensures { FindsOnHeap heap.now result (λ s k. with_some (number_of (value_of index)) s
         (λ n. with_cell (value_of array) s (λ a d. or_fault fault.Bounds (option_and_then (λ m. slice_get d.values m) (natural_of n)) s (λ u. k u s)))) }
 {
     match index.number() {
@@ -63,7 +63,7 @@ pub fn element(heap: &Heap, array: Value, index: Value) -> Found
 /// The value of a cell at an index.
 #[inline(always)]
 fn element_at(heap: &Heap, at: u32, index: i32) -> Found
-    ensures { Finds heap.now result (λ s k. with_some (slice_get s.cells at) s
+    ensures { FindsOnHeap heap.now result (λ s k. with_some (slice_get s.cells at) s
         (λ d. or_fault fault.Bounds (option_and_then (λ m. slice_get d.values m) (natural_of index)) s (λ u. k u s))) }
 {
     match natural(index) {
@@ -77,7 +77,7 @@ fn element_at(heap: &Heap, at: u32, index: i32) -> Found
 
 /// A place that a cell does not have.
 fn out_of_bounds(heap: &Heap, at: u32) -> Found
-    ensures { Finds heap.now result (λ s k. with_some (slice_get s.cells at) s (λ d. stop (Faulted fault.Bounds) s)) }
+    ensures { FindsOnHeap heap.now result (λ s k. with_some (slice_get s.cells at) s (λ d. stop (Faulted fault.Bounds) s)) }
 {
     if heap.cells() <= at as usize {
         Found::Stuck
@@ -89,7 +89,7 @@ fn out_of_bounds(heap: &Heap, at: u32) -> Found
 /// A value is put into a place of an object.
 #[inline(always)]
 pub fn saved(heap: &mut Heap, object: Value, place: u32, value: Value) -> Kept
-    ensures { Keeps heap.old heap.new result (λ s k. with_cell (value_of object) s
+    ensures { KeepsMeaning heap.old heap.new result (λ s k. with_cell (value_of object) s
         (λ a d. with_some (slice_get d.values place) s (λ old. k (set_value a d place (value_of value) s)))) }
 {
     match object {
@@ -102,7 +102,7 @@ pub fn saved(heap: &mut Heap, object: Value, place: u32, value: Value) -> Kept
 /// A value is put into a cell, where the place is there.
 #[inline(always)]
 pub fn put(heap: &mut Heap, at: u32, place: u32, value: Value) -> Kept
-    ensures { Keeps heap.old heap.new result (λ s k. with_some (slice_get s.cells at) s
+    ensures { KeepsMeaning heap.old heap.new result (λ s k. with_some (slice_get s.cells at) s
         (λ d. with_some (slice_get d.values place) s (λ old. k (set_value at d place (value_of value) s)))) }
 {
     match heap.value(at, place) {

@@ -18,7 +18,7 @@ use Rattle.java_core.specs.declared.BinOp.{BinOp}
 use Rattle.java_core.specs.declared.BinOp.TheVariants as bin
 use Rattle.java_core.specs.declared.Op.{Op}
 use Rattle.java_core.specs.declared.Op.TheVariants as op
-use Rattle.java_core.specs.Trees.{Tag, Ex, Exs, no_ex, ex_then, number, character, text, truth, null, this, local, static_field, own_field, field, index, call, static_call, super_call, create, create_array, cast, instance_of, unary, binary, Target, to_local, to_static, to_own, to_field, to_element, St, Sts, Arms, declare, block, assign, act, print, choose, loop, return, break, continue, no_st, st_then, no_other, otherwise, arm}
+use Rattle.java_core.specs.Trees.{Tag, Ex, Exs, no_ex, ex_then, number, character, text, truth, null, this, local, static_field, own_field, field, index, call, static_call, super_call, create, create_array, cast, instance_of, unary, binary, Target, to_local, to_static, to_own, to_field, to_element, St, Sts, IfArms, declare, block, assign, act, print, choose, loop, return, break, continue, no_st, st_then, no_other, otherwise, arm}
 use Rattle.java_core.specs.Programs.{Plain, PlainClass, PlainField, PlainLocal, PlainMethod}
 use Rattle.java_meaning.specs.Paired.{pair_none, pair_some, pair_declare, pair_block, pair_assign, pair_act, pair_print, pair_choose, pair_loop, pair_return, pair_break, pair_continue, pair_no_st, pair_st_then, pair_no_other, pair_otherwise, pair_arm}
 use Rattle.rebuild_model.specs.OneBodies.{class_name, field_name, IsOneClass, IsOneBase, one_int, one_boolean, one_char, one_string, one_class as class_of_base, IsOneType, IsOneField, IsOneMethod, One, OneAll, OneTarget, OneIf, OneSt, OneSts, OneArms, o_number, o_character, o_text, o_truth, o_null, o_this, o_local, o_static_field, o_own_field, o_own_written, o_written_own, o_field, o_index, o_call, o_static_call, o_super_call, o_create, o_create_array, o_cast, o_instance_of, o_unary, o_binary, o_no_ex, o_ex_then, o_to_local, o_to_static, o_to_own, o_to_own_written, o_to_written_own, o_to_field, o_to_element}
@@ -405,7 +405,7 @@ module _ (P Q : Plain) where
   print_parts : {t u : Tag} {n m : Bool} {e d : Option Ex} → OneSt P Q (print t n e) (print u m d) → (n ≡ m) × OneIf P Q e d
   print_parts (pair_print p) = (refl, p)
 
-  choose_parts : {t u : Tag} {a b : Arms} → OneSt P Q (choose t a) (choose u b) → OneArms P Q a b
+  choose_parts : {t u : Tag} {a b : IfArms} → OneSt P Q (choose t a) (choose u b) → OneArms P Q a b
   choose_parts (pair_choose p) = p
 
   loop_parts : {t u : Tag} {w v : Bool} {first step body start last code : Sts} {e d : Option Ex}
@@ -422,7 +422,7 @@ module _ (P Q : Plain) where
   otherwise_parts : {xs ys : Sts} → OneArms P Q (otherwise xs) (otherwise ys) → OneSts P Q xs ys
   otherwise_parts (pair_otherwise ps) = ps
 
-  arm_parts : {e d : Ex} {xs ys : Sts} {a b : Arms} → OneArms P Q (arm e xs a) (arm d ys b) → (One P Q e d × OneSts P Q xs ys) × OneArms P Q a b
+  arm_parts : {e d : Ex} {xs ys : Sts} {a b : IfArms} → OneArms P Q (arm e xs a) (arm d ys b) → (One P Q e d × OneSts P Q xs ys) × OneArms P Q a b
   arm_parts (pair_arm p ps q) = ((p, ps), q)
 
   mutual
@@ -449,7 +449,7 @@ module _ (P Q : Plain) where
     sts_decides no_st (st_then y ys) = no (λ r. elim r [ ])
     sts_decides (st_then x xs) no_st = no (λ r. elim r [ ])
 
-    arms_decides : (a b : Arms) → Decides (one_arms P Q a b) (OneArms P Q a b)
+    arms_decides : (a b : IfArms) → Decides (one_arms P Q a b) (OneArms P Q a b)
     arms_decides no_other no_other = yes pair_no_other
     arms_decides (otherwise xs) (otherwise ys) = via (sts_decides xs ys) (λ r. pair_otherwise r) otherwise_parts
     arms_decides (arm e xs a) (arm d ys b) = via (pair (pair (ex_decides e d) (sts_decides xs ys)) (arms_decides a b))

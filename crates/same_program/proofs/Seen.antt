@@ -9,7 +9,7 @@ use Rattle.java_core.specs.declared.RExpr.{RExpr}
 use Rattle.java_core.specs.declared.RExpr.TheBlock as ex
 use Rattle.java_core.specs.declared.RStmt.{RStmt, If}
 use Rattle.java_core.specs.declared.RArm.{RArm}
-use Rattle.java_core.specs.Trees.{Tag, Ex, this, Target, to_local, no_target, St, Arms, no_other, expr_of, exprs, target_of, stmt_of, stmts, arms_seen, else_seen}
+use Rattle.java_core.specs.Trees.{Tag, Ex, this, Target, to_local, no_target, St, IfArms, no_other, expr_of, exprs, target_of, stmt_of, stmts, arms_seen, else_seen}
 use Rattle.java_core.specs.Programs.{Plain}
 use Rattle.java_core.proofs.Forms.{call_form, static_form, super_form, creation_form, block_form, if_form, while_form, for_form}
 use Rattle.same_program.specs.Same.{is_this, is_target, one_ex, one_all, one_target, one_st, one_sts, one_arms}
@@ -82,7 +82,7 @@ module _ (P Q : Plain) where
   stmts_end (x ∷ xs) [] h = absurd (let k : suc (length xs) ≡ 0 = h in omega (arith, k))
 
   -- arms, one after another
-  pub arms_step : (xs ys : List RArm) (o r : Arms) (i : ℕ) (d e : RArm) → i < length xs → i < length ys
+  pub arms_step : (xs ys : List RArm) (o r : IfArms) (i : ℕ) (d e : RArm) → i < length xs → i < length ys
       → one_arms P Q (arms_seen (drop i xs) o) (arms_seen (drop i ys) r)
       ≡ ((one_ex P Q (expr_of (get_or xs i d).test) (expr_of (get_or ys i e).test)
       && one_sts P Q (stmts (get_or xs i d).body.items) (stmts (get_or ys i e).body.items))

@@ -14,7 +14,7 @@ use Rattle.java_core.specs.declared.BinOp.{BinOp}
 use Rattle.java_core.specs.declared.BinOp.TheVariants as bin
 use Rattle.java_core.specs.declared.Op.{Op}
 use Rattle.java_core.specs.declared.Op.TheVariants as op
-use Rattle.java_core.specs.Trees.{Ex, Exs, no_ex, ex_then, number, character, text, truth, null, this, local, static_field, own_field, field, index, call, static_call, super_call, create, create_array, cast, instance_of, unary, binary, Target, to_local, to_static, to_own, to_field, to_element, no_target, St, Sts, Arms, declare, block, assign, act, print, choose, loop, return, break, continue, no_st, st_then, no_other, otherwise, arm}
+use Rattle.java_core.specs.Trees.{Ex, Exs, no_ex, ex_then, number, character, text, truth, null, this, local, static_field, own_field, field, index, call, static_call, super_call, create, create_array, cast, instance_of, unary, binary, Target, to_local, to_static, to_own, to_field, to_element, no_target, St, Sts, IfArms, declare, block, assign, act, print, choose, loop, return, break, continue, no_st, st_then, no_other, otherwise, arm}
 use Rattle.java_core.specs.Programs.{Plain, PlainClass, PlainField, PlainLocal, PlainMethod}
 use Rattle.rebuild_model.specs.OneBodies.{class_name, field_name}
 
@@ -221,7 +221,7 @@ module _ (P Q : Plain) where
     one_sts (st_then x xs) no_st = false
 
     -- the arms of two `if`s, and their `else`
-    pub one_arms : Arms → Arms → Bool
+    pub one_arms : IfArms → IfArms → Bool
     one_arms no_other no_other = true
     one_arms (otherwise xs) (otherwise ys) = one_sts xs ys
     one_arms (arm e xs a) (arm d ys b) = (one_ex e d && one_sts xs ys) && one_arms a b

@@ -12,7 +12,7 @@ use Rattle.fact_model.specs.declared.facts.ClassInfo.{ClassInfo}
 use Rattle.fact_model.specs.declared.facts.SiteInfo.{SiteInfo}
 use Rattle.fact_model.specs.declared.facts.NewInfo.{NewInfo}
 use Rattle.fact_model.specs.declared.facts.FlowInfo.{FlowInfo}
-use Rattle.show_facts.specs.Drawn.{AreMany, IsRoot, IsOnlyRow, IsFirstRow, IsFirstSite, IsNew, IsFlow}
+use Rattle.show_facts.specs.Drawn.{AreMany, IsRoot, IsOnlyRow, IsFirstRow, IsFirstSite, IsNew, IsDrawnFlow}
 
 none : {A : Type 0} (P : A → Type 0) (xs : List A) → xs ≡ [] → All P xs
 none P xs e = rw e (All-nil P)
@@ -31,7 +31,7 @@ module _ (F : Facts) where
     pub points : AreMany 2000 IsFirstRow F.points.items
     pub sites : AreMany 500 IsFirstSite F.sites.items
     pub news : All IsNew F.news.items
-    pub flows : All IsFlow F.flows.items
+    pub flows : All IsDrawnFlow F.flows.items
     pub none : unused ≡ 0
 
   module _ (d : AreDrawn) where
@@ -72,7 +72,7 @@ module _ (F : Facts) where
     a_new : (x : NewInfo) → IsNew x → IsPoint F x.point × IsSite F x.site
     a_new x h = (omega (arith, h.0, d.points.count), omega (arith, h.1, d.sites.count))
 
-    a_flow : (x : FlowInfo) → IsFlow x → IsPoint F x.from × IsPoint F x.to
+    a_flow : (x : FlowInfo) → IsDrawnFlow x → IsPoint F x.from × IsPoint F x.to
     a_flow x h = (omega (arith, h.0, d.points.count), omega (arith, h.1, d.points.count))
 
     pub in_range : InRange F
@@ -86,7 +86,7 @@ module _ (F : Facts) where
       points = All-weaker IsFirstRow (IsRow F) (λ r h. omega (arith, h, d.rows.count)) F.points.items d.points.each;
       cells = λ i x lt. absurd (omega (arith, lt, d.none));
       news = All-weaker IsNew (λ x. IsPoint F x.point × IsSite F x.site) a_new F.news.items d.news;
-      flows = All-weaker IsFlow (λ x. IsPoint F x.from × IsPoint F x.to) a_flow F.flows.items d.flows;
+      flows = All-weaker IsDrawnFlow (λ x. IsPoint F x.from × IsPoint F x.to) a_flow F.flows.items d.flows;
       loads = λ i x lt. absurd (omega (arith, lt, d.none));
       stores = λ i x lt. absurd (omega (arith, lt, d.none));
       bodies = λ i x lt. absurd (omega (arith, lt, d.none));

@@ -37,5 +37,5 @@ abbrev pub IsNew : NewInfo → Type 0
 IsNew x = (x.point < 2000) × (x.site.0 < 500)
 
 -- a flow from one of the points to one of them
-abbrev pub IsFlow : FlowInfo → Type 0
-IsFlow x = (x.from < 2000) × (x.to < 2000)
+abbrev pub IsDrawnFlow : FlowInfo → Type 0
+IsDrawnFlow x = (x.from < 2000) × (x.to < 2000)

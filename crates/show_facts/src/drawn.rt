@@ -2,7 +2,7 @@
 
 ghost use Rattle.std.specs.Prelude.{◌<◌, All, IfOk};
 ghost use Rattle.fact_model.specs.InRange.{InRange};
-ghost use Rattle.show_facts.specs.Drawn.{AreMany, IsRoot, IsOnlyRow, IsFirstRow, IsFirstSite, IsPair, IsNew, IsFlow};
+ghost use Rattle.show_facts.specs.Drawn.{AreMany, IsRoot, IsOnlyRow, IsFirstRow, IsFirstSite, IsPair, IsNew, IsDrawnFlow};
 
 use fact_model::{ClassInfo, Facts, FlowInfo, NewInfo, RowInfo, SiteInfo};
 use kaba_base::{ClassId, Name, RowId, SiteId};
@@ -131,7 +131,7 @@ fn news(alloc: Global) -> Result<Vec<NewInfo>, AllocError>
 
 /// Flows between points.
 fn flows(alloc: Global) -> Result<Vec<FlowInfo>, AllocError>
-    ensures { IfOk result (λ v. All IsFlow v.items) }
+    ensures { IfOk result (λ v. All IsDrawnFlow v.items) }
 {
     let drawn = pairs(alloc, 2, FLOWS, POINTS)?;
     drawn

@@ -11,7 +11,7 @@ abbrev pub hierarchy_of : Nodes → Hierarchy
 hierarchy_of nodes = nodes.source.hier.now
 
 -- a source, facts in range whose hierarchy it has, and the tests of the nodes
-pub record AreNodes (nodes : Nodes) : Type 0 where
+pub record AreSourceNodes (nodes : Nodes) : Type 0 where
   pub source : IsSource nodes.source
   pub range : InRange nodes.facts.now
   pub hierarchy : IsHierarchyOf nodes.facts.now (hierarchy_of nodes)

@@ -1,7 +1,7 @@
 //! What the columns at a node and the slots that it offers give to its type.
 
 ghost use Rattle.std.specs.Prelude.{◌≡◌, ◌++◌, [], ◌<◌, true, length, IfOk, OnOk, Option};
-ghost use Rattle.source_gen.specs.Words.{is_live, slot_seen, each, when, head_if, old_program, renaming, AreNodes, hierarchy_of};
+ghost use Rattle.source_gen.specs.Words.{is_live, slot_seen, each, when, head_if, old_program, renaming, AreSourceNodes, hierarchy_of};
 ghost use Rattle.java_tree.specs.Syntax as tree;
 ghost use Rattle.fact_model.specs.Items.{column_at};
 ghost use Rattle.hier_model.specs.Hierarchies.{stands_at};
@@ -24,7 +24,7 @@ use std::alloc::{AllocError, Global};
 /// Whether a declaration of a slot at a live node is written as a head: in an interface, and in an
 /// abstract class to which no body of the slot is offered.
 fn is_headed(nodes: &Nodes, n: NodeId, x: u32) -> bool
-    requires nodes { AreNodes nodes.now }
+    requires nodes { AreSourceNodes nodes.now }
     requires node { is_live nodes.now.source.hier.now.order n.0 ≡ true }
     ensures { result ≡ is_headed nodes.now.facts.now (hierarchy_of nodes.now) n.0 x }
 {
@@ -34,7 +34,7 @@ fn is_headed(nodes: &Nodes, n: NodeId, x: u32) -> bool
 /// Whether the type of a live node has a filler of a slot: objects are created there, as `is_made`
 /// says, and it is offered the slot without a body.
 fn is_filled(nodes: &Nodes, is_made: bool, n: NodeId, x: u32) -> bool
-    requires nodes { AreNodes nodes.now }
+    requires nodes { AreSourceNodes nodes.now }
     requires made { is_made ≡ is_made_at nodes.now.facts.now (hierarchy_of nodes.now) n.0 }
     requires node { is_live nodes.now.source.hier.now.order n.0 ≡ true }
     ensures { result ≡ is_filled nodes.now.facts.now (hierarchy_of nodes.now) n.0 x }
@@ -50,7 +50,7 @@ fn head_of_slot(
     c: u32,
     slot: Option<u32>,
 ) -> Result<Option<Head>, AllocError>
-    requires nodes { AreNodes nodes.now }
+    requires nodes { AreSourceNodes nodes.now }
     requires node { is_live nodes.now.source.hier.now.order n.0 ≡ true }
     requires column { c < length nodes.now.facts.now.columns.items }
     ensures { IfOk result (λ h. head_if h ≡ written.heads_of_slot (old_program nodes.now.source) (renaming nodes.now.source) nodes.now.facts.now
@@ -73,7 +73,7 @@ fn column_head(
     n: NodeId,
     c: u32,
 ) -> Result<Option<Head>, AllocError>
-    requires nodes { AreNodes nodes.now }
+    requires nodes { AreSourceNodes nodes.now }
     requires node { is_live nodes.now.source.hier.now.order n.0 ≡ true }
     requires column { c < length nodes.now.facts.now.columns.items }
     ensures { IfOk result (λ h. head_if h ≡ written.column_heads (old_program nodes.now.source) (renaming nodes.now.source) nodes.now.facts.now
@@ -89,7 +89,7 @@ fn column_head(
 
 /// Adds what a column gives to the class of the live node where it stands.
 fn add_column(nodes: &Nodes, n: NodeId, c: u32, into: &mut Vec<Member>) -> Result<(), AllocError>
-    requires nodes { AreNodes nodes.now }
+    requires nodes { AreSourceNodes nodes.now }
     requires node { is_live nodes.now.source.hier.now.order n.0 ≡ true }
     requires column { c < length nodes.now.facts.now.columns.items }
     ensures { OnOk result (tree.members into.new.items ≡ tree.members into.old.items ++ when (stands_at (hierarchy_of nodes.now) n.0 c)
@@ -108,7 +108,7 @@ fn add_column(nodes: &Nodes, n: NodeId, c: u32, into: &mut Vec<Member>) -> Resul
 
 /// Adds what the columns give to the class of a live node, in the order of their numbers.
 fn add_columns(nodes: &Nodes, n: NodeId, into: &mut Vec<Member>) -> Result<(), AllocError>
-    requires nodes { AreNodes nodes.now }
+    requires nodes { AreSourceNodes nodes.now }
     requires node { is_live nodes.now.source.hier.now.order n.0 ≡ true }
     ensures { OnOk result (tree.members into.new.items ≡ tree.members into.old.items ++ each (λ c k. when (stands_at (hierarchy_of nodes.now) n.0 c)
         (written.column_members (old_program nodes.now.source) (renaming nodes.now.source)
@@ -167,7 +167,7 @@ fn add_filler(
     slot: &Slot,
     into: &mut Vec<Member>,
 ) -> Result<(), AllocError>
-    requires nodes { AreNodes nodes.now }
+    requires nodes { AreSourceNodes nodes.now }
     requires made { is_made ≡ is_made_at nodes.now.facts.now (hierarchy_of nodes.now) n.0 }
     requires node { is_live nodes.now.source.hier.now.order n.0 ≡ true }
     ensures { OnOk result (tree.members into.new.items ≡ tree.members into.old.items ++ written.filler (old_program nodes.now.source)
@@ -194,7 +194,7 @@ fn add_fillers(
     n: NodeId,
     into: &mut Vec<Member>,
 ) -> Result<(), AllocError>
-    requires nodes { AreNodes nodes.now }
+    requires nodes { AreSourceNodes nodes.now }
     requires made { is_made ≡ is_made_at nodes.now.facts.now (hierarchy_of nodes.now) n.0 }
     requires node { is_live nodes.now.source.hier.now.order n.0 ≡ true }
     ensures { OnOk result (tree.members into.new.items ≡ tree.members into.old.items ++ each (written.filler
@@ -209,7 +209,7 @@ fn add_fillers(
 
 /// The members of the class of a live node: by the columns, and then the fillers by slot.
 pub fn class_members(nodes: &Nodes, n: NodeId) -> Result<Vec<Member>, AllocError>
-    requires nodes { AreNodes nodes.now }
+    requires nodes { AreSourceNodes nodes.now }
     requires node { is_live nodes.now.source.hier.now.order n.0 ≡ true }
     ensures { IfOk result (λ v. tree.members v.items ≡ written.class_members (old_program nodes.now.source) (renaming nodes.now.source) nodes.now.facts.now
         (hierarchy_of nodes.now) nodes.now.source.numbering.now.columns.keys n.0) }
@@ -223,7 +223,7 @@ pub fn class_members(nodes: &Nodes, n: NodeId) -> Result<Vec<Member>, AllocError
 
 /// Adds the head that a column gives to the interface of the live node where it stands.
 fn add_head(nodes: &Nodes, n: NodeId, c: u32, into: &mut Vec<Head>) -> Result<(), AllocError>
-    requires nodes { AreNodes nodes.now }
+    requires nodes { AreSourceNodes nodes.now }
     requires node { is_live nodes.now.source.hier.now.order n.0 ≡ true }
     requires column { c < length nodes.now.facts.now.columns.items }
     ensures { OnOk result (tree.heads into.new.items ≡ tree.heads into.old.items ++ when (stands_at (hierarchy_of nodes.now) n.0 c) (written.column_heads
@@ -240,7 +240,7 @@ fn add_head(nodes: &Nodes, n: NodeId, c: u32, into: &mut Vec<Head>) -> Result<()
 
 /// The heads of the interface of a live node, in the order of the columns.
 pub fn interface_heads(nodes: &Nodes, n: NodeId) -> Result<Vec<Head>, AllocError>
-    requires nodes { AreNodes nodes.now }
+    requires nodes { AreSourceNodes nodes.now }
     requires node { is_live nodes.now.source.hier.now.order n.0 ≡ true }
     ensures { IfOk result (λ v. tree.heads v.items ≡ written.interface_heads (old_program nodes.now.source) (renaming nodes.now.source) nodes.now.facts.now
         (hierarchy_of nodes.now) n.0) }

@@ -1,7 +1,7 @@
 //! The field or the method with a body that a column is.
 
 ghost use Rattle.std.specs.Prelude.{◌≡◌, ◌++◌, OnOk};
-ghost use Rattle.source_gen.specs.Words.{old_program, renaming, AreNodes, hierarchy_of};
+ghost use Rattle.source_gen.specs.Words.{old_program, renaming, AreSourceNodes, hierarchy_of};
 ghost use Rattle.java_tree.specs.Syntax as tree;
 ghost use Rattle.write_model.specs.Members as written;
 
@@ -17,7 +17,7 @@ pub fn add_own(
     item: Option<ColumnItem>,
     into: &mut Vec<Member>,
 ) -> Result<(), AllocError>
-    requires { AreNodes nodes.now }
+    requires { AreSourceNodes nodes.now }
     ensures { OnOk result (tree.members into.new.items ≡ tree.members into.old.items ++ written.own_member (old_program nodes.now.source)
         (renaming nodes.now.source) nodes.now.facts.now (hierarchy_of nodes.now) item) }
 {

@@ -1,7 +1,7 @@
 //! What stands at a node, and what a node offers.
 
 ghost use Rattle.std.specs.Prelude.{◌≡◌, ◌<◌, ◌==◌, ◌&&◌, true, cond, length};
-ghost use Rattle.source_gen.specs.Words.{is_live, AreNodes, hierarchy_of};
+ghost use Rattle.source_gen.specs.Words.{is_live, AreSourceNodes, hierarchy_of};
 ghost use Rattle.fact_model.specs.Items.{site_at, site_row, column_kind, column_slot};
 ghost use Rattle.fact_model.specs.Classes.{is_def, is_slot};
 ghost use Rattle.hier_model.specs.Hierarchies.{place_of_row, stands_at, offers_slot};
@@ -23,7 +23,7 @@ pub fn is_declaration(kind: ColKind) -> bool
 
 /// Whether a column stands at a node.
 pub fn stands_at(nodes: &Nodes, n: NodeId, c: u32) -> bool
-    requires nodes { AreNodes nodes.now }
+    requires nodes { AreSourceNodes nodes.now }
     requires column { c < length nodes.now.facts.now.columns.items }
     ensures { result ≡ stands_at (hierarchy_of nodes.now) n.0 c }
 {
@@ -35,7 +35,7 @@ pub fn stands_at(nodes: &Nodes, n: NodeId, c: u32) -> bool
 
 /// Whether a site is one of objects and stands at a node.
 fn is_object_at(nodes: &Nodes, n: NodeId, s: u32) -> bool
-    requires nodes { AreNodes nodes.now }
+    requires nodes { AreSourceNodes nodes.now }
     requires site { s < length nodes.now.facts.now.sites.items }
     ensures { result ≡ (((site_at nodes.now.facts.now s).dim == 0) && (place_of_row (hierarchy_of nodes.now) (site_row nodes.now.facts.now s) == n.0)) }
 {
@@ -45,7 +45,7 @@ fn is_object_at(nodes: &Nodes, n: NodeId, s: u32) -> bool
 
 /// Whether objects are created at a node.
 pub fn is_made_at(nodes: &Nodes, n: NodeId) -> bool
-    requires { AreNodes nodes.now }
+    requires { AreSourceNodes nodes.now }
     ensures { result ≡ is_made_at nodes.now.facts.now (hierarchy_of nodes.now) n.0 }
 {
     for s in 0..nodes.facts.sites.len() as u32 {
@@ -58,7 +58,7 @@ pub fn is_made_at(nodes: &Nodes, n: NodeId) -> bool
 
 /// Whether a column is of a slot and a live node offers it, where `bodies` asks for a body.
 fn is_offered_as(nodes: &Nodes, n: NodeId, x: u32, bodies: bool, c: u32) -> bool
-    requires nodes { AreNodes nodes.now }
+    requires nodes { AreSourceNodes nodes.now }
     requires node { is_live nodes.now.source.hier.now.order n.0 ≡ true }
     requires column { c < length nodes.now.facts.now.columns.items }
     ensures { result ≡ is_offered_as nodes.now.facts.now (hierarchy_of nodes.now) n.0 x bodies c }
@@ -70,7 +70,7 @@ fn is_offered_as(nodes: &Nodes, n: NodeId, x: u32, bodies: bool, c: u32) -> bool
 
 /// Whether a live node offers a slot: a body of it, where `bodies` asks for that, and else also a declaration.
 pub fn offers(nodes: &Nodes, n: NodeId, x: u32, bodies: bool) -> bool
-    requires nodes { AreNodes nodes.now }
+    requires nodes { AreSourceNodes nodes.now }
     requires node { is_live nodes.now.source.hier.now.order n.0 ≡ true }
     ensures { result ≡ cond bodies (offers_body nodes.now.facts.now (hierarchy_of nodes.now) n.0 x)
         (offers_slot nodes.now.facts.now (hierarchy_of nodes.now) n.0 x) }
@@ -85,7 +85,7 @@ pub fn offers(nodes: &Nodes, n: NodeId, x: u32, bodies: bool) -> bool
 
 /// Whether a column is a declaration of a slot that stands at a node.
 fn is_declared_at(nodes: &Nodes, n: NodeId, x: u32, d: u32) -> bool
-    requires nodes { AreNodes nodes.now }
+    requires nodes { AreSourceNodes nodes.now }
     requires column { d < length nodes.now.facts.now.columns.items }
     ensures { result ≡ (is_declaration (column_kind nodes.now.facts.now d) && (is_slot (column_slot nodes.now.facts.now d) x && stands_at
         (hierarchy_of nodes.now) n.0 d)) }
@@ -96,7 +96,7 @@ fn is_declared_at(nodes: &Nodes, n: NodeId, x: u32, d: u32) -> bool
 
 /// Whether no column before this one declares the slot at the node.
 pub fn is_first_there(nodes: &Nodes, n: NodeId, c: u32, x: u32) -> bool
-    requires nodes { AreNodes nodes.now }
+    requires nodes { AreSourceNodes nodes.now }
     requires column { c < length nodes.now.facts.now.columns.items }
     ensures { result ≡ is_first_there nodes.now.facts.now (hierarchy_of nodes.now) n.0 c x }
 {

@@ -1,7 +1,7 @@
 //! The class nodes, and the supertypes that the type of a node names.
 
 ghost use Rattle.std.specs.Prelude.{◌≡◌, ◌&&◌, not, ◌++◌, ◌∷◌, [], ◌<◌, true, cond, length, IfOk, IfSome, OnOk};
-ghost use Rattle.source_gen.specs.Words.{option_map, is_le, is_live, InRange, AreNodes, hierarchy_of};
+ghost use Rattle.source_gen.specs.Words.{option_map, is_le, is_live, InRange, AreSourceNodes, hierarchy_of};
 ghost use Rattle.hier_model.specs.Hierarchies.{IsHierarchyOf, is_class_node, any_below, type_name};
 ghost use Rattle.write_model.specs.Names as names;
 ghost use Rattle.write_model.specs.Supers as supers;
@@ -64,7 +64,7 @@ pub fn class_nodes(alloc: Global, facts: &Facts, hier: &Hier) -> Result<Vec<bool
 
 /// Whether a live node is a class node.
 pub fn is_class(nodes: &Nodes, n: u32) -> bool
-    requires nodes { AreNodes nodes.now }
+    requires nodes { AreSourceNodes nodes.now }
     requires node { is_live nodes.now.source.hier.now.order n ≡ true }
     ensures { result ≡ is_class_node nodes.now.facts.now (hierarchy_of nodes.now) n }
 {
@@ -73,7 +73,7 @@ pub fn is_class(nodes: &Nodes, n: u32) -> bool
 
 /// Whether a live node is at or below another.
 fn is_under(nodes: &Nodes, a: u32, b: u32) -> bool
-    requires nodes { AreNodes nodes.now }
+    requires nodes { AreSourceNodes nodes.now }
     requires node { is_live nodes.now.source.hier.now.order a ≡ true }
     ensures { result ≡ is_le nodes.now.source.hier.now.order a b }
 {
@@ -86,7 +86,7 @@ fn is_under(nodes: &Nodes, a: u32, b: u32) -> bool
 
 /// Whether a node is at or below another.
 fn is_le(nodes: &Nodes, a: u32, b: u32) -> bool
-    requires { AreNodes nodes.now }
+    requires { AreSourceNodes nodes.now }
     ensures { result ≡ is_le nodes.now.source.hier.now.order a b }
 {
     let order = nodes.source.hier.order();
@@ -98,7 +98,7 @@ fn is_le(nodes: &Nodes, a: u32, b: u32) -> bool
 
 /// Whether `b` is strictly above `a`.
 fn is_above(nodes: &Nodes, a: u32, b: u32) -> bool
-    requires { AreNodes nodes.now }
+    requires { AreSourceNodes nodes.now }
     ensures { result ≡ supers.is_above nodes.now.source.hier.now.order a b }
 {
     is_le(nodes, a, b) && a != b
@@ -106,7 +106,7 @@ fn is_above(nodes: &Nodes, a: u32, b: u32) -> bool
 
 /// Whether a node is strictly above one and strictly below the other.
 fn is_between(nodes: &Nodes, a: u32, k: u32, b: u32) -> bool
-    requires { AreNodes nodes.now }
+    requires { AreSourceNodes nodes.now }
     ensures { result ≡ (supers.is_above nodes.now.source.hier.now.order a k && supers.is_above nodes.now.source.hier.now.order k b) }
 {
     is_above(nodes, a, k) && is_above(nodes, k, b)
@@ -114,7 +114,7 @@ fn is_between(nodes: &Nodes, a: u32, k: u32, b: u32) -> bool
 
 /// Whether a node is strictly between two.
 fn has_between(nodes: &Nodes, a: u32, b: u32) -> bool
-    requires { AreNodes nodes.now }
+    requires { AreSourceNodes nodes.now }
     ensures { result ≡ any_below (length nodes.now.source.hier.now.order.live) (λ k. supers.is_above nodes.now.source.hier.now.order a k && supers.is_above
         nodes.now.source.hier.now.order k b) }
 {
@@ -123,7 +123,7 @@ fn has_between(nodes: &Nodes, a: u32, b: u32) -> bool
 
 /// Whether `b` is strictly above `a`, with none strictly between.
 fn is_cover(nodes: &Nodes, a: u32, b: u32) -> bool
-    requires { AreNodes nodes.now }
+    requires { AreSourceNodes nodes.now }
     ensures { result ≡ supers.is_cover nodes.now.source.hier.now.order a b }
 {
     is_above(nodes, a, b) && !has_between(nodes, a, b)
@@ -131,7 +131,7 @@ fn is_cover(nodes: &Nodes, a: u32, b: u32) -> bool
 
 /// Whether a class node is strictly above a node.
 fn is_class_above(nodes: &Nodes, n: u32, a: u32) -> bool
-    requires { AreNodes nodes.now }
+    requires { AreSourceNodes nodes.now }
     ensures { result ≡ supers.is_class_above nodes.now.facts.now (hierarchy_of nodes.now) n a }
 {
     is_above(nodes, n, a) && is_class(nodes, a)
@@ -139,7 +139,7 @@ fn is_class_above(nodes: &Nodes, n: u32, a: u32) -> bool
 
 /// Whether a class node is strictly above `n`, and not at or above `a`.
 fn is_elsewhere(nodes: &Nodes, n: u32, a: u32, b: u32) -> bool
-    requires nodes { AreNodes nodes.now }
+    requires nodes { AreSourceNodes nodes.now }
     requires node { is_live nodes.now.source.hier.now.order a ≡ true }
     ensures { result ≡ (supers.is_class_above nodes.now.facts.now (hierarchy_of nodes.now) n b && not (is_le nodes.now.source.hier.now.order a b)) }
 {
@@ -148,7 +148,7 @@ fn is_elsewhere(nodes: &Nodes, n: u32, a: u32, b: u32) -> bool
 
 /// Whether some class node strictly above `n` is not at or above `a`.
 fn has_elsewhere(nodes: &Nodes, n: u32, a: u32) -> bool
-    requires nodes { AreNodes nodes.now }
+    requires nodes { AreSourceNodes nodes.now }
     requires node { is_live nodes.now.source.hier.now.order a ≡ true }
     ensures { result ≡ any_below (length nodes.now.source.hier.now.order.live) (λ b. supers.is_class_above nodes.now.facts.now (hierarchy_of nodes.now) n b &&
         not (is_le nodes.now.source.hier.now.order a b)) }
@@ -158,7 +158,7 @@ fn has_elsewhere(nodes: &Nodes, n: u32, a: u32) -> bool
 
 /// Whether a node is the lowest of the class nodes strictly above another.
 fn is_superclass(nodes: &Nodes, n: u32, a: u32) -> bool
-    requires { AreNodes nodes.now }
+    requires { AreSourceNodes nodes.now }
     ensures { result ≡ supers.is_superclass nodes.now.facts.now (hierarchy_of nodes.now) n a }
 {
     is_class_above(nodes, n, a) && !has_elsewhere(nodes, n, a)
@@ -166,7 +166,7 @@ fn is_superclass(nodes: &Nodes, n: u32, a: u32) -> bool
 
 /// The lowest of the class nodes strictly above a node.
 fn superclass(nodes: &Nodes, n: u32) -> Option<NodeId>
-    requires { AreNodes nodes.now }
+    requires { AreSourceNodes nodes.now }
     ensures value { option_map (λ a. a.0) result ≡ supers.superclass nodes.now.facts.now (hierarchy_of nodes.now) n }
     ensures within { IfSome result (λ a. a.0 < length nodes.now.source.hier.now.types) }
 {
@@ -188,7 +188,7 @@ fn type_id(alloc: Global, hier: &Hier, n: NodeId) -> Result<Id, AllocError>
 
 /// What a class extends: the lowest class node strictly above.
 pub fn extended(nodes: &Nodes, n: NodeId) -> Result<Option<Id>, AllocError>
-    requires { AreNodes nodes.now }
+    requires { AreSourceNodes nodes.now }
     ensures { IfOk result (λ i. i ≡ supers.extended nodes.now.facts.now (hierarchy_of nodes.now) n.0) }
 {
     match superclass(nodes, n.0) {
@@ -217,7 +217,7 @@ fn add_name(
 
 /// Whether a node is an upper cover and no class node.
 fn is_face(nodes: &Nodes, n: u32, a: u32) -> bool
-    requires { AreNodes nodes.now }
+    requires { AreSourceNodes nodes.now }
     ensures { result ≡ (supers.is_cover nodes.now.source.hier.now.order n a && not (is_class_node nodes.now.facts.now (hierarchy_of nodes.now) a)) }
 {
     is_cover(nodes, n, a) && !is_class(nodes, a)
@@ -225,7 +225,7 @@ fn is_face(nodes: &Nodes, n: u32, a: u32) -> bool
 
 /// What a class implements: the upper covers that are no class nodes, in rising number.
 pub fn implemented(nodes: &Nodes, n: NodeId) -> Result<Vec<Id>, AllocError>
-    requires { AreNodes nodes.now }
+    requires { AreSourceNodes nodes.now }
     ensures { IfOk result (λ v. v.items ≡ supers.implemented nodes.now.facts.now (hierarchy_of nodes.now) n.0) }
 {
     names_where!(nodes, |a| is_face(nodes, n.0, a))
@@ -233,7 +233,7 @@ pub fn implemented(nodes: &Nodes, n: NodeId) -> Result<Vec<Id>, AllocError>
 
 /// What an interface extends: the upper covers, in rising number.
 pub fn covering(nodes: &Nodes, n: NodeId) -> Result<Vec<Id>, AllocError>
-    requires { AreNodes nodes.now }
+    requires { AreSourceNodes nodes.now }
     ensures { IfOk result (λ v. v.items ≡ supers.covering nodes.now.facts.now (hierarchy_of nodes.now) n.0) }
 {
     names_where!(nodes, |a| is_cover(nodes, n.0, a))

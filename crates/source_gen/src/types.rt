@@ -1,7 +1,7 @@
 //! The types of the nodes.
 
 ghost use Rattle.std.specs.Prelude.{◌≡◌, ◌++◌, ◌∷◌, [], ◌<◌, true, IfOk, OnOk};
-ghost use Rattle.source_gen.specs.Words.{is_live, when, old_program, renaming, AreNodes, hierarchy_of};
+ghost use Rattle.source_gen.specs.Words.{is_live, when, old_program, renaming, AreSourceNodes, hierarchy_of};
 ghost use Rattle.java_tree.specs.Syntax as tree;
 ghost use Rattle.hier_model.specs.Hierarchies.{is_class_node};
 ghost use Rattle.write_model.specs.Written as written;
@@ -30,7 +30,7 @@ fn class_modifiers(alloc: Global, is_made: bool) -> Result<Vec<Modifier>, AllocE
 
 /// The class of a live node.
 fn class_tree(nodes: &Nodes, n: NodeId) -> Result<Decl, AllocError>
-    requires nodes { AreNodes nodes.now }
+    requires nodes { AreSourceNodes nodes.now }
     requires node { is_live nodes.now.source.hier.now.order n.0 ≡ true }
     ensures { IfOk result (λ d. tree.decl_of d ≡ written.class_tree (old_program nodes.now.source) (renaming nodes.now.source) nodes.now.facts.now
         (hierarchy_of nodes.now) nodes.now.source.numbering.now.columns.keys n.0) }
@@ -52,7 +52,7 @@ fn class_tree(nodes: &Nodes, n: NodeId) -> Result<Decl, AllocError>
 
 /// The interface of a live node.
 fn interface_tree(nodes: &Nodes, n: NodeId) -> Result<Decl, AllocError>
-    requires nodes { AreNodes nodes.now }
+    requires nodes { AreSourceNodes nodes.now }
     requires node { is_live nodes.now.source.hier.now.order n.0 ≡ true }
     ensures { IfOk result (λ d. tree.decl_of d ≡ written.interface_tree (old_program nodes.now.source) (renaming nodes.now.source) nodes.now.facts.now
         (hierarchy_of nodes.now) nodes.now.source.numbering.now.columns.keys n.0) }
@@ -71,7 +71,7 @@ fn interface_tree(nodes: &Nodes, n: NodeId) -> Result<Decl, AllocError>
 
 /// Adds the type of a node, if it is live.
 fn add_type(nodes: &Nodes, n: NodeId, into: &mut Vec<Decl>) -> Result<(), AllocError>
-    requires { AreNodes nodes.now }
+    requires { AreSourceNodes nodes.now }
     ensures { OnOk result (tree.decls into.new.items ≡ tree.decls into.old.items ++ when (is_live nodes.now.source.hier.now.order n.0) (written.type_tree
         (old_program nodes.now.source) (renaming nodes.now.source) nodes.now.facts.now (hierarchy_of nodes.now)
         nodes.now.source.numbering.now.columns.keys (is_class_node nodes.now.facts.now (hierarchy_of nodes.now) n.0) n.0 ∷ [])) }
@@ -90,7 +90,7 @@ fn add_type(nodes: &Nodes, n: NodeId, into: &mut Vec<Decl>) -> Result<(), AllocE
 
 /// Adds the types of the live nodes, in the order of their numbers.
 pub fn add_types(nodes: &Nodes, into: &mut Vec<Decl>) -> Result<(), AllocError>
-    requires { AreNodes nodes.now }
+    requires { AreSourceNodes nodes.now }
     ensures { OnOk result (tree.decls into.new.items ≡ tree.decls into.old.items ++ written.type_trees (old_program nodes.now.source)
         (renaming nodes.now.source) nodes.now.facts.now (hierarchy_of nodes.now) nodes.now.source.numbering.now.columns.keys) }
 {

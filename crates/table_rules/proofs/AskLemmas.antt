@@ -10,9 +10,9 @@ use Rattle.kaba_bits.proofs.RowLemmas.{HasWidth-kept, GainsRow-keeps}
 use Rattle.fact_model.specs.declared.facts.Facts.{Facts}
 use Rattle.fact_model.specs.Items.{column_slot}
 use Rattle.points_to.specs.Listed.{numbers_at}
-use Rattle.table_rules.specs.Marks.{Marked, Grow, AreEntries}
+use Rattle.table_rules.specs.Marks.{RowMarked, Grow, AreEntries}
 use Rattle.table_rules.specs.Closed.{ColumnFlows}
-use Rattle.table_rules.specs.Asked.{ArePairs, IsNoting, AreAsked, IsMethod, HaveMethods, place_of, IsNoted, IsMetAt, IsRowAsked, IsPlain, is_beyond}
+use Rattle.table_rules.specs.Asked.{AreColumnPairs, IsNoting, AreAsked, IsMethodColumn, HaveMethods, place_of, IsNoted, IsMetAt, IsRowAsked, IsPlain, is_beyond}
 use Rattle.points_to.proofs.LoopLemmas.{pass_all}
 use Rattle.table_rules.proofs.CloseLemmas.{marked-column}
 
@@ -31,7 +31,7 @@ grow_then a b c p q r i h = q r i (p r i h)
 
 -- what holds of the entries of a family, and of what one of its rows gained, holds of the entries after it
 pub gained : (P : ℕ → ℕ → Type 0) (old new : List (List Bool)) (into : ℕ) (extra : List Bool) → GainsRow old new into extra
-    → ((r c : ℕ) → Marked old r c → P r c) → ((c : ℕ) → bit extra c ≡ true → P into c) → (r c : ℕ) → Marked new r c → P r c
+    → ((r c : ℕ) → RowMarked old r c → P r c) → ((c : ℕ) → bit extra c ≡ true → P into c) → (r c : ℕ) → RowMarked new r c → P r c
 gained P old new into extra g have more r c h =
     ⊎_elim
     (λ e.
@@ -42,7 +42,7 @@ gained P old new into extra g have more r c h =
 
 -- one pair more
 pub pair_more : (F : Facts) (P : ℕ → ℕ → Type 0) (old new : List (List Bool)) (d c : ℕ) → length new ≡ length old → ((k : ℕ)
-    → length (row new k) ≡ length (row old k)) → GainsBit old new d c → ArePairs F P old → P d c → IsNoting F P old new
+    → length (row new k) ≡ length (row old k)) → GainsBit old new d c → AreColumnPairs F P old → P d c → IsNoting F P old new
 pair_more F P old new d c len widths g are has = record {
   pairs = record {
     len = len ∙ are.len;
@@ -83,7 +83,7 @@ module _ (F : Facts) (old new : List (List Bool)) (d : ℕ) (extra : List Bool) 
 
 -- empty sets
 pub no_pairs : (F : Facts) (P : ℕ → ℕ → Type 0) (sets : List (List Bool)) (n : ℕ) → n ≡ length F.columns.items → length sets ≡ n → HasWidth n sets
-    → ((k : ℕ) → IsEmpty (row sets k)) → ArePairs F P sets
+    → ((k : ℕ) → IsEmpty (row sets k)) → AreColumnPairs F P sets
 no_pairs F P sets n is len widths empty = record {
   len = len ∙ is;
   widths = subst (λ w. HasWidth w sets) is widths;
@@ -92,7 +92,7 @@ no_pairs F P sets n is len widths empty = record {
 
 -- a column with all of its slot
 module _ (F : Facts) (asked hidden : List (List Bool)) (d : ℕ) where
-  pub none_noted : (IsMethod F d → ⊥) → (c : ℕ) → IsNoted F asked hidden d c
+  pub none_noted : (IsMethodColumn F d → ⊥) → (c : ℕ) → IsNoted F asked hidden d c
   none_noted lacks c = record { by_body = λ by. absurd (lacks (inl by.body)); by_hiding = λ by. absurd (lacks by.method) }
 
   pub all_noted : (methods : List (Vec ℕ Global)) → HaveMethods F methods (length F.columns.items)
@@ -103,7 +103,7 @@ module _ (F : Facts) (asked hidden : List (List Bool)) (d : ℕ) where
     by_hiding = λ by. (each (⊎_elim (λ e. inl (sym by.kind ∙ e)) (λ e. inr (sym by.kind ∙ e)) by.method) by.slot).by_hiding by;
   }
     where
-      each : IsMethod F c → column_slot F d ≡ column_slot F c → IsNoted F asked hidden d c
+      each : IsMethodColumn F c → column_slot F d ≡ column_slot F c → IsNoted F asked hidden d c
       each m same =
           All-contains (λ k. k < length F.columns.items → IsNoted F asked hidden d k) (numbers_at methods (place_of (length methods) (column_slot F d))) c all
           (subst (λ s. Contains (numbers_at methods (place_of (length methods) s)) c) (sym same) (have c lt m)) lt

@@ -20,18 +20,18 @@ use Rattle.fact_model.specs.declared.sets.PointsTo.{PointsTo}
 use Rattle.fact_model.specs.declared.sets.Table.{Table}
 use Rattle.fact_model.proofs.RangeLemmas.{member-below}
 use Rattle.fact_model.proofs.OrderLemmas.{column-above, body-own}
-use Rattle.table_rules.specs.Marks.{Marked, AreEntries}
+use Rattle.table_rules.specs.Marks.{RowMarked, AreEntries}
 use Rattle.points_to.proofs.LoopLemmas.{skip_all}
-use Rattle.table_rules.specs.Closed.{Gains, RowFlows, ColumnFlows, IsTieClosed, IsSiteClosed, AreClosed}
+use Rattle.table_rules.specs.Closed.{Gains, RowFlows, ColumnFlows, IsTieClosed, IsSiteClosed, IsTableClosed}
 use Rattle.table_rules.specs.Asked.{AreAsked, IsRowAsked, IsClosedAt, IsRowClosed}
 use Rattle.table_rules.proofs.RawLemmas.{sized}
 
 -- an entry is in a row and in a column of the table
-pub marked-row : (rows : List (List Bool)) (r c : ℕ) → Marked rows r c → r < length rows
+pub marked-row : (rows : List (List Bool)) (r c : ℕ) → RowMarked rows r c → r < length rows
 marked-row rows r c h =
     ⊎_elim (λ lt. lt) (λ past. let none : row rows r ≡ [] = get_or_past rows r [] past in absurd (false≢true (rw none at h))) (cases_lt r (length rows))
 
-pub marked-column : (w : ℕ) (rows : List (List Bool)) (r c : ℕ) → HasWidth w rows → Marked rows r c → c < w
+pub marked-column : (w : ℕ) (rows : List (List Bool)) (r c : ℕ) → HasWidth w rows → RowMarked rows r c → c < w
 marked-column w rows r c widths h = omega (arith, bit-below (row rows r) c h, widths r (marked-row rows r c h))
 
 module _ (F : Facts) where
@@ -73,9 +73,9 @@ module _ (F : Facts) (sets asked rows : List (List Bool)) (are : AreEntries F ro
   -- a table whose rows have what their columns ask for is closed, where all was asked for
   pub all_closed : ((q : ℕ) → q < length F.rows.items → IsRowAsked F rows asked q)
       → ((r : ℕ) → r < length F.rows.items → IsRowClosed asked rows r) → All (IsTieClosed rows) F.ties.items
-      → ((v : ℕ) → v < length F.rows.items → IsSiteClosed F sets rows v) → AreClosed F sets rows
+      → ((v : ℕ) → v < length F.rows.items → IsSiteClosed F sets rows v) → IsTableClosed F sets rows
   all_closed met closed ties sites =
-      let held : (r c : ℕ) → Marked rows r c → r < length F.rows.items = λ r c h. subst (λ n. r < n) are.len (marked-row rows r c h) in
+      let held : (r c : ℕ) → RowMarked rows r c → r < length F.rows.items = λ r c h. subst (λ n. r < n) are.len (marked-row rows r c h) in
       record {
         declared = λ r d c lt by m. closed r (held r d m) d m c
             (flows.declared d c (marked-column (length F.columns.items) rows r d are.widths m) lt by);
@@ -91,7 +91,7 @@ pub round_closed : (F : Facts) (sets asked rows after ties_done new : List (List
     → IsStep rows after g → OnFalse g ((r : ℕ) → r < length F.rows.items → IsRowClosed asked after r)
     → IsStep after ties_done t → OnFalse t (All (IsTieClosed ties_done) F.ties.items)
     → IsStep ties_done new s → OnFalse s ((v : ℕ) → v < length F.rows.items → IsSiteClosed F sets new v)
-    → AreEntries F new → OnFalse ((g || t) || s) (AreClosed F sets new)
+    → AreEntries F new → OnFalse ((g || t) || s) (IsTableClosed F sets new)
 round_closed F sets asked rows after ties_done new true t s flows met e1 p1 e2 p2 e3 p3 are = tt
 round_closed F sets asked rows after ties_done new false true s flows met e1 p1 e2 p2 e3 p3 are = tt
 round_closed F sets asked rows after ties_done new false false true flows met e1 p1 e2 p2 e3 p3 are = tt
@@ -103,11 +103,11 @@ round_closed F sets asked rows after ties_done new false false false flows met e
     p3
 
 module _ (F : Facts) (R : InRange F) (pt : PointsTo) (sets : AreSets F pt) (rows : List (List Bool)) (are : AreEntries F rows)
-    (closed : AreClosed F pt.rows.items rows) where
-  held : (r c : ℕ) → Marked rows r c → r < length F.rows.items
+    (closed : IsTableClosed F pt.rows.items rows) where
+  held : (r c : ℕ) → RowMarked rows r c → r < length F.rows.items
   held r c h = subst (λ n. r < n) are.len (marked-row rows r c h)
 
-  closed_under : (ps : List Entry) (e : Entry) → Entails F ps e → AllByRecursion (λ p. Marked rows p.0 p.1) ps → Marked rows e.0 e.1
+  closed_under : (ps : List Entry) (e : Entry) → Entails F ps e → AllByRecursion (λ p. RowMarked rows p.0 p.1) ps → RowMarked rows e.0 e.1
   closed_under ps e (by_access x is) h = are.raw x.row.0 x.column.0 (by_access x is)
   closed_under ps e (by_need call o d is holds found) h = are.raw (site_row F o) d (by_need call o d is holds found)
   closed_under ps e (by_this v d t) h = are.raw v d.0 (by_this v d t)
@@ -121,11 +121,11 @@ module _ (F : Facts) (R : InRange F) (pt : PointsTo) (sets : AreSets F pt) (rows
   closed_under ps e (by_test x c is m) h = are.raw x.target.0 c (by_test x c is m)
   closed_under ps e (by_array s c lt dim m) h = are.raw (site_row F s) c (by_array s c lt dim m)
 
-  complete : (r c : ℕ) → IsEntry F r c → Marked rows r c
-  complete r c = derivable_least (Entails F) (λ e. Marked rows e.0 e.1) closed_under (r, c)
+  complete : (r c : ℕ) → IsEntry F r c → RowMarked rows r c
+  complete r c = derivable_least (Entails F) (λ e. RowMarked rows e.0 e.1) closed_under (r, c)
 
 pub closed_table : (F : Facts) (R : InRange F) (pt : PointsTo) (sets : AreSets F pt) (t : Table) → t.width ≡ length F.columns.items
-    → AreEntries F t.rows.items → AreClosed F pt.rows.items t.rows.items → IsTable F t
+    → AreEntries F t.rows.items → IsTableClosed F pt.rows.items t.rows.items → IsTable F t
 closed_table F R pt sets t e are closed = record {
   sized = sized F (IsEntry F) t e (record { len = are.len; widths = are.widths; sound = are.sound });
   entries = λ r c. (are.sound r c, complete F R pt sets t.rows.items are closed r c);

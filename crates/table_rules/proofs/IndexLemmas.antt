@@ -11,7 +11,7 @@ use Rattle.fact_model.specs.Items.{column_slot}
 use Rattle.fact_model.specs.Entries.{Hides}
 use Rattle.fact_model.specs.declared.facts.Facts.{Facts}
 use Rattle.points_to.specs.Listed.{numbers_at, KeepNumbers}
-use Rattle.table_rules.specs.Asked.{place_of, IsMethod, HaveMethods, AreHidden, IsPlain}
+use Rattle.table_rules.specs.Asked.{place_of, IsMethodColumn, HaveMethods, AreHidden, IsPlain}
 
 pub place-below : (n : ℕ) (slot : Option ℕ) → 0 < n → place_of n slot < n
 place-below n None lt = lt
@@ -21,9 +21,9 @@ pub keep_same : (lists : List (Vec ℕ Global)) → KeepNumbers lists lists
 keep_same lists = record { len = refl; each = λ k x h. h }
 
 module _ (F : Facts) (old new : List (Vec ℕ Global)) (kept : KeepNumbers old new) (i : ℕ) where
-  pub methods_more : HaveMethods F old i → (IsMethod F i → Contains (numbers_at new (place_of (length old) (column_slot F i))) i) → HaveMethods F new (i + 1)
+  pub methods_more : HaveMethods F old i → (IsMethodColumn F i → Contains (numbers_at new (place_of (length old) (column_slot F i))) i) → HaveMethods F new (i + 1)
   methods_more before here =
-      below_more (λ k. IsMethod F k → Contains (numbers_at new (place_of (length new) (column_slot F k))) k) i
+      below_more (λ k. IsMethodColumn F k → Contains (numbers_at new (place_of (length new) (column_slot F k))) k) i
       (λ k lt m. same k (kept.each (place_of (length old) (column_slot F k)) k (before k lt m)))
       (λ m. same i (here m))
     where

@@ -5,14 +5,14 @@ use Rattle.std.proofs.lemmas.List.Elements.{All-contains, Contains-get_or}
 use Rattle.kaba_bits.specs.Sets.{HasWidth}
 use Rattle.fact_model.specs.InRange.{InRange}
 use Rattle.fact_model.specs.Flowing.{in_point, AreSets}
-use Rattle.fact_model.specs.Entries.{Entry, Entails, by_access, by_need, by_this, by_super, by_test, by_array, IsRawEntry, IsRawTable, IsSized}
+use Rattle.fact_model.specs.Entries.{Entry, Entails, by_access, by_need, by_this, by_super, by_test, by_array, IsRawEntry, IsRawTable, IsTableSized}
 use Rattle.fact_model.specs.declared.facts.Facts.{Facts}
 use Rattle.fact_model.specs.declared.facts.AccessInfo.{AccessInfo}
 use Rattle.fact_model.specs.declared.facts.SuperInfo.{SuperInfo}
 use Rattle.fact_model.specs.declared.sets.PointsTo.{PointsTo}
 use Rattle.fact_model.specs.declared.sets.Table.{Table}
 use Rattle.fact_model.proofs.RangeLemmas.{site-below, this-below}
-use Rattle.table_rules.specs.Marks.{Marked, IsRawPair, AreMarks, AreRaw, IsAccessMarked, IsCallMarked, IsSuperMarked, IsTestMarked, AreMarked}
+use Rattle.table_rules.specs.Marks.{RowMarked, IsRawPair, AreMarks, AreRaw, IsAccessMarked, IsCallMarked, IsSuperMarked, IsTestMarked, AreMarked}
 
 -- what the lists of accesses and of super calls name
 pub accesses_raw : (F : Facts) → InRange F → All (λ (x : AccessInfo). IsRawPair F x.row.0 x.column.0) F.accesses.items
@@ -22,7 +22,7 @@ pub supers_raw : (F : Facts) → InRange F → All (λ (x : SuperInfo). IsRawPai
 supers_raw F R = λ k d lt. let r = R.supers k d lt in (r.0, r.1, by_super _ (Contains-get_or F.supers.items k d lt))
 
 module _ (F : Facts) (R : InRange F) (pt : PointsTo) (sets : AreSets F pt) (rows : List (List Bool)) (all : AreMarked F pt.points.items rows) where
-  marked : (e : Entry) → Entails F [] e → Marked rows e.0 e.1
+  marked : (e : Entry) → Entails F [] e → RowMarked rows e.0 e.1
   marked e (by_access x is) = All-contains (IsAccessMarked rows) F.accesses.items x all.accesses is
   marked e (by_need call o d is holds found) =
       All-contains (IsCallMarked F pt.points.items rows) F.calls.items call all.calls is o (site-below F R (in_point call.receiver o) holds)
@@ -33,7 +33,7 @@ module _ (F : Facts) (R : InRange F) (pt : PointsTo) (sets : AreSets F pt) (rows
   marked e (by_array s c lt dim m) = all.arrays s lt dim c m.below m
 
 -- rows of the width of the columns are a table of the facts
-pub sized : (F : Facts) (P : ℕ → ℕ → Type 0) (t : Table) → t.width ≡ length F.columns.items → AreMarks F P t.rows.items → IsSized F t
+pub sized : (F : Facts) (P : ℕ → ℕ → Type 0) (t : Table) → t.width ≡ length F.columns.items → AreMarks F P t.rows.items → IsTableSized F t
 sized F P t e are = record { columns = e; rows = are.len; widths = subst (λ w. HasWidth w t.rows.items) (sym e) are.widths }
 
 pub raw_table : (F : Facts) (R : InRange F) (pt : PointsTo) (sets : AreSets F pt) (t : Table) → t.width ≡ length F.columns.items

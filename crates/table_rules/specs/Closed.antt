@@ -7,7 +7,7 @@ use Rattle.fact_model.specs.Items.{site_row, row_this}
 use Rattle.fact_model.specs.Entries.{IsEntry, IsDeclaredBy, Hides}
 use Rattle.fact_model.specs.declared.facts.Facts.{Facts}
 use Rattle.fact_model.specs.declared.facts.TieInfo.{TieInfo}
-use Rattle.table_rules.specs.Marks.{Marked, AreEntries}
+use Rattle.table_rules.specs.Marks.{RowMarked, AreEntries}
 
 -- each column that the row v must have, the row r must have
 abbrev pub RowFlows : Facts → ℕ → ℕ → Type 0
@@ -30,12 +30,12 @@ abbrev pub IsSiteClosed : Facts → List (List Bool) → List (List Bool) → �
 IsSiteClosed F sets rows v = (o : ℕ) → o < length F.sites.items → IsSiteClosedAt F sets v rows o
 
 -- the table is closed under the rules with premises
-pub record AreClosed (F : Facts) (sets rows : List (List Bool)) : Type 0 where
-  pub declared : (r d c : ℕ) → c < length F.columns.items → IsDeclaredBy F d c → Marked rows r d → Marked rows r c
-  pub bodies : (r v c : ℕ) (d : ColId) → row_this F v ≡ Some d → Marked rows r d.0 → Marked rows v c → Marked rows r c
+pub record IsTableClosed (F : Facts) (sets rows : List (List Bool)) : Type 0 where
+  pub declared : (r d c : ℕ) → c < length F.columns.items → IsDeclaredBy F d c → RowMarked rows r d → RowMarked rows r c
+  pub bodies : (r v c : ℕ) (d : ColId) → row_this F v ≡ Some d → RowMarked rows r d.0 → RowMarked rows v c → RowMarked rows r c
   pub ties : All (IsTieClosed rows) F.ties.items
   pub sites : (v : ℕ) → v < length F.rows.items → IsSiteClosed F sets rows v
-  pub hidden : (q r d c : ℕ) → Hides F d c → Marked rows q d → Marked rows q c → Marked rows r d → Marked rows r c
+  pub hidden : (q r d c : ℕ) → Hides F d c → RowMarked rows q d → RowMarked rows q c → RowMarked rows r d → RowMarked rows r c
 
 -- after a step the rows have only entries that hold; where it says that nothing was new, they are as they were, and P holds
 pub record Gains (F : Facts) (old new : List (List Bool)) (grew : Bool) (P : Type 0) : Type 0 where

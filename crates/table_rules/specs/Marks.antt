@@ -14,14 +14,14 @@ use Rattle.fact_model.specs.declared.facts.SuperInfo.{SuperInfo}
 use Rattle.fact_model.specs.declared.facts.TestInfo.{TestInfo}
 
 -- a row has a column
-abbrev pub Marked : List (List Bool) → ℕ → ℕ → Type 0
-Marked rows r c = bit (row rows r) c ≡ true
+abbrev pub RowMarked : List (List Bool) → ℕ → ℕ → Type 0
+RowMarked rows r c = bit (row rows r) c ≡ true
 
 -- rows of columns for the rows of the facts, of whose entries P holds
 pub record AreMarks (F : Facts) (P : ℕ → ℕ → Type 0) (rows : List (List Bool)) : Type 0 where
   pub len : length rows ≡ length F.rows.items
   pub widths : HasWidth (length F.columns.items) rows
-  pub sound : (r c : ℕ) → Marked rows r c → P r c
+  pub sound : (r c : ℕ) → RowMarked rows r c → P r c
 
 -- rows whose entries all come from rules without premises
 abbrev pub AreRaw : Facts → List (List Bool) → Type 0
@@ -36,8 +36,8 @@ pub record IsBegun (F : Facts) (rows : List (List Bool)) : Type 0 where
 pub record AreEntries (F : Facts) (rows : List (List Bool)) : Type 0 where
   pub len : length rows ≡ length F.rows.items
   pub widths : HasWidth (length F.columns.items) rows
-  pub sound : (r c : ℕ) → Marked rows r c → IsEntry F r c
-  pub raw : (r c : ℕ) → IsRawEntry F r c → Marked rows r c
+  pub sound : (r c : ℕ) → RowMarked rows r c → IsEntry F r c
+  pub raw : (r c : ℕ) → IsRawEntry F r c → RowMarked rows r c
 
 -- each row has at least what it had
 abbrev pub Grow : List (List Bool) → List (List Bool) → Type 0
@@ -54,20 +54,20 @@ IsRawPair F r c = (r < length F.rows.items) × (c < length F.columns.items) × I
 
 -- the row of an access has the column of the member that is accessed
 abbrev pub IsAccessMarked : List (List Bool) → AccessInfo → Type 0
-IsAccessMarked rows x = Marked rows x.row.0 x.column.0
+IsAccessMarked rows x = RowMarked rows x.row.0 x.column.0
 
 -- the row of a super call's `this` has the column of the body that the call runs
 abbrev pub IsSuperMarked : List (List Bool) → SuperInfo → Type 0
-IsSuperMarked rows x = Marked rows x.row.0 x.column.0
+IsSuperMarked rows x = RowMarked rows x.row.0 x.column.0
 
 -- the row v, where it is a `this`, has the body
 abbrev pub IsThisMarked : Facts → List (List Bool) → ℕ → Type 0
-IsThisMarked F rows v = (d : ColId) → row_this F v ≡ Some d → Marked rows v d.0
+IsThisMarked F rows v = (d : ColId) → row_this F v ≡ Some d → RowMarked rows v d.0
 
 -- the site o, where it is in the receiver, has the body found for its class
 abbrev pub IsNeedMarked : Facts → List (List Bool) → CallInfo → List (List Bool) → ℕ → Type 0
 IsNeedMarked F points call rows o = bit (row points call.receiver) o ≡ true → (d : ℕ) → finds F (site_class F o) call.slot ≡ Some d
-    → Marked rows (site_row F o) d
+    → RowMarked rows (site_row F o) d
 
 -- each site of a call's receiver has the body that the call runs on it
 abbrev pub IsCallMarked : Facts → List (List Bool) → List (List Bool) → CallInfo → Type 0
@@ -75,7 +75,7 @@ IsCallMarked F points rows call = (o : ℕ) → o < length F.sites.items → IsN
 
 -- a row has the column c, where that is the mark of the class
 abbrev pub IsMarkMarkedAt : Facts → ℕ → ℕ → List (List Bool) → ℕ → Type 0
-IsMarkMarkedAt F r class rows c = IsColumn F Is class c → Marked rows r c
+IsMarkMarkedAt F r class rows c = IsColumn F Is class c → RowMarked rows r c
 
 -- a row has the mark of a class
 abbrev pub IsMarkMarked : Facts → List (List Bool) → ℕ → ℕ → Type 0

@@ -7,6 +7,6 @@ pub use Rattle.fact_model.specs.Flowing.{AreSets, IsInRow}
 pub use Rattle.fact_model.specs.Entries.{IsRawEntry, IsRawTable, IsEntry, IsDeclaredBy, Hides}
 pub use Rattle.points_to.specs.Above.{IsAboveRow}
 pub use Rattle.table_rules.specs.Above.{AreAbove}
-pub use Rattle.table_rules.specs.Marks.{Marked, AreRaw, AreEntries, Grow}
-pub use Rattle.table_rules.specs.Asked.{AreAsked, AreHidden, AreOpen, HaveMethods, IsIndex, IsMethod}
-pub use Rattle.table_rules.specs.State.{IsGiven, IsOpen}
+pub use Rattle.table_rules.specs.Marks.{RowMarked, AreRaw, AreEntries, Grow}
+pub use Rattle.table_rules.specs.Asked.{AreAsked, AreHidden, AreOpen, HaveMethods, IsHidingIndex, IsMethodColumn}
+pub use Rattle.table_rules.specs.State.{IsClosureInput, IsOpen}

@@ -3,8 +3,8 @@
 
 ghost use Rattle.std.specs.Prelude.{◌≡◌, ℕ, ◌<◌, ◌&&◌, length, All, Some, IfOk};
 ghost use Rattle.table_rules.specs.Closed.{ColumnFlows};
-ghost use Rattle.table_rules.specs.Asked.{ArePairs, HaveAll, IsNoting, AreColumns, IsColumnStep, IsNoted, IsMetAt, IsThisAsked};
-ghost use Rattle.table_rules.specs.Words.{bit, row, IsSubset, InRange, IsEntry, IsDeclaredBy, Hides, Marked, AreEntries, Grow, column_at, row_this, IsAboveRow, AreAbove, AreAsked, AreHidden, HaveMethods, IsMethod};
+ghost use Rattle.table_rules.specs.Asked.{AreColumnPairs, HaveAllOf, IsNoting, AreRuleColumns, IsColumnStep, IsNoted, IsMetAt, IsThisAsked};
+ghost use Rattle.table_rules.specs.Words.{bit, row, IsSubset, InRange, IsEntry, IsDeclaredBy, Hides, RowMarked, AreEntries, Grow, column_at, row_this, IsAboveRow, AreAbove, AreAsked, AreHidden, HaveMethods, IsMethodColumn};
 
 use crate::Tried;
 use crate::above::above_of;
@@ -25,11 +25,11 @@ pub struct Columns {
 
 /// T5 for one pair of columns.
 fn note_declared(facts: &Facts, asked: &mut [BitRow], d: u32, c: u32)
-    requires asked { ArePairs facts.now (ColumnFlows facts.now) asked.old }
+    requires asked { AreColumnPairs facts.now (ColumnFlows facts.now) asked.old }
     requires body { d < length facts.now.columns.items }
     requires declaration { c < length facts.now.columns.items }
     ensures step { IsNoting facts.now (ColumnFlows facts.now) asked.old asked.new }
-    ensures here { IsDeclaredBy facts.now d c → Marked asked.new d c }
+    ensures here { IsDeclaredBy facts.now d c → RowMarked asked.new d c }
 {
     if is_declared_by(facts, d, c) {
         set_at(asked, d as usize, c);
@@ -40,11 +40,11 @@ fn note_declared(facts: &Facts, asked: &mut [BitRow], d: u32, c: u32)
 fn note_hidden(facts: &Facts, above: &BitRow, hidden: &mut [BitRow], d: u32, c: u32)
     requires facts { InRange facts.now }
     requires above { IsAboveRow facts.now (column_at facts.now d).class.0 above.now }
-    requires hidden { ArePairs facts.now (Hides facts.now) hidden.old }
+    requires hidden { AreColumnPairs facts.now (Hides facts.now) hidden.old }
     requires lower { d < length facts.now.columns.items }
     requires upper { c < length facts.now.columns.items }
     ensures step { IsNoting facts.now (Hides facts.now) hidden.old hidden.new }
-    ensures here { Hides facts.now d c → Marked hidden.new d c }
+    ensures here { Hides facts.now d c → RowMarked hidden.new d c }
 {
     if hides(facts, above, d, c) {
         set_at(hidden, d as usize, c);
@@ -55,7 +55,7 @@ fn note_hidden(facts: &Facts, above: &BitRow, hidden: &mut [BitRow], d: u32, c: 
 fn note_pair(facts: &Facts, above: &BitRow, columns: &mut Columns, d: u32, c: usize)
     requires facts { InRange facts.now }
     requires above { IsAboveRow facts.now (column_at facts.now d).class.0 above.now }
-    requires columns { AreColumns facts.now columns.old }
+    requires columns { AreRuleColumns facts.now columns.old }
     requires column { d < length facts.now.columns.items }
     ensures step { IsColumnStep facts.now columns.old columns.new }
     ensures here { c < length facts.now.columns.items → IsNoted facts.now columns.new.asked.items columns.new.hidden.items d c }
@@ -70,7 +70,7 @@ fn note_pair(facts: &Facts, above: &BitRow, columns: &mut Columns, d: u32, c: us
 fn note_each(facts: &Facts, above: &BitRow, columns: &mut Columns, d: u32, list: &[usize])
     requires facts { InRange facts.now }
     requires above { IsAboveRow facts.now (column_at facts.now d).class.0 above.now }
-    requires columns { AreColumns facts.now columns.old }
+    requires columns { AreRuleColumns facts.now columns.old }
     requires column { d < length facts.now.columns.items }
     ensures step { IsColumnStep facts.now columns.old columns.new }
     ensures here { All (λ c. c < length facts.now.columns.items → IsNoted facts.now columns.new.asked.items columns.new.hidden.items d c) list.now }
@@ -92,7 +92,7 @@ fn note_column(
     requires above { AreAbove facts.now (length facts.now.columns.items) above.now }
     requires methods { HaveMethods facts.now methods.now (length facts.now.columns.items) }
     requires some { 0 < length methods.now }
-    requires columns { AreColumns facts.now columns.old }
+    requires columns { AreRuleColumns facts.now columns.old }
     requires column { d < length facts.now.columns.items }
     ensures step { IsColumnStep facts.now columns.old columns.new }
     ensures here { (c : ℕ) → c < length facts.now.columns.items → IsNoted facts.now columns.new.asked.items columns.new.hidden.items d c }
@@ -116,7 +116,7 @@ fn note_columns(facts: &Facts, above: &[BitRow], methods: &[Vec<usize>], columns
     requires above { AreAbove facts.now (length facts.now.columns.items) above.now }
     requires methods { HaveMethods facts.now methods.now (length facts.now.columns.items) }
     requires count { length methods.now ≡ length facts.now.columns.items }
-    requires columns { AreColumns facts.now columns.old }
+    requires columns { AreRuleColumns facts.now columns.old }
     ensures asked { AreAsked facts.now columns.new.asked.items }
     ensures hidden { AreHidden facts.now columns.new.hidden.items }
 {

@@ -5,9 +5,9 @@ ghost use Rattle.std.specs.Prelude.{◌≡◌, ℕ, ◌<◌, ◌≤◌, ◌-◌,
 ghost use Rattle.kaba_bits.specs.Sets.{IsNoneFrom};
 ghost use Rattle.fact_model.specs.InOrder.{InOrder, ColumnsStandAbove, BodiesAreOwn};
 ghost use Rattle.fact_model.specs.Entries.{IsTable};
-ghost use Rattle.table_rules.specs.Closed.{Gains, IsTieClosed, IsSiteClosedAt, IsSiteClosed, AreClosed};
-ghost use Rattle.table_rules.specs.Asked.{is_beyond, IsMet, IsRowAsked, IsRowClosed};
-ghost use Rattle.table_rules.specs.Words.{OnTrue, OnFalse, bit, row, IsStep, InRange, AreSets, IsInRow, IsRawTable, IsEntry, AreEntries, Grow, AreAsked, AreOpen, IsGiven, IsOpen};
+ghost use Rattle.table_rules.specs.Closed.{Gains, IsTieClosed, IsSiteClosedAt, IsSiteClosed, IsTableClosed};
+ghost use Rattle.table_rules.specs.Asked.{is_beyond, IsHidingMet, IsRowAsked, IsRowClosed};
+ghost use Rattle.table_rules.specs.Words.{OnTrue, OnFalse, bit, row, IsStep, InRange, AreSets, IsInRow, IsRawTable, IsEntry, AreEntries, Grow, AreAsked, AreOpen, IsClosureInput, IsOpen};
 
 use crate::Tried;
 use crate::asked::{Columns, ask_this, columns_of, meet_at};
@@ -45,7 +45,7 @@ fn filled(alloc: Global, facts: &Facts, pt: &PointsTo, rows: Vec<BitRow>) -> Tri
     requires sets { AreSets facts.now pt.now }
     requires rows { AreEntries facts.now rows.items }
     ensures rows { IfOk result (λ v. AreEntries facts.now v.items) }
-    ensures closed { IfOk result (λ v. AreClosed facts.now pt.now.rows.items v.items) }
+    ensures closed { IfOk result (λ v. IsTableClosed facts.now pt.now.rows.items v.items) }
 {
     let Columns { asked, hidden } = columns_of(alloc, facts)?;
     let index = index_of(alloc, facts, hidden)?;
@@ -69,10 +69,10 @@ fn filled(alloc: Global, facts: &Facts, pt: &PointsTo, rows: Vec<BitRow>) -> Tri
 
 /// What the worklist finds, and then turns over everything. An error comes only for want of memory.
 fn fill(given: &Given, state: &mut State) -> Tried<()>
-    requires given { IsGiven given.now }
+    requires given { IsClosureInput given.now }
     requires state { IsOpen given.now state.old }
     ensures rows { OnOk result (AreEntries given.now.facts.now state.new.rows.items) }
-    ensures closed { OnOk result (AreClosed given.now.facts.now given.now.pt.now.rows.items state.new.rows.items) }
+    ensures closed { OnOk result (IsTableClosed given.now.facts.now given.now.pt.now.rows.items state.new.rows.items) }
 {
     grow(given, state)?;
     run_rounds(given, &mut state.asked, &mut state.both, &mut state.rows);
@@ -81,10 +81,10 @@ fn fill(given: &Given, state: &mut State) -> Tried<()>
 
 /// Turns over everything, until nothing is new.
 fn run_rounds(given: &Given, asked: &mut [BitRow], both: &mut BitRow, rows: &mut [BitRow])
-    requires given { IsGiven given.now }
+    requires given { IsClosureInput given.now }
     requires state { AreOpen given.now.facts.now asked.old both.old rows.old }
     ensures state { AreOpen given.now.facts.now asked.new both.new rows.new }
-    ensures closed { AreClosed given.now.facts.now given.now.pt.now.rows.items rows.new }
+    ensures closed { IsTableClosed given.now.facts.now given.now.pt.now.rows.items rows.new }
 {
     loop {
         if !round(given, asked, both, rows) {
@@ -95,11 +95,11 @@ fn run_rounds(given: &Given, asked: &mut [BitRow], both: &mut BitRow, rows: &mut
 
 /// Everything once, and whether anything was new.
 fn round(given: &Given, asked: &mut [BitRow], both: &mut BitRow, rows: &mut [BitRow]) -> bool
-    requires given { IsGiven given.now }
+    requires given { IsClosureInput given.now }
     requires state { AreOpen given.now.facts.now asked.old both.old rows.old }
     ensures state { AreOpen given.now.facts.now asked.new both.new rows.new }
     ensures step { IsStep rows.old rows.new result }
-    ensures closed { OnFalse result (AreClosed given.now.facts.now given.now.pt.now.rows.items rows.new) }
+    ensures closed { OnFalse result (IsTableClosed given.now.facts.now given.now.pt.now.rows.items rows.new) }
 {
     ask_rows(given, rows, asked, both);
     let columns = close_rows(given.facts, asked, rows);
@@ -138,12 +138,12 @@ pub fn next_beyond(facts: &Facts, plain: &BitRow, rows: &[BitRow], r: usize, at:
 
 /// T10: what a row has, and its columns hide, is asked for.
 fn meet_row(given: &Given, rows: &[BitRow], asked: &mut [BitRow], both: &mut BitRow, q: usize)
-    requires given { IsGiven given.now }
+    requires given { IsClosureInput given.now }
     requires state { AreOpen given.now.facts.now asked.old both.old rows.now }
     requires row { q < length given.now.facts.now.rows.items }
     ensures state { AreOpen given.now.facts.now asked.new both.new rows.now }
     ensures grows { Grow asked.old asked.new }
-    ensures met { IsMet given.now.facts.now rows.now asked.new q }
+    ensures met { IsHidingMet given.now.facts.now rows.now asked.new q }
 {
     let (facts, index) = (given.facts, given.index);
     let width = facts.columns.len() as u32;
@@ -161,7 +161,7 @@ fn meet_row(given: &Given, rows: &[BitRow], asked: &mut [BitRow], both: &mut Bit
 
 /// T6 and T10 for each row: what it has, where it is a `this` or its columns hide that, is asked for.
 fn ask_rows(given: &Given, rows: &[BitRow], asked: &mut [BitRow], both: &mut BitRow)
-    requires given { IsGiven given.now }
+    requires given { IsClosureInput given.now }
     requires state { AreOpen given.now.facts.now asked.old both.old rows.now }
     ensures state { AreOpen given.now.facts.now asked.new both.new rows.now }
     ensures asked { (q : ℕ) → q < length given.now.facts.now.rows.items → IsRowAsked given.now.facts.now rows.now asked.new q }
@@ -245,7 +245,7 @@ fn pass_ties(facts: &Facts, rows: &mut [BitRow]) -> bool
 
 /// The least site in the set of a row from one on.
 pub fn next_site(given: &Given, v: usize, at: u32) -> Option<u32>
-    requires given { IsGiven given.now }
+    requires given { IsClosureInput given.now }
     requires row { v < length given.now.facts.now.rows.items }
     ensures low { IfSome result (λ o. at ≤ o) }
     ensures site { IfSome result (λ o. o < length given.now.facts.now.sites.items) }
@@ -258,7 +258,7 @@ pub fn next_site(given: &Given, v: usize, at: u32) -> Option<u32>
 
 /// T9 for one row and one site.
 fn join_site(given: &Given, rows: &mut [BitRow], v: usize, o: u32) -> bool
-    requires given { IsGiven given.now }
+    requires given { IsClosureInput given.now }
     requires rows { AreEntries given.now.facts.now rows.old }
     requires row { v < length given.now.facts.now.rows.items }
     requires site { o < length given.now.facts.now.sites.items }
@@ -271,7 +271,7 @@ fn join_site(given: &Given, rows: &mut [BitRow], v: usize, o: u32) -> bool
 
 /// T9 for one row.
 fn join_sites(given: &Given, rows: &mut [BitRow], v: usize) -> bool
-    requires given { IsGiven given.now }
+    requires given { IsClosureInput given.now }
     requires rows { AreEntries given.now.facts.now rows.old }
     requires row { v < length given.now.facts.now.rows.items }
     ensures { Gains given.now.facts.now rows.old rows.new result
@@ -297,7 +297,7 @@ fn join_sites(given: &Given, rows: &mut [BitRow], v: usize) -> bool
 
 /// T9: a site in the set of a row has all columns of the row.
 fn pass_sites(given: &Given, rows: &mut [BitRow]) -> bool
-    requires given { IsGiven given.now }
+    requires given { IsClosureInput given.now }
     requires rows { AreEntries given.now.facts.now rows.old }
     ensures { Gains given.now.facts.now rows.old rows.new result
         ((v : ℕ) → v < length given.now.facts.now.rows.items → IsSiteClosed given.now.facts.now given.now.pt.now.rows.items rows.new v) }

@@ -2,9 +2,9 @@
 
 ghost use Rattle.std.specs.Prelude.{◌≡◌, ℕ, ◌<◌, ◌↔◌, ◌⊎◌, true, length, IsTrue};
 ghost use Rattle.fact_model.specs.Items.{column_slot, row_at, site_at, IsColumn};
-ghost use Rattle.fact_model.specs.Classes.{IsStrictlyBelow};
+ghost use Rattle.fact_model.specs.Classes.{IsStrictSubclass};
 ghost use Rattle.fact_model.specs.declared.facts.ColKind.TheVariants.{Dcl, Def, Is};
-ghost use Rattle.table_rules.specs.Words.{bit, row, column_at, row_this, InRange, IsDeclaredBy, Hides, IsAboveRow, IsMethod};
+ghost use Rattle.table_rules.specs.Words.{bit, row, column_at, row_this, InRange, IsDeclaredBy, Hides, IsAboveRow, IsMethodColumn};
 
 use fact_model::{ColKind, ColumnInfo, Facts, SiteInfo};
 use kaba_base::{ClassId, ColId};
@@ -66,7 +66,7 @@ fn is_member(kind: ColKind) -> bool
 /// Whether a column is that of a method's declaration or body.
 pub fn is_method(facts: &Facts, c: u32) -> bool
     requires { c < length facts.now.columns.items }
-    ensures { IsTrue result ↔ IsMethod facts.now c }
+    ensures { IsTrue result ↔ IsMethodColumn facts.now c }
 {
     is_member(column_at(facts, c).kind)
 }
@@ -92,7 +92,7 @@ pub fn is_mark(facts: &Facts, class: ClassId, c: u32) -> bool
 fn is_strictly_below(facts: &Facts, above: &BitRow, a: ClassId, b: ClassId) -> bool
     requires facts { InRange facts.now }
     requires above { IsAboveRow facts.now a.0 above.now }
-    ensures { IsTrue result ↔ IsStrictlyBelow facts.now a.0 b.0 }
+    ensures { IsTrue result ↔ IsStrictSubclass facts.now a.0 b.0 }
 {
     !is_same_class(a, b) && is_below(facts, above, a, b)
 }

@@ -3,7 +3,7 @@
 ghost use Rattle.std.specs.Prelude.{◌≡◌, ℕ, ◌<◌, ◌+◌, length, IfOk, OnOk};
 ghost use Rattle.points_to.specs.Listed.{KeepNumbers};
 ghost use Rattle.table_rules.specs.Asked.{place_of, IsPlain};
-ghost use Rattle.table_rules.specs.Words.{InRange, AreHidden, HaveMethods, IsIndex};
+ghost use Rattle.table_rules.specs.Words.{InRange, AreHidden, HaveMethods, IsHidingIndex};
 
 use crate::Tried;
 use crate::columns::{is_method, slot_of};
@@ -122,7 +122,7 @@ fn plain_of(alloc: Global, facts: &Facts, hidden: &[BitRow]) -> Tried<BitRow>
 pub fn index_of(alloc: Global, facts: &Facts, hidden: Vec<BitRow>) -> Tried<Index>
     requires facts { InRange facts.now }
     requires hidden { AreHidden facts.now hidden.items }
-    ensures { IfOk result (λ x. IsIndex facts.now x) }
+    ensures { IfOk result (λ x. IsHidingIndex facts.now x) }
 {
     let these = these_of(alloc, facts)?;
     let ties = ties_of(alloc, facts)?;

@@ -1,6 +1,6 @@
 //! What the worklist keeps: the rows that wait, the groups of rows that do, and where a column was gone over.
 
-ghost use Rattle.table_rules.specs.Words.{IsGiven};
+ghost use Rattle.table_rules.specs.Words.{IsClosureInput};
 
 use crate::Tried;
 use crate::groups::{Groups, groups_of};
@@ -69,7 +69,7 @@ fn waiting_rows(alloc: Global, facts: &Facts, index: &Index, rows: &[BitRow]) ->
 
 /// Each row waits. An error comes only for want of memory.
 pub fn all_wait(alloc: Global, given: &Given, rows: &[BitRow]) -> Tried<Lists>
-    requires { IsGiven given.now }
+    requires { IsClosureInput given.now }
 {
     let facts = given.facts;
     let count = facts.rows.len();

@@ -2,7 +2,7 @@
 
 ghost use Rattle.std.specs.Prelude.{◌≡◌, ℕ, ◌<◌, true, length};
 ghost use Rattle.table_rules.specs.Closed.{Gains, RowFlows};
-ghost use Rattle.table_rules.specs.Words.{bit, row, IsSubset, IsRawEntry, IsEntry, AreRaw, AreEntries, Grow, Marked, AreAsked};
+ghost use Rattle.table_rules.specs.Words.{bit, row, IsSubset, IsRawEntry, IsEntry, AreRaw, AreEntries, Grow, RowMarked, AreAsked};
 
 use fact_model::Facts;
 use kaba_bits::{BitRow, join, join_with, row_at, set_at};
@@ -15,7 +15,7 @@ pub fn mark(facts: &Facts, rows: &mut [BitRow], r: u32, c: u32)
     requires entry { IsRawEntry facts.now r c }
     ensures rows { AreRaw facts.now rows.new }
     ensures grows { Grow rows.old rows.new }
-    ensures marked { Marked rows.new r c }
+    ensures marked { RowMarked rows.new r c }
 {
     set_at(rows, r as usize, c);
 }

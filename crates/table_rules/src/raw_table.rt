@@ -5,7 +5,7 @@ ghost use Rattle.fact_model.specs.Items.{site_class, site_row, IsColumn};
 ghost use Rattle.fact_model.specs.Classes.{finds};
 ghost use Rattle.points_to.specs.Chains.{AreBodies};
 ghost use Rattle.table_rules.specs.Marks.{IsRawPair, IsBegun, IsMarking, IsThisMarked, IsNeedMarked, IsCallMarked, IsMarkMarkedAt, IsMarkMarked, IsTestMarked, IsArrayMarked, AreMarked};
-ghost use Rattle.table_rules.specs.Words.{bit, row, InRange, AreSets, IsRawEntry, IsRawTable, AreRaw, Marked};
+ghost use Rattle.table_rules.specs.Words.{bit, row, InRange, AreSets, IsRawEntry, IsRawTable, AreRaw, RowMarked};
 
 use crate::columns::{is_mark, site_at, this_of};
 use crate::marks::mark;
@@ -83,7 +83,7 @@ fn mark_entries<T: NamesEntry>(facts: &Facts, rows: &mut [BitRow], items: &Vec<T
     requires given { IsBegun facts.now rows.old }
     requires entries { All (λ x. IsRawPair facts.now (T.row_of x) (T.column_of x)) items.now.items }
     ensures step { IsMarking facts.now rows.old rows.new }
-    ensures marked { All (λ x. Marked rows.new (T.row_of x) (T.column_of x)) items.now.items }
+    ensures marked { All (λ x. RowMarked rows.new (T.row_of x) (T.column_of x)) items.now.items }
 {
     for x in items {
         let (row, column) = x.entry();

@@ -2,7 +2,7 @@
 
 ghost use Rattle.std.specs.Prelude.{◌≡◌, ◌<◌, length};
 ghost use Rattle.table_rules.specs.Gathered.{HaveAllSites};
-ghost use Rattle.table_rules.specs.Words.{IsInRow, AreEntries, IsGiven, IsOpen};
+ghost use Rattle.table_rules.specs.Words.{IsInRow, AreEntries, IsClosureInput, IsOpen};
 
 use crate::closing::next_site;
 use crate::columns::site_at;
@@ -14,7 +14,7 @@ use kaba_bits::{BitRow, row_at};
 
 /// What a row of a group has beside what is gathered of the others.
 fn gather_row(given: &Given, rows: &[BitRow], both: &mut BitRow, group: usize, v: usize)
-    requires given { IsGiven given.now }
+    requires given { IsClosureInput given.now }
     requires rows { AreEntries given.now.facts.now rows.now }
     requires both { HaveAllSites given.now.facts.now group both.old }
     ensures { HaveAllSites given.now.facts.now group both.new }
@@ -26,7 +26,7 @@ fn gather_row(given: &Given, rows: &[BitRow], both: &mut BitRow, group: usize, v
 
 /// What the rows of a group have.
 fn gather(given: &Given, rows: &[BitRow], both: &mut BitRow, group: usize, list: &[usize])
-    requires given { IsGiven given.now }
+    requires given { IsClosureInput given.now }
     requires rows { AreEntries given.now.facts.now rows.now }
     requires width { length both.old ≡ length given.now.facts.now.columns.items }
     ensures { HaveAllSites given.now.facts.now group both.new }
@@ -39,7 +39,7 @@ fn gather(given: &Given, rows: &[BitRow], both: &mut BitRow, group: usize, list:
 
 /// T9: what is gathered of a group, into the row of a site of its set.
 fn give_site(given: &Given, state: &mut State, group: usize, o: u32)
-    requires given { IsGiven given.now }
+    requires given { IsClosureInput given.now }
     requires state { IsOpen given.now state.old }
     requires both { HaveAllSites given.now.facts.now group state.old.both }
     requires site { o < length given.now.facts.now.sites.items }
@@ -55,7 +55,7 @@ fn give_site(given: &Given, state: &mut State, group: usize, o: u32)
 
 /// T9: what is gathered of a group, into the row of each site of its set.
 fn give_sites(given: &Given, state: &mut State, group: usize)
-    requires given { IsGiven given.now }
+    requires given { IsClosureInput given.now }
     requires state { IsOpen given.now state.old }
     requires both { HaveAllSites given.now.facts.now group state.old.both }
     requires row { group < length given.now.facts.now.rows.items }
@@ -76,7 +76,7 @@ fn give_sites(given: &Given, state: &mut State, group: usize)
 
 /// T9: what the rows of a group have, into the row of each site of their set.
 pub fn pass_group(given: &Given, state: &mut State, group: usize)
-    requires given { IsGiven given.now }
+    requires given { IsClosureInput given.now }
     requires state { IsOpen given.now state.old }
     requires row { group < length given.now.facts.now.rows.items }
     ensures { IsOpen given.now state.new }

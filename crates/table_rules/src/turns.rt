@@ -1,7 +1,7 @@
 //! The table by a worklist: a row that grew passes on what it has, and a column that is new in a row asks for what it can.
 
 ghost use Rattle.std.specs.Prelude.{◌<◌, length, OnOk};
-ghost use Rattle.table_rules.specs.Words.{OnTrue, IsEntry, AreEntries, IsGiven, IsOpen};
+ghost use Rattle.table_rules.specs.Words.{OnTrue, IsEntry, AreEntries, IsClosureInput, IsOpen};
 
 use crate::Tried;
 use crate::asked::{ask_body, meet_at};
@@ -56,7 +56,7 @@ fn spread(given: &Given, state: &mut State, d: u32) -> Tried<()>
 
 /// What the columns ask for that are new in a row.
 fn begin(given: &Given, state: &mut State, r: usize)
-    requires given { IsGiven given.now }
+    requires given { IsClosureInput given.now }
     requires state { IsOpen given.now state.old }
     requires row { r < length given.now.facts.now.rows.items }
     ensures { IsOpen given.now state.new }
@@ -78,7 +78,7 @@ fn begin(given: &Given, state: &mut State, r: usize)
 
 /// T10 for a column of a row: whether more is asked for.
 fn meet_column(given: &Given, state: &mut State, r: usize, d: u32) -> bool
-    requires given { IsGiven given.now }
+    requires given { IsClosureInput given.now }
     requires state { IsOpen given.now state.old }
     requires row { r < length given.now.facts.now.rows.items }
     requires column { d < length given.now.facts.now.columns.items }
@@ -98,7 +98,7 @@ fn meet_column(given: &Given, state: &mut State, r: usize, d: u32) -> bool
 
 /// T10 for each column of a row. An error comes only for want of memory.
 fn meet_columns(given: &Given, state: &mut State, r: usize) -> Tried<()>
-    requires given { IsGiven given.now }
+    requires given { IsClosureInput given.now }
     requires state { IsOpen given.now state.old }
     requires row { r < length given.now.facts.now.rows.items }
     ensures { OnOk result (IsOpen given.now state.new) }
@@ -121,7 +121,7 @@ fn meet_columns(given: &Given, state: &mut State, r: usize) -> Tried<()>
 
 /// T8: what a row has, into the lower row of one of its ties.
 fn pass_tie(given: &Given, state: &mut State, i: usize)
-    requires given { IsGiven given.now }
+    requires given { IsClosureInput given.now }
     requires state { IsOpen given.now state.old }
     ensures { IsOpen given.now state.new }
 {
@@ -135,7 +135,7 @@ fn pass_tie(given: &Given, state: &mut State, i: usize)
 
 /// T8: what a row has, into the lower row of each of its ties.
 fn pass_ties(given: &Given, state: &mut State, list: &[usize])
-    requires given { IsGiven given.now }
+    requires given { IsClosureInput given.now }
     requires state { IsOpen given.now state.old }
     ensures { IsOpen given.now state.new }
 {
@@ -146,7 +146,7 @@ fn pass_ties(given: &Given, state: &mut State, list: &[usize])
 
 /// T6: what the `this` of a body has is asked for by the body, and goes into each row that has it. An error comes only for want of memory.
 fn pass_body(given: &Given, state: &mut State, r: usize) -> Tried<()>
-    requires given { IsGiven given.now }
+    requires given { IsClosureInput given.now }
     requires state { IsOpen given.now state.old }
     requires row { r < length given.now.facts.now.rows.items }
     ensures { OnOk result (IsOpen given.now state.new) }
@@ -162,7 +162,7 @@ fn pass_body(given: &Given, state: &mut State, r: usize) -> Tried<()>
 /// What a row has, into the rows that get all of it; into those of the sites of its set when no row waits any more. An error comes only for want
 /// of memory.
 fn pass(given: &Given, state: &mut State, r: usize) -> Tried<()>
-    requires given { IsGiven given.now }
+    requires given { IsClosureInput given.now }
     requires state { IsOpen given.now state.old }
     requires row { r < length given.now.facts.now.rows.items }
     ensures { OnOk result (IsOpen given.now state.new) }
@@ -175,7 +175,7 @@ fn pass(given: &Given, state: &mut State, r: usize) -> Tried<()>
 
 /// One turn: the columns that are new in a row ask for what they can, and what it has is passed on. An error comes only for want of memory.
 fn turn(given: &Given, state: &mut State, r: usize) -> Tried<()>
-    requires given { IsGiven given.now }
+    requires given { IsClosureInput given.now }
     requires state { IsOpen given.now state.old }
     requires row { r < length given.now.facts.now.rows.items }
     ensures { OnOk result (IsOpen given.now state.new) }
@@ -187,7 +187,7 @@ fn turn(given: &Given, state: &mut State, r: usize) -> Tried<()>
 
 /// The turn of a row that waits, or else of a group; answers whether there was one. An error comes only for want of memory.
 fn next_turn(given: &Given, state: &mut State) -> Tried<bool>
-    requires given { IsGiven given.now }
+    requires given { IsClosureInput given.now }
     requires state { IsOpen given.now state.old }
     ensures { OnOk result (IsOpen given.now state.new) }
 {
@@ -208,7 +208,7 @@ fn next_turn(given: &Given, state: &mut State) -> Tried<bool>
 
 /// Turns, until nothing waits: the entries, as far as the worklist finds them. An error comes only for want of memory.
 pub fn grow(given: &Given, state: &mut State) -> Tried<()>
-    requires given { IsGiven given.now }
+    requires given { IsClosureInput given.now }
     requires state { IsOpen given.now state.old }
     ensures { OnOk result (IsOpen given.now state.new) }
 {

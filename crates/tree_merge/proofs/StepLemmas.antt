@@ -9,7 +9,7 @@ use Rattle.hier_model.specs.declared.edits.Edit.{Edit}
 use Rattle.hier_rules.specs.declared.broken.Broken.{Broken}
 use Rattle.hier_rules.specs.Obligations.{first_unchained}
 use Rattle.hier_tree.specs.declared.Conflict.{Conflict}
-use Rattle.hier_tree.specs.Trees.{conflict_of, tries_of, Step, Tree, Stuck, first_accepted, last_try, IsEditOf, try_of, Grows, done, stuck, Leads, taken}
+use Rattle.hier_tree.specs.Trees.{conflict_of, tries_of, GrowthStep, Tree, Stuck, first_accepted, last_try, IsEditOf, try_of, Grows, done, stuck, Leads, taken}
 use Rattle.hier_tree.proofs.GrowLemmas.{goes_on}
 use Rattle.tree_merge.specs.declared.steps.TreeStep.{TreeStep}
 use Rattle.tree_merge.specs.Attempts.{AreRefused, IsStep}
@@ -38,11 +38,11 @@ module _ (F : Facts) (pt : PointsTo) where
   more_steps H K New log more s same before is =
       subst (λ l. Leads F pt H l New) (sym (ap steps_of same ∙ map-append step_of log (s ∷ []))) (one_more H K New log s before is)
 
-  pub ends : (H K New : Hierarchy) (log : List Step) → Leads F pt H log K → New ≡ K → first_unchained F K ≡ None → Grows F pt H log (Tree New)
+  pub ends : (H K New : Hierarchy) (log : List GrowthStep) → Leads F pt H log K → New ≡ K → first_unchained F K ≡ None → Grows F pt H log (Tree New)
   ends H K New log before same none =
       subst (λ z. Grows F pt H log (Tree z)) (sym same) (subst (λ l. Grows F pt H l (Tree K)) (append-nil log) (goes_on F pt before (done none)))
 
-  pub ends_stuck : (H K New : Hierarchy) (log : List Step) (c : Conflict) (b : Broken) → Leads F pt H log K
+  pub ends_stuck : (H K New : Hierarchy) (log : List GrowthStep) (c : Conflict) (b : Broken) → Leads F pt H log K
       → (New ≡ K) × Grows F pt K [] (Stuck K c b) → Grows F pt H log (Stuck New c b)
   ends_stuck H K New log c b before (same, grows) =
       subst (λ z. Grows F pt H log (Stuck z c b)) (sym same) (subst (λ l. Grows F pt H l (Stuck K c b)) (append-nil log) (goes_on F pt before grows))

@@ -24,7 +24,7 @@ use Rattle.tree_merge.specs.declared.steps.Turn.{Turn}
 use Rattle.tree_merge.specs.declared.steps.Turn.TheVariants as turn
 
 -- tries are made for facts in range, and their sets
-pub record IsGiven (given : Given) : Type 0 where
+pub record IsTryInput (given : Given) : Type 0 where
   pub range : InRange given.facts.now
   pub sets : AreSets given.facts.now given.sets.now
 

@@ -3,7 +3,7 @@
 ghost use Rattle.std.specs.Prelude.{◌≡◌, ◌<◌, length, All, IfOk, OnErr};
 ghost use Rattle.hier_rules.specs.Words.{IsHierarchyOf, MeetsEdit};
 ghost use Rattle.hier_edit.specs.declared.ApplyFault.TheVariants as ApplyFault;
-ghost use Rattle.tree_merge.specs.Attempts.{IsGiven, IsTryOf, IsOfTry, IsAttempt, IsTried};
+ghost use Rattle.tree_merge.specs.Attempts.{IsTryInput, IsTryOf, IsOfTry, IsAttempt, IsTried};
 
 use crate::given::Given;
 use hier_edit::{ApplyFault, apply};
@@ -36,7 +36,7 @@ fn broken_of(fault: ApplyFault) -> Result<Broken, AllocError>
 
 /// Makes an edit if it is accepted; else it answers what the edit breaks.
 fn attempt_one(given: &Given, hier: &mut Hier, edit: &Edit) -> Result<Option<Broken>, AllocError>
-    requires given { IsGiven given.now }
+    requires given { IsTryInput given.now }
     requires hierarchy { IsHierarchyOf given.now.facts.now hier.old }
     requires meets { MeetsEdit given.now.facts.now given.now.sets.now hier.old }
     requires edit { IsTryOf hier.old edit.now }
@@ -56,7 +56,7 @@ fn attempt_one(given: &Given, hier: &mut Hier, edit: &Edit) -> Result<Option<Bro
 /// Makes the first of some edits that is accepted. An error comes only for want of memory, and then
 /// nothing has changed.
 pub fn first_accepted(given: &Given, hier: &mut Hier, tries: &[Edit]) -> Result<Attempt, AllocError>
-    requires given { IsGiven given.now }
+    requires given { IsTryInput given.now }
     requires hierarchy { IsHierarchyOf given.now.facts.now hier.old }
     requires meets { MeetsEdit given.now.facts.now given.now.sets.now hier.old }
     requires some { 0 < length tries.now }

@@ -3,7 +3,7 @@
 ghost use Rattle.std.specs.Prelude.{◌≡◌, IfOk, OnErr, Some};
 ghost use Rattle.hier_rules.specs.Words.{IsHierarchyOf, MeetsEdit};
 ghost use Rattle.hier_rules.specs.Obligations.{first_unchained};
-ghost use Rattle.tree_merge.specs.Attempts.{IsGiven, IsTurn};
+ghost use Rattle.tree_merge.specs.Attempts.{IsTryInput, IsTurn};
 
 use crate::attempts::{Attempt, first_accepted};
 use crate::conflicts::conflict_of;
@@ -36,7 +36,7 @@ pub enum Turn {
 
 /// The step at a conflict.
 fn step_at(given: &Given, hier: &mut Hier, broken: Broken) -> Result<Turn, AllocError>
-    requires given { IsGiven given.now }
+    requires given { IsTryInput given.now }
     requires hierarchy { IsHierarchyOf given.now.facts.now hier.old }
     requires meets { MeetsEdit given.now.facts.now given.now.sets.now hier.old }
     requires conflict { first_unchained given.now.facts.now hier.old ≡ Some broken }
@@ -58,7 +58,7 @@ fn step_at(given: &Given, hier: &mut Hier, broken: Broken) -> Result<Turn, Alloc
 /// Makes a step, where there is a conflict of which a try is accepted. An error comes only for want
 /// of memory, and then nothing has changed.
 pub fn step(given: &Given, hier: &mut Hier) -> Result<Turn, AllocError>
-    requires given { IsGiven given.now }
+    requires given { IsTryInput given.now }
     requires hierarchy { IsHierarchyOf given.now.facts.now hier.old }
     requires meets { MeetsEdit given.now.facts.now given.now.sets.now hier.old }
     ensures turn { IfOk result (IsTurn given.now.facts.now given.now.sets.now hier.old hier.new) }

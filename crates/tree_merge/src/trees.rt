@@ -9,7 +9,7 @@ ghost use Rattle.hier_tree.specs.Trees.{Grows, Tree};
 ghost use Rattle.hier_tree.specs.Kept.{HasNoInterface};
 ghost use Rattle.hier_tree.specs.Reached.{IsReached};
 ghost use Rattle.tree_merge.specs.declared.trees.TreeFault.TheVariants as TreeFault;
-ghost use Rattle.tree_merge.specs.Logs.{steps_of, AreEdits, IsFault};
+ghost use Rattle.tree_merge.specs.Logs.{steps_of, AreEdits, IsTreeFault};
 
 use crate::given::Given;
 use crate::steps::{TreeStep, Turn, step};
@@ -62,7 +62,7 @@ pub fn make_tree(
     ensures tree { IfOk result (λ log. Grows facts.now sets.now hier.old (steps_of log.items) (Tree hier.new)) }
     ensures edits { IfOk result (λ log. AreEdits log.items) }
     ensures meets { OnOk result (first_broken facts.now sets.now hier.new ≡ None) }
-    ensures fault { IfErr result (IsFault facts.now sets.now hier.old hier.new) }
+    ensures fault { IfErr result (IsTreeFault facts.now sets.now hier.old hier.new) }
     ensures found { IfErr result (λ fault. (t : Table) (l : Lattice) → AreAnalysed facts.now sets.now t l → HasNoInterface facts.now → IsReached facts.now sets.now t l hier.old → fault ≡ TreeFault.Memory) }
     ensures is { IsHierarchyOf facts.now hier.new }
 {

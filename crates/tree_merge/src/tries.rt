@@ -5,7 +5,7 @@ ghost use Rattle.hier_rules.specs.Words.{is_live};
 ghost use Rattle.fact_model.specs.InRange.{IsClass};
 ghost use Rattle.hier_model.specs.Hierarchies.{Hierarchy, IsHierarchyOf, node, origin_of};
 ghost use Rattle.hier_tree.specs.Trees.{is_from, nodes_from, tries_of_one, tries_of_lower, tries_of_higher, tries_of_others, tries_by, tries_of, try_of};
-ghost use Rattle.tree_merge.specs.Attempts.{AreApart, IsGiven, IsTryOf};
+ghost use Rattle.tree_merge.specs.Attempts.{AreApart, IsTryInput, IsTryOf};
 
 use crate::given::Given;
 use fact_model::below;
@@ -113,7 +113,7 @@ fn tries_by(
     first: ClassId,
     second: ClassId,
 ) -> Result<Vec<Edit>, AllocError>
-    requires given { IsGiven given.now }
+    requires given { IsTryInput given.now }
     requires first_class { IsClass given.now.facts.now first }
     requires second_class { IsClass given.now.facts.now second }
     requires sized { length hier.now.origins ≡ length hier.now.order.live }
@@ -141,7 +141,7 @@ fn tries_by(
 
 /// The tries of a conflict, by the classes from which its two nodes come.
 pub fn tries_of(given: &Given, hier: &Hier, conflict: Conflict) -> Result<Vec<Edit>, AllocError>
-    requires given { IsGiven given.now }
+    requires given { IsTryInput given.now }
     requires hierarchy { IsHierarchyOf given.now.facts.now hier.now }
     requires apart { AreApart hier.now.order conflict.first conflict.second }
     ensures tries { IfOk result (λ v. map try_of v.items ≡ tries_of given.now.facts.now hier.now conflict) }

@@ -14,7 +14,7 @@ use Rattle.fact_model.specs.declared.facts.Facts.{Facts}
 use Rattle.fact_model.specs.declared.facts.AccessInfo.{AccessInfo}
 use Rattle.fact_model.specs.declared.facts.ColKind.TheVariants.{Fld, Dcl}
 use Rattle.why_table.specs.Found.{AreMemberAccesses}
-use Rattle.why_table.specs.Rules.{Gives, p1, p2, p3, p4, p5, p6, p7, p8, t1, t2, t3, t4, t5, t6, t7, t8, t9_point, t9_cell, t10, t11_test, t11_array}
+use Rattle.why_table.specs.Rules.{GivesClaim, p1, p2, p3, p4, p5, p6, p7, p8, t1, t2, t3, t4, t5, t6, t7, t8, t9_point, t9_cell, t10, t11_test, t11_array}
 use Rattle.why_table.specs.declared.trail.Claim.{Claim}
 use Rattle.why_table.specs.declared.trail.Claim.TheVariants.{InPoint, InCell, Entry}
 use Rattle.why_table.specs.declared.trail.WhyRule.{WhyRule}
@@ -40,7 +40,7 @@ entry_claim e = Entry (row_id e.0) (column_id e.1)
 
 -- a set of claims that has what each rule gives of claims that it has
 abbrev pub IsClosedSet : Facts → (Claim → Type 0) → Type 0
-IsClosedSet F X = (rule : WhyRule) (ps : List Claim) (c : Claim) → Gives F rule ps c → AllByRecursion X ps → X c
+IsClosedSet F X = (rule : WhyRule) (ps : List Claim) (c : Claim) → GivesClaim F rule ps c → AllByRecursion X ps → X c
 
 module _ (F : Facts) (X : Claim → Type 0) (closed : IsClosedSet F X) where
   fact_closed : (ps : List Fact) (f : Fact) → Inclusion F ps f → AllByRecursion (λ p. X (fact_claim p)) ps → X (fact_claim f)

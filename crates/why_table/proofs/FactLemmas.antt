@@ -11,7 +11,7 @@ use Rattle.kaba_base.specs.declared.SiteId.{SiteId}
 use Rattle.fact_model.specs.Items.{cell_at, site_class, row_this, column_at, column_class, column_kind, column_slot, IsColumn}
 use Rattle.fact_model.specs.Classes.{below, finds, is_def, is_slot}
 use Rattle.fact_model.specs.InRange.{InRange}
-use Rattle.fact_model.specs.Flowing.{IsCell, Fits, point_at}
+use Rattle.fact_model.specs.Flowing.{IsCell, FitsStore, point_at}
 use Rattle.fact_model.specs.Entries.{IsDeclaredBy, Hides}
 use Rattle.fact_model.specs.declared.facts.Facts.{Facts}
 use Rattle.fact_model.specs.declared.facts.CellInfo.{CellInfo}
@@ -72,11 +72,11 @@ module _ (F : Facts) where
       (columns_same (cell_at F c).column column is.column_is))
 
   -- what fits into a store
-  pub fits_says : InRange F → (column : Option ColId) (s o : SiteId) → fits F column s o ≡ true → Fits F column s.0 o.0
+  pub fits_says : InRange F → (column : Option ColId) (s o : SiteId) → fits F column s o ≡ true → FitsStore F column s.0 o.0
   fits_says R None s o h = (below-exact F R.acyclic (site_class F s.0) (site_class F o.0)).0 h
   fits_says R (Some column) s o h = tt
 
-  pub fits_same : InRange F → (column : Option ColId) (s o : SiteId) → Fits F column s.0 o.0 → fits F column s o ≡ true
+  pub fits_same : InRange F → (column : Option ColId) (s o : SiteId) → FitsStore F column s.0 o.0 → fits F column s o ≡ true
   fits_same R None s o h = (below-exact F R.acyclic (site_class F s.0) (site_class F o.0)).1 h
   fits_same R (Some column) s o h = refl
 

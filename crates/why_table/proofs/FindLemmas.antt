@@ -9,10 +9,10 @@ use Rattle.kaba_bits.specs.Sets.{bit, IsEmpty}
 use Rattle.kaba_bits.proofs.SetLemmas.{bit-below}
 use Rattle.kaba_bits.proofs.RowLemmas.{set-kept}
 use Rattle.fact_model.specs.declared.facts.Facts.{Facts}
-use Rattle.why_table.specs.Rules.{Gives}
+use Rattle.why_table.specs.Rules.{GivesClaim}
 use Rattle.why_table.specs.Trails.{claim_at, Follows, Passes}
-use Rattle.why_table.specs.Search.{IsIn, IsAt, AreSteps, IsStepFor, IsNext, NoneBy, NoneUpTo, NoneGives, rule_at}
-use Rattle.why_table.specs.Kept.{AddsAll, IsNumbered, AreNeeded, rank, AreRanks, IsRenamed, IsPut, AreMoved, AreKept}
+use Rattle.why_table.specs.Search.{HasClaim, HasClaimAt, AreSteps, IsStepFor, IsNextStep, NoneBy, NoneUpTo, NoneGives, rule_at}
+use Rattle.why_table.specs.Kept.{AddsAll, NamesEarlier, AreNeeded, rank, AreRanks, IsRenamed, IsPut, AreMoved, AreKept}
 use Rattle.why_table.specs.declared.trail.Claim.{Claim}
 use Rattle.why_table.specs.declared.trail.WhyRule.{WhyRule}
 use Rattle.why_table.specs.declared.trail.WhyRule.TheVariants.{P1, P2, P3, P4, P5, P6, P7, P8, T1, T2, T3, T4, T5, T6, T7, T8, T9, T10, T11}
@@ -86,7 +86,7 @@ kept_clear steps marks k r places new out a is e none = record {
   moved = moved_clear steps marks out k a.moved none;
 }
 
-pub kept_more : (steps : List WhyStep) (marks : List Bool) (k r : ℕ) (places new : List ℕ) (out longer : List WhyStep) (s : WhyStep) → IsNumbered steps
+pub kept_more : (steps : List WhyStep) (marks : List Bool) (k r : ℕ) (places new : List ℕ) (out longer : List WhyStep) (s : WhyStep) → NamesEarlier steps
     → AreKept steps marks k places out → r ≡ length out → new ≡ places ++ r ∷ [] → bit marks k ≡ true → slice_get steps k ≡ Some s
     → IsPut (λ x. get_or new x 0) s out longer → AreKept steps marks (k + 1) new longer
 kept_more steps marks k r places new out longer s numbered a is e marked here put =
@@ -104,7 +104,7 @@ kept_none steps marks = record {
 }
 
 -- the numbers of what passes
-pub numbered : (F : Facts) (steps : List WhyStep) → Passes F steps → IsNumbered steps
+pub numbered : (F : Facts) (steps : List WhyStep) → Passes F steps → NamesEarlier steps
 numbered F steps p k s e = (passes_at F steps p k s e).earlier
 
 pub steps_none : (F : Facts) → AreSteps F []
@@ -121,9 +121,9 @@ none_tried F steps claim rule from s a b e none all g =
     none
     (record {
       earlier = subst (All (λ j. j < length steps)) (sym e) all;
-      given = subst (λ (r : WhyRule). Gives F r (map (claim_at steps) s.from.items) s.claim) (sym b)
-          (subst (λ (c : Claim). Gives F rule (map (claim_at steps) s.from.items) c) (sym a)
-          (subst (λ l. Gives F rule (map (claim_at steps) l) claim) (sym e) g));
+      given = subst (λ (r : WhyRule). GivesClaim F r (map (claim_at steps) s.from.items) s.claim) (sym b)
+          (subst (λ (c : Claim). GivesClaim F rule (map (claim_at steps) s.from.items) c) (sym a)
+          (subst (λ l. GivesClaim F rule (map (claim_at steps) l) claim) (sym e) g));
     })
 
 -- what an answer says, said otherwise
@@ -134,10 +134,10 @@ found_as P P' Q Q' (Ok (Some x)) f g h = g x h
 found_as P P' Q Q' (Err e) f g h = h
 
 -- a step for a claim that no step has
-pub next_for : (F : Facts) (steps : List WhyStep) (claim : Claim) → (IsIn steps claim → ⊥) → (s : WhyStep) → IsStepFor F steps claim s → IsNext F steps s
+pub next_for : (F : Facts) (steps : List WhyStep) (claim : Claim) → (HasClaim steps claim → ⊥) → (s : WhyStep) → IsStepFor F steps claim s → IsNextStep F steps s
 next_for F steps claim none s f = record { follows = f.follows; fresh = λ i. none (record { at = i.at; below = i.below; is = i.is ∙ f.claim_is }) }
 
-pub is_in_at : (steps : List WhyStep) (claim : Claim) (k : ℕ) → IsAt steps claim k → IsIn steps claim
+pub is_in_at : (steps : List WhyStep) (claim : Claim) (k : ℕ) → HasClaimAt steps claim k → HasClaim steps claim
 is_in_at steps claim k a = record { at = k; below = a.below; is = a.is }
 
 -- each rule has a number

@@ -10,7 +10,7 @@ use Rattle.kaba_base.specs.declared.ColId.{ColId}
 use Rattle.kaba_bits.specs.Sets.{bit}
 use Rattle.kaba_bits.proofs.SetLemmas.{bit-below}
 use Rattle.fact_model.specs.declared.facts.Facts.{Facts}
-use Rattle.why_table.specs.Rules.{Gives}
+use Rattle.why_table.specs.Rules.{GivesClaim}
 use Rattle.why_table.specs.Trails.{claim_at, Follows}
 use Rattle.why_table.specs.Found.{IsNamedLater, HaveOneEach, IsTrailOf}
 use Rattle.why_table.specs.Search.{AreSteps}
@@ -207,9 +207,9 @@ module _ (F : Facts) (steps : List WhyStep) (goal : ℕ) (marks : List Bool) (ou
       record {
         earlier = subst (All (λ x. x < j)) (sym y.renamed.from)
             (All-map (λ x. x < j) (rank marks) from (all_contained (λ x. rank marks x < j) from lower));
-        given = subst (λ (r : WhyRule). Gives F r (map (claim_at out) new.from.items) new.claim) (sym y.renamed.rule)
-            (subst (λ (c : Claim). Gives F y.old.rule (map (claim_at out) new.from.items) c) (sym y.renamed.claim)
-            (subst (λ ps. Gives F y.old.rule ps y.old.claim) (sym claims) f.given));
+        given = subst (λ (r : WhyRule). GivesClaim F r (map (claim_at out) new.from.items) new.claim) (sym y.renamed.rule)
+            (subst (λ (c : Claim). GivesClaim F y.old.rule (map (claim_at out) new.from.items) c) (sym y.renamed.claim)
+            (subst (λ ps. GivesClaim F y.old.rule ps y.old.claim) (sym claims) f.given));
       }
 
   once_moved : HaveOneEach out

@@ -3,7 +3,7 @@ use Rattle.std.proofs.Common.{◌≡◌, ℕ, ◌<◌, true, List, [], ◌∷◌
 use Rattle.std.proofs.lemmas.Bool.{false≢true}
 use Rattle.fact_model.specs.InRange.{InRange}
 use Rattle.fact_model.specs.declared.facts.Facts.{Facts}
-use Rattle.why_table.specs.Rules.{Gives, p1, p2, p3, p4, p5, p6, p7, p8, t1, t2, t3, t4, t5, t6, t7, t8, t9_point, t9_cell, t10, t11_test, t11_array}
+use Rattle.why_table.specs.Rules.{GivesClaim, p1, p2, p3, p4, p5, p6, p7, p8, t1, t2, t3, t4, t5, t6, t7, t8, t9_point, t9_cell, t10, t11_test, t11_array}
 use Rattle.why_table.specs.Tests.{test_rule}
 use Rattle.why_table.proofs.FlowingTests.{says_p1, same_p1, says_p2, same_p2, says_p3, same_p3, says_p4, same_p4, says_p5, same_p5, says_p6, same_p6, says_p7, same_p7, says_p8, same_p8}
 use Rattle.why_table.proofs.EntryTests.{says_t1, same_t1, says_t2, same_t2, says_t3, same_t3, says_t4, same_t4, says_t5, same_t5, says_t6, same_t6, says_t7, same_t7, says_t8, same_t8, says_t9, same_t9, says_t10, same_t10, says_t11, same_t11}
@@ -34,7 +34,7 @@ arity T9 = 2
 arity T10 = 3
 
 module _ (F : Facts) where
-  takes : (rule : WhyRule) (ps : List Claim) (c : Claim) → Gives F rule ps c → length ps ≡ arity rule
+  takes : (rule : WhyRule) (ps : List Claim) (c : Claim) → GivesClaim F rule ps c → length ps ≡ arity rule
   unfolding arity
   takes P1 ps c (p1 x is) = refl
   takes P2 ps c (p2 x s is) = refl
@@ -60,7 +60,7 @@ module _ (F : Facts) where
 
   -- what a test that answers true says, and that it does
   abbrev Says : WhyRule → List Claim → Claim → Type 0
-  Says rule ps c = (test_rule F rule ps c ≡ true → Gives F rule ps c) × (Gives F rule ps c → test_rule F rule ps c ≡ true)
+  Says rule ps c = (test_rule F rule ps c ≡ true → GivesClaim F rule ps c) × (GivesClaim F rule ps c → test_rule F rule ps c ≡ true)
 
   module _ (R : InRange F) where
     exact_none : (rule : WhyRule) (c : Claim) → Says rule [] c

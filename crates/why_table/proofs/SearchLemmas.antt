@@ -13,10 +13,10 @@ use Rattle.fact_model.specs.Entries.{IsEntry, IsTable}
 use Rattle.fact_model.specs.declared.facts.Facts.{Facts}
 use Rattle.fact_model.specs.declared.sets.PointsTo.{PointsTo}
 use Rattle.fact_model.specs.declared.sets.Table.{Table}
-use Rattle.why_table.specs.Rules.{Gives, p1, p2, p3, p4, p5, p6, p7, p8, t1, t2, t3, t4, t5, t6, t7, t8, t9_point, t9_cell, t10, t11_test, t11_array}
+use Rattle.why_table.specs.Rules.{GivesClaim, p1, p2, p3, p4, p5, p6, p7, p8, t1, t2, t3, t4, t5, t6, t7, t8, t9_point, t9_cell, t10, t11_test, t11_array}
 use Rattle.why_table.specs.Trails.{ClaimHolds, claim_at}
 use Rattle.why_table.specs.Found.{AreMemberAccesses}
-use Rattle.why_table.specs.Search.{IsIn, NoneBy, NoneUpTo, IsDone, AreAllDone}
+use Rattle.why_table.specs.Search.{HasClaim, NoneBy, NoneUpTo, IsDone, AreAllDone}
 use Rattle.why_table.specs.declared.trail.Claim.{Claim}
 use Rattle.why_table.specs.declared.trail.Claim.TheVariants.{InPoint, InCell, Entry}
 use Rattle.why_table.specs.declared.trail.WhyRule.{WhyRule}
@@ -26,7 +26,7 @@ use Rattle.why_table.proofs.Sound.{gives_holds}
 use Rattle.why_table.proofs.Complete.{entry_least}
 
 -- a rule has at most three premises
-pub gives_few : (F : Facts) (rule : WhyRule) (ps : List Claim) (c : Claim) → Gives F rule ps c → length ps ≤ 3
+pub gives_few : (F : Facts) (rule : WhyRule) (ps : List Claim) (c : Claim) → GivesClaim F rule ps c → length ps ≤ 3
 gives_few F P1 ps c (p1 x is) = omega arith
 gives_few F P2 ps c (p2 x s is) = omega arith
 gives_few F P3 ps c (p3 x k o s is cell) = omega arith
@@ -65,7 +65,7 @@ module _ (F : Facts) (steps : List WhyStep) (claim : Claim) (rule : WhyRule) whe
   none_more from m none each (x ∷ xs) le = λ all g.
       ⊎_elim
       (λ low. each x low xs (omega (arith, le)) (subst (All (λ j. j < length steps)) (sym (append_assoc from (x ∷ []) xs)) all)
-      (subst (λ l. Gives F rule (map (claim_at steps) l) claim) (sym (append_assoc from (x ∷ []) xs)) g))
+      (subst (λ l. GivesClaim F rule (map (claim_at steps) l) claim) (sym (append_assoc from (x ∷ []) xs)) g))
       (λ high. let low : x < length steps = All-contains (λ j. j < length steps) (from ++ x ∷ xs) x all (contains_seam from x xs) in absurd (omega (arith, low, high)))
       (cases_lt x (length steps))
 
@@ -75,7 +75,7 @@ pub record Numbers (steps : List WhyStep) (ps : List Claim) : Type 0 where
   pub below : All (λ j. j < length steps) from
   pub claims : map (claim_at steps) from ≡ ps
 
-pub numbers : (steps : List WhyStep) (ps : List Claim) → AllByRecursion (IsIn steps) ps → Numbers steps ps
+pub numbers : (steps : List WhyStep) (ps : List Claim) → AllByRecursion (HasClaim steps) ps → Numbers steps ps
 numbers steps [] h = record { from = []; below = All-nil (λ j. j < length steps); claims = refl }
 numbers steps (p ∷ ps) h =
     let rest = numbers steps ps h.1 in
@@ -93,15 +93,15 @@ module _ (F : Facts) (pt : PointsTo) (t : Table) (S : AreSets F pt) (T : IsTable
   done (Entry r c) h = let b = (T.entries r.0 c.0).1 h in all.entries r.0 (bit-row-below t.rows.items r.0 c.0 b) c.0 b
 
   abbrev Stands : Claim → Type 0
-  Stands c = IsIn steps c × ClaimHolds F c
+  Stands c = HasClaim steps c × ClaimHolds F c
 
-  closed : (rule : WhyRule) (ps : List Claim) (c : Claim) → Gives F rule ps c → AllByRecursion Stands ps → Stands c
+  closed : (rule : WhyRule) (ps : List Claim) (c : Claim) → GivesClaim F rule ps c → AllByRecursion Stands ps → Stands c
   closed rule ps c g h =
       let holds : ClaimHolds F c = gives_holds F rule ps c g (each_weaker Stands (ClaimHolds F) (λ x y. y.1) ps h) in
-      let n = numbers steps ps (each_weaker Stands (IsIn steps) (λ x y. y.0) ps h) in
+      let n = numbers steps ps (each_weaker Stands (HasClaim steps) (λ x y. y.0) ps h) in
       let few : length n.from ≤ 3 = let g3 = gives_few F rule ps c g in let l = ap length n.claims in omega (arith, g3, l, length-map n.from (claim_at steps)) in
-      (⊎_elim (λ here. here) (λ none. absurd (none rule n.from few n.below (subst (λ qs. Gives F rule qs c) (sym n.claims) g))) (done c holds), holds)
+      (⊎_elim (λ here. here) (λ none. absurd (none rule n.from few n.below (subst (λ qs. GivesClaim F rule qs c) (sym n.claims) g))) (done c holds), holds)
 
   -- steps in which all is done have each entry
-  pub complete : (r : RowId) (c : ColId) → IsEntry F r.0 c.0 → IsIn steps (Entry r c)
+  pub complete : (r : RowId) (c : ColId) → IsEntry F r.0 c.0 → HasClaim steps (Entry r c)
   complete r c h = (entry_least F Stands closed accesses r.0 c.0 h).0

@@ -15,7 +15,7 @@ use Rattle.fact_model.specs.declared.facts.SiteInfo.{SiteInfo}
 use Rattle.fact_model.specs.declared.facts.CellInfo.{CellInfo}
 use Rattle.fact_model.specs.declared.facts.ColKind.TheVariants.{Dcl, Is}
 use Rattle.fact_model.proofs.RangeLemmas.{column-below}
-use Rattle.why_table.specs.Rules.{Gives, p1, p2, p3, p4, p5, p6, p7, p8, t1, t2, t3, t4, t5, t6, t7, t8, t9_point, t9_cell, t10, t11_test, t11_array}
+use Rattle.why_table.specs.Rules.{GivesClaim, p1, p2, p3, p4, p5, p6, p7, p8, t1, t2, t3, t4, t5, t6, t7, t8, t9_point, t9_cell, t10, t11_test, t11_array}
 use Rattle.why_table.specs.Trails.{ClaimHolds, claim_at, Passes}
 use Rattle.why_table.specs.declared.trail.Claim.{Claim}
 use Rattle.why_table.specs.declared.trail.Claim.TheVariants.{InPoint}
@@ -42,7 +42,7 @@ module _ (F : Facts) where
   is-dcl e = cc e
 
   -- what a rule gives of claims that hold holds
-  pub gives_holds : (rule : WhyRule) (ps : List Claim) (c : Claim) → Gives F rule ps c → AllByRecursion (ClaimHolds F) ps → ClaimHolds F c
+  pub gives_holds : (rule : WhyRule) (ps : List Claim) (c : Claim) → GivesClaim F rule ps c → AllByRecursion (ClaimHolds F) ps → ClaimHolds F c
   gives_holds P1 ps c (p1 x is) h = derivable_by (Inclusion F) [] (in_point x.point x.site.0) (by_new x is) tt
   gives_holds P2 ps c (p2 x s is) h = derivable_by (Inclusion F) (in_point x.from s.0 ∷ []) (in_point x.to s.0) (by_flow x s.0 is) h
   gives_holds P3 ps c (p3 x k o s is at) h =

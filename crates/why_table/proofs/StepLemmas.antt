@@ -8,10 +8,10 @@ use Rattle.std.proofs.Math.Seq.{get_or-append_seam}
 use Rattle.std.proofs.lemmas.Option.{slice_get_within, get_or_from_slice_get, slice_get-get_or, slice_get-map}
 use Rattle.std.proofs.lemmas.List.Elements.{All-weaker, All-head, All-tail, All-contains_itself}
 use Rattle.fact_model.specs.declared.facts.Facts.{Facts}
-use Rattle.why_table.specs.Rules.{Gives}
+use Rattle.why_table.specs.Rules.{GivesClaim}
 use Rattle.why_table.specs.Trails.{claim_at, Follows, Passes}
 use Rattle.why_table.specs.Found.{HaveOneEach}
-use Rattle.why_table.specs.Search.{IsIn, AreSteps, IsNext}
+use Rattle.why_table.specs.Search.{HasClaim, AreSteps, IsNextStep}
 use Rattle.why_table.specs.declared.trail.Claim.{Claim}
 use Rattle.why_table.specs.declared.trail.Claim.TheVariants.{InPoint}
 use Rattle.why_table.specs.declared.trail.WhyStep.{WhyStep}
@@ -73,7 +73,7 @@ follows_before F xs ys k s le h =
     let same : map (claim_at (xs ++ ys)) s.from.items ≡ map (claim_at xs) s.from.items =
     map_agree (claim_at (xs ++ ys)) (claim_at xs) s.from.items
     (All-weaker (λ j. j < k) (λ j. claim_at (xs ++ ys) j ≡ claim_at xs j) (λ j lt. claim_before xs ys j (omega (arith, lt, le))) s.from.items h.earlier) in
-    record { earlier = h.earlier; given = subst (λ ps. Gives F s.rule ps s.claim) (sym same) h.given }
+    record { earlier = h.earlier; given = subst (λ ps. GivesClaim F s.rule ps s.claim) (sym same) h.given }
 
 -- the last of some steps, or one before it
 pub last_or_before : {A : Type 0} (xs : List A) (s : A) (k : ℕ) → k < length (xs ++ s ∷ []) → length xs ≤ k → k ≡ length xs
@@ -87,7 +87,7 @@ passes_push F xs s p h = λ k d lt.
     (subst (Follows F (xs ++ s ∷ []) (length xs)) (sym (get_or-append_seam xs s [] d)) (follows_before F xs (s ∷ []) (length xs) s (omega arith) h)))
     (cases_lt k (length xs))
 
-pub once_push : (xs : List WhyStep) (s : WhyStep) → HaveOneEach xs → (IsIn xs s.claim → ⊥) → HaveOneEach (xs ++ s ∷ [])
+pub once_push : (xs : List WhyStep) (s : WhyStep) → HaveOneEach xs → (HasClaim xs s.claim → ⊥) → HaveOneEach (xs ++ s ∷ [])
 once_push xs s once fresh = λ j k lt below e.
     ⊎_elim
     (λ low. once j k lt low (sym (claim_before xs (s ∷ []) j (omega (arith, lt, low))) ∙ e ∙ claim_before xs (s ∷ []) k low))
@@ -98,7 +98,7 @@ once_push xs s once fresh = λ j k lt below e.
     (cases_lt k (length xs))
 
 -- a step more
-pub steps_push : (F : Facts) (xs : List WhyStep) (s : WhyStep) → AreSteps F xs → IsNext F xs s → length xs < 4294967294 → AreSteps F (xs ++ s ∷ [])
+pub steps_push : (F : Facts) (xs : List WhyStep) (s : WhyStep) → AreSteps F xs → IsNextStep F xs s → length xs < 4294967294 → AreSteps F (xs ++ s ∷ [])
 steps_push F xs s a n few = record {
   passes = passes_push F xs s a.passes n.follows;
   once = once_push xs s a.once n.fresh;

@@ -11,8 +11,8 @@ pub record AddsAll (xs : List ℕ) (old new : List Bool) : Type 0 where
   pub only : (i : ℕ) → bit new i ≡ true → (bit old i ≡ true) ⊎ Contains xs i
 
 -- each step names earlier ones alone
-abbrev pub IsNumbered : List WhyStep → Type 0
-IsNumbered steps = (k : ℕ) (s : WhyStep) → slice_get steps k ≡ Some s → All (λ x. x < k) s.from.items
+abbrev pub NamesEarlier : List WhyStep → Type 0
+NamesEarlier steps = (k : ℕ) (s : WhyStep) → slice_get steps k ≡ Some s → All (λ x. x < k) s.from.items
 
 -- a number is named by a marked step from k on
 pub record IsNamedFrom (steps : List WhyStep) (marks : List Bool) (k i : ℕ) : Type 0 where

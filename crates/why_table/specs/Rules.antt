@@ -6,7 +6,7 @@ use Rattle.kaba_base.specs.declared.ColId.{ColId}
 use Rattle.kaba_base.specs.declared.SiteId.{SiteId}
 use Rattle.fact_model.specs.Items.{site_at, site_class, row_this, column_kind, IsColumn}
 use Rattle.fact_model.specs.Classes.{IsBelow, finds}
-use Rattle.fact_model.specs.Flowing.{IsCell, Fits, Runs, point_at}
+use Rattle.fact_model.specs.Flowing.{IsCell, FitsStore, CallRuns, point_at}
 use Rattle.fact_model.specs.Entries.{IsDeclaredBy, Hides}
 use Rattle.fact_model.specs.declared.facts.Facts.{Facts}
 use Rattle.fact_model.specs.declared.facts.ColKind.TheVariants.{Fld, Dcl, Is}
@@ -45,23 +45,23 @@ pub data GivesP3 (F : Facts) : List Claim → Claim → Type 0 where
 
 -- for a site o in the base of a store, what fits of the value is in the cell of o
 pub data GivesP4 (F : Facts) : List Claim → Claim → Type 0 where
-  p4 : (x : StoreInfo) (c : ℕ) (o s : SiteId) → Contains F.stores.items x → IsCell F c o.0 x.column → Fits F x.column s.0 o.0
+  p4 : (x : StoreInfo) (c : ℕ) (o s : SiteId) → Contains F.stores.items x → IsCell F c o.0 x.column → FitsStore F x.column s.0 o.0
       → GivesP4 F (InPoint x.base o ∷ InPoint x.value s ∷ []) (InCell c s)
 
 -- a site in the receiver of a call is in the `this` of the body found for its class
 pub data GivesP5 (F : Facts) : List Claim → Claim → Type 0 where
-  p5 : (call : CallInfo) (o : SiteId) (body : BodyInfo) → Runs F call o.0 body
+  p5 : (call : CallInfo) (o : SiteId) (body : BodyInfo) → CallRuns F call o.0 body
       → GivesP5 F (InPoint call.receiver o ∷ []) (InPoint body.this o)
 
 -- what is in an argument is in that body's parameter
 pub data GivesP6 (F : Facts) : List Claim → Claim → Type 0 where
-  p6 : (call : CallInfo) (o s : SiteId) (body : BodyInfo) (k from to : ℕ) → Runs F call o.0 body
+  p6 : (call : CallInfo) (o s : SiteId) (body : BodyInfo) (k from to : ℕ) → CallRuns F call o.0 body
       → point_at call.args.items k ≡ Some from → point_at body.params.items k ≡ Some to
       → GivesP6 F (InPoint call.receiver o ∷ InPoint from s ∷ []) (InPoint to s)
 
 -- what is in that body's result is in the call
 pub data GivesP7 (F : Facts) : List Claim → Claim → Type 0 where
-  p7 : (call : CallInfo) (o s : SiteId) (body : BodyInfo) (from to : ℕ) → Runs F call o.0 body
+  p7 : (call : CallInfo) (o s : SiteId) (body : BodyInfo) (from to : ℕ) → CallRuns F call o.0 body
       → body.result ≡ Some from → call.result ≡ Some to
       → GivesP7 F (InPoint call.receiver o ∷ InPoint from s ∷ []) (InPoint to s)
 
@@ -130,23 +130,23 @@ pub data GivesT11 (F : Facts) : List Claim → Claim → Type 0 where
       → GivesT11 F [] (Entry s.row c)
 
 -- the rule gives the claim of these earlier claims
-abbrev pub Gives : Facts → WhyRule → List Claim → Claim → Type 0
-Gives F P1 = GivesP1 F
-Gives F P2 = GivesP2 F
-Gives F P3 = GivesP3 F
-Gives F P4 = GivesP4 F
-Gives F P5 = GivesP5 F
-Gives F P6 = GivesP6 F
-Gives F P7 = GivesP7 F
-Gives F P8 = GivesP8 F
-Gives F T1 = GivesT1 F
-Gives F T2 = GivesT2 F
-Gives F T3 = GivesT3 F
-Gives F T4 = GivesT4 F
-Gives F T5 = GivesT5 F
-Gives F T6 = GivesT6 F
-Gives F T7 = GivesT7 F
-Gives F T8 = GivesT8 F
-Gives F T9 = GivesT9 F
-Gives F T10 = GivesT10 F
-Gives F T11 = GivesT11 F
+abbrev pub GivesClaim : Facts → WhyRule → List Claim → Claim → Type 0
+GivesClaim F P1 = GivesP1 F
+GivesClaim F P2 = GivesP2 F
+GivesClaim F P3 = GivesP3 F
+GivesClaim F P4 = GivesP4 F
+GivesClaim F P5 = GivesP5 F
+GivesClaim F P6 = GivesP6 F
+GivesClaim F P7 = GivesP7 F
+GivesClaim F P8 = GivesP8 F
+GivesClaim F T1 = GivesT1 F
+GivesClaim F T2 = GivesT2 F
+GivesClaim F T3 = GivesT3 F
+GivesClaim F T4 = GivesT4 F
+GivesClaim F T5 = GivesT5 F
+GivesClaim F T6 = GivesT6 F
+GivesClaim F T7 = GivesT7 F
+GivesClaim F T8 = GivesT8 F
+GivesClaim F T9 = GivesT9 F
+GivesClaim F T10 = GivesT10 F
+GivesClaim F T11 = GivesT11 F

@@ -7,7 +7,7 @@ use Rattle.fact_model.specs.declared.sets.Table.{Table}
 use Rattle.fact_model.specs.InRange.{InRange}
 use Rattle.fact_model.specs.Flowing.{AreSets}
 use Rattle.fact_model.specs.Entries.{IsTable}
-use Rattle.why_table.specs.Rules.{Gives}
+use Rattle.why_table.specs.Rules.{GivesClaim}
 use Rattle.why_table.specs.Trails.{claim_at, Follows, Passes}
 use Rattle.why_table.specs.Found.{HaveOneEach, AreMemberAccesses}
 use Rattle.why_table.specs.declared.trail.Claim.{Claim}
@@ -25,7 +25,7 @@ abbrev pub rule_at : ℕ → WhyRule
 rule_at k = slice_index_or (P1 ∷ P2 ∷ P3 ∷ P4 ∷ P5 ∷ P6 ∷ P7 ∷ P8 ∷ T1 ∷ T2 ∷ T3 ∷ T4 ∷ T5 ∷ T6 ∷ T7 ∷ T8 ∷ T9 ∷ T10 ∷ []) k T11
 
 -- a step has this claim
-pub record IsIn (steps : List WhyStep) (claim : Claim) : Type 0 where
+pub record HasClaim (steps : List WhyStep) (claim : Claim) : Type 0 where
   pub at : ℕ
   pub below : at < length steps
   pub is : claim_at steps at ≡ claim
@@ -37,7 +37,7 @@ pub record AreSteps (F : Facts) (steps : List WhyStep) : Type 0 where
   pub few : length steps < 4294967295
 
 -- a step of this number has the claim
-pub record IsAt (steps : List WhyStep) (claim : Claim) (k : ℕ) : Type 0 where
+pub record HasClaimAt (steps : List WhyStep) (claim : Claim) (k : ℕ) : Type 0 where
   pub below : k < length steps
   pub is : claim_at steps k ≡ claim
 
@@ -47,14 +47,14 @@ pub record AreMore (F : Facts) (old new : List WhyStep) : Type 0 where
   pub more : length old < length new
 
 -- the facts are in range, and the sets and the table are theirs
-pub record IsGiven (g : Given) : Type 0 where
+pub record IsSearchInput (g : Given) : Type 0 where
   pub facts : InRange g.facts.now
   pub sets : AreSets g.facts.now g.pt.now
   pub table : IsTable g.facts.now g.table.now
   pub accesses : AreMemberAccesses g.facts.now
 
 -- facts in range, and steps whose numbers fit
-pub record IsAsked (a : Asked) : Type 0 where
+pub record IsTrailInput (a : Asked) : Type 0 where
   pub facts : InRange a.facts.now
   pub few : length a.steps.now < 4294967295
 
@@ -64,9 +64,9 @@ pub record IsStepFor (F : Facts) (steps : List WhyStep) (claim : Claim) (s : Why
   pub follows : Follows F steps (length steps) s
 
 -- a step that follows from these has a claim that none of them has
-pub record IsNext (F : Facts) (steps : List WhyStep) (s : WhyStep) : Type 0 where
+pub record IsNextStep (F : Facts) (steps : List WhyStep) (s : WhyStep) : Type 0 where
   pub follows : Follows F steps (length steps) s
-  pub fresh : IsIn steps s.claim → ⊥
+  pub fresh : HasClaim steps s.claim → ⊥
 
 -- that a site is in a point or in a cell, or that a row has a column
 abbrev pub claim_of : Kind → ℕ → ℕ → Claim
@@ -77,7 +77,7 @@ claim_of Row a b = Entry (record { 0 = a }) (record { 0 = b })
 module _ (F : Facts) (steps : List WhyStep) where
   -- the rule does not give the claim of the steps of these numbers
   abbrev pub NoneBy : Claim → WhyRule → List ℕ → Type 0
-  NoneBy claim rule from = All (λ j. j < length steps) from → Gives F rule (map (claim_at steps) from) claim → ⊥
+  NoneBy claim rule from = All (λ j. j < length steps) from → GivesClaim F rule (map (claim_at steps) from) claim → ⊥
 
   -- nor of these and at most so many more
   abbrev pub NoneUpTo : Claim → WhyRule → List ℕ → ℕ → Type 0
@@ -89,7 +89,7 @@ module _ (F : Facts) (steps : List WhyStep) where
 
   -- a step has the claim, or no rule gives it
   abbrev pub IsDone : Claim → Type 0
-  IsDone claim = IsIn steps claim ⊎ NoneGives claim
+  IsDone claim = HasClaim steps claim ⊎ NoneGives claim
 
   -- this holds of the claims of one set
   abbrev pub IsRowDone : Kind → ℕ → List Bool → Type 0

@@ -3,7 +3,7 @@ use Rattle.std.specs.Prelude.{ℕ, ◌<◌, List, length, map, All, slice_index_
 use Rattle.fact_model.specs.Flowing.{Holds, in_point, in_cell}
 use Rattle.fact_model.specs.Entries.{IsEntry}
 use Rattle.fact_model.specs.declared.facts.Facts.{Facts}
-use Rattle.why_table.specs.Rules.{Gives}
+use Rattle.why_table.specs.Rules.{GivesClaim}
 use Rattle.why_table.specs.declared.trail.Claim.{Claim}
 use Rattle.why_table.specs.declared.trail.Claim.TheVariants.{InPoint, InCell, Entry}
 use Rattle.why_table.specs.declared.trail.WhyStep.{WhyStep}
@@ -21,7 +21,7 @@ claim_at steps k = slice_index_or (map (λ s. s.claim) steps) k (InPoint 0 (reco
 -- a step, the k-th of a trail, follows: it names earlier steps, of whose claims its rule gives its own
 pub record Follows (F : Facts) (steps : List WhyStep) (k : ℕ) (step : WhyStep) : Type 0 where
   pub earlier : All (λ j. j < k) step.from.items
-  pub given : Gives F step.rule (map (claim_at steps) step.from.items) step.claim
+  pub given : GivesClaim F step.rule (map (claim_at steps) step.from.items) step.claim
 
 -- each step of a trail follows
 abbrev pub Passes : Facts → List WhyStep → Type 0

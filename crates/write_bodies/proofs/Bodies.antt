@@ -9,7 +9,7 @@ use Rattle.java_tree.specs.declared.TypeName.{TypeName}
 use Rattle.java_tree.specs.Syntax.{Expression, Statements, OptionalStatement, LocalOf, BlockOf, ForOf, no_statements, and_arm}
 use Rattle.java_core.specs.declared.RStmt.{RStmt}
 use Rattle.java_core.specs.declared.RArm.{RArm}
-use Rattle.java_core.specs.Trees.{Tag, Ex, Sts, Arms, no_other, loop, expr_of, stmts, arms_seen, else_seen}
+use Rattle.java_core.specs.Trees.{Tag, Ex, Sts, IfArms, no_other, loop, expr_of, stmts, arms_seen, else_seen}
 use Rattle.java_core.specs.Programs.{PlainLocal}
 use Rattle.java_core.specs.Formed.{variables_of}
 use Rattle.flow_rules.specs.declared.items.RowItem.{RowItem}
@@ -29,7 +29,7 @@ module _ (w : Within) where
   arms_alike scope (x ∷ xs) o = ap (and_arm (written.expression w scope (expr_of x.test)) (written.statements w scope (stmts
       x.body.items))) (arms_alike scope xs o)
 
-  pub else_alike : (scope : List ℕ) (xs : List RArm) (o : Arms) → written.otherwise w scope (arms_seen xs o)
+  pub else_alike : (scope : List ℕ) (xs : List RArm) (o : IfArms) → written.otherwise w scope (arms_seen xs o)
       ≡ written.otherwise w scope o
   else_alike scope [] o = refl
   else_alike scope (x ∷ xs) o = else_alike scope xs o

@@ -11,7 +11,7 @@ use Rattle.java_tree.proofs.Appended.{append_exprs, append_stmts, append_arms, e
 use Rattle.java_core.specs.declared.RExpr.{RExpr}
 use Rattle.java_core.specs.declared.RStmt.{RStmt}
 use Rattle.java_core.specs.declared.RArm.{RArm}
-use Rattle.java_core.specs.Trees.{Arms, expr_of, exprs, stmt_of, stmts, arms_seen}
+use Rattle.java_core.specs.Trees.{IfArms, expr_of, exprs, stmt_of, stmts, arms_seen}
 use Rattle.write_model.specs.Bodies.{scope_after}
 use Rattle.write_bodies.specs.declared.within.Within.{Within}
 use Rattle.write_bodies.specs.Written as written
@@ -50,7 +50,7 @@ module _ (w : Within) where
       ∙ ap (λ x. append_stmts (tree.stmts done) (written.statements w scope (stmts x))) (sym (drop_at list n s below at))
       ∙ before
 
-  pub arms_next : {o : tree.Arms} (scope : List ℕ) (other : Arms) (done pushed : List Arm) (list : List RArm) (n : ℕ) (s : RArm) (a : Arm)
+  pub arms_next : {o : tree.Arms} (scope : List ℕ) (other : IfArms) (done pushed : List Arm) (list : List RArm) (n : ℕ) (s : RArm) (a : Arm)
       → n < length list → s ≡ get_or list n s
       → tree.expr_of a.test ≡ written.expression w scope (expr_of s.test) → tree.stmts a.body.items
       ≡ written.statements w scope (stmts s.body.items) → pushed ≡ done ++ a ∷ []

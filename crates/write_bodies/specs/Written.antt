@@ -1,7 +1,7 @@
 -- Mirror. The parts of a method's body, as they are written for a numbering and a hierarchy.
 use Rattle.std.specs.Prelude.{ℕ, List, Option}
 use Rattle.java_tree.specs.Syntax as tree
-use Rattle.java_core.specs.Trees.{Ex, Exs, Target, St, Sts, Arms}
+use Rattle.java_core.specs.Trees.{Ex, Exs, Target, St, Sts, IfArms}
 use Rattle.java_core.specs.Programs.{PlainMethod, method_seen}
 use Rattle.hier_model.specs.Hierarchies.{Hierarchy}
 use Rattle.write_model.specs.Bodies as written
@@ -49,9 +49,9 @@ abbrev pub part : Within → List ℕ → Sts → tree.OptionalStatement
 part w scope ss = written.written_part (old_program w.source.now) (renaming w.source.now) (hierarchy_of w) w.number (method_of w) scope ss
 
 -- the arms of an `if`, and its `else`
-abbrev pub arms : Within → List ℕ → Arms → tree.Arms
+abbrev pub arms : Within → List ℕ → IfArms → tree.Arms
 arms w scope a = written.written_arms (old_program w.source.now) (renaming w.source.now) (hierarchy_of w) w.number (method_of w) scope a
 
 -- the `else` of an `if`, as it is written, where there is one
-abbrev pub otherwise : Within → List ℕ → Arms → tree.Else
+abbrev pub otherwise : Within → List ℕ → IfArms → tree.Else
 otherwise w scope a = written.written_else (old_program w.source.now) (renaming w.source.now) (hierarchy_of w) w.number (method_of w) scope a

@@ -11,7 +11,7 @@ use Rattle.java_tree.specs.Places.{expr_unplaced, exprs_unplaced, value_unplaced
 use Rattle.java_core.specs.declared.Ty.{Ty}
 use Rattle.java_core.specs.declared.TyBase.{TyBase}
 use Rattle.java_core.specs.declared.TyBase.TheVariants.{Int, Boolean, Char}
-use Rattle.java_core.specs.Trees.{Ex, Exs, no_ex, ex_then, static_field, field, index, call, static_call, super_call, create, create_array, cast, instance_of, unary, binary, Target, to_static, to_field, to_element, St, Sts, Arms, declare, block, assign, act, print, choose, loop, return, break, continue, no_st, st_then, no_other, otherwise, arm}
+use Rattle.java_core.specs.Trees.{Ex, Exs, no_ex, ex_then, static_field, field, index, call, static_call, super_call, create, create_array, cast, instance_of, unary, binary, Target, to_static, to_field, to_element, St, Sts, IfArms, declare, block, assign, act, print, choose, loop, return, break, continue, no_st, st_then, no_other, otherwise, arm}
 use Rattle.java_core.specs.Programs.{Plain, PlainLocal, PlainField, PlainMethod, PlainSlot}
 use Rattle.java_core.specs.Formed.{variables_of}
 use Rattle.fact_model.specs.declared.facts.Facts.{Facts}
@@ -165,12 +165,12 @@ module _ (P : Plain) (R : Renaming) (H : Hierarchy) (m : ℕ) (k : PlainMethod) 
     part_is scope no_st = refl
     part_is scope (st_then x xs) = rw (st_is scope x) refl
 
-    arms_is : (scope : List ℕ) (a : Arms) → arms_unplaced (written_arms P R H m k scope a) ≡ written_arms P R H m k scope a
+    arms_is : (scope : List ℕ) (a : IfArms) → arms_unplaced (written_arms P R H m k scope a) ≡ written_arms P R H m k scope a
     arms_is scope no_other = refl
     arms_is scope (otherwise xs) = refl
     arms_is scope (arm e xs more) = rw (ex_is scope e, sts_is scope xs, arms_is scope more) refl
 
-    else_is : (scope : List ℕ) (a : Arms) → else_unplaced (written_else P R H m k scope a) ≡ written_else P R H m k scope a
+    else_is : (scope : List ℕ) (a : IfArms) → else_unplaced (written_else P R H m k scope a) ≡ written_else P R H m k scope a
     else_is scope no_other = refl
     else_is scope (otherwise xs) = rw (sts_is scope xs) refl
     else_is scope (arm e xs more) = else_is scope more

@@ -6,7 +6,7 @@ use Rattle.std.specs.List.{list_any}
 use Rattle.std.specs.Str.{bytes_eq}
 use Rattle.java_tree.specs.Syntax as tree
 use Rattle.java_tree.specs.Syntax.{Expression, IntLit, CharLit, StrLit, BoolLit, NullLit, ThisRef, NameRef, FieldOf, IndexOf, CallOf, CallOn, SuperCallOf, NewOf, NewArrayOf, CastOf, InstanceOfClass, UnaryOf, BinaryOf, Expressions, no_more, and_more, Statement, LocalOf, BlockOf, AssignOf, DoOf, PrintOf, IfOf, WhileOf, ForOf, ReturnOf, BreakOf, ContinueOf, Statements, no_statements, and_then, Else, no_else, OptionalStatement, absent, present}
-use Rattle.java_core.specs.Trees.{Ex, Exs, no_ex, ex_then, number, character, text, truth, null, this, local, static_field, own_field, field, index, call, static_call, super_call, create, create_array, cast, instance_of, unary, binary, Target, to_local, to_static, to_own, to_field, to_element, no_target, St, Sts, Arms, declare, block, assign, act, print, choose, loop, return, break, continue, no_st, st_then, no_other, otherwise, arm}
+use Rattle.java_core.specs.Trees.{Ex, Exs, no_ex, ex_then, number, character, text, truth, null, this, local, static_field, own_field, field, index, call, static_call, super_call, create, create_array, cast, instance_of, unary, binary, Target, to_local, to_static, to_own, to_field, to_element, no_target, St, Sts, IfArms, declare, block, assign, act, print, choose, loop, return, break, continue, no_st, st_then, no_other, otherwise, arm}
 use Rattle.java_core.specs.Programs.{Plain, PlainMethod}
 use Rattle.java_core.specs.Formed.{variables_of}
 use Rattle.java_core.specs.Classes.{declaration_of, super_method}
@@ -158,13 +158,13 @@ module _ (P : Plain) (R : Renaming) (H : Hierarchy) (m : ℕ) (k : PlainMethod) 
     written_part scope (st_then x xs) = present (written_st scope x)
 
     -- the arms of an `if` as they are written, without its `else`
-    pub written_arms : List ℕ → Arms → tree.Arms
+    pub written_arms : List ℕ → IfArms → tree.Arms
     written_arms scope no_other = tree.no_arms
     written_arms scope (otherwise xs) = tree.no_arms
     written_arms scope (arm e xs more) = tree.and_arm (written scope e) (written_sts scope xs) (written_arms scope more)
 
     -- the `else` of an `if` as it is written, where there is one
-    pub written_else : List ℕ → Arms → Else
+    pub written_else : List ℕ → IfArms → Else
     written_else scope no_other = no_else
     written_else scope (otherwise xs) = tree.otherwise (written_sts scope xs)
     written_else scope (arm e xs more) = written_else scope more

@@ -2,7 +2,7 @@ use Rattle.std.proofs.Common.{◌≡◌, length, map, get_or, sym, ap, ◌∙◌
 use Rattle.std.proofs.lemmas.List.{length-map}
 use Rattle.std.proofs.lemmas.Simd.{map-map}
 use Rattle.fact_model.specs.declared.sets.Concept.{Concept}
-use Rattle.fact_model.specs.Concepts.{Pair, pair_of, AreAllConcepts, IsPlaced}
+use Rattle.fact_model.specs.Concepts.{Pair, pair_of, AreAllConcepts, IsConceptPlaced}
 use Rattle.concept_build.specs.Lists.{extents_of}
 use Rattle.concept_build.proofs.ExtentLemmas.{columns-differ}
 use Rattle.concept_build.proofs.concepts.Goals as goal
@@ -19,7 +19,7 @@ returns-clause-lattice c =
     let e : extents_of items ≡ map (λ (x : Concept). x.extent) l = ap extents_of (sym pairs) ∙ map-map (λ (p : Pair). p.0) pair_of l in
     record {
       all = subst (AreAllConcepts T w) (sym pairs) all;
-      placed = λ k d lt. subst (λ E. IsPlaced T w E k (get_or l k d)) e (placed k d (omega (arith, lt, ap length pairs, length-map l pair_of)));
+      placed = λ k d lt. subst (λ E. IsConceptPlaced T w E k (get_or l k d)) e (placed k d (omega (arith, lt, ap length pairs, length-map l pair_of)));
     }
 
 pub places_of-requires : goal.places_of-requires

@@ -1,7 +1,7 @@
 use Rattle.std.proofs.Common.{◌≡◌, ⊎_elim, ◌<◌, List, [], ◌∷◌, ◌++◌, length, take, get_or, sym, ap, ◌∙◌, subst, arith}
 use Rattle.std.proofs.lemmas.Bool.{cases_lt}
 use Rattle.std.proofs.lemmas.List.{map-append, length-map, length-take-le, take_more, get_or_append_left, get_or_push}
-use Rattle.fact_model.specs.Concepts.{Pair, pair_of, IsPlaced}
+use Rattle.fact_model.specs.Concepts.{Pair, pair_of, IsConceptPlaced}
 use Rattle.concept_build.specs.Lists.{extents_of}
 use Rattle.concept_build.proofs.ExtentLemmas.{nothing}
 use Rattle.concept_build.proofs.placed_items.Goals as goal
@@ -14,7 +14,7 @@ loop-k-preserved c =
     let x = c.in_ok-placed_item.field-0 in
     let lt : k < length items = omega arith in
     let len : length done ≡ k = sym (length-map done pair_of) ∙ (ap length c.loop-k.invariant.pairs ∙ length-take-le k items (omega arith)) in
-    let placed = IsPlaced c.args.given.now.table.now c.args.given.now.width (extents_of items) in
+    let placed = IsConceptPlaced c.args.given.now.table.now c.args.given.now.width (extents_of items) in
     rw c.in_ok-push.ensures.items (record {
       pairs =
           map-append pair_of done (x ∷ [])

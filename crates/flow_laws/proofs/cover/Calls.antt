@@ -9,7 +9,7 @@ use Rattle.kaba_base.specs.declared.Place.{Place}
 use Rattle.java_core.specs.Programs.{Plain, PlainMethod}
 use Rattle.fact_model.specs.Items.{site_class}
 use Rattle.fact_model.specs.Classes.{finds}
-use Rattle.fact_model.specs.Flowing.{Fact, in_point, Runs, Inclusion, by_this, by_argument, by_result}
+use Rattle.fact_model.specs.Flowing.{Fact, in_point, CallRuns, Inclusion, by_this, by_argument, by_result}
 use Rattle.fact_model.specs.Flowing.{point_at as listed_at}
 use Rattle.fact_model.specs.declared.facts.Facts.{Facts}
 use Rattle.fact_model.specs.declared.facts.NewInfo.{NewInfo}
@@ -112,7 +112,7 @@ module _ (P : Plain) (F : Facts) (S : Sets) where
         go : (call : CallInfo) → Contains F.calls.items call → (r : ℕ) → S.point r s ≡ true → call.receiver ≡ r → call.slot ≡ j
             → call.args.items ≡ map (point_at (numbers P)) es → call.result ≡ point_at (numbers P) o → CallGoes c es o s
         go call listed r base er ej ea eo =
-            let runs : Runs F call s body.body =
+            let runs : CallRuns F call s body.body =
             record { called = listed; listed = body.is_body.listed; found = ap (λ z. finds F (site_class F s) z) ej ∙ body.found } in
             let received : S.point call.receiver s ≡ true = subst (λ z. S.point z s ≡ true) (sym er) base in
             record {

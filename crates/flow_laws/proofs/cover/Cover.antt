@@ -3,7 +3,7 @@ use Rattle.std.proofs.Common.{◌≡◌, ℕ, zero, suc, List, [], ◌∷◌, �
 use Rattle.std.specs.Prelude.{Bool, true, slice_get}
 use Rattle.std.proofs.lemmas.Option.{same_Some}
 use Rattle.java_core.specs.declared.Fault.TheVariants as fault
-use Rattle.java_core.specs.Trees.{Ex, Exs, no_ex, ex_then, number, character, text, truth, null, this, local, static_field, own_field, field, index, call, static_call, super_call, create, create_array, cast, instance_of, unary, binary, Target, to_local, to_static, to_own, to_field, to_element, no_target, St, Sts, Arms, declare, block, assign, act, print, choose, loop, return, break, continue, no_st, st_then, otherwise, arm, no_other}
+use Rattle.java_core.specs.Trees.{Ex, Exs, no_ex, ex_then, number, character, text, truth, null, this, local, static_field, own_field, field, index, call, static_call, super_call, create, create_array, cast, instance_of, unary, binary, Target, to_local, to_static, to_own, to_field, to_element, no_target, St, Sts, IfArms, declare, block, assign, act, print, choose, loop, return, break, continue, no_st, st_then, otherwise, arm, no_other}
 use Rattle.java_core.specs.Types.{Env}
 use Rattle.java_meaning.specs.Moment.{Value, Number, Truth, CodeUnit, Nothing, Text, Object, Kind, an_array, Cell, own_class, held, bound, self_of, result_of, set_static, ran, State, Frame, Ended, Faulted, Going, Wrong, Outcome, stop, Body, Lang, look}
 use Rattle.java_meaning.specs.Values.{default_of, convert, arguments, number_of, text_of}
@@ -314,7 +314,7 @@ module _ (L : Lang) (Made : Option ℕ → Kind → Type 0) (V : Family) (inc : 
             steps.after_one_fine L Made V inc hooks f1.env w f1 s1 k _ r.good refl fo1 (subst (λ g. FlowIn g s1.cells w) (sym e1) wo) h1
             (all_fine xs f1 s1 k (subst (λ g. InSts (included L Made V g) xs) (sym e1) i.1) r.good fo1 h1))
 
-        arms_fine : (xs : Arms) (f : Frame) (s : State) (k : ToFlow) → InArms (included L Made V f.env) xs → Good s.cells s.statics → FrameIn s.cells f
+        arms_fine : (xs : IfArms) (f : Frame) (s : State) (k : ToFlow) → InArms (included L Made V f.env) xs → Good s.cells s.statics → FrameIn s.cells f
             → KF f.env s.cells k → Fine (run_arms L later xs f s k)
         arms_fine no_other f s k i ok fo h = h Next f s (steps.here L Made V inc hooks s.cells s.statics ok) refl fo tt
         arms_fine (otherwise xs) f s k i ok fo h = all_fine xs f s k i ok fo h

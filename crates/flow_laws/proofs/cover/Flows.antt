@@ -24,7 +24,7 @@ use Rattle.flow_rules.specs.declared.items.Operand.{Operand}
 use Rattle.flow_rules.specs.declared.items.ColumnItem.TheVariants as column
 use Rattle.flow_rules.specs.Types.{field_object}
 use Rattle.flow_rules.specs.Parts.{Part, a_load, an_element, a_creation, a_test, a_store, an_element_store, parts_of}
-use Rattle.flow_rules.specs.Numbered.{Body, body_at, bodies_of}
+use Rattle.flow_rules.specs.Numbered.{BodyParts, body_at, bodies_of}
 use Rattle.flow_rules.specs.Lists.{both, these, point_at, site_in, created, moved, news_of, flows_of, loads_of, stores_of, casts_of, accesses_of}
 use Rattle.flow_rules.specs.Facts.{numbers, gathered, IsFactsOf}
 use Rattle.flow_laws.specs.cover.Covers.{Sets, has, is_site, is_column, is_cell, passes, cell_number, field_cell, element_cell, at_point, at_cell, or_itself}
@@ -32,7 +32,7 @@ use Rattle.flow_laws.proofs.cover.Kinded.{site_type, IsPoint, HasPoint, IsCreati
 use Rattle.flow_rules.proofs.Listed.{one, flat_has, each_has}
 
 -- the body of a method, with its parts
-abbrev pub body_of : Plain → ℕ → PlainMethod → Body
+abbrev pub body_of : Plain → ℕ → PlainMethod → BodyParts
 body_of P m k = record { number = m; slot = k.slot; parts = parts_of P m k }
 
 pub body_there : (P : Plain) (m : ℕ) (k : PlainMethod) → slice_get P.methods m ≡ Some k → Contains (bodies_of P) (body_of P m k)
@@ -151,7 +151,7 @@ module _ (P : Plain) (F : Facts) (S : Sets) where
       record { below = p.0; site_is = eqb-true (cell_at F c).site.0 s q.0; column_is = column_is (cell_at F c).column col q.1 }
 
   module _ (closed : (ps : List Fact) (f : Fact) → Inclusion F ps f → AllByRecursion (λ p. has S p ≡ true) ps → has S f ≡ true) (facts : IsFactsOf P F) where
-    given : {A : Type 0} (f : Body → Part → List A) (m : ℕ) (k : PlainMethod) (p : Part) (x : A) → slice_get P.methods m ≡ Some k
+    given : {A : Type 0} (f : BodyParts → Part → List A) (m : ℕ) (k : PlainMethod) (p : Part) (x : A) → slice_get P.methods m ≡ Some k
         → Contains (parts_of P m k) p → Contains (f (body_of P m k) p) x → Contains (gathered P f) x
     given f m k p x e c d = flat_has (λ b. flat_map (f b) b.parts) (bodies_of P) (body_of P m k) x (body_there P m k e)
         (flat_has (f (body_of P m k)) (parts_of P m k) p x c d)

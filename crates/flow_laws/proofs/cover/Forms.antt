@@ -4,7 +4,7 @@ use Rattle.std.specs.Prelude.{Bool, true, false, Contains, slice_get}
 use Rattle.std.proofs.lemmas.List.Elements.{Contains-append_cases}
 use Rattle.kaba_base.specs.declared.Place.{Place}
 use Rattle.java_core.specs.declared.Ty.{Ty}
-use Rattle.java_core.specs.Trees.{Tag, Ex, Exs, no_ex, ex_then, local, static_field, own_field, field, index, call, static_call, super_call, create, create_array, cast, instance_of, unary, binary, Target, to_local, to_static, to_own, to_field, to_element, no_target, St, Sts, Arms, declare, block, assign, act, print, choose, loop, return, no_st, st_then, no_other, otherwise, arm}
+use Rattle.java_core.specs.Trees.{Tag, Ex, Exs, no_ex, ex_then, local, static_field, own_field, field, index, call, static_call, super_call, create, create_array, cast, instance_of, unary, binary, Target, to_local, to_static, to_own, to_field, to_element, no_target, St, Sts, IfArms, declare, block, assign, act, print, choose, loop, return, no_st, st_then, no_other, otherwise, arm}
 use Rattle.java_core.specs.Programs.{Plain, PlainMethod}
 use Rattle.java_core.specs.Classes.{super_method}
 use Rattle.java_core.specs.Types.{fits, fits_in, static, target_type}
@@ -154,7 +154,7 @@ module _ (P : Plain) (m : ℕ) (k : PlainMethod) where
     sts_from no_st a f into c = unless c
     sts_from (st_then x xs) (t_st_then a b) (f_st_then d f) into c = split (parts_st P type m k x) (sts xs) into c (st_from x a d) (sts_from xs b f)
 
-    arms_from : {p : Part} {in_loop : Bool} {scope : List ℕ} (xs : Arms) → TypedArms P g xs → FormedArms P k in_loop scope xs
+    arms_from : {p : Part} {in_loop : Bool} {scope : List ℕ} (xs : IfArms) → TypedArms P g xs → FormedArms P k in_loop scope xs
         → Stands (parts_arms P type m k xs) → Contains (parts_arms P type m k xs) p → From p
     arms_from no_other a f into c = unless c
     arms_from (otherwise xs) (t_otherwise a) (f_otherwise f) into c = sts_from xs a f into c

@@ -2,7 +2,7 @@
 use Rattle.std.proofs.Common.{◌≡◌, ℕ, [], ◌∷◌, ◌++◌, Option, Some, None, refl, sym, ap, ◌∙◌, subst}
 use Rattle.std.specs.Prelude.{true, false, Contains}
 use Rattle.kaba_base.specs.declared.Place.{Place}
-use Rattle.java_core.specs.Trees.{Tag, Ex, this, local, static_field, Target, to_local, to_static, to_own, to_field, to_element, no_target, St, Sts, Arms, declare, block, assign, act, print, choose, loop, return, break, continue, no_st, st_then, no_other, otherwise, arm}
+use Rattle.java_core.specs.Trees.{Tag, Ex, this, local, static_field, Target, to_local, to_static, to_own, to_field, to_element, no_target, St, Sts, IfArms, declare, block, assign, act, print, choose, loop, return, break, continue, no_st, st_then, no_other, otherwise, arm}
 use Rattle.java_meaning.specs.Moment.{bound, result_of, set_static}
 use Rattle.flow_rules.specs.declared.items.ObjectType.{ObjectType}
 use Rattle.flow_rules.specs.declared.items.Operand.{Operand}
@@ -156,7 +156,7 @@ module _ (B : ClosedBody) where
       included_sts xs (right (parts_st P (type_in P m k) m k x) (sts xs) st),
     )
 
-    included_arms : (xs : Arms) → Stands (parts_arms P (type_in P m k) m k xs) → InArms (included L Made V g) xs
+    included_arms : (xs : IfArms) → Stands (parts_arms P (type_in P m k) m k xs) → InArms (included L Made V g) xs
     included_arms no_other st = tt
     included_arms (otherwise xs) st = included_sts xs st
     included_arms (arm e xs more) st =

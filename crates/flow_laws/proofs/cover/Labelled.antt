@@ -3,11 +3,11 @@ use Rattle.std.proofs.Common.{◌≡◌, ℕ, ◌+◌, List, Option, Some, None,
 use Rattle.std.specs.Prelude.{Bool}
 use Rattle.std.specs.Option.{is_some}
 use Rattle.java_core.specs.declared.Ty.{Ty}
-use Rattle.java_core.specs.Trees.{Ex, Exs, no_ex, ex_then, number, character, text, truth, null, this, local, static_field, own_field, field, index, call, static_call, super_call, create, create_array, cast, instance_of, unary, binary, Target, to_local, to_static, to_own, to_field, to_element, no_target, St, Sts, Arms, declare, block, assign, act, print, choose, loop, return, break, continue, no_st, st_then, no_other, otherwise, arm}
+use Rattle.java_core.specs.Trees.{Ex, Exs, no_ex, ex_then, number, character, text, truth, null, this, local, static_field, own_field, field, index, call, static_call, super_call, create, create_array, cast, instance_of, unary, binary, Target, to_local, to_static, to_own, to_field, to_element, no_target, St, Sts, IfArms, declare, block, assign, act, print, choose, loop, return, break, continue, no_st, st_then, no_other, otherwise, arm}
 use Rattle.java_core.specs.Programs.{Plain, PlainMethod}
 use Rattle.java_core.specs.Types.{Env, target_type}
 use Rattle.java_core.specs.Typing.{Typed, t_number, t_character, t_text, t_truth, t_null, t_this, t_local, t_static_field, t_own_field, t_field, t_index, t_call, t_static_call, t_super_call, t_create, t_create_array, t_cast, t_instance_of, t_unary, t_binary, TypedArgs, t_no_ex, t_ex_then, TypedTarget, t_to_local, t_to_static, t_to_own, t_to_field, t_to_element, TypedTest, t_always, t_test, TypedSt, t_declare, t_declare_as, t_block, t_assign, t_act, t_print_line, t_print, t_choose, t_loop, t_return_nothing, t_return, t_break, t_continue, TypedSts, t_no_st, t_st_then, TypedArms, t_no_other, t_otherwise, t_arm}
-use Rattle.java_core.specs.Formed.{scope_after, scope_after_all, is_act, is_first, is_at_most_one, IsHead, of_while, of_for, is_call, FormedEx, f_number, f_character, f_text, f_truth, f_null, f_this, f_local, f_static_field, f_own_field, f_field, f_index, f_call, f_static_call, f_super_call, f_create, f_create_array, f_cast, f_instance_of, f_unary, f_binary, FormedExs, f_no_ex, f_ex_then, FormedTarget, f_to_local, f_to_static, f_to_own, f_to_field, f_to_element, FormedOption, f_none, f_some, FormedSt, f_declare, f_block, f_assign, f_act, f_print, f_choose, f_loop, f_return, f_break, f_continue, FormedSts, f_no_st, f_st_then, FormedArms, f_no_other, f_otherwise, f_arm}
+use Rattle.java_core.specs.Formed.{scope_after, scope_after_all, is_act, is_first, is_at_most_one, IsLoopHead, of_while, of_for, is_call, FormedEx, f_number, f_character, f_text, f_truth, f_null, f_this, f_local, f_static_field, f_own_field, f_field, f_index, f_call, f_static_call, f_super_call, f_create, f_create_array, f_cast, f_instance_of, f_unary, f_binary, FormedExs, f_no_ex, f_ex_then, FormedTarget, f_to_local, f_to_static, f_to_own, f_to_field, f_to_element, FormedOption, f_none, f_some, FormedSt, f_declare, f_block, f_assign, f_act, f_print, f_choose, f_loop, f_return, f_break, f_continue, FormedSts, f_no_st, f_st_then, FormedArms, f_no_other, f_otherwise, f_arm}
 use Rattle.java_core.specs.Retagged.{Retagged, s_number, s_character, s_text, s_truth, s_null, s_this, s_local, s_static_field, s_own_field, s_field, s_index, s_call, s_static_call, s_super_call, s_create, s_create_array, s_cast, s_instance_of, s_unary, s_binary, RetaggedAll, s_no_ex, s_ex_then, RetaggedTarget, s_to_local, s_to_static, s_to_own, s_to_field, s_to_element, s_no_target}
 use Rattle.java_meaning.specs.Paired.{PairedIf, PairedSt, PairedArms, pair_none, pair_some, pair_declare, pair_block, pair_assign, pair_act, pair_print, pair_choose, pair_loop, pair_return, pair_break, pair_continue, pair_no_st, pair_st_then, pair_no_other, pair_otherwise, pair_arm}
 use Rattle.java_meaning.specs.Watched.{SameTarget, RetaggedSts}
@@ -72,7 +72,7 @@ mutual
   sts_same n no_st = pair_no_st
   sts_same n (st_then x xs) = pair_st_then (st_same n x) (sts_same (n + size_st x) xs)
 
-  arms_same : (n : ℕ) (xs : Arms) → PairedArms Retagged SameTarget (label_arms n xs) xs
+  arms_same : (n : ℕ) (xs : IfArms) → PairedArms Retagged SameTarget (label_arms n xs) xs
   arms_same n no_other = pair_no_other
   arms_same n (otherwise xs) = pair_otherwise (sts_same n xs)
   arms_same n (arm e xs more) = pair_arm (ex_same n e) (sts_same (n + size e) xs) (arms_same (n + size e + size_sts xs) more)
@@ -148,7 +148,7 @@ module _ (P : Plain) (g : Env) where
     typed_sts_same pair_no_st t_no_st = t_no_st
     typed_sts_same (pair_st_then h i) (t_st_then a b) = t_st_then (typed_st_same h a) (typed_sts_same i b)
 
-    typed_arms_same : {xs ys : Arms} → PairedArms Retagged SameTarget xs ys → TypedArms P g ys → TypedArms P g xs
+    typed_arms_same : {xs ys : IfArms} → PairedArms Retagged SameTarget xs ys → TypedArms P g ys → TypedArms P g xs
     typed_arms_same pair_no_other t_no_other = t_no_other
     typed_arms_same (pair_otherwise h) (t_otherwise a) = t_otherwise (typed_sts_same h a)
     typed_arms_same (pair_arm h i j) (t_arm a b c d) = t_arm (typed_same h a) (rw (static_same P g h) b) (typed_sts_same i c) (typed_arms_same j d)
@@ -227,7 +227,7 @@ module _ (P : Plain) (k : PlainMethod) where
 
   head_same : {w : Bool} {first first2 step step2 : Sts} {e d : Option Ex} → RetaggedSts first first2 → PairedIf Retagged SameTarget e d
       → RetaggedSts step step2
-      → IsHead w first2 d step2 → IsHead w first e step
+      → IsLoopHead w first2 d step2 → IsLoopHead w first e step
   head_same pair_no_st (pair_some h) pair_no_st of_while = of_while
   head_same h i j of_for = of_for
 
@@ -253,7 +253,7 @@ module _ (P : Plain) (k : PlainMethod) where
     formed_sts_same pair_no_st f_no_st = f_no_st
     formed_sts_same {scope = sc} (pair_st_then h i) (f_st_then a b) = f_st_then (formed_st_same h a) (rw (same_scope sc h) (formed_sts_same i b))
 
-    formed_arms_same : {l : Bool} {scope : List ℕ} {xs ys : Arms} → PairedArms Retagged SameTarget xs ys → FormedArms P k l scope ys → FormedArms P k l scope xs
+    formed_arms_same : {l : Bool} {scope : List ℕ} {xs ys : IfArms} → PairedArms Retagged SameTarget xs ys → FormedArms P k l scope ys → FormedArms P k l scope xs
     formed_arms_same pair_no_other f_no_other = f_no_other
     formed_arms_same (pair_otherwise h) (f_otherwise a) = f_otherwise (formed_sts_same h a)
     formed_arms_same (pair_arm h i j) (f_arm a b c) = f_arm (formed_same h a) (formed_sts_same i b) (formed_arms_same j c)

@@ -1,7 +1,7 @@
 -- What holds of the parts of each expression of a body, and of parts put together, holds of those of its statements.
 use Rattle.std.proofs.Common.{◌≡◌, ℕ, ◌+◌, List, [], ◌++◌, Option, Some, None, subst, arith}
 use Rattle.std.specs.Prelude.{false}
-use Rattle.java_core.specs.Trees.{Tag, Ex, local, Target, St, Sts, Arms, declare, block, assign, act, print, choose, loop, return, break, continue, no_st, st_then, no_other, otherwise, arm}
+use Rattle.java_core.specs.Trees.{Tag, Ex, local, Target, St, Sts, IfArms, declare, block, assign, act, print, choose, loop, return, break, continue, no_st, st_then, no_other, otherwise, arm}
 use Rattle.java_core.specs.Programs.{Plain, PlainMethod}
 use Rattle.java_core.specs.Formed.{numbers, numbers_if, numbers_target, numbers_st, numbers_sts, numbers_arms}
 use Rattle.flow_rules.specs.declared.items.ObjectType.{ObjectType}
@@ -48,7 +48,7 @@ module _ (P : Plain) (type : Ex → Option ObjectType) (m : ℕ) (k : PlainMetho
       of_sts n no_st = upto {b = n} (omega arith) (none n)
       of_sts n (st_then x xs) = upto {b = n + size_st x + size_sts xs} (omega arith) (join (of_st n x) (of_sts (n + size_st x) xs))
 
-      of_arms : (n : ℕ) (xs : Arms) → W n (parts_arms P type m k (label_arms n xs)) (n + size_arms xs) (numbers_arms xs)
+      of_arms : (n : ℕ) (xs : IfArms) → W n (parts_arms P type m k (label_arms n xs)) (n + size_arms xs) (numbers_arms xs)
       of_arms n no_other = upto {b = n} (omega arith) (none n)
       of_arms n (otherwise xs) = of_sts n xs
       of_arms n (arm e xs more) =

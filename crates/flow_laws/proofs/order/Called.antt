@@ -8,7 +8,7 @@ use Rattle.java_core.specs.Classes.{IsSubclass}
 use Rattle.java_core.specs.Typing.{IsTyped}
 use Rattle.java_core.specs.Formed.{IsFormed}
 use Rattle.fact_model.specs.Items.{site_class}
-use Rattle.fact_model.specs.Flowing.{Runs, point_at as listed_at}
+use Rattle.fact_model.specs.Flowing.{CallRuns, point_at as listed_at}
 use Rattle.fact_model.specs.declared.facts.Facts.{Facts}
 use Rattle.fact_model.specs.declared.facts.CallInfo.{CallInfo}
 use Rattle.fact_model.specs.declared.facts.BodyInfo.{BodyInfo}
@@ -152,7 +152,7 @@ module _ (P : Plain) (formed : IsFormed P) (typed : IsTyped P) (F : Facts) (fact
     pub above : IsSubclass P (site_class F o) entry.method.owner
     pub slot : entry.method.slot ≡ Some call.slot
 
-  pub runs_body : (call : CallInfo) (o : ℕ) (body : BodyInfo) → Runs F call o body → RunsBody call o body
+  pub runs_body : (call : CallInfo) (o : ℕ) (body : BodyInfo) → CallRuns F call o body → RunsBody call o body
   runs_body call o body r =
       let c = call_of call r.called in
       let e = entry_of body r.listed in

@@ -13,7 +13,7 @@ use Rattle.java_core.specs.Programs.{Plain}
 use Rattle.java_core.specs.Classes.{IsSubclass, same_class, below}
 use Rattle.java_core.specs.Types.{Static, a_value, null_value, no_value, class_in, class_of, element_in, element_of, is_numeric, is_boolean, is_object, is_sub_base, is_subtype, is_only, fits, fits_in, are_comparable}
 use Rattle.java_core.specs.Typing.{takes_two, are_related, can_cast}
-use Rattle.java_core.specs.Formed.{IsKnownBase, IsType, IsCastType, to_int, to_char, to_class}
+use Rattle.java_core.specs.Formed.{IsKnownBase, IsProgramType, IsCastType, to_int, to_char, to_class}
 use Rattle.java_core.proofs.Subclasses.{below-subclass, subclass-then}
 use Rattle.flow_rules.specs.declared.items.ObjectType.{ObjectType}
 use Rattle.flow_rules.specs.Operands.{object_in, object_of, object_static, object_class, class_at}
@@ -68,7 +68,7 @@ module _ (P : Plain) where
   known_base Char d t h e = absurd (cc)
   known_base Str d t h e = absurd (cc)
 
-  pub known_type : (v : Ty) (t : ObjectType) → IsType P v → object_of v ≡ Some t → t.class.0 < length P.classes
+  pub known_type : (v : Ty) (t : ObjectType) → IsProgramType P v → object_of v ≡ Some t → t.class.0 < length P.classes
   known_type v t h e = known_base v.base v.dim t h e
 
   pub known_cast : (v : Ty) (t : ObjectType) → IsCastType P v → object_of v ≡ Some t → t.class.0 < length P.classes

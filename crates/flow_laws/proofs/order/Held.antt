@@ -14,7 +14,7 @@ use Rattle.java_core.specs.Formed.{IsFormed}
 use Rattle.java_core.proofs.Subclasses.{subclass-then}
 use Rattle.fact_model.specs.Items.{site_at as site_info_at, cell_at, site_class}
 use Rattle.fact_model.specs.Classes.{IsBelow}
-use Rattle.fact_model.specs.Flowing.{Fact, in_point, in_cell, IsCell, Fits, Runs, point_at as listed_at, Inclusion, by_new, by_flow, by_load, by_store, by_this, by_argument, by_result, by_cast, Holds}
+use Rattle.fact_model.specs.Flowing.{Fact, in_point, in_cell, IsCell, FitsStore, CallRuns, point_at as listed_at, Inclusion, by_new, by_flow, by_load, by_store, by_this, by_argument, by_result, by_cast, Holds}
 use Rattle.fact_model.specs.declared.facts.Facts.{Facts}
 use Rattle.fact_model.specs.declared.facts.NewInfo.{NewInfo}
 use Rattle.fact_model.specs.declared.facts.FlowInfo.{FlowInfo}
@@ -258,7 +258,7 @@ module _ (P : Plain) (formed : IsFormed P) (typed : IsTyped P) (F : Facts) (fact
 
     -- what is put in an element
     element_put : (b q : Operand) (a n c o s : ℕ) → IsGood b → ((t : ObjectType) → b.ty ≡ Some t → 0 < t.dim) → Value q (element_object b.ty)
-        → point_at (numbers P) b ≡ Some a → point_at (numbers P) q ≡ Some n → IsCell F c o None → Fits F None s o → IsHeld (in_point a o)
+        → point_at (numbers P) b ≡ Some a → point_at (numbers P) q ≡ Some n → IsCell F c o None → FitsStore F None s o → IsHeld (in_point a o)
         → IsHeld (in_point n s) → InCell c s
     element_put b q a n c o s g deep v e d i f h w =
         let z = typed_operand b a g e in
@@ -281,7 +281,7 @@ module _ (P : Plain) (formed : IsFormed P) (typed : IsTyped P) (F : Facts) (fact
     }
 
     part_store : (p : Part) (x : StoreInfo) (c o s : ℕ) → Fitted p → Contains (stores_of (numbers P) p) x → IsCell F c o x.column
-        → Fits F x.column s o → IsHeld (in_point x.base o) → IsHeld (in_point x.value s) → InCell c s
+        → FitsStore F x.column s o → IsHeld (in_point x.base o) → IsHeld (in_point x.value s) → InCell c s
     unfolding numbers
     part_store (a_store w b (Some f) q) x c o s g e i r h v =
         let z = these_from (point_at (numbers P) b) (column_number P (column.Fld f)) (point_at (numbers P) q)
@@ -290,7 +290,7 @@ module _ (P : Plain) (formed : IsFormed P) (typed : IsTyped P) (F : Facts) (fact
     part_store (an_element_store w b q) x c o s g e i r h v =
         let z = both_from (point_at (numbers P) b) (point_at (numbers P) q) (λ a q. record { base = a; column = None; value = q; place = w }) x e in
         element_put b q x.base x.value c o s g.0 g.1 g.2 (z.2 ∙ ap (λ y. Some y.base) z.4) (z.3 ∙ ap (λ y. Some y.value) z.4)
-        (subst (λ y. IsCell F c o y) (sym (ap (λ y. y.column) z.4)) i) (subst (λ y. Fits F y s o) (sym (ap (λ y. y.column) z.4)) r) h v
+        (subst (λ y. IsCell F c o y) (sym (ap (λ y. y.column) z.4)) i) (subst (λ y. FitsStore F y s o) (sym (ap (λ y. y.column) z.4)) r) h v
     part_store _ x c o s g e i r h v = absurd (omega (arith, e.1))
 
     part_cast : (p : Part) (x : CastInfo) (s : ℕ) → Fitted p → Contains (casts_of (numbers P) p) x → IsBelow F (site_class F s) x.class.0
@@ -309,7 +309,7 @@ module _ (P : Plain) (formed : IsFormed P) (typed : IsTyped P) (F : Facts) (fact
       → IsFitted P formed typed F facts m k e p
   fitted_at m k e p c = part_fitted P formed typed F facts m k e p c
 
-  this_held : (call : CallInfo) (o : ℕ) (body : BodyInfo) → Runs F call o body → IsHeld (in_point call.receiver o) → IsHeld (in_point body.this o)
+  this_held : (call : CallInfo) (o : ℕ) (body : BodyInfo) → CallRuns F call o body → IsHeld (in_point call.receiver o) → IsHeld (in_point body.this o)
   this_held call o body r h u d =
       let w = runs_body P formed typed F facts call o body r in
       let e = w.entry in
@@ -319,7 +319,7 @@ module _ (P : Plain) (formed : IsFormed P) (typed : IsTyped P) (F : Facts) (fact
       ∙ ap (option_and_then (λ k. class_object k.owner)) e.stands) ∙ d) in
       under_as (record { class = w.above; dim = (h t.0 t.1).dim ∙ c.object t.0 t.2 }) s
 
-  argument_held : (call : CallInfo) (o : ℕ) (body : BodyInfo) (i from to s : ℕ) → Runs F call o body → listed_at call.args.items i ≡ Some from
+  argument_held : (call : CallInfo) (o : ℕ) (body : BodyInfo) (i from to s : ℕ) → CallRuns F call o body → listed_at call.args.items i ≡ Some from
       → listed_at body.params.items i ≡ Some to → IsHeld (in_point from s) → IsHeld (in_point to s)
   argument_held call o body i from to s r a p h u d =
       let w = runs_body P formed typed F facts call o body r in
@@ -331,7 +331,7 @@ module _ (P : Plain) (formed : IsFormed P) (typed : IsTyped P) (F : Facts) (fact
       (sym (slot_param P formed typed e.number i call.slot e.method e.stands w.slot y.0) ∙ sym (number_types (point.Local e.number i) to y.1
       ∙ ap (option_and_then (λ k. variable_object k i)) e.stands) ∙ d)
 
-  result_held : (call : CallInfo) (o : ℕ) (body : BodyInfo) (from to s : ℕ) → Runs F call o body → body.result ≡ Some from → call.result ≡ Some to
+  result_held : (call : CallInfo) (o : ℕ) (body : BodyInfo) (from to s : ℕ) → CallRuns F call o body → body.result ≡ Some from → call.result ≡ Some to
       → IsHeld (in_point from s) → IsHeld (in_point to s)
   result_held call o body from to s r a p h u d =
       let w = runs_body P formed typed F facts call o body r in

@@ -20,7 +20,7 @@ use Rattle.flow_rules.specs.declared.items.Row.{Row}
 use Rattle.flow_rules.specs.declared.items.Site.{Site}
 use Rattle.flow_rules.specs.Operands.{result_in, variable_in}
 use Rattle.flow_rules.specs.Parts.{Part, a_creation, a_test, parts_of}
-use Rattle.flow_rules.specs.Numbered.{Body, rows_of, row_number, number_if, site_if, form_sites, bodies_of, body_at, sites_of, site_number}
+use Rattle.flow_rules.specs.Numbered.{BodyParts, rows_of, row_number, number_if, site_if, form_sites, bodies_of, body_at, sites_of, site_number}
 use Rattle.flow_rules.specs.Facts.{site_info, site_of_row, numbers, IsFactsOf}
 use Rattle.flow_rules.proofs.Listed.{below_at, at_map, map_at, index_at, each_has, flat_has, first}
 use Rattle.flow_rules.proofs.NumberedItems.{numbered_sites, numbered_rows}
@@ -152,7 +152,7 @@ module _ (P : Plain) (formed : IsFormed P) (typed : IsTyped P) where
     unfolding bodies_of
     made_site m k w u o n r t e c a b d h =
         let x : Site = record { number = n; place = w; ty = t; row = r } in
-        let b0 : Body = record { number = m; slot = k.slot; parts = parts_of P m k } in
+        let b0 : BodyParts = record { number = m; slot = k.slot; parts = parts_of P m k } in
         (numbered_sites P).there x (flat_has (λ b. flat_map (form_sites (row_number P)) b.parts) (bodies_of P) b0 x
         (each_has (body_at P) 0 P.methods m k b0 e m (omega arith) (first b0 []))
         (flat_has (form_sites (row_number P)) (parts_of P m k) (a_creation w u o) x c

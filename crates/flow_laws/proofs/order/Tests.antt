@@ -31,7 +31,7 @@ use Rattle.flow_rules.specs.declared.items.Site.{Site}
 use Rattle.flow_rules.specs.Ordered.{each}
 use Rattle.flow_rules.specs.Operands.{type_in}
 use Rattle.flow_rules.specs.Parts.{Part, a_load, an_element, a_creation, a_call, a_static_call, a_super_call, a_test, parts_body, parts_of}
-use Rattle.flow_rules.specs.Numbered.{Body, body_at, bodies_of, own_point, array_mark, form_columns, row_number, column_number, point_number, columns_of, sites_of}
+use Rattle.flow_rules.specs.Numbered.{BodyParts, body_at, bodies_of, own_point, array_mark, form_columns, row_number, column_number, point_number, columns_of, sites_of}
 use Rattle.flow_rules.specs.Lists.{both, these, point_in, row_in, point_at, row_at, tests_of, casts_of}
 use Rattle.java_core.specs.Classes.{below}
 use Rattle.flow_rules.specs.Facts.{numbers, gathered, cells_of, FieldCell, fields_of, field_cell, array_cell, site_cells, IsFactsOf}
@@ -66,7 +66,7 @@ has_body P m k p c = body_there P (type_in P m k) m k k.body p c
 
 -- what the parts of all bodies give
 module _ (P : Plain) where
-  pub gathered_from : {A : Type 0} (f : Body → Part → List A) (x : A) → Contains (gathered P f) x → (m : ℕ) × (k : PlainMethod) × (p : Part)
+  pub gathered_from : {A : Type 0} (f : BodyParts → Part → List A) (x : A) → Contains (gathered P f) x → (m : ℕ) × (k : PlainMethod) × (p : Part)
       × (slice_get P.methods m ≡ Some k) × Contains (parts_of P m k) p
       × Contains (f (record { number = m; slot = k.slot; parts = parts_of P m k }) p) x
   unfolding bodies_of
@@ -77,11 +77,11 @@ module _ (P : Plain) where
       let w = flat_from (f z.0) z.0.parts x z.2 in
       (y.0, y.1, w.0, y.2, subst (λ b. Contains b.parts w.0) (sym e) w.1, subst (λ b. Contains (f b w.0) x) (sym e) w.2)
 
-  pub gathered_has : {A : Type 0} (f : Body → Part → List A) (x : A) (m : ℕ) (k : PlainMethod) (p : Part) → slice_get P.methods m ≡ Some k
+  pub gathered_has : {A : Type 0} (f : BodyParts → Part → List A) (x : A) (m : ℕ) (k : PlainMethod) (p : Part) → slice_get P.methods m ≡ Some k
       → Contains (parts_of P m k) p → Contains (f (record { number = m; slot = k.slot; parts = parts_of P m k }) p) x → Contains (gathered P f) x
   unfolding bodies_of
   gathered_has f x m k p e c d =
-      let b : Body = record { number = m; slot = k.slot; parts = parts_of P m k } in
+      let b : BodyParts = record { number = m; slot = k.slot; parts = parts_of P m k } in
       flat_has (λ b. flat_map (f b) b.parts) (bodies_of P) b x (each_has (body_at P) 0 P.methods m k b e m (omega arith) (first b []))
       (flat_has (f b) b.parts p x c d)
 

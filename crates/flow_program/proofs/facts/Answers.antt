@@ -1,6 +1,6 @@
 use Rattle.std.proofs.Common.{subst}
 use Rattle.java_core.specs.Programs.{program_of}
-use Rattle.flow_rules.specs.Facts.{AreNamesOf, IsFactsOf, IsWithin}
+use Rattle.flow_rules.specs.Facts.{AreNamesOf, IsFactsOf, IsWithinLimits}
 use Rattle.flow_laws.proofs.order.Order.{in_range, in_order}
 use Rattle.flow_program.proofs.Covering.{covering, solved_cover}
 use Rattle.flow_program.proofs.facts.Goals as goal
@@ -14,7 +14,7 @@ returns-then-are_numbered-clause-ok c =
     let typed = c.program-plain.ensures.typed in
     let few = c.are_numbered.ensures.0 c.if-are_numbered.true in
     let is : IsFactsOf P F = subst (λ q. IsFactsOf (program_of q) F) e c.in-Ok.ensures.ok in
-    let within : IsWithin P = subst (λ q. IsWithin (program_of q)) e c.in-Ok.ensures.within in
+    let within : IsWithinLimits P = subst (λ q. IsWithinLimits (program_of q)) e c.in-Ok.ensures.within in
     let covers = covering P F formed typed is in
     let named : AreNamesOf P F = subst (λ q. AreNamesOf (program_of q) F) e c.in-Ok.ensures.names in
     record {

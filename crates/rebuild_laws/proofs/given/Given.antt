@@ -17,7 +17,7 @@ use Rattle.flow_rules.specs.Facts.{numbers, kind_of, slot_in, IsFactsOf}
 use Rattle.flow_rules.proofs.NumberedItems.{numbered_columns}
 use Rattle.flow_laws.proofs.order.Columns.{Stands, for_field, for_declaration, for_body, for_mark, column_stands, declaration_column, item_of, numbered_column}
 use Rattle.rebuild_model.specs.Rebuilds.{Rebuilds}
-use Rattle.rebuild_laws.specs.looks.Known.{AreColumns, Known}
+use Rattle.rebuild_laws.specs.looks.Known.{AreItemColumns, KnownOfBoth}
 use Rattle.rebuild_laws.proofs.looks.Slots.{method_of_slot}
 use Rattle.rebuild_laws.proofs.given.Apart.{names_apart}
 
@@ -40,7 +40,7 @@ module _ (P : Plain) (formed : IsFormed P) where
       declaration_column P m old.method old.stands (((formed.methods m old.method old.stands).slots s).0 old.slot).instance
 
   module _ (F : Facts) (facts : IsFactsOf P F) where
-    pub columns : AreColumns P F
+    pub columns : AreItemColumns P F
     unfolding numbers
     columns = record {
       below = λ i c e. (numbered_column P F facts i c e).0;
@@ -57,7 +57,7 @@ module _ (P : Plain) (formed : IsFormed P) where
 
     -- all that the look-ups rest on
     unfoldable pub known : (pt : PointsTo) (H : Hierarchy) (W : Plain) → IsFormed W → IsHierarchyOf F H → first_broken F pt H ≡ None
-        → Rebuilds P F H W → Known P F H W
+        → Rebuilds P F H W → KnownOfBoth P F H W
     known pt H W new hierarchy none rebuilt = record {
       old = formed;
       new = new;

@@ -17,7 +17,7 @@ use Rattle.fact_model.specs.declared.facts.Facts.{Facts}
 use Rattle.fact_model.specs.declared.sets.PointsTo.{PointsTo}
 use Rattle.fact_model.specs.declared.sets.Table.{Table}
 use Rattle.hier_model.specs.Hierarchies.{Hierarchy, place_of_row}
-use Rattle.hier_laws.specs.Shapes.{Given, Offers}
+use Rattle.hier_laws.specs.Shapes.{Given, OffersColumn}
 use Rattle.hier_laws.specs.Obligations.{IsOther}
 use Rattle.hier_rules.specs.Asked.{is_super}
 use Rattle.hier_rules.specs.First.{first_broken}
@@ -28,15 +28,15 @@ use Rattle.flow_rules.specs.declared.items.ColumnItem.TheVariants as column
 use Rattle.flow_rules.specs.Facts.{numbers}
 use Rattle.rebuild_model.specs.Members.{StandsAt}
 use Rattle.rebuild_laws.specs.looks.Known as known
-use Rattle.rebuild_laws.specs.looks.Known.{Known, sides}
+use Rattle.rebuild_laws.specs.looks.Known.{KnownOfBoth, sides}
 use Rattle.rebuild_laws.proofs.looks.Bodies.{number, finds_super, runs_body}
 use Rattle.rebuild_laws.proofs.given.Rest.{half, need_slot, nearest, above, between}
 
-module _ {P : Plain} {F : Facts} {H : Hierarchy} {W : Plain} (K : Known P F H W) where
+module _ {P : Plain} {F : Facts} {H : Hierarchy} {W : Plain} (K : KnownOfBoth P F H W) where
   open sides K use {places as T, renaming as R}
 
   -- a node offers an item where it offers the item's column
-  pub offers_item : (n c : ℕ) (i : ColumnItem) → (numbers P).column i ≡ Some c → Offers (shape H) n c → known.Offers K n i
+  pub offers_item : (n c : ℕ) (i : ColumnItem) → (numbers P).column i ≡ Some c → OffersColumn (shape H) n c → known.Offers K n i
   offers_item n c i e o = record {
     node = o.at;
     stands = record { number = c; numbered = e; place = record { 0 = o.at }; placed = placed H c o.at o.stands; at = refl };

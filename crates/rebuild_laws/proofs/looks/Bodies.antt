@@ -17,7 +17,7 @@ use Rattle.fact_model.specs.declared.facts.Facts.{Facts}
 use Rattle.hier_model.specs.Hierarchies.{Hierarchy, is_class_node, offers_slot}
 use Rattle.flow_rules.specs.declared.items.ColumnItem.TheVariants as column
 use Rattle.rebuild_model.specs.Members.{is_made_at, offers_body, is_headed, is_filled, StandsAt}
-use Rattle.rebuild_laws.specs.looks.Known.{Known, Offers, sides}
+use Rattle.rebuild_laws.specs.looks.Known.{KnownOfBoth, Offers, sides}
 use Rattle.rebuild_laws.proofs.looks.Along.{OneOnWay, nearest_on_way, nearest_strictly}
 use Rattle.rebuild_laws.proofs.looks.Nodes.{subclass_of, le_of, stands_once, offers_own, class_node, member_class}
 use Rattle.rebuild_laws.proofs.looks.Slots.{same_name, OffersSlot, offers_item, asked_body}
@@ -44,7 +44,7 @@ no_head true false true h e f = false≢true h
 no_head true false false h e f = false≢true f
 no_head false b c h e f = false≢true e
 
-module _ {P : Plain} {F : Facts} {H : Hierarchy} {W : Plain} (K : Known P F H W) where
+module _ {P : Plain} {F : Facts} {H : Hierarchy} {W : Plain} (K : KnownOfBoth P F H W) where
   open sides K use {places as T, renaming as R}
 
   -- the new body of an old method is one

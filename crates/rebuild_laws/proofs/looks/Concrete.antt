@@ -16,7 +16,7 @@ use Rattle.hier_model.specs.Hierarchies.{Hierarchy, is_class_node, offers_slot}
 use Rattle.flow_rules.specs.declared.items.ColumnItem.TheVariants as column
 use Rattle.flow_rules.specs.Facts.{is_holder}
 use Rattle.rebuild_model.specs.Members.{is_made_at, offers_body, is_headed}
-use Rattle.rebuild_laws.specs.looks.Known.{Known}
+use Rattle.rebuild_laws.specs.looks.Known.{KnownOfBoth}
 use Rattle.java_core.proofs.Upwards.{above_object, along}
 use Rattle.rebuild_laws.proofs.looks.Along.{nearest_below}
 use Rattle.rebuild_laws.proofs.looks.Nodes.{subclass_of, le_of, no_holder, offers_own, class_node, made_class, member_class}
@@ -34,7 +34,7 @@ no_not : (b : Bool) → not (not b) ≡ true → b ≡ true
 no_not true h = refl
 no_not false h = absurd (false≢true h)
 
-module _ {P : Plain} {F : Facts} {H : Hierarchy} {W : Plain} (K : Known P F H W) where
+module _ {P : Plain} {F : Facts} {H : Hierarchy} {W : Plain} (K : KnownOfBoth P F H W) where
   open K.rebuilt use {places as T}
 
   own_is : (c q g : ℕ) → own_declaration W c q ≡ Some g → HasOwn W c q g

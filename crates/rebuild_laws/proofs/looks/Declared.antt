@@ -16,7 +16,7 @@ use Rattle.flow_rules.specs.declared.items.ColumnItem.{ColumnItem}
 use Rattle.flow_rules.specs.declared.items.ColumnItem.TheVariants as column
 use Rattle.rebuild_model.specs.Renaming.{retyped_if}
 use Rattle.rebuild_model.specs.Members.{is_made_at, offers_body, is_headed, slot_types, StandsAt, IsBody, IsOfSlot}
-use Rattle.rebuild_laws.specs.looks.Known.{Known, Offers, sides}
+use Rattle.rebuild_laws.specs.looks.Known.{KnownOfBoth, Offers, sides}
 use Rattle.rebuild_laws.proofs.looks.Nodes.{subclass_of, le_of, stands_once, stands_live, offers_own}
 use Rattle.rebuild_laws.proofs.looks.Slots.{HasSlot, method_of_slot, IsMethodItem, a_declaration, a_body, same_name, OffersSlot, offers_item, slot_below, slots_apart, slot_item, asked_slot, OffersBody, body_asked}
 use Rattle.rebuild_laws.proofs.looks.Methods.{IsNewMethod, new_method}
@@ -27,7 +27,7 @@ not_headed true false true h = inr refl
 not_headed true false false h = absurd (false≢true (sym h))
 not_headed false b c h = absurd (false≢true (sym h))
 
-module _ {P : Plain} {F : Facts} {H : Hierarchy} {W : Plain} (K : Known P F H W) where
+module _ {P : Plain} {F : Facts} {H : Hierarchy} {W : Plain} (K : KnownOfBoth P F H W) where
   open sides K use {places as T, renaming as R}
 
   -- a new method that is the body of the old method m, at a node

@@ -19,7 +19,7 @@ use Rattle.flow_rules.specs.declared.items.ColumnItem.TheVariants as column
 use Rattle.flow_rules.specs.Facts.{numbers, is_holder}
 use Rattle.rebuild_model.specs.Renaming.{renaming_of}
 use Rattle.rebuild_model.specs.Members.{StandsAt, IsField}
-use Rattle.rebuild_laws.specs.looks.Known.{Known, Offers, sides}
+use Rattle.rebuild_laws.specs.looks.Known.{KnownOfBoth, Offers, sides}
 use Rattle.java_core.proofs.Upwards.{along}
 use Rattle.rebuild_laws.proofs.looks.Along.{OneOnWay, nearest_on_way}
 use Rattle.java_meaning.specs.Languages.{index_of}
@@ -47,7 +47,7 @@ method_holder P m k e s =
           (eq-eqb k.owner k.owner refl),
     ))
 
-module _ {P : Plain} {F : Facts} {H : Hierarchy} {W : Plain} (K : Known P F H W) where
+module _ {P : Plain} {F : Facts} {H : Hierarchy} {W : Plain} (K : KnownOfBoth P F H W) where
   open sides K use {places as T, renaming as R}
 
   -- the field's new name is that of its column

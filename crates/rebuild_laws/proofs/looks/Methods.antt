@@ -16,7 +16,7 @@ use Rattle.flow_rules.specs.Ordered.{each}
 use Rattle.flow_rules.specs.Operands.{variable_row, variable_in, result_in}
 use Rattle.rebuild_model.specs.Renaming.{Renaming, retyped, retyped_if}
 use Rattle.rebuild_model.specs.Members.{is_made_at, offers_body, is_headed, is_filled, new_types, slot_types, HasTypes, HasSlotTypes, StandsAt, IsBody, IsOfSlot, IsHead, IsFiller}
-use Rattle.rebuild_laws.specs.looks.Known.{Known, sides}
+use Rattle.rebuild_laws.specs.looks.Known.{KnownOfBoth, sides}
 use Rattle.rebuild_laws.proofs.looks.Nodes.{stands_live, offers_own}
 use Rattle.rebuild_laws.proofs.looks.Slots.{OffersSlot, offers_item, slot_asked}
 
@@ -38,7 +38,7 @@ module _ (R : Renaming) (m s : ℕ) (old : PlainMethod) (slot : old.slot ≡ Som
     result = t.result ∙ ap (λ z. retyped_if (R.row_type (result_in z m)) old.result) slot ∙ ap (retyped_if (R.row_type (row.Return s))) in_slot.result;
   }
 
-module _ {P : Plain} {F : Facts} {H : Hierarchy} {W : Plain} (K : Known P F H W) where
+module _ {P : Plain} {F : Facts} {H : Hierarchy} {W : Plain} (K : KnownOfBoth P F H W) where
   open sides K use {places as T, renaming as R}
 
   -- why it stands at the node: as the body of an old method, as a head, or as a filler

@@ -19,9 +19,9 @@ use Rattle.hier_model.proofs.AnyLemmas.{any_below_some, any_below_has}
 use Rattle.flow_rules.specs.Facts.{numbers, kind_of, is_holder}
 use Rattle.flow_rules.specs.declared.items.ColumnItem.{ColumnItem}
 use Rattle.rebuild_model.specs.Members.{is_made_at, StandsAt}
-use Rattle.rebuild_laws.specs.looks.Known.{Known, Offers}
+use Rattle.rebuild_laws.specs.looks.Known.{KnownOfBoth, Offers}
 
-module _ {P : Plain} {F : Facts} {H : Hierarchy} {W : Plain} (K : Known P F H W) where
+module _ {P : Plain} {F : Facts} {H : Hierarchy} {W : Plain} (K : KnownOfBoth P F H W) where
   open K.rebuilt use {places as T}
 
   abbrev is_node : ℕ → Type 0

@@ -18,7 +18,7 @@ use Rattle.flow_rules.specs.declared.items.ColumnItem.TheVariants as column
 use Rattle.flow_rules.specs.Facts.{numbers, kind_of, slot_in}
 use Rattle.rebuild_model.specs.Renaming.{renaming_of}
 use Rattle.rebuild_model.specs.Members.{offers_body}
-use Rattle.rebuild_laws.specs.looks.Known.{Known, Offers, sides}
+use Rattle.rebuild_laws.specs.looks.Known.{KnownOfBoth, Offers, sides}
 use Rattle.rebuild_laws.proofs.looks.Nodes.{is_offered_at, offers_at}
 
 pub slot_test : (o : Option ℕ) (x : ℕ) → o ≡ Some x → is_slot o x ≡ true
@@ -42,7 +42,7 @@ pub data IsMethodItem : ColumnItem → ℕ → Type 0 where
   a_declaration : {m : ℕ} → IsMethodItem (column.Dcl m) m
   a_body : {m : ℕ} → IsMethodItem (column.Def m) m
 
-module _ {P : Plain} {F : Facts} {H : Hierarchy} {W : Plain} (K : Known P F H W) where
+module _ {P : Plain} {F : Facts} {H : Hierarchy} {W : Plain} (K : KnownOfBoth P F H W) where
   open sides K use {renaming as R}
 
   -- the new name of a method is that of each column of its slot

@@ -12,7 +12,7 @@ use Rattle.flow_rules.specs.Facts.{is_holder}
 use Rattle.rebuild_model.specs.Renaming.{renaming_of, retyped}
 use Rattle.rebuild_model.specs.Matches.{IsCopied, IsStaticField, IsStaticMethod}
 use Rattle.rebuild_model.specs.Members.{IsStaticFieldOf, IsStaticMethodOf}
-use Rattle.rebuild_laws.specs.looks.Known.{Known, sides}
+use Rattle.rebuild_laws.specs.looks.Known.{KnownOfBoth, sides}
 use Rattle.rebuild_laws.proofs.looks.Fields.{field_holder, method_holder}
 
 -- static members: each has one copy, each copy is of one, and what a copy is besides
@@ -26,7 +26,7 @@ abbrev AreOnce : {A : Type 0} → (A → ℕ) → (A → List ℕ) → List A �
 AreOnce {A} owner_of name_of xs =
     (f g : ℕ) (x y : A) → slice_get xs f ≡ Some x → slice_get xs g ≡ Some y → owner_of x ≡ owner_of y → name_of x ≡ name_of y → f ≡ g
 
-module _ {P : Plain} {F : Facts} {H : Hierarchy} {W : Plain} (K : Known P F H W) where
+module _ {P : Plain} {F : Facts} {H : Hierarchy} {W : Plain} (K : KnownOfBoth P F H W) where
   open sides K use {places as T, renaming as R}
 
   holder_is : (c : ℕ) → R.holder_of c ≡ T.holder_of c

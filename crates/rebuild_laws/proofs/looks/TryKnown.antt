@@ -20,7 +20,7 @@ use Rattle.flow_rules.specs.Facts.{numbers, kind_of, slot_in}
 use Rattle.rebuild_model.specs.Members.{StandsAt}
 use Rattle.rebuild_model.proofs.Worked.{old, new, hierarchy}
 use Rattle.rebuild_model.proofs.WorkedRebuilds.{facts, column_f, column_m, column_body, no_field, no_declaration, no_body, name_m, rebuilds}
-use Rattle.rebuild_laws.specs.looks.Known.{AreColumns, Known, Offers}
+use Rattle.rebuild_laws.specs.looks.Known.{AreItemColumns, KnownOfBoth, Offers}
 use Rattle.rebuild_laws.proofs.looks.FormedOld as of_old
 use Rattle.rebuild_laws.proofs.looks.FormedNew as of_new
 use Rattle.rebuild_laws.proofs.looks.Bodies.{number, runs_body}
@@ -92,7 +92,7 @@ module _ (others : Facts) where
   declared (suc zero) s h = absurd (some_none s h)
   declared (suc (suc m)) s h = absurd (some_none s h)
 
-  columns : AreColumns old F
+  columns : AreItemColumns old F
   columns = record {
     below = λ i c e. is_below (column_is i c e);
     kind = λ i c e. has_kind (column_is i c e);
@@ -188,7 +188,7 @@ module _ (others : Facts) where
   of_f (suc (suc zero)) e = absurd (cc e)
   of_f (suc (suc (suc c))) e = absurd (cc e)
 
-  pub worked_known : Known old (facts others) hierarchy new
+  pub worked_known : KnownOfBoth old (facts others) hierarchy new
   worked_known = record {
     old = of_old.formed;
     new = of_new.formed;

@@ -1,6 +1,6 @@
 -- A body is itself but for its tags.
 use Rattle.std.specs.Prelude.{Option, Some, None}
-use Rattle.java_core.specs.Trees.{Ex, Exs, no_ex, ex_then, number, character, text, truth, null, this, local, static_field, own_field, field, index, call, static_call, super_call, create, create_array, cast, instance_of, unary, binary, Target, to_local, to_static, to_own, to_field, to_element, no_target, St, Sts, Arms, declare, block, assign, act, print, choose, loop, return, break, continue, no_st, st_then, no_other, otherwise, arm}
+use Rattle.java_core.specs.Trees.{Ex, Exs, no_ex, ex_then, number, character, text, truth, null, this, local, static_field, own_field, field, index, call, static_call, super_call, create, create_array, cast, instance_of, unary, binary, Target, to_local, to_static, to_own, to_field, to_element, no_target, St, Sts, IfArms, declare, block, assign, act, print, choose, loop, return, break, continue, no_st, st_then, no_other, otherwise, arm}
 use Rattle.java_core.specs.Retagged.{Retagged, s_number, s_character, s_text, s_truth, s_null, s_this, s_local, s_static_field, s_own_field, s_field, s_index, s_call, s_static_call, s_super_call, s_create, s_create_array, s_cast, s_instance_of, s_unary, s_binary, RetaggedAll, s_no_ex, s_ex_then, RetaggedTarget, s_to_local, s_to_static, s_to_own, s_to_field, s_to_element, s_no_target}
 use Rattle.java_meaning.specs.Paired.{PairedIf, PairedSt, PairedArms, pair_none, pair_some, pair_declare, pair_block, pair_assign, pair_act, pair_print, pair_choose, pair_loop, pair_return, pair_break, pair_continue, pair_no_st, pair_st_then, pair_no_other, pair_otherwise, pair_arm}
 use Rattle.java_meaning.specs.Watched.{SameTarget, RetaggedSts}
@@ -61,7 +61,7 @@ mutual
   sts_itself no_st = pair_no_st
   sts_itself (st_then x xs) = pair_st_then (st_itself x) (sts_itself xs)
 
-  arms_itself : (xs : Arms) → PairedArms Retagged SameTarget xs xs
+  arms_itself : (xs : IfArms) → PairedArms Retagged SameTarget xs xs
   arms_itself no_other = pair_no_other
   arms_itself (otherwise xs) = pair_otherwise (sts_itself xs)
   arms_itself (arm e xs more) = pair_arm (itself e) (sts_itself xs) (arms_itself more)

@@ -5,7 +5,7 @@ use Rattle.std.specs.Option.{is_some, option_map, option_map_or}
 use Rattle.std.proofs.lemmas.Bool.{and_parts, and_from, false≢true}
 use Rattle.std.proofs.lemmas.Option.{same_Some, slice_get-map}
 use Rattle.java_core.specs.declared.Ty.{Ty}
-use Rattle.java_core.specs.Trees.{Ex, Exs, no_ex, ex_then, number, character, text, truth, null, this, local, static_field, own_field, field, index, call, static_call, super_call, create, create_array, cast, instance_of, unary, binary, Target, to_local, to_static, to_own, to_field, to_element, no_target, St, Sts, Arms, declare, block, assign, act, print, choose, loop, return, break, continue, no_st, st_then, no_other, otherwise, arm}
+use Rattle.java_core.specs.Trees.{Ex, Exs, no_ex, ex_then, number, character, text, truth, null, this, local, static_field, own_field, field, index, call, static_call, super_call, create, create_array, cast, instance_of, unary, binary, Target, to_local, to_static, to_own, to_field, to_element, no_target, St, Sts, IfArms, declare, block, assign, act, print, choose, loop, return, break, continue, no_st, st_then, no_other, otherwise, arm}
 use Rattle.java_core.specs.Programs.{Plain, PlainMethod}
 use Rattle.java_core.specs.Classes.{lookup, super_method}
 use Rattle.java_core.specs.Types.{Env, field_type, types_of}
@@ -181,7 +181,7 @@ module _ (P : Plain) (g : Env) where
     in_sts no_st = tt
     in_sts (st_then x xs) = (in_st x, in_sts xs)
 
-    in_arms : (a : Arms) → InArms (included (seen P) Anything everything g) a
+    in_arms : (a : IfArms) → InArms (included (seen P) Anything everything g) a
     in_arms no_other = tt
     in_arms (otherwise xs) = in_sts xs
     in_arms (arm e xs more) = (in_ex e, in_sts xs, in_arms more)

@@ -4,7 +4,7 @@ use Rattle.std.specs.Prelude.{true, slice_get}
 use Rattle.std.specs.Option.{is_some, option_map, option_and_then}
 use Rattle.std.proofs.lemmas.Option.{same_Some}
 use Rattle.java_core.specs.declared.Ty.{Ty}
-use Rattle.java_core.specs.Trees.{Ex, Exs, this, call, cast, instance_of, Target, St, Sts, Arms, Tag}
+use Rattle.java_core.specs.Trees.{Ex, Exs, this, call, cast, instance_of, Target, St, Sts, IfArms, Tag}
 use Rattle.java_core.specs.Programs.{Plain, PlainField, PlainMethod}
 use Rattle.java_core.specs.Classes.{slot_of, member_field}
 use Rattle.java_core.specs.Types.{Env, StringMethod, class_type, field_in, static}
@@ -257,7 +257,7 @@ module _ (K : Ones) where
       sts_same pair_no_st a b = pair_no_st
       sts_same (pair_st_then p ps) a b = pair_st_then (st_same p a.0 b.0) (sts_same ps a.1 b.1)
 
-      arms_same : {x y : Arms} → OneArms P Q x y → InArms (standing P g) x → InArms (standing Q h) y → SameArms L M link Made BodyPair g h x y
+      arms_same : {x y : IfArms} → OneArms P Q x y → InArms (standing P g) x → InArms (standing Q h) y → SameArms L M link Made BodyPair g h x y
       arms_same pair_no_other a b = pair_no_other
       arms_same (pair_otherwise ps) a b = pair_otherwise (sts_same ps a b)
       arms_same (pair_arm p ps more) a b = pair_arm (ex_same p a.0 b.0) (sts_same ps a.1 b.1) (arms_same more a.2 b.2)

@@ -46,7 +46,7 @@ use Rattle.flow_rules.proofs.NumberedItems.{numbered_columns, numbered_sites}
 use Rattle.flow_laws.proofs.order.Sites.{site_types, site_part, created_row}
 use Rattle.flow_rules.proofs.Listed.{at_map}
 use Rattle.rebuild_model.specs.Renaming.{retyped}
-use Rattle.rebuild_laws.specs.looks.Known.{Known, Offers, sides}
+use Rattle.rebuild_laws.specs.looks.Known.{KnownOfBoth, Offers, sides}
 use Rattle.rebuild_laws.proofs.looks.Fields as fields
 use Rattle.rebuild_laws.proofs.looks.Fields.{has_place}
 use Rattle.rebuild_laws.proofs.types.Served.{IsRowOf, row_of_class, row_class_is}
@@ -78,7 +78,7 @@ retyped_free (Some w) v e = go v.base v.dim e
     go Str d h = refl
     go (Class c) d h = absurd (cc)
 
-module _ {P : Plain} {F : Facts} {H : Hierarchy} {W : Plain} (K : Known P F H W) (pt : PointsTo) (t : Table) (X : IsGiven P F H pt t) where
+module _ {P : Plain} {F : Facts} {H : Hierarchy} {W : Plain} (K : KnownOfBoth P F H W) (pt : PointsTo) (t : Table) (X : IsGiven P F H pt t) where
   open X use {ready, table}
   open ready use {typed, facts, in_range as A, in_order as O, sets as S, table as B, unbroken as none, hierarchy}
   open sides K use {places as T, renaming as R}

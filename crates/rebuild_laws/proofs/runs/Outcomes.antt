@@ -47,7 +47,7 @@ use Rattle.flow_laws.proofs.order.Classes.{subclass_below, below_subclass}
 use Rattle.flow_laws.proofs.order.Sites.{site_types}
 use Rattle.flow_laws.proofs.order.Tests.{gathered_has}
 use Rattle.rebuild_model.specs.Renaming.{renaming_of}
-use Rattle.rebuild_laws.specs.looks.Known.{Known}
+use Rattle.rebuild_laws.specs.looks.Known.{KnownOfBoth}
 use Rattle.rebuild_laws.proofs.looks.Nodes as nodes
 use Rattle.rebuild_laws.proofs.given.Rest.{half, fails}
 use Rattle.rebuild_laws.proofs.types.Asked.{new_class}
@@ -55,7 +55,7 @@ use Rattle.rebuild_laws.proofs.types.Served.{row_of_class, row_in_is}
 use Rattle.rebuild_laws.proofs.runs.Ties.{type_at, type_over}
 use Rattle.rebuild_laws.proofs.runs.Sited.{IsGiven, MadeAs, node_of, free_apart, IsMet, met_at, met_passing}
 
-module _ {P : Plain} {F : Facts} {H : Hierarchy} {W : Plain} (K : Known P F H W) (pt : PointsTo) (t : Table) (X : IsGiven P F H pt t) where
+module _ {P : Plain} {F : Facts} {H : Hierarchy} {W : Plain} (K : KnownOfBoth P F H W) (pt : PointsTo) (t : Table) (X : IsGiven P F H pt t) where
   open X use {ready, table}
   open ready use {typed, facts, in_range as A, in_order as O, sets as S, table as B, unbroken as none, hierarchy}
   open K.rebuilt use {places as T}

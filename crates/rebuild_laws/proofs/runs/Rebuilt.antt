@@ -34,7 +34,7 @@ use Rattle.flow_laws.proofs.cover.Held.{default_plain}
 use Rattle.rebuild_model.specs.Renaming.{Renaming, retyped, retyped_if}
 use Rattle.rebuild_model.specs.Matches.{IsStaticField, IsStaticMethod}
 use Rattle.rebuild_model.specs.Members.{HasTypes, HasCode, new_types}
-use Rattle.rebuild_laws.specs.looks.Known.{Known, Offers, sides}
+use Rattle.rebuild_laws.specs.looks.Known.{KnownOfBoth, Offers, sides}
 use Rattle.rebuild_laws.proofs.looks.Fields as fields
 use Rattle.rebuild_laws.proofs.looks.Fields.{one_old_field}
 use Rattle.rebuild_laws.proofs.looks.Statics.{static_fields, static_methods}
@@ -104,7 +104,7 @@ first_plain [] i a e = absurd (cc)
 first_plain (f ∷ fs) zero a e = default_plain f.ty.base f.ty.dim a (same_Some (default_of f.ty) (Object a) e)
 first_plain (f ∷ fs) (suc i) a e = first_plain fs i a e
 
-module _ {P : Plain} {F : Facts} {H : Hierarchy} {W : Plain} (K : Known P F H W) (pt : PointsTo) (t : Table) (X : IsGiven P F H pt t) where
+module _ {P : Plain} {F : Facts} {H : Hierarchy} {W : Plain} (K : KnownOfBoth P F H W) (pt : PointsTo) (t : Table) (X : IsGiven P F H pt t) where
   open X use {ready, table}
   open ready use {typed, facts, in_range as A, in_order as O, sets as S, table as B, unbroken as none, hierarchy}
   open sides K use {renaming as R}

@@ -32,8 +32,8 @@ use Rattle.flow_rules.specs.Lists.{point_at, site_in}
 use Rattle.flow_rules.specs.Facts.{numbers}
 use Rattle.flow_laws.specs.cover.Covers.{point_sites, at_point, solved, passes}
 use Rattle.flow_laws.proofs.cover.Kinded.{site_type}
-use Rattle.rebuild_laws.specs.looks.Known.{Known, Offers, sides}
-use Rattle.rebuild_laws.specs.types.Laws.{IsReady}
+use Rattle.rebuild_laws.specs.looks.Known.{KnownOfBoth, Offers, sides}
+use Rattle.rebuild_laws.specs.types.Laws.{IsRebuildable}
 use Rattle.hier_rules.specs.First.{first_broken}
 use Rattle.rebuild_laws.proofs.looks.Nodes.{offers_own}
 use Rattle.rebuild_laws.proofs.looks.Fields as fields
@@ -60,10 +60,10 @@ free_apart P s t e = and_right (s.dim == t.dim) (is_sub_base P s.base (Class t.c
 
 -- what a program is rebuilt from: it is ready with its facts, their sets and their table, and the hierarchy is that of the table
 pub record IsGiven (P : Plain) (F : Facts) (H : Hierarchy) (pt : PointsTo) (t : Table) : Type 0 where
-  pub ready : IsReady P F pt t H
+  pub ready : IsRebuildable P F pt t H
   pub table : H.table ≡ t.rows.items
 
-module _ {P : Plain} {F : Facts} {H : Hierarchy} {W : Plain} (K : Known P F H W) (t : Table) where
+module _ {P : Plain} {F : Facts} {H : Hierarchy} {W : Plain} (K : KnownOfBoth P F H W) (t : Table) where
   open sides K use {places as T, renaming as R}
 
   -- the node of a site

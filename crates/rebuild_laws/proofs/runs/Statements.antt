@@ -3,7 +3,7 @@ use Rattle.std.proofs.Common.{◌≡◌, ℕ, List, [], ◌∷◌, ◌++◌, Opt
 use Rattle.std.specs.Prelude.{Bool, true, false, Contains}
 use Rattle.std.proofs.lemmas.Option.{same_Some}
 use Rattle.kaba_base.specs.declared.Place.{Place}
-use Rattle.java_core.specs.Trees.{Ex, Target, to_local, to_static, to_own, to_field, to_element, no_target, St, Sts, Arms, declare, block, assign, act, print, choose, loop, return, break, continue, no_st, st_then, no_other, otherwise, arm}
+use Rattle.java_core.specs.Trees.{Ex, Target, to_local, to_static, to_own, to_field, to_element, no_target, St, Sts, IfArms, declare, block, assign, act, print, choose, loop, return, break, continue, no_st, st_then, no_other, otherwise, arm}
 use Rattle.java_core.specs.Types.{field_type, fits_in, target_type}
 use Rattle.java_core.specs.Typing.{TypedTarget, TypedTest, TypedSt, TypedSts, TypedArms, t_to_field, t_to_element, t_test, t_declare_as, t_block, t_assign, t_act, t_print, t_choose, t_loop, t_return, t_st_then, t_otherwise, t_arm}
 use Rattle.java_core.specs.Formed.{FormedTarget, FormedOption, FormedSt, FormedSts, FormedArms, numbers_below, f_to_own, f_to_field, f_to_element, f_some, f_declare, f_block, f_assign, f_act, f_print, f_choose, f_loop, f_return, f_st_then, f_otherwise, f_arm}
@@ -106,7 +106,7 @@ module _ (A : TwinBody) where
         pair_st_then (twin_st l sc x y tx fx (left (parts_st P (type_in P m k) m k x) (sts xs) st) mx)
         (twin_sts l _ xs zs txs fxs (right (parts_st P (type_in P m k) m k x) (sts xs) st) mxs)
 
-    twin_arms : (l : Bool) (sc : List ℕ) (xs ys : Arms) → TypedArms P g xs → FormedArms P k l sc xs
+    twin_arms : (l : Bool) (sc : List ℕ) (xs ys : IfArms) → TypedArms P g xs → FormedArms P k l sc xs
         → Stands (parts_arms P (type_in P m k) m k xs) → MatchesArms P W R g xs ys → SameArms L M K Made Pair g h xs ys
     twin_arms l sc no_other ys ty fo st pair_no_other = pair_no_other
     twin_arms l sc (otherwise xs) ys (t_otherwise ty) (f_otherwise fo) st (pair_otherwise {ys = zs} mx) = pair_otherwise (twin_sts l sc xs zs ty fo st mx)

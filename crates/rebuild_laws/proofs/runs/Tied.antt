@@ -52,7 +52,7 @@ use Rattle.flow_laws.proofs.cover.HasNumbers.{field_column}
 use Rattle.flow_laws.proofs.order.Columns.{body_column}
 use Rattle.flow_laws.proofs.order.Tests.{gathered_has}
 use Rattle.rebuild_model.specs.Members.{HasTypes, HasCode, StandsAt}
-use Rattle.rebuild_laws.specs.looks.Known.{Known, Offers, sides}
+use Rattle.rebuild_laws.specs.looks.Known.{KnownOfBoth, Offers, sides}
 use Rattle.rebuild_laws.proofs.looks.Declared.{new_body}
 use Rattle.rebuild_laws.proofs.looks.Fields.{finds_field}
 use Rattle.rebuild_laws.proofs.given.Rest.{half}
@@ -71,7 +71,7 @@ class_number Boolean = 0
 class_number Char = 0
 class_number Str = 0
 
-module _ {P : Plain} {F : Facts} {H : Hierarchy} {W : Plain} (K : Known P F H W)
+module _ {P : Plain} {F : Facts} {H : Hierarchy} {W : Plain} (K : KnownOfBoth P F H W)
     (facts : IsFactsOf P F) (pt : PointsTo) (t : Table)
     (A : InRange F) (O : InOrder F) (S : AreSets F pt) (B : IsTable F t) (table : H.table ≡ t.rows.items) (none : first_broken F pt H ≡ None) where
   open sides K use {places as T, renaming as R}

@@ -16,9 +16,9 @@ use Rattle.flow_laws.specs.cover.Slotted.{HaveSlots}
 use Rattle.flow_laws.proofs.cover.Programs.{program_covers}
 use Rattle.flow_laws.proofs.cover.Solved.{solved_closed, solved_covers}
 use Rattle.rebuild_model.specs.Rebuilds.{Rebuilds}
-use Rattle.rebuild_laws.specs.looks.Known.{Known}
+use Rattle.rebuild_laws.specs.looks.Known.{KnownOfBoth}
 use Rattle.rebuild_laws.proofs.given.Given.{known}
-use Rattle.rebuild_laws.specs.types.Laws.{IsReady}
+use Rattle.rebuild_laws.specs.types.Laws.{IsRebuildable}
 use Rattle.rebuild_laws.proofs.types.Tables.{same_table}
 use Rattle.rebuild_laws.proofs.twins.States.{Alike}
 use Rattle.rebuild_laws.specs.runs.Same.{HasSameRun, RebuiltRunsTheSame}
@@ -29,9 +29,9 @@ use_alike : (o p : Outcome) → Alike o p → o.end ≢ Wrong → o.end ≢ Esca
 unfolding Alike
 use_alike o p h a b = h a b
 
-module _ (P : Plain) (F : Facts) (s : PointsTo) (t : Table) (H : Hierarchy) (W : Plain) (ready : IsReady P F s t H) (new : IsFormed W)
+module _ (P : Plain) (F : Facts) (s : PointsTo) (t : Table) (H : Hierarchy) (W : Plain) (ready : IsRebuildable P F s t H) (new : IsFormed W)
     (b : Rebuilds P F H W) where
-  abbrev K : Known P F H W
+  abbrev K : KnownOfBoth P F H W
   K = known P ready.formed F ready.facts s H W new ready.hierarchy ready.unbroken b
 
   given : IsGiven P F H s t

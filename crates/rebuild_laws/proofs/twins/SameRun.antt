@@ -1,7 +1,7 @@
 -- Two languages that are twins have the same runs: by induction on the steps that are left and on the trees.
 use Rattle.std.proofs.Common.{◌≡◌, ℕ, zero, suc, List, [], ◌∷◌, ◌++◌, Option, Some, refl, sym, ap, ◌∙◌, subst}
 use Rattle.std.specs.Prelude.{Bool, slice_get, slice_set}
-use Rattle.java_core.specs.Trees.{Ex, Exs, this, call, Target, St, Sts, Arms, st_then, no_st, loop}
+use Rattle.java_core.specs.Trees.{Ex, Exs, this, call, Target, St, Sts, IfArms, st_then, no_st, loop}
 use Rattle.java_core.specs.Types.{Env}
 use Rattle.java_meaning.specs.Moment.{Value, Number, Truth, CodeUnit, Nothing, Text, Object, Kind, an_object, an_array, Cell, held, bound, self_of, result_of, ran, State, Frame, Ended, Faulted, Going, Wrong, Outcome, stop, Body, Lang}
 use Rattle.java_core.specs.declared.Fault.TheVariants as fault
@@ -373,7 +373,7 @@ module _ (L M : Lang) (K : Link) (Made : Option ℕ → Kind → Kind → Type 0
               st_same p v ls s t _ _ r i (λ w v1 ls1 s1 t1 r1 k1 i1.
               let q1 = on_flow s s1 k j k1 q in one_done g h w v1 ls1 s1 t1 k j _ _ r1 i1 q1 (sts_same ps v1 ls1 s1 t1 k j r1 i1 q1))
 
-          arms_same : {a b : Arms} → SameArms L M K Made Pair g h a b → (v : Value) (ls : List Value) (s t : State) (k j : ToFlow) → R s t → In g s v ls
+          arms_same : {a b : IfArms} → SameArms L M K Made Pair g h a b → (v : Value) (ls : List Value) (s t : State) (k j : ToFlow) → R s t → In g s v ls
               → F g h s k j
               → Alike (run_arms L later a (frame g v ls) s k) (run_arms M next b (frame h v ls) t j)
           arms_same pair_no_other v ls s t k j r i q = q Next v ls s t r (keeps_same s.cells) i

@@ -31,7 +31,7 @@ use Rattle.rebuild_model.specs.Renaming.{retyped, retyped_if}
 use Rattle.rebuild_model.specs.Matches.{MatchesSts}
 use Rattle.rebuild_model.specs.Members.{new_types, HasTypes, HasCode, StandsAt, IsBody, IsHead, IsFiller}
 use Rattle.rebuild_model.specs.Written.{zero_int, no_truth, zero_char, no_object, IsFilling, fills_nothing, fills, IsWritten}
-use Rattle.rebuild_laws.specs.looks.Known.{Known, sides}
+use Rattle.rebuild_laws.specs.looks.Known.{KnownOfBoth, sides}
 use Rattle.rebuild_laws.proofs.types.Asked.{retypes, SeesNew}
 use Rattle.flow_laws.proofs.cover.TypedParts.{TypedBody}
 use Rattle.rebuild_laws.proofs.types.Walk.{CopiedBody}
@@ -73,7 +73,7 @@ filled_typed W g r xs (fills {e = d} no_truth) e = t_st_then (t_return t_truth e
 filled_typed W g r xs (fills {e = d} zero_char) e = t_st_then (t_return (t_cast t_number refl) e refl) t_no_st
 filled_typed W g r xs (fills {e = d} (no_object f)) e = t_st_then (t_return t_null e f) t_no_st
 
-module _ {P : Plain} {F : Facts} {H : Hierarchy} {W : Plain} (K : Known P F H W)
+module _ {P : Plain} {F : Facts} {H : Hierarchy} {W : Plain} (K : KnownOfBoth P F H W)
     (typed : IsTyped P) (facts : IsFactsOf P F) (pt : PointsTo) (t : Table)
     (A : InRange F) (O : InOrder F) (S : AreSets F pt) (B : IsTable F t) (table : H.table ≡ t.rows.items) (none : first_broken F pt H ≡ None)
     (hierarchy : IsHierarchyOf F H) where

@@ -17,7 +17,7 @@ use Rattle.hier_rules.specs.First.{first_broken}
 use Rattle.flow_rules.specs.declared.items.ColumnItem.{ColumnItem}
 use Rattle.flow_rules.specs.declared.items.ColumnItem.TheVariants as column
 use Rattle.flow_rules.specs.Facts.{numbers}
-use Rattle.rebuild_laws.specs.looks.Known.{Known, Offers}
+use Rattle.rebuild_laws.specs.looks.Known.{KnownOfBoth, Offers}
 use Rattle.rebuild_laws.proofs.looks.Nodes.{subclass_of}
 use Rattle.rebuild_laws.proofs.looks.Fields.{new_field, finds_field}
 use Rattle.rebuild_laws.proofs.looks.Slots.{method_of_slot, offers_item}
@@ -26,7 +26,7 @@ use Rattle.rebuild_laws.proofs.given.Rest.{half}
 use Rattle.rebuild_laws.proofs.given.Needed as needed
 use Rattle.rebuild_laws.specs.types.Rows.{OffersField, OffersMethod, OffersBody, OffersMark, OffersRows}
 
-module _ {P : Plain} {F : Facts} {H : Hierarchy} {W : Plain} (K : Known P F H W) (pt : PointsTo) (t : Table) (A : InRange F) (O : InOrder F)
+module _ {P : Plain} {F : Facts} {H : Hierarchy} {W : Plain} (K : KnownOfBoth P F H W) (pt : PointsTo) (t : Table) (A : InRange F) (O : InOrder F)
     (S : AreSets F pt) (B : IsTable F t) (table : H.table ≡ t.rows.items) (none : first_broken F pt H ≡ None) where
   open K.rebuilt use {places as T}
 

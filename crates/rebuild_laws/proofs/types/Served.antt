@@ -49,7 +49,7 @@ use Rattle.flow_laws.proofs.order.Owners.{row_of_operand, creation_object}
 use Rattle.flow_laws.proofs.order.Fitted.{part_fitted}
 use Rattle.rebuild_model.specs.Renaming.{renaming_of, retyped, retyped_if}
 use Rattle.rebuild_model.specs.Members.{is_made_at, new_types, HasTypes}
-use Rattle.rebuild_laws.specs.looks.Known.{Known, Offers, sides}
+use Rattle.rebuild_laws.specs.looks.Known.{KnownOfBoth, Offers, sides}
 use Rattle.rebuild_laws.proofs.looks.Nodes.{below_is, concrete}
 use Rattle.rebuild_laws.proofs.looks.Fields.{new_field, finds_field}
 use Rattle.rebuild_laws.proofs.looks.Slots.{method_of_slot, offers_item}
@@ -91,7 +91,7 @@ pub variables_after : (p : ℕ → Option ℕ) (n : ℕ) (vs : List PlainLocal)
 variables_after p n [] = refl
 variables_after p n (v ∷ vs) = ap (λ z. retyped (p n) v.ty ∷ z) (variables_after p (n + 1) vs)
 
-module _ {P : Plain} {F : Facts} {H : Hierarchy} {W : Plain} (K : Known P F H W) where
+module _ {P : Plain} {F : Facts} {H : Hierarchy} {W : Plain} (K : KnownOfBoth P F H W) where
   open sides K use {places as T, renaming as R}
 
   abbrev C : Option RowItem → Option ℕ

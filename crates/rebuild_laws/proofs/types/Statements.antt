@@ -5,7 +5,7 @@ use Rattle.std.specs.Option.{is_some}
 use Rattle.std.proofs.lemmas.Bool.{false≢true}
 use Rattle.kaba_base.specs.declared.Place.{Place}
 use Rattle.java_core.specs.declared.Ty.{Ty}
-use Rattle.java_core.specs.Trees.{Tag, Ex, this, local, static_field, Target, to_local, to_static, to_own, to_field, to_element, no_target, St, Sts, Arms, declare, block, assign, act, print, choose, loop, return, break, continue, no_st, st_then, no_other, otherwise, arm}
+use Rattle.java_core.specs.Trees.{Tag, Ex, this, local, static_field, Target, to_local, to_static, to_own, to_field, to_element, no_target, St, Sts, IfArms, declare, block, assign, act, print, choose, loop, return, break, continue, no_st, st_then, no_other, otherwise, arm}
 use Rattle.java_core.specs.Programs.{Plain}
 use Rattle.java_core.specs.Types.{Static, or_nothing, element_of, is_numeric, is_boolean, is_printable, field_type, value_type, fits, fits_in, static, target_type}
 use Rattle.java_core.specs.Typing.{Typed, TypedTarget, TypedTest, TypedSt, TypedSts, TypedArms, t_this, t_to_local, t_to_static, t_to_field, t_to_element, t_always, t_test, t_declare, t_declare_as, t_block, t_assign, t_act, t_print_line, t_print, t_choose, t_loop, t_return_nothing, t_return, t_break, t_continue, t_no_st, t_st_then, t_no_other, t_otherwise, t_arm}
@@ -204,7 +204,7 @@ module _ (A : CopiedBody) where
         t_st_then (again_st l sc x y tx fx (left (parts_st P (type_in P m k) m k x) (sts xs) st) mx)
         (again_sts l _ xs zs txs fxs (right (parts_st P (type_in P m k) m k x) (sts xs) st) mxs)
 
-    again_arms : (l : Bool) (sc : List ℕ) (xs ys : Arms) → TypedArms P g xs → FormedArms P k l sc xs
+    again_arms : (l : Bool) (sc : List ℕ) (xs ys : IfArms) → TypedArms P g xs → FormedArms P k l sc xs
         → Stands (parts_arms P (type_in P m k) m k xs) → MatchesArms P W R g xs ys → TypedArms W h ys
     again_arms l sc no_other ys ty fo st pair_no_other = t_no_other
     again_arms l sc (otherwise xs) ys (t_otherwise ty) (f_otherwise fo) st (pair_otherwise {ys = zs} mx) = t_otherwise (again_sts l sc xs zs ty fo st mx)

@@ -21,11 +21,11 @@ use Rattle.hier_model.specs.Hierarchies.{Hierarchy, IsHierarchyOf}
 use Rattle.hier_rules.specs.First.{first_broken}
 use Rattle.flow_rules.specs.Facts.{IsFactsOf}
 use Rattle.rebuild_model.specs.Written.{IsWritten}
-use Rattle.rebuild_laws.specs.looks.Known.{Known}
+use Rattle.rebuild_laws.specs.looks.Known.{KnownOfBoth}
 use Rattle.rebuild_laws.proofs.looks.Concrete.{concrete_bodies}
 use Rattle.rebuild_laws.proofs.types.Bodies.{methods_typed}
 
-module _ {P : Plain} {F : Facts} {H : Hierarchy} {W : Plain} (K : Known P F H W) (written : IsWritten P F H W K.rebuilt.places) where
+module _ {P : Plain} {F : Facts} {H : Hierarchy} {W : Plain} (K : KnownOfBoth P F H W) (written : IsWritten P F H W K.rebuilt.places) where
   open_method : (d : ℕ) (k : PlainMethod) (s : ℕ) → slice_get W.methods d ≡ Some k → k.slot ≡ Some s → is_interface W k.owner ≡ false
       → is_public_method W (Some d) ≡ true
   open_method d k s e h c = rw e (written.public d k e (((K.new.methods d k e).slots s).0 h).instance c)

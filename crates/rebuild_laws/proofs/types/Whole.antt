@@ -8,17 +8,17 @@ use Rattle.fact_model.specs.declared.sets.Table.{Table}
 use Rattle.hier_model.specs.Hierarchies.{Hierarchy}
 use Rattle.rebuild_model.specs.Rebuilds.{Rebuilds}
 use Rattle.rebuild_model.specs.Written.{IsWritten}
-use Rattle.rebuild_laws.specs.looks.Known.{Known}
+use Rattle.rebuild_laws.specs.looks.Known.{KnownOfBoth}
 use Rattle.rebuild_laws.proofs.given.Given.{known}
 use Rattle.rebuild_laws.specs.types.Rows.{OffersRows}
-use Rattle.rebuild_laws.specs.types.Laws.{IsReady, WrittenIsTyped, RowsAreOffered}
+use Rattle.rebuild_laws.specs.types.Laws.{IsRebuildable, WrittenIsTyped, RowsAreOffered}
 use Rattle.rebuild_laws.proofs.types.Tables.{same_table}
 use Rattle.rebuild_laws.proofs.types.Typed.{written_typed}
 use Rattle.rebuild_laws.proofs.types.Rows.{rows_offered}
 
-module _ (P : Plain) (F : Facts) (s : PointsTo) (t : Table) (H : Hierarchy) (W : Plain) (ready : IsReady P F s t H) (new : IsFormed W)
+module _ (P : Plain) (F : Facts) (s : PointsTo) (t : Table) (H : Hierarchy) (W : Plain) (ready : IsRebuildable P F s t H) (new : IsFormed W)
     (b : Rebuilds P F H W) where
-  abbrev K : Known P F H W
+  abbrev K : KnownOfBoth P F H W
   K = known P ready.formed F ready.facts s H W new ready.hierarchy ready.unbroken b
 
   typed : IsWritten P F H W b.places → IsTyped W

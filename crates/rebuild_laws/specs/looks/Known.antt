@@ -18,7 +18,7 @@ use Rattle.rebuild_model.specs.Renaming.{Places, Renaming, renaming_of}
 use Rattle.rebuild_model.specs.Rebuilds.{Rebuilds}
 
 -- the columns of the facts are those of the program's items, one for each
-pub record AreColumns (P : Plain) (F : Facts) : Type 0 where
+pub record AreItemColumns (P : Plain) (F : Facts) : Type 0 where
   pub below : (i : ColumnItem) (c : ℕ) → (numbers P).column i ≡ Some c → c < length F.columns.items
   pub kind : (i : ColumnItem) (c : ℕ) → (numbers P).column i ≡ Some c → column_kind F c ≡ kind_of i
   pub slot : (i : ColumnItem) (c : ℕ) → (numbers P).column i ≡ Some c → column_slot F c ≡ slot_in P i
@@ -36,22 +36,22 @@ pub record AreNamesApart (F : Facts) (H : Hierarchy) : Type 0 where
       → is_offered H n c ≡ true → is_offered H n d ≡ true → member_name H c ≡ member_name H d → x ≡ y
 
 -- P is the old program, and W the new one
-pub record Known (P : Plain) (F : Facts) (H : Hierarchy) (W : Plain) : Type 0 where
+pub record KnownOfBoth (P : Plain) (F : Facts) (H : Hierarchy) (W : Plain) : Type 0 where
   pub old : IsFormed P
   pub new : IsFormed W
   pub rebuilt : Rebuilds P F H W
-  pub columns : AreColumns P F
+  pub columns : AreItemColumns P F
   pub order : IsPartialOrder H.order
   pub placed : (c : ℕ) (p : NodeId) → place_of_column H c ≡ Some p → is_live H.order p.0 ≡ true
   pub names : SlotsHaveOneName F H
   pub apart : AreNamesApart F H
 
 -- where the members of the old program are in the new one, and what they are called there
-pub record Sides : Type 0 where
+pub record BothSides : Type 0 where
   pub places : Places
   pub renaming : Renaming
 
-module _ {P : Plain} {F : Facts} {H : Hierarchy} {W : Plain} (K : Known P F H W) where
+module _ {P : Plain} {F : Facts} {H : Hierarchy} {W : Plain} (K : KnownOfBoth P F H W) where
   -- a node offers the column of an item: it stands there or above
   pub record Offers (n : ℕ) (i : ColumnItem) : Type 0 where
     pub node : ℕ
@@ -59,5 +59,5 @@ module _ {P : Plain} {F : Facts} {H : Hierarchy} {W : Plain} (K : Known P F H W)
     pub above : is_le H.order n node ≡ true
 
   -- the places and the renaming that a rebuilt program has
-  abbrev pub sides : Sides
+  abbrev pub sides : BothSides
   sides = record { places = K.rebuilt.places; renaming = renaming_of P H K.rebuilt.places }

@@ -11,7 +11,7 @@ use Rattle.fact_model.specs.declared.sets.Table.{Table}
 use Rattle.hier_model.specs.Hierarchies.{Hierarchy}
 use Rattle.rebuild_model.specs.Rebuilds.{Rebuilds}
 use Rattle.rebuild_model.specs.OnePrograms.{AreOne}
-use Rattle.rebuild_laws.specs.types.Laws.{IsReady}
+use Rattle.rebuild_laws.specs.types.Laws.{IsRebuildable}
 
 -- for all words and every bound on the steps they end the same way, have printed the same, and have as many steps left
 pub record HasSameRun (P W : Plain) : Type 0 where
@@ -21,7 +21,7 @@ pub record HasSameRun (P W : Plain) : Type 0 where
 
 -- any formed program that rebuilds a typed one over a hierarchy that breaks no obligation has its run; that it is typed is not asked
 unfoldable pub RebuiltRunsTheSame : Type 0
-RebuiltRunsTheSame = (P : Plain) (F : Facts) (s : PointsTo) (t : Table) (H : Hierarchy) (W : Plain) → IsReady P F s t H → IsFormed W
+RebuiltRunsTheSame = (P : Plain) (F : Facts) (s : PointsTo) (t : Table) (H : Hierarchy) (W : Plain) → IsRebuildable P F s t H → IsFormed W
     → Rebuilds P F H W → HasSameRun P W
 
 -- two formed programs that are one have the same run, where the first is typed

@@ -7,7 +7,7 @@ use Rattle.java_core.specs.declared.TyBase.{TyBase}
 use Rattle.java_core.specs.declared.TyBase.TheVariants.{Int, Boolean, Char, Str, Class}
 use Rattle.java_core.specs.declared.UnOp.{UnOp}
 use Rattle.java_core.specs.declared.BinOp.{BinOp}
-use Rattle.java_core.specs.Trees.{Tag, Ex, Exs, no_ex, ex_then, number, character, text, truth, null, this, local, static_field, own_field, field, index, call, static_call, super_call, create, create_array, cast, instance_of, unary, binary, Target, to_local, to_static, to_own, to_field, to_element, St, Sts, Arms}
+use Rattle.java_core.specs.Trees.{Tag, Ex, Exs, no_ex, ex_then, number, character, text, truth, null, this, local, static_field, own_field, field, index, call, static_call, super_call, create, create_array, cast, instance_of, unary, binary, Target, to_local, to_static, to_own, to_field, to_element, St, Sts, IfArms}
 use Rattle.java_core.specs.Types.{Env, class_type, StringMethod}
 use Rattle.java_meaning.specs.Moment.{Value, Kind, an_object, an_array, Cell, own_type, Spot, held, bound, self_of, set_static, touched, tested, ran, Body, Lang}
 use Rattle.java_meaning.specs.Meaning.{words_type, element_type, is_number_type, names_length, text_method}
@@ -174,7 +174,7 @@ module _ (L M : Lang) (K : Link) (Made : Option ℕ → Kind → Kind → Type 0
     SameSts = PairedSts Same SameTarget
 
     -- the arms of two `if`s, and their `else`, are twins one by one
-    abbrev pub SameArms : Arms → Arms → Type 0
+    abbrev pub SameArms : IfArms → IfArms → Type 0
     SameArms = PairedArms Same SameTarget
 
   -- locals and results differ in their classes alone

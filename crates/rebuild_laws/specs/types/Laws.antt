@@ -19,7 +19,7 @@ use Rattle.rebuild_model.specs.Written.{IsWritten}
 use Rattle.rebuild_laws.specs.types.Rows.{OffersRows}
 
 -- a typed program, its facts with their sets and closed table, and a hierarchy over them that breaks no obligation
-pub record IsReady (P : Plain) (F : Facts) (s : PointsTo) (t : Table) (H : Hierarchy) : Type 0 where
+pub record IsRebuildable (P : Plain) (F : Facts) (s : PointsTo) (t : Table) (H : Hierarchy) : Type 0 where
   pub formed : IsFormed P
   pub typed : IsTyped P
   pub facts : IsFactsOf P F
@@ -32,10 +32,10 @@ pub record IsReady (P : Plain) (F : Facts) (s : PointsTo) (t : Table) (H : Hiera
 
 -- any formed program that rebuilds it, and has what a written one has, is typed
 unfoldable pub WrittenIsTyped : Type 0
-WrittenIsTyped = (P : Plain) (F : Facts) (s : PointsTo) (t : Table) (H : Hierarchy) (W : Plain) → IsReady P F s t H → IsFormed W
+WrittenIsTyped = (P : Plain) (F : Facts) (s : PointsTo) (t : Table) (H : Hierarchy) (W : Plain) → IsRebuildable P F s t H → IsFormed W
     → (b : Rebuilds P F H W) → IsWritten P F H W b.places → IsTyped W
 
 -- and offers each row its columns
 unfoldable pub RowsAreOffered : Type 0
-RowsAreOffered = (P : Plain) (F : Facts) (s : PointsTo) (t : Table) (H : Hierarchy) (W : Plain) → IsReady P F s t H → IsFormed W
+RowsAreOffered = (P : Plain) (F : Facts) (s : PointsTo) (t : Table) (H : Hierarchy) (W : Plain) → IsRebuildable P F s t H → IsFormed W
     → (b : Rebuilds P F H W) → OffersRows P F H W b.places

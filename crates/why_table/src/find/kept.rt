@@ -1,7 +1,7 @@
 //! The steps that a goal needs, and no others, with new numbers.
 
 ghost use Rattle.std.specs.Prelude.{◌≡◌, ℕ, ◌+◌, ◌<◌, ◌≤◌, length, map, All, IfOk, OnOk, slice_index_or};
-ghost use Rattle.why_table.specs.Kept.{AddsAll, IsNumbered, AreNeeded, IsRenamed, IsPut, AreMoved, AreKept};
+ghost use Rattle.why_table.specs.Kept.{AddsAll, NamesEarlier, AreNeeded, IsRenamed, IsPut, AreMoved, AreKept};
 
 use crate::find::steps::step_at;
 use crate::trail::WhyStep;
@@ -20,7 +20,7 @@ fn mark_all(marks: &mut BitRow, from: &[u32])
 
 /// What the step of a number names, where the step is marked.
 fn need_at(steps: &[WhyStep], goal: u32, k: u32, marks: &mut BitRow)
-    requires steps { IsNumbered steps.now }
+    requires steps { NamesEarlier steps.now }
     requires goal { goal < length steps.now }
     requires number { k ≤ goal }
     requires marks { AreNeeded steps.now goal (k + 1) marks.old }
@@ -34,7 +34,7 @@ fn need_at(steps: &[WhyStep], goal: u32, k: u32, marks: &mut BitRow)
 
 /// The numbers of a goal and of the steps that it needs. An error comes only for want of memory.
 pub fn needed(alloc: Global, steps: &[WhyStep], goal: u32) -> Result<BitRow, AllocError>
-    requires steps { IsNumbered steps.now }
+    requires steps { NamesEarlier steps.now }
     requires goal { goal < length steps.now }
     requires fits { goal < 4294967295 }
     ensures { IfOk result (AreNeeded steps.now goal 0) }
@@ -106,7 +106,7 @@ fn keep_at(
     places: &mut Vec<u32>,
     out: &mut Vec<WhyStep>,
 ) -> Result<(), AllocError>
-    requires steps { IsNumbered steps.now }
+    requires steps { NamesEarlier steps.now }
     requires number { k < length marks.now }
     requires marks { length marks.now ≤ length steps.now }
     requires kept { AreKept steps.now marks.now k places.old.items out.old.items }
@@ -121,7 +121,7 @@ fn keep_at(
 
 /// The marked steps, with new numbers. An error comes only for want of memory.
 pub fn kept(alloc: Global, steps: &[WhyStep], marks: &BitRow) -> Result<Vec<WhyStep>, AllocError>
-    requires steps { IsNumbered steps.now }
+    requires steps { NamesEarlier steps.now }
     requires marks { length marks.now ≤ length steps.now }
     ensures { IfOk result (λ v. AreMoved steps.now marks.now (length marks.now) v.items) }
 {

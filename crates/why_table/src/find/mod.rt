@@ -5,7 +5,7 @@ ghost use Rattle.fact_model.specs.InRange.{InRange};
 ghost use Rattle.fact_model.specs.Flowing.{AreSets};
 ghost use Rattle.fact_model.specs.Entries.{IsTable};
 ghost use Rattle.why_table.specs.Found.{AreMemberAccesses, HasEntry, IsTrailOf};
-ghost use Rattle.why_table.specs.Search.{IsGiven, AreSteps};
+ghost use Rattle.why_table.specs.Search.{IsSearchInput, AreSteps};
 
 /// What is found at the first of the numbers below a count at which something is, in a function that fails where
 /// memory is short.
@@ -62,7 +62,7 @@ fn has_entry(facts: &Facts, table: &Table, r: RowId, c: ColId) -> bool
 
 /// The steps of a trail of an entry. An error comes only for want of memory.
 fn found(given: &Given, r: RowId, c: ColId) -> Result<Vec<WhyStep>, AllocError>
-    requires given { IsGiven given.now }
+    requires given { IsSearchInput given.now }
     requires entry { HasEntry given.now.facts.now r.0 c.0 }
     ensures { IfOk result (λ v. IsTrailOf given.now.facts.now r c v.items) }
 {

@@ -3,7 +3,7 @@
 ghost use Rattle.std.specs.Prelude.{◌≡◌, ℕ, ◌+◌, ◌<◌, ◌≤◌, [], ◌∷◌, true, length, IfOk, OnOk, MatchOption};
 ghost use Rattle.kaba_bits.specs.Sets.{bit};
 ghost use Rattle.why_table.specs.Found.{HasEntry};
-ghost use Rattle.why_table.specs.Search.{IsGiven, IsAsked, AreSteps, AreMore, IsAt, IsIn, IsStepFor, IsNext, NoneBy, NoneUpTo, IsDone, NoneGives, rule_at, claim_of, IsRowDone, AreRowsDone, AreAllDone};
+ghost use Rattle.why_table.specs.Search.{IsSearchInput, IsTrailInput, AreSteps, AreMore, HasClaimAt, HasClaim, IsStepFor, IsNextStep, NoneBy, NoneUpTo, IsDone, NoneGives, rule_at, claim_of, IsRowDone, AreRowsDone, AreAllDone};
 ghost use Rattle.why_table.specs.declared.trail.Claim.TheVariants.{Entry};
 
 use crate::check::follows;
@@ -27,7 +27,7 @@ pub struct Asked<'a> {
 /// The step with the claim, a rule and the numbers of earlier steps, if it follows. An error comes only for want of
 /// memory.
 fn tried(asked: &Asked, rule: WhyRule, from: &[u32]) -> Result<Option<WhyStep>, AllocError>
-    requires { IsAsked asked.now }
+    requires { IsTrailInput asked.now }
     ensures { IfOk result (λ o. MatchOption o (NoneBy asked.now.facts.now asked.now.steps.now asked.now.claim rule from.now)
         (IsStepFor asked.now.facts.now asked.now.steps.now asked.now.claim)) }
 {
@@ -47,7 +47,7 @@ fn tried(asked: &Asked, rule: WhyRule, from: &[u32]) -> Result<Option<WhyStep>, 
 
 /// Such a step by three earlier ones, of which the first two are given.
 fn by_third(asked: &Asked, rule: WhyRule, i: u32, j: u32) -> Result<Option<WhyStep>, AllocError>
-    requires { IsAsked asked.now }
+    requires { IsTrailInput asked.now }
     ensures { IfOk result (λ o. MatchOption o
         ((k : ℕ) → k < length asked.now.steps.now → NoneBy asked.now.facts.now asked.now.steps.now asked.now.claim rule (i ∷ j ∷ k ∷ []))
         (IsStepFor asked.now.facts.now asked.now.steps.now asked.now.claim)) }
@@ -57,7 +57,7 @@ fn by_third(asked: &Asked, rule: WhyRule, i: u32, j: u32) -> Result<Option<WhySt
 
 /// Such a step by two earlier ones that are given, and perhaps a third.
 fn by_two(asked: &Asked, rule: WhyRule, i: u32, j: u32) -> Result<Option<WhyStep>, AllocError>
-    requires { IsAsked asked.now }
+    requires { IsTrailInput asked.now }
     ensures { IfOk result (λ o. MatchOption o (NoneUpTo asked.now.facts.now asked.now.steps.now asked.now.claim rule (i ∷ j ∷ []) 1)
         (IsStepFor asked.now.facts.now asked.now.steps.now asked.now.claim)) }
 {
@@ -69,7 +69,7 @@ fn by_two(asked: &Asked, rule: WhyRule, i: u32, j: u32) -> Result<Option<WhyStep
 
 /// Such a step by two or three earlier ones, of which the first is given.
 fn by_second(asked: &Asked, rule: WhyRule, i: u32) -> Result<Option<WhyStep>, AllocError>
-    requires { IsAsked asked.now }
+    requires { IsTrailInput asked.now }
     ensures { IfOk result (λ o. MatchOption o
         ((j : ℕ) → j < length asked.now.steps.now → NoneUpTo asked.now.facts.now asked.now.steps.now asked.now.claim rule (i ∷ j ∷ []) 1)
         (IsStepFor asked.now.facts.now asked.now.steps.now asked.now.claim)) }
@@ -79,7 +79,7 @@ fn by_second(asked: &Asked, rule: WhyRule, i: u32) -> Result<Option<WhyStep>, Al
 
 /// Such a step by an earlier one that is given, and perhaps others.
 fn by_one(asked: &Asked, rule: WhyRule, i: u32) -> Result<Option<WhyStep>, AllocError>
-    requires { IsAsked asked.now }
+    requires { IsTrailInput asked.now }
     ensures { IfOk result (λ o. MatchOption o (NoneUpTo asked.now.facts.now asked.now.steps.now asked.now.claim rule (i ∷ []) 2)
         (IsStepFor asked.now.facts.now asked.now.steps.now asked.now.claim)) }
 {
@@ -91,7 +91,7 @@ fn by_one(asked: &Asked, rule: WhyRule, i: u32) -> Result<Option<WhyStep>, Alloc
 
 /// Such a step by earlier ones.
 fn by_first(asked: &Asked, rule: WhyRule) -> Result<Option<WhyStep>, AllocError>
-    requires { IsAsked asked.now }
+    requires { IsTrailInput asked.now }
     ensures { IfOk result (λ o. MatchOption o
         ((i : ℕ) → i < length asked.now.steps.now → NoneUpTo asked.now.facts.now asked.now.steps.now asked.now.claim rule (i ∷ []) 2)
         (IsStepFor asked.now.facts.now asked.now.steps.now asked.now.claim)) }
@@ -101,7 +101,7 @@ fn by_first(asked: &Asked, rule: WhyRule) -> Result<Option<WhyStep>, AllocError>
 
 /// A step by a rule with the claim. An error comes only for want of memory.
 fn by_rule(asked: &Asked, rule: WhyRule) -> Result<Option<WhyStep>, AllocError>
-    requires { IsAsked asked.now }
+    requires { IsTrailInput asked.now }
     ensures { IfOk result (λ o. MatchOption o (NoneUpTo asked.now.facts.now asked.now.steps.now asked.now.claim rule [] 3)
         (IsStepFor asked.now.facts.now asked.now.steps.now asked.now.claim)) }
 {
@@ -141,7 +141,7 @@ fn rule_at(k: u32) -> WhyRule
 
 /// A step with the claim. An error comes only for want of memory.
 fn by_rules(asked: &Asked) -> Result<Option<WhyStep>, AllocError>
-    requires { IsAsked asked.now }
+    requires { IsTrailInput asked.now }
     ensures { IfOk result (λ o. MatchOption o (NoneGives asked.now.facts.now asked.now.steps.now asked.now.claim)
         (IsStepFor asked.now.facts.now asked.now.steps.now asked.now.claim)) }
 {
@@ -150,9 +150,9 @@ fn by_rules(asked: &Asked) -> Result<Option<WhyStep>, AllocError>
 
 /// A step with the claim, where there is none yet. An error comes only for want of memory.
 fn justified(asked: &Asked) -> Result<Option<WhyStep>, AllocError>
-    requires { IsAsked asked.now }
+    requires { IsTrailInput asked.now }
     ensures { IfOk result (λ o. MatchOption o (IsDone asked.now.facts.now asked.now.steps.now asked.now.claim)
-        (IsNext asked.now.facts.now asked.now.steps.now)) }
+        (IsNextStep asked.now.facts.now asked.now.steps.now)) }
 {
     match number_of_claim(asked.steps, asked.claim) {
         Some(_) => Ok(None),
@@ -180,11 +180,11 @@ fn at_number(
     set: &BitRow,
     b: u32,
 ) -> Result<Option<WhyStep>, AllocError>
-    requires given { IsGiven given.now }
+    requires given { IsSearchInput given.now }
     requires few { length steps.now < 4294967295 }
     requires number { b < length set.now }
     ensures { IfOk result (λ o. MatchOption o (bit set.now b ≡ true → IsDone given.now.facts.now steps.now (claim_of kind a b))
-        (IsNext given.now.facts.now steps.now)) }
+        (IsNextStep given.now.facts.now steps.now)) }
 {
     if !set.has(b) {
         return Ok(None);
@@ -206,10 +206,10 @@ fn in_set(
     a: u32,
     set: &BitRow,
 ) -> Result<Option<WhyStep>, AllocError>
-    requires given { IsGiven given.now }
+    requires given { IsSearchInput given.now }
     requires few { length steps.now < 4294967295 }
     ensures { IfOk result (λ o. MatchOption o (IsRowDone given.now.facts.now steps.now kind a set.now)
-        (IsNext given.now.facts.now steps.now)) }
+        (IsNextStep given.now.facts.now steps.now)) }
 {
     first_found_below!(b < set.width(); at_number(given, steps, kind, a, set, b)?)
 }
@@ -221,21 +221,21 @@ fn in_sets(
     kind: Kind,
     sets: &[BitRow],
 ) -> Result<Option<WhyStep>, AllocError>
-    requires given { IsGiven given.now }
+    requires given { IsSearchInput given.now }
     requires few { length steps.now < 4294967295 }
     requires sets { length sets.now < 4294967295 }
     ensures { IfOk result (λ o. MatchOption o (AreRowsDone given.now.facts.now steps.now kind sets.now)
-        (IsNext given.now.facts.now steps.now)) }
+        (IsNextStep given.now.facts.now steps.now)) }
 {
     first_found_below!(a < sets.len() as u32; in_set(given, steps, kind, a, row_at(sets, a as usize))?)
 }
 
 /// A step with a claim of the sets or the table. An error comes only for want of memory.
 fn next_step(given: &Given, steps: &[WhyStep]) -> Result<Option<WhyStep>, AllocError>
-    requires given { IsGiven given.now }
+    requires given { IsSearchInput given.now }
     requires few { length steps.now < 4294967295 }
     ensures { IfOk result (λ o. MatchOption o (AreAllDone given.now.facts.now steps.now given.now.pt.now given.now.table.now)
-        (IsNext given.now.facts.now steps.now)) }
+        (IsNextStep given.now.facts.now steps.now)) }
 {
     if let Some(step) = in_sets(given, steps, Kind::Point, &given.pt.points)? {
         return Ok(Some(step));
@@ -248,7 +248,7 @@ fn next_step(given: &Given, steps: &[WhyStep]) -> Result<Option<WhyStep>, AllocE
 
 /// Takes a step, where it follows and its claim is new. An error comes only for want of memory.
 fn take(given: &Given, steps: &mut Vec<WhyStep>, step: WhyStep) -> Result<(), AllocError>
-    requires given { IsGiven given.now }
+    requires given { IsSearchInput given.now }
     requires steps { AreSteps given.now.facts.now steps.old.items }
     ensures { OnOk result (AreSteps given.now.facts.now steps.new.items) }
 {
@@ -263,7 +263,7 @@ fn take(given: &Given, steps: &mut Vec<WhyStep>, step: WhyStep) -> Result<(), Al
 
 /// The steps of a list that follow and have a new claim. An error comes only for want of memory.
 pub fn taken(given: &Given, list: Vec<WhyStep>) -> Result<Vec<WhyStep>, AllocError>
-    requires { IsGiven given.now }
+    requires { IsSearchInput given.now }
     ensures { IfOk result (λ v. AreSteps given.now.facts.now v.items) }
 {
     let mut steps = Vec::new(given.alloc);
@@ -275,10 +275,10 @@ pub fn taken(given: &Given, list: Vec<WhyStep>) -> Result<Vec<WhyStep>, AllocErr
 
 /// A step more, where an entry that holds has none yet. An error comes only for want of memory.
 fn add_next(given: &Given, r: RowId, c: ColId, steps: &mut Vec<WhyStep>) -> Result<(), AllocError>
-    requires given { IsGiven given.now }
+    requires given { IsSearchInput given.now }
     requires entry { HasEntry given.now.facts.now r.0 c.0 }
     requires steps { AreSteps given.now.facts.now steps.old.items }
-    requires absent { IsIn steps.old.items (Entry r c) → ⊥ }
+    requires absent { HasClaim steps.old.items (Entry r c) → ⊥ }
     ensures { OnOk result (AreMore given.now.facts.now steps.old.items steps.new.items) }
 {
     let _ = r;
@@ -297,11 +297,11 @@ pub fn searched(
     c: ColId,
     steps: &mut Vec<WhyStep>,
 ) -> Result<u32, AllocError>
-    requires given { IsGiven given.now }
+    requires given { IsSearchInput given.now }
     requires entry { HasEntry given.now.facts.now r.0 c.0 }
     requires steps { AreSteps given.now.facts.now steps.old.items }
     ensures steps { OnOk result (AreSteps given.now.facts.now steps.new.items) }
-    ensures goal { IfOk result (IsAt steps.new.items (Entry r c)) }
+    ensures goal { IfOk result (HasClaimAt steps.new.items (Entry r c)) }
 {
     'more: loop {
         if let Some(k) = number_of_claim(steps.as_slice(), Claim::Entry(r, c)) {

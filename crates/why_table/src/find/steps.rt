@@ -1,7 +1,7 @@
 //! The steps so far.
 
 ghost use Rattle.std.specs.Prelude.{◌≡◌, ℕ, ◌+◌, ◌<◌, ◌↔◌, length, IsTrue, MatchOption, OnOk, Some, slice_get};
-ghost use Rattle.why_table.specs.Search.{AreSteps, AreMore, IsNext, IsAt, IsIn};
+ghost use Rattle.why_table.specs.Search.{AreSteps, AreMore, IsNextStep, HasClaimAt, HasClaim};
 
 use crate::trail::{Claim, WhyStep};
 use fact_model::Facts;
@@ -24,7 +24,7 @@ fn is_claim(a: Claim, b: Claim) -> bool
 
 /// The number of the step with a claim.
 pub fn number_of_claim(steps: &[WhyStep], claim: Claim) -> Option<usize>
-    ensures { MatchOption result (IsIn steps.now claim → ⊥) (IsAt steps.now claim) }
+    ensures { MatchOption result (HasClaim steps.now claim → ⊥) (HasClaimAt steps.now claim) }
 {
     for k in 0..steps.len() {
         if is_claim(step_at(steps, k).claim, claim) {
@@ -37,7 +37,7 @@ pub fn number_of_claim(steps: &[WhyStep], claim: Claim) -> Option<usize>
 /// Adds a step. An error comes only for want of memory, and where the numbers of steps no longer fit.
 pub fn add(facts: &Facts, steps: &mut Vec<WhyStep>, step: WhyStep) -> Result<(), AllocError>
     requires steps { AreSteps facts.now steps.old.items }
-    requires step { IsNext facts.now steps.old.items step }
+    requires step { IsNextStep facts.now steps.old.items step }
     ensures { OnOk result (AreMore facts.now steps.old.items steps.new.items) }
 {
     let _ = facts;

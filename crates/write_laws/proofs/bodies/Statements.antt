@@ -7,12 +7,12 @@ use Rattle.std.proofs.lemmas.Option.{same_Some}
 use Rattle.kaba_base.specs.declared.Place.{Place}
 use Rattle.java_tree.specs.declared.TypeName.{TypeName}
 use Rattle.java_tree.specs.Syntax.{Expression, Statement, LocalOf, BlockOf, ForOf, Statements, no_statements, OptionalStatement, absent, present}
-use Rattle.java_core.specs.Trees.{Tag, at_place, Ex, Target, to_local, to_static, to_own, to_field, to_element, no_target, this, St, Sts, Arms, declare, block, assign, act, print, choose, loop, return, break, continue, no_st, st_then, no_other, otherwise, arm}
+use Rattle.java_core.specs.Trees.{Tag, at_place, Ex, Target, to_local, to_static, to_own, to_field, to_element, no_target, this, St, Sts, IfArms, declare, block, assign, act, print, choose, loop, return, break, continue, no_st, st_then, no_other, otherwise, arm}
 use Rattle.java_core.specs.Programs.{Plain, PlainLocal, PlainMethod}
 use Rattle.java_core.specs.Types.{env_of, field_in, static}
 use Rattle.java_core.specs.Typing.{TypedTarget, TypedTest, TypedSt, TypedSts, TypedArms, t_to_field, t_to_element, t_test, t_declare_as, t_block, t_assign, t_act, t_print, t_choose, t_loop, t_return, t_st_then, t_otherwise, t_arm}
 use Rattle.java_core.specs.Formed as formed_names
-use Rattle.java_core.specs.Formed.{IsHead, of_while, of_for, IsFormed, FormedTarget, FormedOption, FormedSt, FormedSts, FormedArms, variables_of, scope_after_all, is_at_most_one, f_to_local, f_to_static, f_to_field, f_to_element, f_some, f_declare, f_block, f_assign, f_act, f_print, f_choose, f_loop, f_return, f_st_then, f_otherwise, f_arm}
+use Rattle.java_core.specs.Formed.{IsLoopHead, of_while, of_for, IsFormed, FormedTarget, FormedOption, FormedSt, FormedSts, FormedArms, variables_of, scope_after_all, is_at_most_one, f_to_local, f_to_static, f_to_field, f_to_element, f_some, f_declare, f_block, f_assign, f_act, f_print, f_choose, f_loop, f_return, f_st_then, f_otherwise, f_arm}
 use Rattle.java_meaning.specs.Paired.{pair_none, pair_some, pair_declare, pair_block, pair_assign, pair_act, pair_print, pair_choose, pair_loop, pair_return, pair_break, pair_continue, pair_no_st, pair_st_then, pair_no_other, pair_otherwise, pair_arm}
 use Rattle.hier_model.specs.Hierarchies.{Hierarchy}
 use Rattle.flow_rules.specs.Labels.{size, label, size_if, label_if, size_target, label_target, size_st, size_sts, label_st, label_sts, label_arms}
@@ -21,7 +21,7 @@ use Rattle.flow_rules.specs.Parts.{Part, is_accessed, parts_if, parts_assign, pa
 use Rattle.name_rules.specs.declared.parts.Bound.{Bound}
 use Rattle.name_rules.specs.declared.parts.Here.{Here}
 use Rattle.name_rules.specs.Resolves as names
-use Rattle.name_rules.specs.Resolves.{target, bound, Counts, declares, declares_all, declares_arms, ResolvesTo, ResolvesIf, r_none, r_some, r_field, r_this, r_index, IsLocal, StResolves, StsResolve, ArmsResolve, PartResolves, r_declare, r_block, r_assign, r_act, r_print, r_choose, r_while, r_for, r_return, r_break, r_continue, r_no_statements, r_and_then, r_no_else, r_else, r_arm, r_absent, r_present}
+use Rattle.name_rules.specs.Resolves.{target, bound, Counts, declares, declares_all, declares_arms, ResolvesTo, ResolvesIf, r_none, r_some, r_field, r_this, r_index, IsDeclaredLocal, StResolves, StsResolve, ArmsResolve, PartResolves, r_declare, r_block, r_assign, r_act, r_print, r_choose, r_while, r_for, r_return, r_break, r_continue, r_no_statements, r_and_then, r_no_else, r_else, r_arm, r_absent, r_present}
 use Rattle.write_model.specs.Names.{nowhere, written_type}
 use Rattle.write_model.specs.Bodies as text
 use Rattle.write_model.specs.Bodies.{variable_name, loop_tree, field_name, written_if, written_target, written_st, written_sts, written_part, written_arms, written_else}
@@ -157,7 +157,7 @@ module _ (P : Plain) (H : Hierarchy) (U O : Plain) (T : Places) (K : KnowsNames 
   for_parts q bs f v h ss y (r_for {x = x} {first = first} {step = step} {xs = xs} rf rv rh rs) =
       record { first = first; test = x; step = step; code = xs; is = refl; first_is = rf; test_is = rv; step_is = rh; code_is = rs }
 
-  loop_parts : (is_while q : Bool) (scope : List ℕ) (bs : List Bound) (f : Sts) (v : Option Ex) (h : Sts) (ss : Statements) (y : St) → IsHead is_while f v h
+  loop_parts : (is_while q : Bool) (scope : List ℕ) (bs : List Bound) (f : Sts) (v : Option Ex) (h : Sts) (ss : Statements) (y : St) → IsLoopHead is_while f v h
       → StResolves O here new q bs (loop_tree is_while (written_part P by_node H m k scope f)
       (written_if P by_node H m k (text.scope_after_part scope f) v) (written_part P by_node H m k (text.scope_after_part scope f) h) ss) y
       → LoopParts is_while q bs (written_part P by_node H m k scope f) (written_if P by_node H m k (text.scope_after_part scope f) v)
@@ -178,7 +178,7 @@ module _ (P : Plain) (H : Hierarchy) (U O : Plain) (T : Places) (K : KnowsNames 
 
   -- a local has the type of its row
   local_kept : (bs : List Bound) (i : ℕ) (v : PlainLocal) → slice_get (variables_of k) i ≡ Some v
-      → IsLocal O new bs (written_type P H (by_node.row_type (variable_row m k i)) v.ty) v.name nowhere i → IsRetyped i
+      → IsDeclaredLocal O new bs (written_type P H (by_node.row_type (variable_row m k i)) v.ty) v.name nowhere i → IsRetyped i
   local_kept bs i v e l = record {
     kept = λ w ew.
         let same = same_Some v w (sym e ∙ ew) in
@@ -203,7 +203,7 @@ module _ (P : Plain) (H : Hierarchy) (U O : Plain) (T : Places) (K : KnowsNames 
   declared at inner scope bs q t i e v y a b c there ty fo st s cb cc1 (r_declare {x = x} {i = j} l r) =
       let one = counts_one i a b cb in
       let two = counts_one j a c cc1 in
-      subst (λ j. Counts a (j ∷ []) c → IsLocal O new bs u v.name nowhere j → ResolvesIf O here (bound bs v.name j) w x
+      subst (λ j. Counts a (j ∷ []) c → IsDeclaredLocal O new bs u v.name nowhere j → ResolvesIf O here (bound bs v.name j) w x
       → After inner scope bs (declare t i e) (LocalOf false u v.name w nowhere) (declare (at_place nowhere) j x) a b c)
       (one.0 ∙ sym two.0) (λ cj l r.
       let more = scoped_more k inner scope bs i v s there l.fresh in
@@ -233,7 +233,7 @@ module _ (P : Plain) (H : Hierarchy) (U O : Plain) (T : Places) (K : KnowsNames 
   loop_scope true bs (present s) v h ss y = refl
   loop_scope false bs f v h ss y = refl
 
-  abbrev arms_parts : Arms → List Part
+  abbrev arms_parts : IfArms → List Part
   arms_parts xs = parts_arms P (type_in P m k) m k xs
 
   mutual
@@ -339,7 +339,7 @@ module _ (P : Plain) (H : Hierarchy) (U O : Plain) (T : Places) (K : KnowsNames 
         (goes_on IsRetyped o.0 n.0 c (declares_all ys) h.ends.same n.2) rys in
         (pair_st_then h.matches z.0, ends_join IsRetyped a o.0 n.0 b c h.ends z.1)
 
-    arms : (at : ℕ) (l q : Bool) (inner scope : List ℕ) (bs : List Bound) (xs ys : Arms) (a b c : ℕ) → TypedArms P g xs
+    arms : (at : ℕ) (l q : Bool) (inner scope : List ℕ) (bs : List Bound) (xs ys : IfArms) (a b c : ℕ) → TypedArms P g xs
         → FormedArms P k l inner xs → Stands (arms_parts (label_arms at xs)) → Scoped k inner scope bs
         → Counts a (declares_arms xs) b → Counts a (declares_arms ys) c
         → ArmsResolve O here new q bs (written_arms P by_node H m k scope xs) (written_else P by_node H m k scope xs) ys

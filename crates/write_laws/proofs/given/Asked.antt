@@ -13,7 +13,7 @@ use Rattle.fact_model.specs.declared.facts.AccessInfo.{AccessInfo}
 use Rattle.fact_model.specs.declared.facts.SuperInfo.{SuperInfo}
 use Rattle.fact_model.proofs.EntryLemmas.{access_entry}
 use Rattle.hier_model.specs.Hierarchies.{place_of_row, is_method}
-use Rattle.hier_laws.specs.Shapes.{Offers}
+use Rattle.hier_laws.specs.Shapes.{OffersColumn}
 use Rattle.hier_laws.specs.Obligations.{Half}
 use Rattle.hier_rules.specs.Asked.{is_pair, is_super}
 use Rattle.hier_rules.specs.Names.{is_member}
@@ -46,7 +46,7 @@ module _ (C : Given) where
 
   -- the member that a row asks for is offered at the row's node
   asked : (o : Option ℕ) (q : ColumnItem) (r l : ℕ) → o ≡ Some r → N.column q ≡ Some l
-      → ((x : AccessInfo) → Contains (accessed o (N.column q)) x → Contains F.accesses.items x) → Offers (shape H) (place_of_row H r) l
+      → ((x : AccessInfo) → Contains (accessed o (N.column q)) x → Contains F.accesses.items x) → OffersColumn (shape H) (place_of_row H r) l
   asked o q r l a e into =
       let x : AccessInfo = record { row = record { 0 = r }; column = record { 0 = l } } in
       let is = subst (λ z. Contains (accessed z (N.column q)) x) (sym a) (subst (λ z. Contains (accessed (Some r) z) x) (sym e) (first x [])) in

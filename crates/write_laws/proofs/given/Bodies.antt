@@ -6,9 +6,9 @@ use Rattle.std.proofs.lemmas.Bool.{false≢true}
 use Rattle.kaba_base.specs.declared.Place.{Place}
 use Rattle.java_tree.specs.Syntax.{Expression, Statement, LocalOf, BlockOf, Statements, no_statements}
 use Rattle.java_tree.specs.Formed as printed
-use Rattle.java_tree.specs.Formed.{is_target, IsFormed, AreFormed, IsFormedValue, IsFormedStmt, AreFormedStmts, AreFormedArms, IsFormedElse, IsFormedFirst, IsFormedStep}
+use Rattle.java_tree.specs.Formed.{is_target, IsFormedExpression, AreFormed, IsFormedValue, IsFormedStmt, AreFormedStmts, AreFormedArms, IsFormedElse, IsFormedFirst, IsFormedStep}
 use Rattle.java_core.specs.declared.Ty.{Ty}
-use Rattle.java_core.specs.Trees.{Ex, Exs, no_ex, ex_then, number, character, text, truth, null, this, local, static_field, own_field, field, index, call, static_call, super_call, create, create_array, cast, instance_of, unary, binary, Target, to_local, to_static, to_own, to_field, to_element, no_target, St, Sts, Arms, declare, block, assign, act, print, choose, loop, return, break, continue, no_st, st_then, no_other, otherwise, arm}
+use Rattle.java_core.specs.Trees.{Ex, Exs, no_ex, ex_then, number, character, text, truth, null, this, local, static_field, own_field, field, index, call, static_call, super_call, create, create_array, cast, instance_of, unary, binary, Target, to_local, to_static, to_own, to_field, to_element, no_target, St, Sts, IfArms, declare, block, assign, act, print, choose, loop, return, break, continue, no_st, st_then, no_other, otherwise, arm}
 use Rattle.java_core.specs.Programs.{PlainLocal}
 use Rattle.java_core.specs.Types.{field_type, value_type, fits_in, target_type}
 use Rattle.java_core.specs.Typing.{TypedArgs, TypedTarget, TypedTest, TypedSt, TypedSts, TypedArms, t_field, t_index, t_call, t_static_call, t_super_call, t_create_array, t_cast, t_instance_of, t_unary, t_binary, t_ex_then, t_to_field, t_to_element, t_test, t_declare_as, t_block, t_assign, t_act, t_print, t_choose, t_loop, t_return, t_st_then, t_otherwise, t_arm}
@@ -33,7 +33,7 @@ module _ (C : Given) (B : Bodied C) where
   open C use {program as P, hierarchy as H}
   open words C use {renaming as R}
   open B use {number as m, method as k}
-  open walked P m k use {env as g, type, operand as O, tree, tree_all as all, Stands, IsTyped, IsFormed as IsFormedEx}
+  open walked P m k use {env as g, type, operand as O, tree, tree_all as all, Stands, IsTyped, IsFormedExpression as IsFormedEx}
   open walked P m k use {static as old, tree_sts as sts, tree_if as if_there}
 
   -- how an expression is written
@@ -43,7 +43,7 @@ module _ (C : Given) (B : Bodied C) where
   -- ---- expressions, of which the parts have labels
 
   mutual
-    ex_formed : (at : ℕ) (u : Bool) (sc wr : List ℕ) (e : Ex) → IsTyped e → IsFormedEx sc e → Stands (tree u (label at e)) → IsFormed (E wr e)
+    ex_formed : (at : ℕ) (u : Bool) (sc wr : List ℕ) (e : Ex) → IsTyped e → IsFormedEx sc e → Stands (tree u (label at e)) → IsFormedExpression (E wr e)
     ex_formed at u sc wr (number t n) ty (f_number a) st = literal a
     ex_formed at u sc wr (character t c) ty (f_character a) st = a
     ex_formed at u sc wr (text t x) ty (f_text a) st = a
@@ -110,7 +110,7 @@ module _ (C : Given) (B : Bodied C) where
   assign_formed : (at : ℕ) (sc wr : List ℕ) (p : Place) (b : Target) (e : Ex) → TypedTarget P g b → IsTyped e
       → fits_in P (old e) (target_type P g b) ≡ true → FormedTarget P k sc b → IsFormedEx sc e
       → Stands (parts_assign P (type_in P m k) m k p (label_target at b) (label (at + size_target b) e))
-      → (is_target (written_target P R H m k wr b) ≡ true) × IsFormed (written_target P R H m k wr b) × IsFormed (E wr e)
+      → (is_target (written_target P R H m k wr b) ≡ true) × IsFormedExpression (written_target P R H m k wr b) × IsFormedExpression (E wr e)
   assign_formed at sc wr p (to_local t i) e tb te fit (f_to_local a lt) fe st =
       (refl, named.variable_named C B i lt, ex_formed (at + 0) false sc wr e te fe (left (tree false (label (at + 0) e)) _ st))
   assign_formed at sc wr p (to_static t f) e tb te fit (f_to_static s) fe st =
@@ -240,7 +240,7 @@ module _ (C : Given) (B : Bodied C) where
         let qs = sts (label_sts (at + size_st x) xs) in
         (st_formed at l sc wr x tx fx (left ps qs st), sts_formed (at + size_st x) l _ _ xs txs fxs (right ps qs st))
 
-    arms_formed : (at : ℕ) (l : Bool) (sc wr : List ℕ) (xs : Arms) → TypedArms P g xs → FormedArms P k l sc xs
+    arms_formed : (at : ℕ) (l : Bool) (sc wr : List ℕ) (xs : IfArms) → TypedArms P g xs → FormedArms P k l sc xs
         → Stands (parts_arms P (type_in P m k) m k (label_arms at xs))
         → AreFormedArms (written_arms P R H m k wr xs) × IsFormedElse (written_else P R H m k wr xs)
     arms_formed at l sc wr no_other ty fo st = (tt, tt)

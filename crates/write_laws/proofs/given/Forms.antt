@@ -5,7 +5,7 @@ use Rattle.java_lex.specs.Writable.{IsName}
 use Rattle.java_tree.specs.Tokens.{level, is_sign}
 use Rattle.java_tree.specs.Syntax.{Expression, Expressions, OptionalStatement, absent, present, Statements}
 use Rattle.java_tree.specs.Formed as printed
-use Rattle.java_tree.specs.Formed.{IsNumber, a_small, the_least, is_target, IsFormed, AreFormed, IsFormedValue, IsFormedStmt, AreFormedStmts, IsFormedFirst, IsFormedStep}
+use Rattle.java_tree.specs.Formed.{IsNumber, a_small, the_least, is_target, IsFormedExpression, AreFormed, IsFormedValue, IsFormedStmt, AreFormedStmts, IsFormedFirst, IsFormedStep}
 use Rattle.java_core.specs.declared.UnOp.{UnOp}
 use Rattle.java_core.specs.declared.UnOp.TheVariants as un
 use Rattle.java_core.specs.declared.BinOp.{BinOp}
@@ -33,12 +33,12 @@ infix_level (bin.Int o) = level_of o
 infix_level _ = omega arith
 
 -- a static member by its name alone, or on its holder
-pub field_tree : (b : Bool) (x y : List ℕ) → IsName x → IsName y → IsFormed (static_field_tree b x y) × (is_target (static_field_tree b x y) ≡ true)
+pub field_tree : (b : Bool) (x y : List ℕ) → IsName x → IsName y → IsFormedExpression (static_field_tree b x y) × (is_target (static_field_tree b x y) ≡ true)
 field_tree true x y a c = (c, refl)
 field_tree false x y a c = ((a, c), refl)
 
 pub call_tree : (b : Bool) (x y : List ℕ) (es : Expressions) → IsName x → IsName y
-    → (AreFormed es → IsFormed (static_call_tree b x y es)) × (printed.is_call (static_call_tree b x y es) ≡ true)
+    → (AreFormed es → IsFormedExpression (static_call_tree b x y es)) × (printed.is_call (static_call_tree b x y es) ≡ true)
 call_tree true x y es a c = (λ f. (c, f), refl)
 call_tree false x y es a c = (λ f. (a, c, f), refl)
 

@@ -10,7 +10,7 @@ use Rattle.flow_rules.specs.Lists.{Numbers}
 use Rattle.flow_rules.specs.Facts.{numbers}
 use Rattle.rebuild_model.specs.Renaming.{Renaming}
 use Rattle.write_laws.proofs.rebuilds.Nodes.{by_node}
-use Rattle.rebuild_laws.specs.types.Laws.{IsReady}
+use Rattle.rebuild_laws.specs.types.Laws.{IsRebuildable}
 
 pub record Given : Type 0 where
   pub program : Plain
@@ -18,7 +18,7 @@ pub record Given : Type 0 where
   pub sets : PointsTo
   pub table : Table
   pub hierarchy : Hierarchy
-  pub ready : IsReady program facts sets table hierarchy
+  pub ready : IsRebuildable program facts sets table hierarchy
 
 -- a method of the program that has a body
 pub record Bodied (C : Given) : Type 0 where

@@ -6,13 +6,13 @@ use Rattle.std.proofs.lemmas.Option.{slice_get_within}
 use Rattle.java_lex.specs.Writable.{IsName}
 use Rattle.java_tree.specs.Syntax.{NullLit, Expressions}
 use Rattle.java_tree.specs.Formed as printed
-use Rattle.java_tree.specs.Formed.{is_target, IsFormed, AreFormed, IsFormedBase}
+use Rattle.java_tree.specs.Formed.{is_target, IsFormedExpression, AreFormed, IsFormedBase}
 use Rattle.java_core.specs.declared.Ty.{Ty}
 use Rattle.java_core.specs.Trees.{Tag, Ex, Exs, call, super_call}
 use Rattle.java_core.specs.Programs.{PlainLocal, PlainField, PlainMethod}
 use Rattle.java_core.specs.Classes.{slot_of, slot_of_method, declaration_of, super_method, has_body}
 use Rattle.java_core.specs.Types.{Static, class_of, field_in, field_type, access_type, Signature, call_signature, super_signature, static}
-use Rattle.java_core.specs.Formed.{IsClass, IsType, IsOwnField, IsFormedMethod, IsStaticField, IsStaticMethod, variables_of}
+use Rattle.java_core.specs.Formed.{IsClass, IsProgramType, IsOwnField, IsFormedMethod, IsStaticField, IsStaticMethod, variables_of}
 use Rattle.fact_model.specs.declared.facts.AccessInfo.{AccessInfo}
 use Rattle.flow_rules.specs.declared.items.ColumnItem.TheVariants as column
 use Rattle.flow_rules.specs.declared.items.RowItem.{RowItem}
@@ -46,7 +46,7 @@ module _ (C : Given) (B : Bodied C) where
   open C use {program as P, facts as F, hierarchy as H}
   open words C use {renaming as R, numbers as N}
   open B use {number as m, method as k}
-  open walked P m k use {env as g, type, operand as O, tree, Stands, IsTyped, IsFormed as IsFormedEx, static as old, operands}
+  open walked P m k use {env as g, type, operand as O, tree, Stands, IsTyped, IsFormedExpression as IsFormedEx, static as old, operands}
 
   pub method_formed : IsFormedMethod P k
   method_formed = C.ready.formed.methods m k B.stands
@@ -68,25 +68,25 @@ module _ (C : Given) (B : Bodied C) where
       ((method_formed.variables v.0 (contains_at (variables_of k) i v.0 v.1)).name.name)
 
   pub static_field_formed : (wr : List ℕ) (f : ℕ) → IsStaticField P f
-      → IsFormed (static_field_name P k wr f) × (is_target (static_field_name P k wr f) ≡ true)
+      → IsFormedExpression (static_field_name P k wr f) × (is_target (static_field_name P k wr f) ≡ true)
   static_field_formed wr f s =
       let w = C.ready.formed.fields f s.member s.stands in
       let x = s.member.name in
       let c = s.member.owner in
       subst
       (λ o. let e = option_map_or (λ (g : PlainField). static_field_tree (is_simple k wr g.owner g.name) (class_name P g.owner) g.name) o (NullLit nowhere) in
-      IsFormed e × (is_target e ≡ true)) (sym s.stands)
+      IsFormedExpression e × (is_target e ≡ true)) (sym s.stands)
       (field_tree (is_simple k wr c x) (class_name P c) x (known_class_named C c (slice_get_within P.classes c w.holder w.stands)) w.name.name)
 
   pub static_call_formed : (wr : List ℕ) (d : ℕ) (es : Expressions) → IsStaticMethod P d
-      → (AreFormed es → IsFormed (static_call_name P k wr d es)) × (printed.is_call (static_call_name P k wr d es) ≡ true)
+      → (AreFormed es → IsFormedExpression (static_call_name P k wr d es)) × (printed.is_call (static_call_name P k wr d es) ≡ true)
   static_call_formed wr d es s =
       let w = C.ready.formed.methods d s.member s.stands in
       let x = s.member.name in
       let c = s.member.owner in
       subst
       (λ o. let e = option_map_or (λ (g : PlainMethod). static_call_tree (is_simple k wr g.owner g.name) (class_name P g.owner) g.name es) o
-      (NullLit nowhere) in (AreFormed es → IsFormed e) × (printed.is_call e ≡ true)) (sym s.stands)
+      (NullLit nowhere) in (AreFormed es → IsFormedExpression e) × (printed.is_call e ≡ true)) (sym s.stands)
       (call_tree (is_simple k wr c x) (class_name P c) x es (known_class_named C c (slice_get_within P.classes c w.holder w.stands)) w.name)
 
   same_number : (i : Option RowItem) → row_in N i ≡ number_if (row_number P) i
@@ -198,5 +198,5 @@ module _ (C : Given) (B : Bodied C) where
   pub class_row : (i : RowItem) (c : ℕ) → IsClass P c → IsName (row_name P H (R.row_type i) c)
   class_row i c lt = row_named C i c lt
 
-  pub base : (i : RowItem) (v : Ty) → IsType P v → IsFormedBase (written_base P H (R.row_type i) v.base)
+  pub base : (i : RowItem) (v : Ty) → IsProgramType P v → IsFormedBase (written_base P H (R.row_type i) v.base)
   base i v a = base_formed C i v.base a

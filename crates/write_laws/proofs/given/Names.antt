@@ -16,7 +16,7 @@ use Rattle.fact_model.specs.declared.facts.ColKind.{ColKind}
 use Rattle.fact_model.specs.declared.facts.ColKind.TheVariants.{Fld, Dcl, Def, Is}
 use Rattle.fact_model.proofs.RangeLemmas.{column-below}
 use Rattle.hier_model.specs.Hierarchies.{place_of_column, is_at, stands_at, is_method, type_name, member_name}
-use Rattle.hier_laws.specs.Shapes.{Offers}
+use Rattle.hier_laws.specs.Shapes.{OffersColumn}
 use Rattle.hier_rules.specs.declared.broken.Rule.TheVariants.{B8}
 use Rattle.hier_rules.specs.Instances.{of_column, of_node}
 use Rattle.hier_rules.specs.Names.{is_member, unwritable_type, is_unwritable, unwritable}
@@ -24,7 +24,7 @@ use Rattle.hier_laws.proofs.ShapeLemmas.{shape, placed}
 use Rattle.flow_rules.specs.declared.items.ColumnItem.TheVariants as column
 use Rattle.flow_rules.specs.Facts.{numbers}
 use Rattle.rebuild_model.specs.Renaming.{renaming_of}
-use Rattle.rebuild_laws.specs.looks.Known.{AreColumns}
+use Rattle.rebuild_laws.specs.looks.Known.{AreItemColumns}
 use Rattle.rebuild_laws.proofs.given.Given.{columns as columns_are}
 use Rattle.write_laws.proofs.given.Given.{Given, words}
 use Rattle.write_laws.proofs.given.Letters.{named}
@@ -75,11 +75,11 @@ module _ (C : Given) where
       (when-None (is_unwritable F H n c) (of_column B8 n c) no))
 
   -- the name of a member that some node offers
-  pub offered_named : (n c : ℕ) → Offers (shape H) n c → is_member (column_kind F c) ≡ true → IsName (member_name H c)
+  pub offered_named : (n c : ℕ) → OffersColumn (shape H) n c → is_member (column_kind F c) ≡ true → IsName (member_name H c)
   offered_named n c o kind =
       member_named o.at c (ap (is_at o.at) (placed H c o.at o.stands) ∙ eq-eqb o.at o.at refl) kind
 
-  pub columns : AreColumns P F
+  pub columns : AreItemColumns P F
   columns = columns_are P C.ready.formed F C.ready.facts
 
   -- a field has the name of its column

@@ -5,10 +5,10 @@ use Rattle.java_tree.specs.declared.Modifier.{Modifier}
 use Rattle.java_tree.specs.declared.TypeName.{TypeName}
 use Rattle.java_tree.specs.Syntax.{Expression, NameRef, FieldOf, IndexOf, CallOf, CallOn, SuperCallOf, NewOf, NewArrayOf, CastOf, InstanceOfClass, UnaryOf, BinaryOf, Expressions, no_more, and_more, Statement, LocalOf, BlockOf, AssignOf, DoOf, PrintOf, IfOf, WhileOf, ForOf, ReturnOf, BreakOf, Statements, no_statements, and_then, Arms, no_arms, and_arm, Else, no_else, otherwise, OptionalStatement, absent, present, HeadTree, MemberTree, FieldTree, MethodTree, DeclTree, ClassTree, InterfaceTree}
 use Rattle.java_tree.specs.Places.{expr_unplaced, exprs_unplaced, value_unplaced, stmt_unplaced, stmts_unplaced, arms_unplaced, else_unplaced, step_unplaced, all_unplaced, may_unplaced, id_unplaced, modifier_unplaced, type_unplaced, param_unplaced, head_unplaced, member_unplaced, decl_unplaced, unplaced}
-use Rattle.java_tree.specs.Formed.{is_target, is_call, IsFormed, AreFormed, IsFormedValue, is_act, is_simple, has_arm, IsFormedStmt, AreFormedStmts, AreFormedArms, IsFormedElse, IsFormedFirst, IsFormedStep, Each, IsFormedMod, IsFormedId, IsFormedParam, IsFormedResult, IsFormedHead, IsFormedBody, IsFormedMember, IsFormedParent, IsFormedDecl, IsFormedTree}
+use Rattle.java_tree.specs.Formed.{is_target, is_call, IsFormedExpression, AreFormed, IsFormedValue, is_act, is_simple, has_arm, IsFormedStmt, AreFormedStmts, AreFormedArms, IsFormedElse, IsFormedFirst, IsFormedStep, Each, IsFormedMod, IsFormedId, IsFormedParam, IsFormedResult, IsFormedHead, IsFormedBody, IsFormedMember, IsFormedParent, IsFormedDecl, IsFormedTree}
 
 mutual
-  expr : (e : Expression) → IsFormed (expr_unplaced e) ≡ IsFormed e
+  expr : (e : Expression) → IsFormedExpression (expr_unplaced e) ≡ IsFormedExpression e
   expr (FieldOf e n p) = rw (expr e) refl
   expr (IndexOf e i p) = rw (expr e, expr i) refl
   expr (CallOf n es p) = rw (exprs es) refl

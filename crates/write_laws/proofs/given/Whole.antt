@@ -10,7 +10,7 @@ use Rattle.kaba_order.specs.Orders.{is_live, IsPartialOrder}
 use Rattle.java_lex.specs.Writable.{IsName}
 use Rattle.java_tree.specs.declared.Modifier.{Modifier}
 use Rattle.java_tree.specs.Syntax.{HeadTree, MemberTree, DeclTree}
-use Rattle.java_tree.specs.Formed.{a_small, Each, IsFormed, AreFormedStmts, IsFormedMod, IsFormedId, IsFormedParam, IsFormedHead, IsFormedResult, IsFormedBody, IsFormedMember, IsFormedParent, IsFormedDecl, IsFormedTree}
+use Rattle.java_tree.specs.Formed.{a_small, Each, IsFormedExpression, AreFormedStmts, IsFormedMod, IsFormedId, IsFormedParam, IsFormedHead, IsFormedResult, IsFormedBody, IsFormedMember, IsFormedParent, IsFormedDecl, IsFormedTree}
 use Rattle.java_core.specs.declared.Ty.{Ty}
 use Rattle.java_core.specs.declared.TyBase.{TyBase}
 use Rattle.java_core.specs.declared.TyBase.TheVariants.{Int, Boolean, Char}
@@ -69,7 +69,7 @@ slot_method P (column.Fld m) s h = absurd (cc h)
 slot_method P (column.Is m) s h = absurd (cc h)
 
 -- what fills in for a body
-default_formed : (b : TyBase) (d : ℕ) → IsFormed (value_of_none b d)
+default_formed : (b : TyBase) (d : ℕ) → IsFormedExpression (value_of_none b d)
 default_formed Int zero = a_small (record { value = 0; is = refl; small = omega arith })
 default_formed Boolean zero = tt
 default_formed Char zero = (tt, refl, a_small (record { value = 0; is = refl; small = omega arith }))

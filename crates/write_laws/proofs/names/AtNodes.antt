@@ -31,7 +31,7 @@ use Rattle.flow_rules.specs.declared.items.ColumnItem.TheVariants as column
 use Rattle.flow_rules.specs.Ordered.{each, when}
 use Rattle.flow_rules.specs.Facts.{slot_in, kind_of}
 use Rattle.flow_rules.proofs.Listed.{index_at, map_from, when_from, each_from_zero, one_from}
-use Rattle.rebuild_laws.specs.looks.Known.{AreColumns}
+use Rattle.rebuild_laws.specs.looks.Known.{AreItemColumns}
 use Rattle.rebuild_laws.proofs.given.Given.{columns as columns_are}
 use Rattle.rebuild_laws.proofs.given.Apart.{names_apart}
 use Rattle.rebuild_model.specs.Members.{is_made_at, offers_body, is_headed, is_filled}
@@ -40,7 +40,7 @@ use Rattle.write_model.specs.Members.{is_declaration, filling, head, first_head,
 use Rattle.write_laws.proofs.rebuilds.Nodes.{items}
 use Rattle.write_laws.proofs.rebuilds.Members.{IsHeadTree, first_head_from, in_class, as_filler, flat_option_from}
 use Rattle.write_laws.proofs.names.Origins.{R}
-use Rattle.write_laws.specs.names.Laws.{IsNamed}
+use Rattle.write_laws.specs.names.Laws.{IsNamedProgram}
 use Rattle.write_laws.proofs.names.Variables.{column_number, field_name_is}
 use Rattle.write_laws.proofs.names.Instances.{OffersSlot, one_slot, offered_there, name_is, body_offers}
 use Rattle.write_laws.proofs.names.Once.{Once, append_once, each_once, one_once, when_once, map_once}
@@ -82,8 +82,8 @@ method_item P (column.Def m) s h = refl
 method_item P (column.Fld m) s h = absurd (cc h)
 method_item P (column.Is m) s h = absurd (cc h)
 
-module _ {P : Plain} {F : Facts} {pt : PointsTo} {H : Hierarchy} (G : IsNamed P F pt H) where
-  columns : AreColumns P F
+module _ {P : Plain} {F : Facts} {pt : PointsTo} {H : Hierarchy} (G : IsNamedProgram P F pt H) where
+  columns : AreItemColumns P F
   columns = columns_are P G.formed F G.facts
 
   abbrev Offers : ℕ → ℕ → List ℕ → Type 0

@@ -6,7 +6,7 @@ use Rattle.std.proofs.lemmas.Bool.{false≢true, and_parts, eqb-true, not-true}
 use Rattle.java_tree.specs.Syntax.{Expression, NameRef, FieldOf, ThisRef, Expressions, LocalOf, BlockOf, Statements, OptionalStatement, absent, present, NullLit, no_statements}
 use Rattle.java_tree.specs.Syntax as tree
 use Rattle.java_core.specs.Programs.{Plain, PlainField, PlainLocal, PlainMethod}
-use Rattle.java_core.specs.Trees.{Ex, Exs, Target, St, Sts, Arms, no_st, st_then, arm}
+use Rattle.java_core.specs.Trees.{Ex, Exs, Target, St, Sts, IfArms, no_st, st_then, arm}
 use Rattle.java_core.specs.Classes.{field_of}
 use Rattle.java_core.specs.Types.{static, env_of}
 use Rattle.flow_rules.specs.Operands.{variable_row}
@@ -259,7 +259,7 @@ module _ (P : Plain) (R : Renaming) (H : Hierarchy) (m : ℕ) (k : PlainMethod) 
     part_ok s f_no_st g r x = elim x [ ]
     part_ok s (f_st_then a b) g r (in_part x) = st_ok s a g.0 r x
 
-    arms_ok : {l : Bool} {formed scope : List ℕ} {names : List (List ℕ)} {a : Arms} → IsScope k formed scope names → FormedArms P k l formed a
+    arms_ok : {l : Bool} {formed scope : List ℕ} {names : List (List ℕ)} {a : IfArms} → IsScope k formed scope names → FormedArms P k l formed a
         → InArms (known P R H m k O) a
         → (r : Refusal) → ArmsFault O here l names (written_arms P R H m k scope a) r → ⊥
     arms_ok s f_no_other g r x = elim x [ ]
@@ -268,7 +268,7 @@ module _ (P : Plain) (R : Renaming) (H : Hierarchy) (m : ℕ) (k : PlainMethod) 
     arms_ok s (f_arm a b c) g r (in_arm x) = sts_ok s b g.1 r x
     arms_ok s (f_arm a b c) g r (in_more_arms x) = arms_ok s c g.2 r x
 
-    else_ok : {l : Bool} {formed scope : List ℕ} {names : List (List ℕ)} {a : Arms} → IsScope k formed scope names → FormedArms P k l formed a
+    else_ok : {l : Bool} {formed scope : List ℕ} {names : List (List ℕ)} {a : IfArms} → IsScope k formed scope names → FormedArms P k l formed a
         → InArms (known P R H m k O) a
         → (r : Refusal) (ss : Statements) → written_else P R H m k scope a ≡ tree.otherwise ss → StsFault O here l names ss r → ⊥
     else_ok s f_no_other g r ss e x = absurd (cc e)

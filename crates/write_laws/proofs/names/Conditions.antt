@@ -12,7 +12,7 @@ use Rattle.name_rules.specs.Outline.{MethodAt, methods_in, is_private}
 use Rattle.name_rules.specs.Conditions.{unknown, type_twice, known_twice, super_twice, field_twice, method_twice, param_twice, loop, overload, type_as_field, type_as_param, face_as_parent, class_as_face, private_reused, no_main, modifiers_disagree, modifier_unfit, wrong_body, in_body}
 use Rattle.name_rules.specs.Causes.{HasNoCondition}
 use Rattle.write_laws.proofs.rebuilds.Nodes.{tree}
-use Rattle.write_laws.specs.names.Laws.{IsNamed}
+use Rattle.write_laws.specs.names.Laws.{IsNamedProgram}
 use Rattle.write_laws.proofs.names.Modifiers.{method_sound, modifiers_fit}
 use Rattle.write_laws.proofs.names.Types.{type_once, type_is_new}
 use Rattle.write_laws.proofs.names.Supers.{super_once, no_loop, no_face_as_parent, no_class_as_face}
@@ -23,7 +23,7 @@ use Rattle.write_laws.proofs.names.Main.{has_main}
 use Rattle.write_laws.proofs.names.Separate.{fields_are_apart, methods_are_apart}
 use Rattle.write_laws.proofs.names.Overloads.{slots_are_apart}
 
-module _ {P : Plain} {F : Facts} {pt : PointsTo} {H : Hierarchy} (G : IsNamed P F pt H) where
+module _ {P : Plain} {F : Facts} {pt : PointsTo} {H : Hierarchy} (G : IsNamedProgram P F pt H) where
   abbrev T : List DeclTree
   T = tree P F H
 

@@ -6,7 +6,7 @@ use Rattle.kaba_base.specs.declared.Place.{Place}
 use Rattle.java_tree.specs.declared.TypeBase.TheVariants as base
 use Rattle.java_core.specs.declared.Ty.{Ty}
 use Rattle.java_core.specs.Programs.{Plain, PlainMethod}
-use Rattle.java_core.specs.Trees.{Ex, Exs, no_ex, ex_then, local, field, index, call, static_call, super_call, create, create_array, cast, instance_of, unary, binary, Target, to_local, to_static, to_own, to_field, to_element, no_target, St, Sts, Arms, declare, block, assign, act, print, choose, loop, return, break, continue, no_st, st_then, no_other, otherwise, arm}
+use Rattle.java_core.specs.Trees.{Ex, Exs, no_ex, ex_then, local, field, index, call, static_call, super_call, create, create_array, cast, instance_of, unary, binary, Target, to_local, to_static, to_own, to_field, to_element, no_target, St, Sts, IfArms, declare, block, assign, act, print, choose, loop, return, break, continue, no_st, st_then, no_other, otherwise, arm}
 use Rattle.java_core.specs.Formed.{IsCastType, to_int, to_char, to_class, FormedEx, f_field, f_index, f_call, f_static_call, f_super_call, f_create, f_create_array, f_cast, f_instance_of, f_unary, f_binary, FormedExs, f_ex_then, FormedTarget, f_to_field, f_to_element, FormedOption, f_some, FormedSt, f_declare, f_block, f_assign, f_act, f_print, f_choose, f_loop, f_return, FormedSts, f_st_then, FormedArms, f_otherwise, f_arm, numbers_below}
 use Rattle.fact_model.specs.declared.facts.Facts.{Facts}
 use Rattle.fact_model.specs.declared.sets.PointsTo.{PointsTo}
@@ -31,10 +31,10 @@ use Rattle.write_laws.proofs.rebuilds.Retyped.{HasRow, variable_has_row}
 use Rattle.write_laws.specs.names.Known.{IsKnownCast, KnownEx, KnownExs, KnownTarget, KnownVariable, known}
 use Rattle.java_meaning.specs.EachStatement.{OfOption, InSt, InSts, InArms}
 use Rattle.write_laws.proofs.names.Origins.{R}
-use Rattle.write_laws.specs.names.Laws.{IsNamed}
+use Rattle.write_laws.specs.names.Laws.{IsNamedProgram}
 use Rattle.write_laws.proofs.names.Named.{row_known, type_known}
 
-module _ {P : Plain} {F : Facts} {pt : PointsTo} {H : Hierarchy} (G : IsNamed P F pt H) (m : ℕ) (k : PlainMethod)
+module _ {P : Plain} {F : Facts} {pt : PointsTo} {H : Hierarchy} (G : IsNamedProgram P F pt H) (m : ℕ) (k : PlainMethod)
     (stands : slice_get P.methods m ≡ Some k) where
   abbrev O : Plain
   O = outline (tree P F H)
@@ -209,7 +209,7 @@ module _ {P : Plain} {F : Facts} {pt : PointsTo} {H : Hierarchy} (G : IsNamed P 
     sts_known at (st_then x xs) (f_st_then a b) r =
         let X = parts_st P type m k (label_st at x) in (st_known at x a (left X _ r), sts_known (at + size_st x) xs b (right X _ r))
 
-    arms_known : {l : Bool} {s : List ℕ} (at : ℕ) (a : Arms) → FormedArms P k l s a → Rows (parts_arms P type m k (label_arms at a))
+    arms_known : {l : Bool} {s : List ℕ} (at : ℕ) (a : IfArms) → FormedArms P k l s a → Rows (parts_arms P type m k (label_arms at a))
         → InArms (known P R₀ H m k O) a
     arms_known at no_other f r = tt
     arms_known at (otherwise xs) (f_otherwise a) r = sts_known at xs a r

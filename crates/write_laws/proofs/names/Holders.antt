@@ -34,12 +34,12 @@ use Rattle.write_laws.proofs.rebuilds.Nodes.{node_tree, old_tree, tree_name}
 use Rattle.write_laws.proofs.rebuilds.Members.{static_field_has, static_method_has}
 use Rattle.write_laws.specs.names.Stages.{HasHolder, FindsField, FindsMethod}
 use Rattle.write_laws.proofs.names.Origins.{written, R, old_words, HasMethod, node_body, node_head, node_filler, interface_head, static_method, HasField, node_field, static_field, method_origin, field_origin}
-use Rattle.write_laws.specs.names.Laws.{IsNamed}
+use Rattle.write_laws.specs.names.Laws.{IsNamedProgram}
 use Rattle.write_laws.proofs.names.Supers.{type_number, holder_named, supers_are, above_object}
 use Rattle.write_laws.proofs.names.Variables.{field_free, local_free}
 use Rattle.rebuild_laws.proofs.looks.Fields.{field_holder, method_holder}
 
-module _ {P : Plain} {F : Facts} {pt : PointsTo} {H : Hierarchy} (G : IsNamed P F pt H) where
+module _ {P : Plain} {F : Facts} {pt : PointsTo} {H : Hierarchy} (G : IsNamedProgram P F pt H) where
   open written P F H use {trees as T, types, program as O}
 
   abbrev R₀ : Renaming

@@ -12,17 +12,17 @@ use Rattle.fact_model.specs.declared.facts.Facts.{Facts}
 use Rattle.fact_model.specs.declared.sets.PointsTo.{PointsTo}
 use Rattle.hier_model.specs.Hierarchies.{Hierarchy, place_of_column, is_at, is_above, stands_at, is_offered, is_method, member_name}
 use Rattle.flow_rules.specs.declared.items.ColumnItem.TheVariants as column
-use Rattle.rebuild_laws.specs.looks.Known.{AreColumns}
+use Rattle.rebuild_laws.specs.looks.Known.{AreItemColumns}
 use Rattle.rebuild_laws.proofs.given.Given.{columns as columns_are}
 use Rattle.rebuild_laws.proofs.given.Apart.{names_apart}
 use Rattle.rebuild_model.specs.Renaming.{renaming_of}
 use Rattle.write_laws.proofs.rebuilds.Nodes.{items}
 use Rattle.write_laws.proofs.names.Origins.{R}
-use Rattle.write_laws.specs.names.Laws.{IsNamed}
+use Rattle.write_laws.specs.names.Laws.{IsNamedProgram}
 use Rattle.write_laws.proofs.names.Variables.{column_number}
 
-module _ {P : Plain} {F : Facts} {pt : PointsTo} {H : Hierarchy} (G : IsNamed P F pt H) where
-  columns : AreColumns P F
+module _ {P : Plain} {F : Facts} {pt : PointsTo} {H : Hierarchy} (G : IsNamedProgram P F pt H) where
+  columns : AreItemColumns P F
   columns = columns_are P G.formed F G.facts
 
   -- a node offers a slot under a name

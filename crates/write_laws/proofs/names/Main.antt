@@ -24,11 +24,11 @@ use Rattle.write_laws.proofs.rebuilds.Outlined.{methods_each, declared_has, memb
 use Rattle.write_laws.proofs.rebuilds.Nodes.{tree, old_tree}
 use Rattle.write_laws.proofs.rebuilds.Members.{static_method_has}
 use Rattle.write_laws.proofs.names.Origins.{R, old_words}
-use Rattle.write_laws.specs.names.Laws.{IsNamed}
+use Rattle.write_laws.specs.names.Laws.{IsNamedProgram}
 use Rattle.write_laws.proofs.names.Holders.{holder_of, method_there}
 use Rattle.rebuild_laws.proofs.looks.Fields.{method_holder}
 
-module _ {P : Plain} {F : Facts} {pt : PointsTo} {H : Hierarchy} (G : IsNamed P F pt H) where
+module _ {P : Plain} {F : Facts} {pt : PointsTo} {H : Hierarchy} (G : IsNamedProgram P F pt H) where
   abbrev types : List (List ℕ)
   types = types_in (tree P F H)
 

@@ -27,7 +27,7 @@ use Rattle.write_model.specs.Bodies.{written_sts}
 use Rattle.write_model.specs.Members.{parameters}
 use Rattle.write_model.specs.Written.{class_modifiers, type_tree}
 use Rattle.write_laws.proofs.rebuilds.Nodes.{items, tree, Declares, a_node, a_holder, declares}
-use Rattle.write_laws.specs.names.Laws.{IsNamed}
+use Rattle.write_laws.specs.names.Laws.{IsNamedProgram}
 use Rattle.write_laws.proofs.names.Origins.{R, HasMethod, node_body, node_head, node_filler, interface_head, static_method, HasField, node_field, static_field, method_origin, field_origin}
 
 pub record Fits (kind : Kind) (mods : List Modifier) : Type 0 where
@@ -100,7 +100,7 @@ head_body x kind plain (missing p q r) = absurd (cc (p, kind))
 head_body x kind plain (superfluous p q) = false≢true (sym plain ∙ p)
 head_body x kind plain (in_concrete p q) = false≢true (sym plain ∙ p)
 
-module _ {P : Plain} {F : Facts} {pt : PointsTo} {H : Hierarchy} (G : IsNamed P F pt H) where
+module _ {P : Plain} {F : Facts} {pt : PointsTo} {H : Hierarchy} (G : IsNamedProgram P F pt H) where
   -- the body of a column is there
   pub body_there : (c m : ℕ) (k : PlainMethod) → slice_get (items P F H) c ≡ Some (column.Def m) → slice_get P.methods m ≡ Some k
       → (is_some k.body ≡ true) × (k.is_static ≡ false)

@@ -34,11 +34,11 @@ use Rattle.write_laws.proofs.rebuilds.Nodes.{tree}
 use Rattle.write_laws.proofs.rebuilds.Retyped.{HasRow, row_live, field_row, variable_has_row, result_has_row}
 use Rattle.write_laws.specs.names.Known.{IsKnownName, IsKnownType}
 use Rattle.write_laws.proofs.names.Origins.{R, HasMethod, HasField, node_field, static_field, method_origin, field_origin}
-use Rattle.write_laws.specs.names.Laws.{IsNamed}
+use Rattle.write_laws.specs.names.Laws.{IsNamedProgram}
 use Rattle.write_laws.proofs.names.Supers.{node_named, super_known}
 use Rattle.write_laws.proofs.names.Variables.{HasHead, head_of, param_of}
 
-module _ {P : Plain} {F : Facts} {pt : PointsTo} {H : Hierarchy} (G : IsNamed P F pt H) where
+module _ {P : Plain} {F : Facts} {pt : PointsTo} {H : Hierarchy} (G : IsNamedProgram P F pt H) where
   abbrev O : Plain
   O = outline (tree P F H)
 

@@ -26,7 +26,7 @@ use Rattle.flow_rules.specs.declared.items.ColumnItem.TheVariants as column
 use Rattle.flow_rules.specs.Operands.{variable_row, variable_in, result_in}
 use Rattle.flow_rules.specs.Ordered.{each}
 use Rattle.flow_rules.proofs.Listed.{map_at, contains_at, one_from, index_at}
-use Rattle.rebuild_laws.specs.looks.Known.{AreColumns}
+use Rattle.rebuild_laws.specs.looks.Known.{AreItemColumns}
 use Rattle.rebuild_laws.proofs.given.Given.{columns as columns_are}
 use Rattle.name_rules.specs.Outline.{MethodAt, methods_in, method_outline, param_outline, type_meant, class_outline, name_of, outline, is_static, is_static_word, has_word}
 use Rattle.name_rules.specs.Conditions.{AreOneSlot}
@@ -36,14 +36,14 @@ use Rattle.write_laws.proofs.rebuilds.Apart.{no_holder}
 use Rattle.write_laws.proofs.rebuilds.Nodes.{node_tree, old_tree, tree_name, Declares, a_node, a_holder, declares}
 use Rattle.write_laws.proofs.rebuilds.Members.{IsHeadTree, IsHeadAt}
 use Rattle.write_laws.proofs.names.Origins.{written, R, IsNodeAt, IsHolderAt, HasMethod, node_body, node_head, node_filler, interface_head, static_method, method_origin}
-use Rattle.write_laws.specs.names.Laws.{IsNamed}
+use Rattle.write_laws.specs.names.Laws.{IsNamedProgram}
 use Rattle.write_laws.proofs.names.Variables.{column_number}
 use Rattle.write_laws.proofs.names.Supers.{IsNumber, above_object, above_node, same_node, supers_are}
 use Rattle.write_laws.proofs.names.Instances.{OffersSlot, one_slot, offered_there, name_is, body_offers}
 use Rattle.write_laws.proofs.names.AtNodes.{slot_first, filler_offers, declaration_kind}
 use Rattle.write_laws.proofs.names.Separate.{methods_are_apart}
 
-module _ {P : Plain} {F : Facts} {pt : PointsTo} {H : Hierarchy} (G : IsNamed P F pt H) where
+module _ {P : Plain} {F : Facts} {pt : PointsTo} {H : Hierarchy} (G : IsNamedProgram P F pt H) where
   open written P F H use {trees as T, types, program as O}
 
   -- ---- the types of a method of a slot
@@ -113,7 +113,7 @@ module _ {P : Plain} {F : Facts} {pt : PointsTo} {H : Hierarchy} (G : IsNamed P 
 
   -- ---- what each method of the tree is
 
-  columns : AreColumns P F
+  columns : AreItemColumns P F
   columns = columns_are P G.formed F G.facts
 
   head_offers : (mods : List Modifier) (n : ℕ) (h : HeadTree) → is_live H.order n ≡ true → (a : IsHeadAt P (R P F H) F H mods n h)

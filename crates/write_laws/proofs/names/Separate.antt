@@ -17,7 +17,7 @@ use Rattle.write_model.specs.Members.{head, body, static_field_member, static_me
 use Rattle.write_model.specs.Written.{type_tree}
 use Rattle.write_laws.proofs.rebuilds.Nodes.{items, tree, Declares, a_node, a_holder, declares}
 use Rattle.write_laws.proofs.names.Origins.{R, old_words}
-use Rattle.write_laws.specs.names.Laws.{IsNamed}
+use Rattle.write_laws.specs.names.Laws.{IsNamedProgram}
 use Rattle.write_laws.proofs.names.Once.{Once, once_at, append_once, when_once}
 use Rattle.write_laws.proofs.names.Declared.{SameMember, SameField, SameMethod, MembersApart, fields_apart, methods_apart}
 use Rattle.write_laws.proofs.names.AtNodes.{all_once, class_once, interface_once}
@@ -34,7 +34,7 @@ two c f g s t o r u v x y a b e lt same =
     let owner : o ≡ r = eqb-true o c (and_parts s (o == c) m.0).1 ∙ sym (eqb-true r c (and_parts t (r == c) n.0).1) in
     omega (arith, lt, same owner (same_from x y u v (one_from _ x m.1) (one_from _ y n.1) e))
 
-module _ {P : Plain} {F : Facts} {pt : PointsTo} {H : Hierarchy} (G : IsNamed P F pt H) where
+module _ {P : Plain} {F : Facts} {pt : PointsTo} {H : Hierarchy} (G : IsNamedProgram P F pt H) where
   abbrev T : List DeclTree
   T = tree P F H
 

@@ -29,7 +29,7 @@ use Rattle.write_laws.proofs.rebuilds.Order.{cover_from, superclass_from, among_
 use Rattle.write_laws.proofs.rebuilds.Outlined.{named_at}
 use Rattle.write_laws.proofs.rebuilds.Nodes.{items, node_tree, old_tree, node_at, holder_at, tree_name, Declares, a_node, a_holder, declares}
 use Rattle.write_laws.proofs.rebuilds.Named.{names_are}
-use Rattle.write_laws.specs.names.Laws.{IsNamed}
+use Rattle.write_laws.specs.names.Laws.{IsNamedProgram}
 use Rattle.write_laws.proofs.names.Origins.{written, R}
 use Rattle.write_laws.proofs.names.Once.{Once, once_at, map_once, filter_once, range_once}
 use Rattle.write_laws.proofs.names.Types.{type_once, type_is_new}
@@ -43,7 +43,7 @@ once_within agree same (x ∷ xs) h o = (
   once_within agree same xs (λ a b c d. h a b (more a x xs c) (more b x xs d)) o.1,
 )
 
-module _ {P : Plain} {F : Facts} {pt : PointsTo} {H : Hierarchy} (G : IsNamed P F pt H) where
+module _ {P : Plain} {F : Facts} {pt : PointsTo} {H : Hierarchy} (G : IsNamedProgram P F pt H) where
   open written P F H use {trees as T, types, program as O}
 
   abbrev class : ℕ → Bool

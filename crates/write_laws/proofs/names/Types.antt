@@ -20,13 +20,13 @@ use Rattle.name_rules.specs.Outline.{name_of, is_known}
 use Rattle.write_model.specs.Written.{java_tree}
 use Rattle.write_laws.proofs.rebuilds.Apart.{any_at, types_apart, unreserved, no_holder}
 use Rattle.write_laws.proofs.rebuilds.Nodes.{tree, node_tree, old_tree, tree_name, Declares, a_node, a_holder, declares}
-use Rattle.write_laws.specs.names.Laws.{IsNamed}
+use Rattle.write_laws.specs.names.Laws.{IsNamedProgram}
 use Rattle.write_laws.proofs.names.Once.{Once, once_at, append_once, each_once, one_once, when_once}
 
 live_at : (bs : List Bool) (n : ℕ) (b : Bool) → slice_get bs n ≡ Some b → b ≡ true → slice_get bs n ≡ Some true
 live_at bs n b e h = e ∙ ap Some h
 
-module _ {P : Plain} {F : Facts} {pt : PointsTo} {H : Hierarchy} (G : IsNamed P F pt H) where
+module _ {P : Plain} {F : Facts} {pt : PointsTo} {H : Hierarchy} (G : IsNamedProgram P F pt H) where
   abbrev Alike : DeclTree → DeclTree → Type 0
   Alike c d = name_of c ≡ name_of d
 

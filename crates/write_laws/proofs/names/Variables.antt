@@ -45,7 +45,7 @@ use Rattle.write_laws.proofs.rebuilds.Apart.{taken_parts}
 use Rattle.write_laws.proofs.rebuilds.Nodes.{items, tree, tree_name, Declares, a_node, a_holder, declares}
 use Rattle.write_laws.proofs.rebuilds.Members.{IsHeadTree}
 use Rattle.write_laws.proofs.names.Origins.{R, old_words, HasMethod, node_body, node_head, node_filler, interface_head, static_method, HasField, node_field, static_field, method_origin, field_origin}
-use Rattle.write_laws.specs.names.Laws.{IsNamed}
+use Rattle.write_laws.specs.names.Laws.{IsNamedProgram}
 use Rattle.hier_laws.proofs.Unbroken.{none_broken}
 
 -- what each gives one of, place by place
@@ -55,7 +55,7 @@ each_at g n [] i b e = absurd (cc e)
 each_at g n (x ∷ xs) zero b e = (n, x, refl, same_Some (g n x) b e, omega arith)
 each_at g n (x ∷ xs) (suc i) b e = let z = each_at g (n + 1) xs i b e in (z.0, z.1, z.2, z.3, (let d = z.4 in omega (arith, d)))
 
-module _ {P : Plain} {F : Facts} {pt : PointsTo} {H : Hierarchy} (G : IsNamed P F pt H) where
+module _ {P : Plain} {F : Facts} {pt : PointsTo} {H : Hierarchy} (G : IsNamedProgram P F pt H) where
   abbrev types : List (List ℕ)
   types = types_in (tree P F H)
 

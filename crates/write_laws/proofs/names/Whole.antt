@@ -28,7 +28,7 @@ use Rattle.write_model.specs.Members.{parameters, filling, value_of_none}
 use Rattle.write_laws.proofs.rebuilds.Nodes.{tree, old_tree}
 use Rattle.write_laws.specs.names.Stages.{IsStage}
 use Rattle.write_laws.proofs.names.Origins.{R, HasMethod, node_body, node_head, node_filler, interface_head, static_method, method_origin}
-use Rattle.write_laws.specs.names.Laws.{IsNamed}
+use Rattle.write_laws.specs.names.Laws.{IsNamedProgram}
 use Rattle.write_laws.proofs.names.Modifiers.{body_there}
 use Rattle.write_laws.proofs.names.Supers.{types_are, named}
 use Rattle.write_laws.proofs.names.Variables.{local_free}
@@ -55,7 +55,7 @@ filling_sound O here names None r x = elim x [ ]
 filling_sound O here names (Some t) r (in_statement (in_returned (in_value x))) = value_sound O here names t.base t.dim r x
 filling_sound O here names (Some t) r (in_rest x) = elim x [ ]
 
-module _ {P : Plain} {F : Facts} {pt : PointsTo} {H : Hierarchy} (G : IsNamed P F pt H) where
+module _ {P : Plain} {F : Facts} {pt : PointsTo} {H : Hierarchy} (G : IsNamedProgram P F pt H) where
   abbrev O : Plain
   O = outline (tree P F H)
 

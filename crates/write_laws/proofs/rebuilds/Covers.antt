@@ -1,7 +1,7 @@
 -- The named supertypes give the whole order.
 use Rattle.std.proofs.Common.{◌≡◌, ◌≢◌, ◌⊎◌, inl, inr, ⊎_elim, ℕ, zero, suc, ◌+◌, ◌<◌, ◌≤◌, Bool, true, false, not, ◌&&◌, cond, refl, sym, ap, ◌∙◌, subst, arith}
 use Rattle.std.proofs.lemmas.Bool.{cases_Bool, cases_eq}
-use Rattle.write_laws.specs.rebuilds.Supertypes.{IsOrder, IsCover, IsLowestClass, Names, extends, implements, Subtype, itself, by_name}
+use Rattle.write_laws.specs.rebuilds.Supertypes.{IsOrder, IsCoverBy, IsLowestClass, NamesSupertypes, extends, implements, Subtype, itself, by_name}
 
 pub count : ℕ → (ℕ → Bool) → ℕ
 count zero p = 0
@@ -79,7 +79,7 @@ module _ (n : ℕ) (le : ℕ → ℕ → Bool) (O : IsOrder n le) where
       (cases_eq x b)) (cases_eq x a)
 
   -- a node strictly below another has a cover that is at or below the other
-  covered : (k a b : ℕ) → count n (between a b) < k → le a b ≡ true → a ≢ b → (c : ℕ) × IsCover le a c × (le c b ≡ true)
+  covered : (k a b : ℕ) → count n (between a b) < k → le a b ≡ true → a ≢ b → (c : ℕ) × IsCoverBy le a c × (le c b ≡ true)
   covered zero a b l u ne = absurd (omega (arith, l))
   covered (suc k) a b l u ne =
       ⊎_elim
@@ -98,7 +98,7 @@ module _ (n : ℕ) (le : ℕ → ℕ → Bool) (O : IsOrder n le) where
   module _ (is_class : ℕ → Bool) (down : (a b : ℕ) → le a b ≡ true → is_class b ≡ true → is_class a ≡ true)
       (chain : (m a b : ℕ) → is_class a ≡ true → is_class b ≡ true → le m a ≡ true → le m b ≡ true → (le a b ≡ true) ⊎ (le b a ≡ true)) where
     -- a cover that is a class is the lowest class above
-    cover_lowest : (a c : ℕ) → IsCover le a c → is_class c ≡ true → IsLowestClass le is_class a c
+    cover_lowest : (a c : ℕ) → IsCoverBy le a c → is_class c ≡ true → IsLowestClass le is_class a c
     cover_lowest a c k h = record {
       class = h;
       above = k.above;
@@ -107,7 +107,7 @@ module _ (n : ℕ) (le : ℕ → ℕ → Bool) (O : IsOrder n le) where
           (k.next x ax y)) (chain a c x h hx k.above ax);
     }
 
-    named : (a c : ℕ) → IsCover le a c → Names le is_class a c
+    named : (a c : ℕ) → IsCoverBy le a c → NamesSupertypes le is_class a c
     named a c k = ⊎_elim (λ h. extends (down a c k.above h) (cover_lowest a c k h)) (λ h. implements h k) (cases_Bool (is_class c))
 
     pub subtype_of_le : (k a b : ℕ) → count n (le a) < k → le a b ≡ true → Subtype le is_class a b
@@ -121,6 +121,6 @@ module _ (n : ℕ) (le : ℕ → ℕ → Bool) (O : IsOrder n le) where
         by_name (named a c.0 c.1) (subtype_of_le k c.0 b (omega (arith, l, less)) c.2))
         (cases_eq a b)
 
-    pub names_le : (a b : ℕ) → Names le is_class a b → le a b ≡ true
+    pub names_le : (a b : ℕ) → NamesSupertypes le is_class a b → le a b ≡ true
     names_le a b (extends h k) = k.above
     names_le a b (implements h k) = k.above

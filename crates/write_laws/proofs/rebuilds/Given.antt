@@ -21,7 +21,7 @@ use Rattle.flow_rules.proofs.Listed.{at_map, map_at}
 use Rattle.flow_rules.proofs.NumberedItems.{numbered_columns}
 use Rattle.rebuild_model.specs.Renaming.{Places, Renaming, renaming_of}
 use Rattle.rebuild_model.specs.Members.{StandsAt}
-use Rattle.rebuild_laws.specs.looks.Known.{AreColumns}
+use Rattle.rebuild_laws.specs.looks.Known.{AreItemColumns}
 use Rattle.rebuild_laws.proofs.given.Given.{columns as columns_are}
 use Rattle.write_model.specs.Written.{java_tree}
 use Rattle.write_laws.proofs.rebuilds.Nodes.{items, places}
@@ -44,7 +44,7 @@ module _ {P : Plain} {F : Facts} {pt : PointsTo} {H : Hierarchy} {V : Plain} (G 
   abbrev pub Stands : ColumnItem → ℕ → Type 0
   Stands i n = StandsAt P F H V T i n
 
-  pub columns : AreColumns P F
+  pub columns : AreItemColumns P F
   columns = columns_are P G.formed F G.facts
 
   pub at_from : (n : ℕ) (o : Option NodeId) → is_at n o ≡ true → (p : NodeId) × (o ≡ Some p) × (p.0 ≡ n)

@@ -15,7 +15,7 @@ use Rattle.hier_model.proofs.AnyLemmas.{any_below_some, any_below_none}
 use Rattle.hier_rules.specs.First.{first_broken}
 use Rattle.flow_rules.proofs.Listed.{first, more}
 use Rattle.write_model.specs.Supers.{is_above, is_cover, nodes_that, is_class_above, is_superclass, superclass}
-use Rattle.write_laws.specs.rebuilds.Supertypes.{IsOrder, IsCover, IsLowestClass}
+use Rattle.write_laws.specs.rebuilds.Supertypes.{IsOrder, IsCoverBy, IsLowestClass}
 
 pub filter_from : {A : Type 0} (p : A → Bool) (xs : List A) (x : A) → Contains (filter p xs) x → Contains xs x × (p x ≡ true)
 filter_from p [] x c = absurd (omega (arith, c.1))
@@ -80,7 +80,7 @@ module _ (F : Facts) (H : Hierarchy) (order : IsPartialOrder H.order) (pt : Poin
   above_from : (a b : ℕ) → le a b ≡ true → a ≢ b → is_above H.order a b ≡ true
   above_from a b h other = and_from (le a b) (not (a == b)) h (ap not (ne_eqb a b other))
 
-  pub cover_from : (a b : ℕ) → is_cover H.order a b ≡ true → IsCover le a b
+  pub cover_from : (a b : ℕ) → is_cover H.order a b ≡ true → IsCoverBy le a b
   cover_from a b h =
       let p = and_parts (is_above H.order a b) (not (any_below N (λ k. is_above H.order a k && is_above H.order k b))) h in
       let up = above_parts a b p.0 in
@@ -93,7 +93,7 @@ module _ (F : Facts) (H : Hierarchy) (order : IsPartialOrder H.order) (pt : Poin
             (cases_eq x b)) (cases_eq a x);
       }
 
-  pub cover_is : (a b : ℕ) → IsCover le a b → is_cover H.order a b ≡ true
+  pub cover_is : (a b : ℕ) → IsCoverBy le a b → is_cover H.order a b ≡ true
   cover_is a b k =
       and_from (is_above H.order a b) (not (any_below N (λ k. is_above H.order a k && is_above H.order k b))) (above_from a b k.above k.other)
       (⊎_elim

@@ -21,7 +21,7 @@ use Rattle.flow_rules.specs.Facts.{IsFactsOf}
 use Rattle.flow_rules.proofs.Listed.{first, more, map_has, map_from}
 use Rattle.write_model.specs.Supers.{is_cover, nodes_that, superclass, type_id}
 use Rattle.write_model.specs.Written.{type_tree, java_tree}
-use Rattle.write_laws.specs.rebuilds.Supertypes.{Names, extends, implements, Subtype, itself, by_name}
+use Rattle.write_laws.specs.rebuilds.Supertypes.{NamesSupertypes, extends, implements, Subtype, itself, by_name}
 use Rattle.write_laws.proofs.rebuilds.Covers.{count, subtype_of_le, names_le}
 use Rattle.write_laws.proofs.rebuilds.Chains.{class_down, chained}
 use Rattle.write_laws.proofs.rebuilds.Order.{ordered, cover_from, cover_is, superclass_is, superclass_from, among_from, among_has}
@@ -60,20 +60,20 @@ module _ (P : Plain) (F : Facts) (H : Hierarchy) (V : Plain) (resolves : Resolve
   meant m = refl
 
   abbrev IsNamed : ℕ → ClassId → Type 0
-  IsNamed n c = (c.0 ≡ 0) ⊎ ((m : ℕ) × Names le class n m × (c.0 ≡ type m))
+  IsNamed n c = (c.0 ≡ 0) ⊎ ((m : ℕ) × NamesSupertypes le class n m × (c.0 ≡ type m))
 
   parent_from : (n : ℕ) (o : Option ℕ) (c : ClassId) → class n ≡ true → superclass F H n ≡ o → parent_meant types (option_map (type_id F H) o) ≡ c → IsNamed n c
   parent_from n None c k e d = inl (ap (λ z. z.0) (sym d))
   parent_from n (Some s) c k e d = inr (s, extends k (superclass_from F H order pt none n s e), ap (λ z. z.0) (sym d) ∙ meant s)
 
-  faces_from : (n : ℕ) (p : ℕ → Bool) (c : ClassId) → ((m : ℕ) → p m ≡ true → Names le class n m)
+  faces_from : (n : ℕ) (p : ℕ → Bool) (c : ClassId) → ((m : ℕ) → p m ≡ true → NamesSupertypes le class n m)
       → Contains (map (id_meant types) (map (type_id F H) (nodes_that H.order p))) c → IsNamed n c
   faces_from n p c f h =
       let z = map_from (id_meant types) (map (type_id F H) (nodes_that H.order p)) c h in
       let w = map_from (type_id F H) (nodes_that H.order p) z.0 z.1 in
       inr (w.0, f w.0 (among_from F H order pt none p w.0 w.1), ap (λ z. z.0) (sym z.2) ∙ ap (λ y. (id_meant types y).0) (sym w.2) ∙ meant w.0)
 
-  face_cover : (n m : ℕ) → (is_cover H.order n m && not (class m)) ≡ true → Names le class n m
+  face_cover : (n m : ℕ) → (is_cover H.order n m && not (class m)) ≡ true → NamesSupertypes le class n m
   face_cover n m h =
       let p = and_parts (is_cover H.order n m) (not (class m)) h in
       implements (not-true (class m) p.1) (cover_from F H order pt none n m p.0)
@@ -103,7 +103,7 @@ module _ (P : Plain) (F : Facts) (H : Hierarchy) (V : Plain) (resolves : Resolve
     meant m,
   )
 
-  named_has : (b : Bool) (n m : ℕ) → class n ≡ b → Names le class n m → Has b n m
+  named_has : (b : Bool) (n m : ℕ) → class n ≡ b → NamesSupertypes le class n m → Has b n m
   named_has true n m k (extends c l) =
       let faces : List ClassId = map (id_meant types) (faces_named (shown true n)) in
       let it : ClassId = id_meant types (type_id F H m) in (

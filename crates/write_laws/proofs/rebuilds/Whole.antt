@@ -8,7 +8,7 @@ use Rattle.hier_model.specs.Hierarchies.{Hierarchy}
 use Rattle.write_model.specs.Written.{java_tree}
 use Rattle.write_laws.specs.bodies.Known.{HasLocalsInOrder, KnowsNames}
 use Rattle.write_laws.proofs.bodies.Bodies.{body_matched}
-use Rattle.write_laws.specs.rebuilds.Laws.{IsRebuilt, TreeRebuilds}
+use Rattle.write_laws.specs.rebuilds.Laws.{IsRebuiltProgram, TreeRebuilds}
 use Rattle.write_laws.proofs.rebuilds.Given.{Given, T}
 use Rattle.write_laws.proofs.rebuilds.Resolved.{BodiesMatch}
 use Rattle.write_laws.proofs.rebuilds.Named.{named_row, named_node, node_no_text, named_holder, no_field_holder, named_static_field, named_static_method}
@@ -34,7 +34,7 @@ module _ {P : Plain} {F : Facts} {pt : PointsTo} {H : Hierarchy} {V : Plain} (G 
       (record { body = b; names = names; static = st; owner = ow; resolves = resolved; counts = counts }) in
       (z.matches, z.locals)
 
-  is_rebuilt : IsTyped P → HasLocalsInOrder P → IsRebuilt P F H V
+  is_rebuilt : IsTyped P → HasLocalsInOrder P → IsRebuiltProgram P F H V
   unfolding rebuilt
   is_rebuilt typed locals = record {
     rebuilds = rebuilt G (bodies_match typed locals);

@@ -1,6 +1,6 @@
 -- The laws of the crates below, put together.
 use Rattle.write_laws.proofs.bodies.InOrder.{resolved_in_order}
-use Rattle.write_laws.specs.rebuilds.Laws.{TreeRebuilds, IsRebuilt}
+use Rattle.write_laws.specs.rebuilds.Laws.{TreeRebuilds, IsRebuiltProgram}
 use Rattle.write_laws.proofs.rebuilds.Whole.{tree_rebuilds}
 use Rattle.rebuild_laws.specs.types.Laws.{WrittenIsTyped, RowsAreOffered}
 use Rattle.rebuild_laws.proofs.types.Whole.{written_is_typed, rows_are_offered}
@@ -11,7 +11,7 @@ use Rattle.write_laws.specs.runs.Laws.{WrittenRuns}
 pub written_runs : WrittenRuns
 unfolding WrittenRuns TreeRebuilds WrittenIsTyped RowsAreOffered RebuiltRunsTheSame
 written_runs declarations P W F s t H resolved ready again formed =
-    let made : IsRebuilt P F H W = tree_rebuilds P F s H W (record {
+    let made : IsRebuiltProgram P F H W = tree_rebuilds P F s H W (record {
       formed = ready.formed;
       typed = ready.typed;
       locals = resolved_in_order declarations P resolved;

@@ -12,7 +12,7 @@ use Rattle.flow_rules.specs.Facts.{IsFactsOf, AreNamesOf}
 use Rattle.write_model.specs.Written.{java_tree}
 
 -- a formed program, its facts with the names of its text, and a hierarchy over them that breaks no obligation
-pub record IsNamed (P : Plain) (F : Facts) (s : PointsTo) (H : Hierarchy) : Type 0 where
+pub record IsNamedProgram (P : Plain) (F : Facts) (s : PointsTo) (H : Hierarchy) : Type 0 where
   pub formed : IsFormed P
   pub facts : IsFactsOf P F
   pub words : AreNamesOf P F
@@ -21,4 +21,4 @@ pub record IsNamed (P : Plain) (F : Facts) (s : PointsTo) (H : Hierarchy) : Type
 
 -- the names of the tree that is written are those of one thing each
 unfoldable pub TreeResolves : Type 0
-TreeResolves = (P : Plain) (F : Facts) (s : PointsTo) (H : Hierarchy) → IsNamed P F s H → HasNoCondition (java_tree P F H)
+TreeResolves = (P : Plain) (F : Facts) (s : PointsTo) (H : Hierarchy) → IsNamedProgram P F s H → HasNoCondition (java_tree P F H)

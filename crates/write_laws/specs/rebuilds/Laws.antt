@@ -16,7 +16,7 @@ use Rattle.write_model.specs.Written.{java_tree}
 use Rattle.write_laws.specs.bodies.Known.{HasLocalsInOrder}
 
 -- a typed program whose locals are numbered in the order of the text, its facts, and a hierarchy over them that breaks no obligation
-pub record IsReady (P : Plain) (F : Facts) (s : PointsTo) (H : Hierarchy) : Type 0 where
+pub record IsRewritable (P : Plain) (F : Facts) (s : PointsTo) (H : Hierarchy) : Type 0 where
   pub formed : IsFormed P
   pub typed : IsTyped P
   pub locals : HasLocalsInOrder P
@@ -25,11 +25,11 @@ pub record IsReady (P : Plain) (F : Facts) (s : PointsTo) (H : Hierarchy) : Type
   pub unbroken : first_broken F s H ≡ None
 
 -- what a written program is
-pub record IsRebuilt (P : Plain) (F : Facts) (H : Hierarchy) (W : Plain) : Type 0 where
+pub record IsRebuiltProgram (P : Plain) (F : Facts) (H : Hierarchy) (W : Plain) : Type 0 where
   pub rebuilds : Rebuilds P F H W
   pub written : IsWritten P F H W rebuilds.places
 
 -- any formed program to which the tree resolves is one
 unfoldable pub TreeRebuilds : Type 0
-TreeRebuilds = (P : Plain) (F : Facts) (s : PointsTo) (H : Hierarchy) (W : Plain) → IsReady P F s H → Resolves (java_tree P F H) W → IsFormed W
-    → IsRebuilt P F H W
+TreeRebuilds = (P : Plain) (F : Facts) (s : PointsTo) (H : Hierarchy) (W : Plain) → IsRewritable P F s H → Resolves (java_tree P F H) W → IsFormed W
+    → IsRebuiltProgram P F H W

@@ -11,7 +11,7 @@ pub record IsOrder (n : ℕ) (le : ℕ → ℕ → Bool) : Type 0 where
   pub both : (a b : ℕ) → le a b ≡ true → le b a ≡ true → a ≡ b
 
 -- b is strictly above a, and none is strictly between
-pub record IsCover (le : ℕ → ℕ → Bool) (a b : ℕ) : Type 0 where
+pub record IsCoverBy (le : ℕ → ℕ → Bool) (a b : ℕ) : Type 0 where
   pub above : le a b ≡ true
   pub other : a ≢ b
   pub next : (x : ℕ) → le a x ≡ true → le x b ≡ true → (x ≡ a) ⊎ (x ≡ b)
@@ -24,11 +24,11 @@ pub record IsLowestClass (le : ℕ → ℕ → Bool) (is_class : ℕ → Bool) (
   pub lowest : (x : ℕ) → is_class x ≡ true → le a x ≡ true → a ≢ x → le b x ≡ true
 
 -- what a type names as its supertypes
-pub data Names (le : ℕ → ℕ → Bool) (is_class : ℕ → Bool) : ℕ → ℕ → Type 0 where
-  extends : {a b : ℕ} → is_class a ≡ true → IsLowestClass le is_class a b → Names le is_class a b
-  implements : {a b : ℕ} → is_class b ≡ false → IsCover le a b → Names le is_class a b
+pub data NamesSupertypes (le : ℕ → ℕ → Bool) (is_class : ℕ → Bool) : ℕ → ℕ → Type 0 where
+  extends : {a b : ℕ} → is_class a ≡ true → IsLowestClass le is_class a b → NamesSupertypes le is_class a b
+  implements : {a b : ℕ} → is_class b ≡ false → IsCoverBy le a b → NamesSupertypes le is_class a b
 
 -- b is a itself, or is reached from a by named supertypes
 pub data Subtype (le : ℕ → ℕ → Bool) (is_class : ℕ → Bool) : ℕ → ℕ → Type 0 where
   itself : {a : ℕ} → Subtype le is_class a a
-  by_name : {a b c : ℕ} → Names le is_class a b → Subtype le is_class b c → Subtype le is_class a c
+  by_name : {a b c : ℕ} → NamesSupertypes le is_class a b → Subtype le is_class b c → Subtype le is_class a c

@@ -11,12 +11,12 @@ use Rattle.fact_model.specs.declared.sets.Table.{Table}
 use Rattle.hier_model.specs.Hierarchies.{Hierarchy}
 use Rattle.rebuild_model.specs.Rebuilds.{Rebuilds}
 use Rattle.rebuild_laws.specs.types.Rows.{OffersRows}
-use Rattle.rebuild_laws.specs.types.Laws.{IsReady}
+use Rattle.rebuild_laws.specs.types.Laws.{IsRebuildable}
 use Rattle.rebuild_laws.specs.runs.Same.{HasSameRun}
 use Rattle.write_model.specs.Written.{java_tree}
 
 -- W keeps all that the old program P is
-pub record Keeps (P : Plain) (F : Facts) (H : Hierarchy) (W : Plain) : Type 0 where
+pub record KeepsProgram (P : Plain) (F : Facts) (H : Hierarchy) (W : Plain) : Type 0 where
   pub rebuilds : Rebuilds P F H W
   pub typed : IsTyped W
   pub rows : OffersRows P F H W rebuilds.places
@@ -26,4 +26,4 @@ pub record Keeps (P : Plain) (F : Facts) (H : Hierarchy) (W : Plain) : Type 0 wh
 -- resolves that is written of them
 unfoldable pub WrittenRuns : Type 0
 WrittenRuns = (declarations : List DeclTree) (P W : Plain) (F : Facts) (s : PointsTo) (t : Table) (H : Hierarchy)
-    → Resolves declarations P → IsReady P F s t H → Resolves (java_tree P F H) W → IsFormed W → Keeps P F H W
+    → Resolves declarations P → IsRebuildable P F s t H → Resolves (java_tree P F H) W → IsFormed W → KeepsProgram P F H W

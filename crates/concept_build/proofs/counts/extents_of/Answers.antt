@@ -1,7 +1,7 @@
 use Rattle.std.proofs.Common.{subst, ◌∙◌, ap, length, arith}
 use Rattle.std.proofs.lemmas.List.{length-map}
 use Rattle.kaba_bits.specs.Sets.{row}
-use Rattle.concept_build.specs.Tables.{AreColumns, listed_rows}
+use Rattle.concept_build.specs.Tables.{AreColumnSets, listed_rows}
 use Rattle.concept_build.proofs.counts.extents_of.Goals as goal
 
 pub columns_in-requires-clause-small : goal.columns_in-requires-clause-small
@@ -13,4 +13,4 @@ columns_in-requires-clause-small c =
 pub returns : goal.returns
 returns c =
     let T = c.args.table.now in
-    subst (λ R. AreColumns R c.args.width c.in_ok-extents.extents) (ap (listed_rows T) c.deref.ensures.value ∙ c.in_ok-rows.ensures.all) c.in_ok-extents.ensures
+    subst (λ R. AreColumnSets R c.args.width c.in_ok-extents.extents) (ap (listed_rows T) c.deref.ensures.value ∙ c.in_ok-rows.ensures.all) c.in_ok-extents.ensures

@@ -2,7 +2,7 @@ use Rattle.std.proofs.Common.{◌≡◌, ⊎_elim, ◌<◌, length, get_or, subs
 use Rattle.std.proofs.lemmas.Bool.{cases_lt, false≢true}
 use Rattle.std.proofs.lemmas.List.{get_or_default}
 use Rattle.kaba_bits.specs.Sets.{row}
-use Rattle.fact_model.specs.Concepts.{IsWithin}
+use Rattle.fact_model.specs.Concepts.{IsStrictSubset}
 use Rattle.concept_build.specs.Lists.{extents_of}
 use Rattle.concept_build.proofs.covers.is_least.Goals as goal
 
@@ -18,6 +18,6 @@ loop-i-preserved c =
     (λ before. c.loop-i.invariant k d before)
     (λ last.
     let is : at ≡ k = omega (arith, last, lt) in
-    subst (λ n. IsWithin (row E (get_or numbers n d)) (row E j)
-    → ⊥) is (λ h. false≢true (c.if-is_within.ensures.1 (subst (λ m. IsWithin (row E m) (row E j)) (get_or_default numbers at d 0 below) h))))
+    subst (λ n. IsStrictSubset (row E (get_or numbers n d)) (row E j)
+    → ⊥) is (λ h. false≢true (c.if-is_within.ensures.1 (subst (λ m. IsStrictSubset (row E m) (row E j)) (get_or_default numbers at d 0 below) h))))
     (cases_lt k at)

@@ -1,7 +1,7 @@
 use Rattle.std.proofs.Common.{◌++◌, ◌∷◌, [], sym, ap, ◌∙◌, subst}
 use Rattle.fact_model.specs.FreeNames.{is_taken}
 use Rattle.hier_model.specs.Names.{named_member, member_names}
-use Rattle.fact_model.specs.Taken.{texts, AreSame}
+use Rattle.fact_model.specs.Taken.{texts, AreSameNames}
 use Rattle.fact_model.proofs.FreeLemmas.{AreSame-more}
 use Rattle.hier_model.proofs.NameLemmas.{grown}
 use Rattle.hier_model.proofs.names.member_names.Goals as goal
@@ -26,6 +26,6 @@ loop-c-preserved c =
           (ap (λ y. member_names F k ++ y ∷ []) (sym (c.in_ok-name.ensures g c.loop-c.invariant.taken
           ∙ ap (λ l. named_member F l k) c.loop-c.invariant.names)));
       taken =
-          subst (λ l. AreSame (texts c.add_name.new.taken.keys) (F.words.items ++ l)) (sym c.in_ok-push.ensures.items)
+          subst (λ l. AreSameNames (texts c.add_name.new.taken.keys) (F.words.items ++ l)) (sym c.in_ok-push.ensures.items)
           (AreSame-more (texts c.loop-c.taken.keys) (texts c.add_name.new.taken.keys) F.words.items g n c.loop-c.invariant.taken c.in_ok-add_name.ensures);
     }

@@ -2,7 +2,7 @@ use Rattle.std.proofs.Common.{◌++◌, ◌∷◌, [], sym, ap, ◌∙◌, subst
 use Rattle.std.proofs.lemmas.List.{append-nil}
 use Rattle.fact_model.specs.FreeNames.{is_taken}
 use Rattle.hier_model.specs.Names.{named_type, type_names}
-use Rattle.fact_model.specs.Taken.{texts, AreSame}
+use Rattle.fact_model.specs.Taken.{texts, AreSameNames}
 use Rattle.fact_model.proofs.FreeLemmas.{AreSame-more}
 use Rattle.hier_model.proofs.NameLemmas.{grown}
 use Rattle.hier_model.proofs.names.type_names.Goals as goal
@@ -30,8 +30,8 @@ loop-n-preserved c =
           (ap (λ y. type_names F ms os k ++ y ∷ []) (sym (c.in_ok-name.ensures (ms ++ g) c.loop-n.invariant.taken
           ∙ ap (λ l. named_type F os (ms ++ l) k) c.loop-n.invariant.names)));
       taken =
-          subst (λ l. AreSame (texts c.add_name.new.taken.keys) (F.words.items ++ (ms ++ l))) (sym c.in_ok-push.ensures.items)
-          (subst (λ l. AreSame (texts c.add_name.new.taken.keys) (F.words.items ++ l)) (append_assoc ms g (n ∷ []))
+          subst (λ l. AreSameNames (texts c.add_name.new.taken.keys) (F.words.items ++ (ms ++ l))) (sym c.in_ok-push.ensures.items)
+          (subst (λ l. AreSameNames (texts c.add_name.new.taken.keys) (F.words.items ++ l)) (append_assoc ms g (n ∷ []))
           (AreSame-more (texts c.loop-n.taken.keys) (texts c.add_name.new.taken.keys) F.words.items (ms ++ g) n c.loop-n.invariant.taken
           c.in_ok-add_name.ensures));
     }

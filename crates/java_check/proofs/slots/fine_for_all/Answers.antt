@@ -1,14 +1,14 @@
 use Rattle.std.proofs.Common.{rules, ◌≡◌, length, sym, ◌∙◌, subst, ⊎_elim, arith, vec_len}
 use Rattle.std.proofs.lemmas.Bool.{cases_lt}
 use Rattle.java_core.specs.Programs.{program_of}
-use Rattle.java_check.specs.SlotOutcome.{AreListed, IsFineFor}
+use Rattle.java_check.specs.SlotOutcome.{AreMethodsListed, IsFineFor}
 use Rattle.java_check.proofs.Fine.{batch_listed}
 use Rattle.java_check.proofs.slots.fine_for_all.Goals as goal
 
 pub fine_for-requires-clause-listed : goal.fine_for-requires-clause-listed
 fine_for-requires-clause-listed c =
     let p = c.args.p.now in
-    subst (λ ms. AreListed (program_of p) c.loop-batch.batch ms) (sym c.listed_under.ensures)
+    subst (λ ms. AreMethodsListed (program_of p) c.loop-batch.batch ms) (sym c.listed_under.ensures)
     (batch_listed p c.args.lists.now.items c.requires.owned c.loop-batch.batch)
 
 pub loop-batch-preserved : goal.loop-batch-preserved

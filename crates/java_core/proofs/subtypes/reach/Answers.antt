@@ -3,7 +3,7 @@ use Rattle.std.specs.Prelude.{slice_set, not}
 use Rattle.std.proofs.lemmas.Bool.{OnTrue_at}
 use Rattle.kaba_bits.specs.Sets.{bit, size}
 use Rattle.java_core.specs.Squares.{in_row}
-use Rattle.java_core.specs.Subtypes.{Gained}
+use Rattle.java_core.specs.Subtypes.{GainedTypes}
 use Rattle.java_core.proofs.Walks.{gained-held, gained-wait}
 use Rattle.java_core.proofs.subtypes.reach.Goals as goal
 
@@ -19,7 +19,7 @@ returns-in_ok-push c =
     let x = c.args.x in
     let w = c.args.waiting.now.items in
     let k = c.args.known.now in
-    subst (λ r. Gained c.args.rows.now k (x ∷ []) old r w c.push.new.self.items) (sym c.set.ensures.after)
-    (subst (λ l. Gained c.args.rows.now k (x ∷ []) old (slice_set old x true) w l) (sym c.in_ok-push.ensures.items)
+    subst (λ r. GainedTypes c.args.rows.now k (x ∷ []) old r w c.push.new.self.items) (sym c.set.ensures.after)
+    (subst (λ l. GainedTypes c.args.rows.now k (x ∷ []) old (slice_set old x true) w l) (sym c.in_ok-push.ensures.items)
     (gained-wait c.args.rows.now k x old w c.requires.x
     (ap size (sym c.set.ensures.after) ∙ OnTrue_at (c.set.ensures.news ∙ ap not (sym c.has.ensures ∙ c.if-has.false)) c.set.ensures.grew)))

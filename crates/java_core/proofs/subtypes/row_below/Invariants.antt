@@ -1,10 +1,10 @@
 use Rattle.std.proofs.Common.{◌+◌, ◌-◌, length}
 use Rattle.kaba_bits.specs.Sets.{size}
-use Rattle.java_core.specs.Subtypes.{Walked}
+use Rattle.java_core.specs.Subtypes.{WalkedBelow}
 use Rattle.java_core.proofs.subtypes.row_below.Given as goal
 
 abbrev pub invariant-walk : goal.invariant-walk
-invariant-walk l = Walked l.graph.lists.now l.graph.count l.b l.row l.waiting.items
+invariant-walk l = WalkedBelow l.graph.lists.now l.graph.count l.b l.row l.waiting.items
 
 -- each type waits once
 abbrev pub decreases-walk : goal.decreases-walk

@@ -2,7 +2,7 @@ use Rattle.std.proofs.Common.{◌+◌, ◌*◌, ◌≤◌, length, List, Ok, Err
 use Rattle.java_lex.specs.declared.Token.{Token}
 use Rattle.java_tree.specs.Syntax.{Expression, Expressions, exprs}
 use Rattle.java_parse.specs.Want.{NExpr, NArgs, NMoreArgs}
-use Rattle.java_parse.specs.Reading.{Fault, Outcome, Reads}
+use Rattle.java_parse.specs.Reading.{Fault, ParseOutcome, Reads}
 use Rattle.java_parse.specs.Front.{expr_snoc}
 use Rattle.java_parse.proofs.expr.+reading.Given as goal
 
@@ -13,7 +13,7 @@ decreases-args l = 8 * length l.tokens.now + 5
 -- the next argument, and what follows it with the arguments so far, comes to what the whole comes to
 abbrev pub invariant-args-more : goal.invariant-args-more
 invariant-args-more l = record {
-  so_far : (e : Expression) (us : List Token) (o : Outcome Expressions) → Reads (NExpr 1) l.rest (Ok (e, us))
+  so_far : (e : Expression) (us : List Token) (o : ParseOutcome Expressions) → Reads (NExpr 1) l.rest (Ok (e, us))
       → Reads (NMoreArgs (expr_snoc (exprs l.all.items) e)) us o → Reads NArgs l.fn.tokens o;
   fails : (f : Fault) → Reads (NExpr 1) l.rest (Err f) → Reads NArgs l.fn.tokens (Err f);
   shorter : length l.rest ≤ length l.fn.tokens;

@@ -1,9 +1,9 @@
 use Rattle.std.proofs.Common.{subst}
 use Rattle.kaba_top.specs.FactsAnswers.{TableOf}
-use Rattle.kaba_top.specs.Analyses.{IsAnalysis}
+use Rattle.kaba_top.specs.Analyses.{IsAnalysisOf}
 use Rattle.kaba_top.proofs.Analysing.{analysed}
 use Rattle.kaba_top.proofs.analysis.table_program.Goals as goal
 
 pub returns-in-Found : goal.returns-in-Found
-returns-in-Found c = analysed TableOf c.args.program.now c.in-Found.facts c.table_reply.result (subst (IsAnalysis c.args.program.now) c.in-Found.is
+returns-in-Found c = analysed TableOf c.args.program.now c.in-Found.facts c.table_reply.result (subst (IsAnalysisOf c.args.program.now) c.in-Found.is
     c.in_ok-facts.ensures) c.table_reply.ensures

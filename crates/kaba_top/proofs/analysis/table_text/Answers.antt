@@ -1,12 +1,12 @@
 use Rattle.std.proofs.Common.{subst}
 use Rattle.kaba_top.specs.FactsAnswers.{AnalysisAnswers, TableOf}
-use Rattle.kaba_top.specs.Readings.{IsReading}
+use Rattle.kaba_top.specs.Readings.{IsProgramReading}
 use Rattle.kaba_top.proofs.Texts.{answers}
 use Rattle.kaba_top.proofs.analysis.table_text.Goals as goal
 
 pub returns-in-Typed : goal.returns-in-Typed
 returns-in-Typed c = record {
   answers = answers (AnalysisAnswers TableOf) c.args.bytes.now.items c.in-Typed.program c.table_program.result
-      (subst (IsReading c.args.bytes.now.items) c.in-Typed.is c.in_ok-program.ensures.reading)
+      (subst (IsProgramReading c.args.bytes.now.items) c.in-Typed.is c.in_ok-program.ensures.reading)
       c.table_program.ensures;
 }

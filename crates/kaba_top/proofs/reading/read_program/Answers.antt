@@ -1,7 +1,7 @@
 use Rattle.std.proofs.Common.{arith, subst}
 use Rattle.java_lex.proofs.Few.{few-tokens}
 use Rattle.java_tree.specs.Syntax.{tree_of}
-use Rattle.java_parse.specs.Faults.{IsCause}
+use Rattle.java_parse.specs.Faults.{IsParseCause}
 use Rattle.write_laws.proofs.given.Read.{read_formed}
 use Rattle.kaba_top.proofs.Texts.{no_tokens, too_deep, no_tree, read_as}
 use Rattle.kaba_top.proofs.reading.read_program.Goals as goal
@@ -30,13 +30,13 @@ returns-in-Ok-parse c = record {
 pub returns-in-Err-TooDeep : goal.returns-in-Err-TooDeep
 returns-in-Err-TooDeep c = record {
   reading = too_deep c.args.bytes.now.items c.in-Ok.tokens.items c.in-Err-TooDeep.token c.in_ok-reply-in-Err-TooDeep.reply c.in-Ok.ensures.value
-      (subst (IsCause c.in-Ok.tokens.items) c.in-Err-TooDeep.field-0-is c.in-Err-TooDeep.ensures.refused)
+      (subst (IsParseCause c.in-Ok.tokens.items) c.in-Err-TooDeep.field-0-is c.in-Err-TooDeep.ensures.refused)
       c.in_ok-reply-in-Err-TooDeep.ensures;
 }
 
 pub returns-in-Err-NotAProgram : goal.returns-in-Err-NotAProgram
 returns-in-Err-NotAProgram c = record {
   reading = no_tree c.args.bytes.now.items c.in-Ok.tokens.items c.in-Err-NotAProgram.token c.in_ok-reply-in-Err-NotAProgram.reply c.in-Ok.ensures.value
-      (subst (IsCause c.in-Ok.tokens.items) c.in-Err-NotAProgram.field-0-is c.in-Err-NotAProgram.ensures.refused)
+      (subst (IsParseCause c.in-Ok.tokens.items) c.in-Err-NotAProgram.field-0-is c.in-Err-NotAProgram.ensures.refused)
       c.in_ok-reply-in-Err-NotAProgram.ensures;
 }

@@ -1,13 +1,13 @@
 use Rattle.std.proofs.Common.{subst}
 use Rattle.kaba_top.specs.FactsAnswers.{AnalysisAnswers}
 use Rattle.kaba_top.specs.WhyAnswers.{WhyOf}
-use Rattle.kaba_top.specs.Readings.{IsReading}
+use Rattle.kaba_top.specs.Readings.{IsProgramReading}
 use Rattle.kaba_top.proofs.Texts.{answers}
 use Rattle.kaba_top.proofs.why.why_text.Goals as goal
 
 pub returns-in-Typed : goal.returns-in-Typed
 returns-in-Typed c = record {
   answers = answers (AnalysisAnswers (WhyOf c.args.asked.row c.args.asked.column)) c.args.bytes.now.items c.in-Typed.program c.why_program.result
-      (subst (IsReading c.args.bytes.now.items) c.in-Typed.is c.in_ok-program.ensures.reading)
+      (subst (IsProgramReading c.args.bytes.now.items) c.in-Typed.is c.in_ok-program.ensures.reading)
       c.why_program.ensures;
 }

@@ -1,9 +1,9 @@
 use Rattle.std.proofs.Common.{◌-◌}
-use Rattle.points_to.specs.Above.{HasSite}
+use Rattle.points_to.specs.Above.{HaveGainedSite}
 use Rattle.points_to.proofs.above.put_site.Given as goal
 
 abbrev pub invariant-scan : goal.invariant-scan
-invariant-scan l = HasSite l.fn.rows l.rows l.classes l.s l.at
+invariant-scan l = HaveGainedSite l.fn.rows l.rows l.classes l.s l.at
 
 abbrev pub decreases-scan : goal.decreases-scan
 decreases-scan l = l.count - l.at

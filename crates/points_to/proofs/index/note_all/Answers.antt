@@ -1,5 +1,5 @@
 use Rattle.std.proofs.Common.{◌∙◌, ◌<◌, length, sym, arith}
-use Rattle.points_to.specs.Listed.{IsAt}
+use Rattle.points_to.specs.Listed.{IsElementAt}
 use Rattle.points_to.proofs.IndexLemmas.{at_all, items_more}
 use Rattle.points_to.proofs.index.note_all.Goals as goal
 
@@ -9,7 +9,7 @@ loop-k-preserved g c =
     let xs = c.args.items.now.items in
     let k = c.loop-k.k in
     let x = c.index.result.now in
-    let is : IsAt xs k x = (omega arith, sym c.index.ensures) in
+    let is : IsElementAt xs k x = (omega arith, sym c.index.ensures) in
     let step = c.in_ok-note.ensures in
     let kept = c.loop-k.invariant.kept in
     let below = at_all (λ x. to x < length c.args.lists.now) xs k x c.requires.within is in

@@ -1,9 +1,9 @@
-use Rattle.points_to.specs.Work.{IsRead, IsWrite, IsRun}
+use Rattle.points_to.specs.Work.{IsReadIn, IsWrite, IsRun}
 use Rattle.points_to.proofs.MadeLemmas.{all_among}
 use Rattle.points_to.proofs.turns.turn.Goals as goal
 
 pub close_reads-requires-clause-reads : goal.close_reads-requires-clause-reads
-close_reads-requires-clause-reads c = rw c.deref-5.ensures.value (all_among (IsRead c.args.given.now.facts.now) _ _ c.requires.given.found.reads
+close_reads-requires-clause-reads c = rw c.deref-5.ensures.value (all_among (IsReadIn c.args.given.now.facts.now) _ _ c.requires.given.found.reads
     (rw c.deref.ensures.value at c.in_ok-reads.ensures))
 
 pub close_writes-requires-clause-writes : goal.close_writes-requires-clause-writes
@@ -16,7 +16,7 @@ close_runs-requires-clause-runs c = rw c.deref-9.ensures.value (all_among (IsRun
 
 pub close_reads-requires-2-clause-reads : goal.close_reads-requires-2-clause-reads
 close_reads-requires-2-clause-reads c =
-    let P = IsRead c.args.given.now.facts.now in
+    let P = IsReadIn c.args.given.now.facts.now in
     let listed = all_among P _ _ c.requires.given.found.reads (rw c.deref-10.ensures.value at c.in_ok-listed.ensures) in
     rw c.deref-16.ensures.value (all_among P _ _ listed (rw c.deref-11.ensures.value at c.in_ok-grown_reads.ensures))
 

@@ -1,6 +1,6 @@
 use Rattle.std.proofs.Common.{sym, subst, ◌∙◌, arith}
 use Rattle.kaba_bits.proofs.SetLemmas.{bit-below}
-use Rattle.points_to.specs.Work.{Passes}
+use Rattle.points_to.specs.Work.{PassesClass}
 use Rattle.points_to.proofs.RoundLemmas.{targets_below, wanted_class, into_holds, into_flushed}
 use Rattle.points_to.proofs.writes.write_into.Goals as goal
 
@@ -21,13 +21,13 @@ pub include_all-requires-clause-holds : goal.include_all-requires-clause-holds
 include_all-requires-clause-holds c =
     let row = c.in_ok-row-in-Some in
     into_holds c.args.given.now.facts.now c.args.pending.now c.args.o c.args.list.now row.row c.requires.list c.requires.pending c.requires.site
-    (λ s h. let x = row.ensures.sound s h in (x.0, subst (λ k. Passes c.args.given.now.facts.now k s) (sym (sym c.wanted.ensures ∙ c.in-Some.is)) x.1))
+    (λ s h. let x = row.ensures.sound s h in (x.0, subst (λ k. PassesClass c.args.given.now.facts.now k s) (sym (sym c.wanted.ensures ∙ c.in-Some.is)) x.1))
 
 pub returns-in_ok-row-in-Some-clause-closed : goal.returns-in_ok-row-in-Some-clause-closed
 returns-in_ok-row-in-Some-clause-closed c =
     let row = c.in_ok-row-in-Some in
     into_flushed c.args.given.now.facts.now c.args.pending.now c.args.o c.args.list.now row.row c.requires.list c.include_all.new.sets c.include_all.result
-    (λ s b pass. row.ensures.whole s b (subst (λ k. Passes c.args.given.now.facts.now k s) (sym c.wanted.ensures ∙ c.in-Some.is) pass))
+    (λ s b pass. row.ensures.whole s b (subst (λ k. PassesClass c.args.given.now.facts.now k s) (sym c.wanted.ensures ∙ c.in-Some.is) pass))
     c.include_all.ensures.closed
 
 pub include_all-requires-in-None-clause-list : goal.include_all-requires-in-None-clause-list
@@ -39,7 +39,7 @@ include_all-requires-in-None-clause-holds c =
     let F = c.args.given.now.facts.now in
     let p = c.args.pending.now in
     into_holds F p c.args.o c.args.list.now p.values c.requires.list c.requires.pending c.requires.site
-    (λ s h. (h, subst (λ k. Passes F k s) (sym (sym c.wanted.ensures ∙ c.in-None.is)) tt))
+    (λ s h. (h, subst (λ k. PassesClass F k s) (sym (sym c.wanted.ensures ∙ c.in-None.is)) tt))
 
 pub returns-in-None-clause-closed : goal.returns-in-None-clause-closed
 returns-in-None-clause-closed c =

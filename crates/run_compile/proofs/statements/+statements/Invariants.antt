@@ -1,6 +1,6 @@
 -- The statements and the arms that are left to the end have their code.
 use Rattle.std.proofs.Common.{◌≡◌, ◌≤◌, ◌-◌, ◌++◌, List, drop, length}
-use Rattle.java_core.specs.Trees.{Arms, stmts, arms_seen}
+use Rattle.java_core.specs.Trees.{IfArms, stmts, arms_seen}
 use Rattle.run_code.specs.Ops.{Op}
 use Rattle.run_code.specs.Code.{code_sts, code_arms}
 use Rattle.run_compile.specs.Scopes.{plain, env}
@@ -16,7 +16,7 @@ invariant-compile_stmts-loop-i l = record {
 abbrev pub invariant-compile_arms-loop-i : goal.invariant-compile_arms-loop-i
 invariant-compile_arms-loop-i l = record {
   placed : l.end ≤ length l.code;
-  code : (other : Arms) (rest : List Op) → length rest ≡ l.end
+  code : (other : IfArms) (rest : List Op) → length rest ≡ l.end
       → l.fn.code ≡ code_arms (plain l.site.scope.now) (env l.site.scope.now) other l.site.at (l.end - l.exits.broke) (l.end - l.exits.next) ++ rest
       → l.code ≡ code_arms (plain l.site.scope.now) (env l.site.scope.now) (arms_seen (drop l.i l.arms.items) other) l.site.at (l.end - l.exits.broke)
       (l.end - l.exits.next) ++ rest;

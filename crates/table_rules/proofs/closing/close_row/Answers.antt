@@ -3,7 +3,7 @@ use Rattle.std.proofs.lemmas.Bool.{false≢true}
 use Rattle.kaba_bits.specs.Sets.{row, IsSubset}
 use Rattle.kaba_bits.proofs.StepLemmas.{IsStep-then, closed_below, closed-both}
 use Rattle.points_to.proofs.LoopLemmas.{skip_to}
-use Rattle.table_rules.specs.Marks.{Marked}
+use Rattle.table_rules.specs.Marks.{RowMarked}
 use Rattle.table_rules.specs.Asked.{IsClosedAt}
 use Rattle.table_rules.proofs.CloseLemmas.{under, row_closed}
 use Rattle.table_rules.proofs.closing.close_row.Goals as goal
@@ -22,7 +22,7 @@ scan-preserved c =
       rows = step.ensures.rows;
       step = IsStep-then c.args.rows.now old new c.scan.grew step.result c.scan.invariant.step step.ensures.step;
       closed = closed_below P old new d c.scan.grew step.result (closed-both (P new d) old new step.result step.ensures.step
-          (under (Marked new r d) (IsSubset (row c.args.asked.now d) (row new r)) step.result step.ensures.closed)) before;
+          (under (RowMarked new r d) (IsSubset (row c.args.asked.now d) (row new r)) step.result step.ensures.closed)) before;
     }
 
 pub returns-in-None : goal.returns-in-None
