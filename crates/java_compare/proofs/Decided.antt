@@ -16,7 +16,7 @@ use Rattle.java_tree.specs.declared.TypeBase.{TypeBase}
 use Rattle.java_tree.specs.declared.TypeBase.TheVariants as bases
 use Rattle.java_tree.specs.declared.TypeName.{TypeName}
 use Rattle.java_tree.specs.declared.Param.{Param}
-use Rattle.java_tree.specs.Syntax.{Expression, IntLit, CharLit, StrLit, BoolLit, NullLit, ThisRef, NameRef, FieldOf, IndexOf, CallOf, CallOn, SuperCallOf, NewOf, NewArrayOf, CastOf, InstanceOfClass, UnaryOf, BinaryOf, Expressions, no_more, and_more, Statement, LocalOf, BlockOf, AssignOf, DoOf, PrintOf, IfOf, WhileOf, ForOf, ReturnOf, BreakOf, ContinueOf, Statements, no_statements, and_then, Arms, no_arms, and_arm, Else, no_else, otherwise, OptionalStatement, absent, present, HeadTree, MemberTree, FieldTree, MethodTree, DeclTree, ClassTree, InterfaceTree}
+use Rattle.java_tree.specs.Syntax.{Expression, IntLit, CharLit, StrLit, BoolLit, NullLit, ThisRef, NameRef, FieldOf, IndexOf, CallOf, CallOn, SuperCallOf, NewOf, NewArrayOf, CastOf, InstanceOfClass, UnaryOf, BinaryOf, Expressions, no_more, and_more, Statement, LocalOf, BlockOf, AssignOf, DoOf, PrintOf, IfOf, WhileOf, ForOf, ReturnOf, BreakOf, ContinueOf, Statements, no_statements, and_then, Arms, no_arms, and_arm, Else, no_else, otherwise, OptionalStatement, absent, present, HeadTree, MemberTree, FieldTree, MethodTree, MakerTree, DeclTree, ClassTree, InterfaceTree}
 use Rattle.java_tree.specs.Places.{id_unplaced, modifier_unplaced, type_unplaced, param_unplaced, expr_unplaced, exprs_unplaced, value_unplaced, stmt_unplaced, stmts_unplaced, arms_unplaced, else_unplaced, step_unplaced, all_unplaced, may_unplaced, head_unplaced, member_unplaced, decl_unplaced, unplaced}
 use Rattle.java_compare.specs.Same.{same_id, same_modifier, same_base, same_type, same_param, same_expr, same_exprs, same_value, same_stmt, same_stmts, same_arms, same_else, same_step, all_same, may_same, same_head, same_member, same_decl, same_tree}
 
@@ -151,6 +151,10 @@ member_decides : (a b : MemberTree) → Decides (same_member a b) (member_unplac
 member_decides (FieldTree m t n p) (FieldTree k u l q) =
     via (both (both (all_decides modifier_decides m k) (type_decides t u)) (bytes_eq-Decides n l)) (λ h. cc (h.0.0, h.0.1, h.1)) (λ h. ((cc, cc), cc))
 member_decides (MethodTree h b p) (MethodTree g c q) = via (both (head_decides h g) (may_decides stmts_decides b c)) (λ h. cc (h.0, h.1)) (λ h. (cc, cc))
+member_decides (MakerTree m n qs u ss p) (MakerTree k l rs v ts q) =
+    via (both (both (both (both (all_decides modifier_decides m k) (bytes_eq-Decides n l)) (all_decides param_decides qs rs))
+    (may_decides exprs_decides u v)) (stmts_decides ss ts))
+    (λ h. cc (h.0.0.0.0, h.0.0.0.1, h.0.0.1, h.0.1, h.1)) (λ h. ((((cc, cc), cc), cc), cc))
 member_decides _ _ = (λ h. absurd (false≢true h), λ h. cc)
 
 decl_decides : (a b : DeclTree) → Decides (same_decl a b) (decl_unplaced a ≡ decl_unplaced b)

@@ -13,7 +13,7 @@ use Rattle.java_tree.specs.declared.TypeBase.TheVariants as bases
 use Rattle.java_tree.specs.declared.TypeName.{TypeName}
 use Rattle.java_tree.specs.declared.Param.{Param}
 use Rattle.java_tree.specs.declared.Arm.{Arm}
-use Rattle.java_tree.specs.Syntax.{expr_of, stmts, Expression, IntLit, CharLit, StrLit, BoolLit, NullLit, ThisRef, NameRef, FieldOf, IndexOf, CallOf, CallOn, SuperCallOf, NewOf, NewArrayOf, CastOf, InstanceOfClass, UnaryOf, BinaryOf, Expressions, no_more, and_more, Statement, LocalOf, BlockOf, AssignOf, DoOf, PrintOf, IfOf, WhileOf, ForOf, ReturnOf, BreakOf, ContinueOf, Statements, no_statements, and_then, Arms, no_arms, and_arm, Else, no_else, otherwise, OptionalStatement, absent, present, HeadTree, MemberTree, FieldTree, MethodTree, DeclTree, ClassTree, InterfaceTree}
+use Rattle.java_tree.specs.Syntax.{expr_of, stmts, Expression, IntLit, CharLit, StrLit, BoolLit, NullLit, ThisRef, NameRef, FieldOf, IndexOf, CallOf, CallOn, SuperCallOf, NewOf, NewArrayOf, CastOf, InstanceOfClass, UnaryOf, BinaryOf, Expressions, no_more, and_more, Statement, LocalOf, BlockOf, AssignOf, DoOf, PrintOf, IfOf, WhileOf, ForOf, ReturnOf, BreakOf, ContinueOf, Statements, no_statements, and_then, Arms, no_arms, and_arm, Else, no_else, otherwise, OptionalStatement, absent, present, HeadTree, MemberTree, FieldTree, MethodTree, MakerTree, DeclTree, ClassTree, InterfaceTree}
 
 -- two references by the same name
 abbrev pub same_id : Id → Id → Bool
@@ -134,10 +134,12 @@ may_same f _ _ = false
 abbrev pub same_head : HeadTree → HeadTree → Bool
 same_head a b = all_same same_modifier a.mods b.mods && may_same same_type a.type b.type && bytes_eq a.name b.name && all_same same_param a.params b.params
 
--- two fields, or two methods, with equal parts
+-- two fields, two methods, or two constructors, with equal parts
 abbrev pub same_member : MemberTree → MemberTree → Bool
 same_member (FieldTree m t n p) (FieldTree k u l q) = all_same same_modifier m k && same_type t u && bytes_eq n l
 same_member (MethodTree h b p) (MethodTree g c q) = same_head h g && may_same same_stmts b c
+same_member (MakerTree m n qs u ss p) (MakerTree k l rs v ts q) = all_same same_modifier m k && bytes_eq n l && all_same same_param qs rs && may_same same_exprs u
+    v && same_stmts ss ts
 same_member _ _ = false
 
 -- two classes, or two interfaces, with equal parts

@@ -2,13 +2,13 @@
 #![tactic(auto, using(crate::proofs::Sameness::seen))]
 
 ghost use Rattle.std.specs.Prelude.{◌≡◌, ◌↔◌, IsTrue};
-ghost use Rattle.java_tree.specs.Syntax.{body_seen, head_of, member_of, decl_of, tree_of};
+ghost use Rattle.java_tree.specs.Syntax.{up_seen, body_seen, head_of, member_of, decl_of, tree_of};
 ghost use Rattle.java_tree.specs.Places.{unplaced};
-ghost use Rattle.java_compare.specs.Same.{same_id, same_type, same_stmts, all_same, may_same, same_modifier, same_param, same_head, same_member, same_decl};
+ghost use Rattle.java_compare.specs.Same.{same_id, same_type, same_exprs, same_stmts, all_same, may_same, same_modifier, same_param, same_head, same_member, same_decl};
 
-use crate::compare_bodies::{equal_bodies, equal_ids, equal_names, equal_types};
+use crate::compare_bodies::{equal_args, equal_bodies, equal_ids, equal_names, equal_types};
 use crate::pairs::{equal_lists, equal_options};
-use java_tree::{Decl, Head, Id, Member, Modifier, Param, Stmt, Tree, TypeName};
+use java_tree::{Decl, Expr, Head, Id, Member, Modifier, Param, Stmt, Tree, TypeName};
 
 fn equal_modifiers(a: &Modifier, b: &Modifier) -> bool
     ensures value { result ≡ same_modifier a.now b.now }
@@ -78,6 +78,12 @@ fn equal_method_bodies(a: &Option<Vec<Stmt>>, b: &Option<Vec<Stmt>>) -> bool
     may_equal!(a, b, equal_bodies)
 }
 
+fn equal_ups(a: &Option<Vec<Expr>>, b: &Option<Vec<Expr>>) -> bool
+    ensures value { result ≡ may_same same_exprs (up_seen a.now) (up_seen b.now) }
+{
+    may_equal!(a, b, equal_args)
+}
+
 #[tactic(auto, using(crate::proofs::Sameness::lists))]
 fn equal_members(a: &Member, b: &Member) -> bool
     ensures value { result ≡ same_member (member_of a.now) (member_of b.now) }
@@ -85,6 +91,10 @@ fn equal_members(a: &Member, b: &Member) -> bool
     same_forms!(a, b;
         Member::Field { mods words equal_modifier_lists, ty kind equal_types, name other equal_names }
         Member::Method { head front equal_heads, body other equal_method_bodies }
+        Member::Maker {
+            mods words equal_modifier_lists, name other equal_names, params others equal_param_lists,
+            up above equal_ups, body rest equal_bodies
+        }
     )
 }
 

@@ -75,16 +75,16 @@ fn equal_exprs(a: &Expr, b: &Expr) -> bool
             args,
             ..
         } => same_form!(b, Expr::Call { base: root, name: other, args: others, .. } => match base {
-            None => same_form!(root, None => equal_names(name, other) && equal_lists(args, others)),
+            None => same_form!(root, None => equal_names(name, other) && equal_args(args, others)),
             Some(base) => same_form!(root, Some(root) => equal_names(name, other)
                 && equal_exprs(base, root)
-                && equal_lists(args, others)),
+                && equal_args(args, others)),
         }),
         Expr::SuperCall { name, args, .. } =>
             same_form!(b, Expr::SuperCall { name: other, args: others, .. } =>
-                equal_names(name, other) && equal_lists(args, others)),
+                equal_names(name, other) && equal_args(args, others)),
         Expr::New { class, args, .. } =>
-            same_form!(b, Expr::New { class: other, args: others, .. } => equal_ids(class, other) && equal_lists(args, others)),
+            same_form!(b, Expr::New { class: other, args: others, .. } => equal_ids(class, other) && equal_args(args, others)),
         Expr::NewArray { ty, size, .. } =>
             same_form!(b, Expr::NewArray { ty: other, size: count, .. } => equal_types(ty, other) && equal_exprs(size, count)),
         Expr::Cast { ty, value, .. } =>
@@ -104,8 +104,9 @@ fn equal_exprs(a: &Expr, b: &Expr) -> bool
     }
 }
 
+/// Whether two lists of expressions are equal, places aside.
 #[cycle(exprs)]
-fn equal_lists(a: &[Expr], b: &[Expr]) -> bool
+pub fn equal_args(a: &[Expr], b: &[Expr]) -> bool
     ensures value { result ≡ same_exprs (exprs a.now) (exprs b.now) }
 {
     all_equal!(a, b, equal_exprs)

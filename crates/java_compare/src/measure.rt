@@ -2,9 +2,9 @@
 #![tactic(auto, using(crate::proofs::Sizes::sizes))]
 
 ghost use Rattle.std.specs.Prelude.{◌≡◌, ◌<◌, ◌^◌, ◌*◌, ◌+◌};
-ghost use Rattle.java_tree.specs.Syntax.{value_of, boxed_step, expr_of, exprs, stmt_of, stmts, arms_seen, member_of, members, decl_of, decls, tree_of};
+ghost use Rattle.java_tree.specs.Syntax.{value_of, boxed_step, up_seen, expr_of, exprs, stmt_of, stmts, arms_seen, member_of, members, decl_of, decls, tree_of};
 ghost use Rattle.java_tree.specs.Arms.{arm_size};
-ghost use Rattle.java_tree.specs.Size.{value_size, step_size, expr_size, exprs_size, stmt_size, stmts_size, arms_size, member_size, members_size, decl_size, tree_size};
+ghost use Rattle.java_tree.specs.Size.{value_size, step_size, up_size, expr_size, exprs_size, stmt_size, stmts_size, arms_size, member_size, members_size, decl_size, tree_size};
 
 use java_tree::{Arm, Decl, Expr, Member, Stmt, Tree};
 
@@ -121,6 +121,13 @@ fn arm_count(arm: &Arm) -> u64
     expr_count(&arm.test) + stmts_count(&arm.body)
 }
 
+fn up_count(up: &Option<Vec<Expr>>) -> u64
+    requires room { up_size (up_seen up.now) < 2 ^ 64 }
+    ensures value { result ≡ up_size (up_seen up.now) }
+{
+    count_if!(up, exprs_count)
+}
+
 fn member_count(member: &Member) -> u64
     requires room { member_size (member_of member.now) < 2 ^ 64 }
     ensures value { result ≡ member_size (member_of member.now) }
@@ -131,6 +138,7 @@ fn member_count(member: &Member) -> u64
             None => 1,
             Some(body) => stmts_count(body) + 1,
         },
+        Member::Maker { up, body, .. } => up_count(up) + stmts_count(body) + 1,
     }
 }
 

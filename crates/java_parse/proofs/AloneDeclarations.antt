@@ -6,10 +6,10 @@ use Rattle.java_tree.specs.declared.Id.{Id}
 use Rattle.java_tree.specs.declared.Modifier.{Modifier}
 use Rattle.java_tree.specs.declared.TypeName.{TypeName}
 use Rattle.java_tree.specs.declared.Param.{Param}
-use Rattle.java_tree.specs.Syntax.{Statements, HeadTree, MemberTree, DeclTree}
-use Rattle.java_tree.specs.Declarations.{IsMods, no_mods, next_mod, IsIds, last_id, next_id, IsParent, no_parent, a_parent, IsList, no_list, a_list, IsParam, a_param, IsMoreParams, last_param, next_param, IsParams, no_params, some_params, IsResult, no_result, a_result, IsHead, a_head, IsBody, no_body, a_body, IsMember, a_field, a_method, IsMembers, no_members, next_member, IsHeads, no_heads, next_head, IsDecl, a_class, an_interface}
+use Rattle.java_tree.specs.Syntax.{Expressions, Statements, HeadTree, MemberTree, DeclTree}
+use Rattle.java_tree.specs.Declarations.{IsMods, no_mods, next_mod, IsIds, last_id, next_id, IsParent, no_parent, a_parent, IsList, no_list, a_list, IsParam, a_param, IsMoreParams, last_param, next_param, IsParams, no_params, some_params, IsResult, no_result, a_result, IsHead, a_head, IsBody, no_body, a_body, IsUp, no_up, an_up, IsMember, a_field, a_method, a_maker, IsMembers, no_members, next_member, IsHeads, no_heads, next_head, IsDecl, a_class, an_interface}
 use Rattle.java_parse.proofs.Cuts.{here, on, join, Alone}
-use Rattle.java_parse.proofs.AloneExpressions.{type_alone}
+use Rattle.java_parse.proofs.AloneExpressions.{type_alone, args_alone}
 use Rattle.java_parse.proofs.AloneStatements.{final_alone, items_alone}
 
 pub mods_alone : {ts rest : List Token} {x : List Modifier} → IsMods ts rest x → Alone (λ ts rest. IsMods ts rest x) ts rest
@@ -64,6 +64,10 @@ pub body_alone : {ts rest : List Token} {x : Option Statements} → IsBody ts re
 body_alone no_body = record { cut = on here; again = λ tail. no_body }
 body_alone (a_body d0) = let s0 = items_alone d0 in record { cut = on s0.cut; again = λ tail. a_body (s0.again tail) }
 
+pub up_alone : {ts rest : List Token} {x : Option Expressions} → IsUp ts rest x → Alone (λ ts rest. IsUp ts rest x) ts rest
+up_alone no_up = record { cut = here; again = λ tail. no_up }
+up_alone (an_up d0) = let s0 = args_alone d0 in record { cut = on (on (join s0.cut (on here))); again = λ tail. an_up (s0.again (_ ∷ tail)) }
+
 pub member_alone : {ts rest : List Token} {x : MemberTree} → IsMember ts rest x → Alone (λ ts rest. IsMember ts rest x) ts rest
 member_alone (a_field d0 d1) =
     let s0 = mods_alone d0 in let s1 = type_alone d1 in
@@ -76,6 +80,16 @@ member_alone (a_field d0 d1) =
 member_alone (a_method d0 d1) =
     let s0 = head_alone d0 in let s1 = body_alone d1 in
     record { cut = join s0.cut s1.cut; again = λ tail. a_method (s0.again (s1.cut.put tail)) (s1.again tail) }
+member_alone (a_maker d0 d1 d2 d3) =
+    let s0 = mods_alone d0 in let s1 = params_alone d1 in let s2 = up_alone d2 in let s3 = items_alone d3 in
+    record {
+      cut = join s0.cut (on (on (join s1.cut (on (join s2.cut s3.cut)))));
+      again = λ tail. a_maker
+          (s0.again (_ ∷ _ ∷ s1.cut.put (_ ∷ s2.cut.put (s3.cut.put tail))))
+          (s1.again (_ ∷ s2.cut.put (s3.cut.put tail)))
+          (s2.again (s3.cut.put tail))
+          (s3.again tail);
+    }
 
 pub members_alone : {ts rest : List Token} {x : List MemberTree} → IsMembers ts rest x → Alone (λ ts rest. IsMembers ts rest x) ts rest
 members_alone no_members = record { cut = on here; again = λ tail. no_members }

@@ -9,20 +9,20 @@ use Rattle.java_tree.specs.declared.Id.{Id}
 use Rattle.java_tree.specs.declared.Modifier.{Modifier}
 use Rattle.java_tree.specs.declared.TypeName.{TypeName}
 use Rattle.java_tree.specs.declared.Param.{Param}
-use Rattle.java_tree.specs.Syntax.{Statements, no_statements, HeadTree, MemberTree, DeclTree}
+use Rattle.java_tree.specs.Syntax.{Expressions, Statements, no_statements, HeadTree, MemberTree, DeclTree}
 use Rattle.java_tree.specs.Tokens.{mark, key, word}
-use Rattle.java_parse.specs.Want.{NType, NMods, NIds, NParent, NList, NParam, NParams, NMoreParams, NResult, NHead, NBody, NMember, NMembers, NHeads, NDecl, NDecls}
-use Rattle.java_parse.specs.Front.{after, after_key, word_next, final_of, modifier_next, at_end}
-use Rattle.java_tree.specs.Expressions.{named_base, IsType, a_type}
-use Rattle.java_tree.specs.Declarations.{IsMods, no_mods, next_mod, IsIds, last_id, next_id, IsParent, no_parent, a_parent, IsList, no_list, a_list, IsParam, a_param, IsMoreParams, last_param, next_param, IsParams, no_params, some_params, IsResult, no_result, a_result, IsHead, a_head, IsBody, no_body, a_body, IsMember, a_field, a_method, IsMembers, no_members, next_member, IsHeads, no_heads, next_head, IsDecl, a_class, an_interface, IsPlaced, no_decls, next_decl}
+use Rattle.java_parse.specs.Want.{NType, NMods, NIds, NParent, NList, NParam, NParams, NMoreParams, NResult, NHead, NBody, NMember, NMakerBody, NMembers, NHeads, NDecl, NDecls}
+use Rattle.java_parse.specs.Front.{after, after_key, word_next, maker_next, final_of, modifier_next, at_end}
+use Rattle.java_tree.specs.Expressions.{named_base, IsDims, no_dims, one_dim, IsType, a_type}
+use Rattle.java_tree.specs.Declarations.{IsMods, no_mods, next_mod, IsIds, last_id, next_id, IsParent, no_parent, a_parent, IsList, no_list, a_list, IsParam, a_param, IsMoreParams, last_param, next_param, IsParams, no_params, some_params, IsResult, no_result, a_result, IsHead, a_head, IsBody, no_body, a_body, IsUp, no_up, an_up, IsMember, a_field, a_method, a_maker, IsMembers, no_members, next_member, IsHeads, no_heads, next_head, IsDecl, a_class, an_interface, IsPlaced, no_decls, next_decl}
 use Rattle.java_tree.specs.Expressions.{int_base, boolean_base, char_base}
 use Rattle.java_parse.specs.Reading.{Reads, Left}
 use Rattle.java_tree.specs.Places.{unplaced}
 use Rattle.java_tree.specs.Declarations.{Derives}
-use Rattle.java_parse.proofs.CompleteExpressions.{type_reads}
-use Rattle.java_parse.proofs.CompleteStatements.{items_reads, type_no_final}
+use Rattle.java_parse.proofs.CompleteExpressions.{type_reads, args_reads}
+use Rattle.java_parse.proofs.CompleteStatements.{items_reads, items_no_up, type_no_final}
 use Rattle.java_parse.proofs.Runs.{read_once, fails_once}
-use Rattle.java_tree.specs.Statements.{not_final, is_final}
+use Rattle.java_tree.specs.Statements.{not_final, is_final, IsItems}
 use Rattle.java_parse.proofs.DeclarationSteps as z
 
 mods_read : {ts rest : List Token} {ms : List Modifier} → IsMods ts rest ms → modifier_next rest ≡ None → (before : List Modifier)
@@ -113,14 +113,37 @@ body_reads : {ts rest : List Token} {b : Option Statements} → IsBody ts rest b
 body_reads no_body = z.body_none refl
 body_reads (a_body d) = z.body_some refl refl (items_reads d no_statements)
 
+-- a field or a method is no constructor: behind a name that is its type stands no bracket
+dims_no_round : {ts rest : List Token} {d : ℕ} {n : List ℕ} {p : Place} → IsDims ts (word n p ∷ rest) d → after marks.OpenRound ts ≡ None
+dims_no_round no_dims = refl
+dims_no_round (one_dim p q d) = refl
+
+type_no_maker : {ts rest : List Token} {t : TypeName} {n : List ℕ} {p : Place} → IsType ts (word n p ∷ rest) t → maker_next ts ≡ None
+type_no_maker (a_type int_base d) = refl
+type_no_maker (a_type boolean_base d) = refl
+type_no_maker (a_type char_base d) = refl
+type_no_maker (a_type named_base d) = rw (dims_no_round d) refl
+
+result_no_maker : {ts rest : List Token} {t : Option TypeName} {n : List ℕ} {p : Place} → IsResult ts (word n p ∷ rest) t → maker_next ts ≡ None
+result_no_maker no_result = refl
+result_no_maker (a_result d) = type_no_maker d
+
+maker_body_reads : {ts us rest : List Token} {u : Option Expressions} {ss : Statements} → IsUp ts us u → IsItems us rest ss
+    → Reads NMakerBody ts (Ok ((u, ss), rest))
+maker_body_reads no_up d = z.maker_body_plain (items_no_up d) (items_reads d no_statements)
+maker_body_reads (an_up a) d = z.maker_body_up refl (args_reads a) refl (items_reads d no_statements)
+
 member_reads : {ts rest : List Token} {m : MemberTree} → IsMember ts rest m → Reads NMember ts (Ok (m, rest))
-member_reads (a_field m t) = z.member_field (mods_read m (type_no_void t).1 []) (result_reads (a_result t)) refl refl refl refl
-member_reads (a_method (a_head m r ps) b) = z.member_method (mods_read m (result_no_mod r).0 []) (result_reads r) refl refl
-    (z.method_is (params_read ps) (body_reads b))
+member_reads (a_field m t) = z.member_typed (mods_read m (type_no_void t).1 []) (type_no_maker t)
+    (z.typed_field (result_reads (a_result t)) refl refl refl refl)
+member_reads (a_method (a_head m r ps) b) = z.member_typed (mods_read m (result_no_mod r).0 []) (result_no_maker r)
+    (z.typed_method (result_reads r) refl refl (z.method_is (params_read ps) (body_reads b)))
+member_reads (a_maker m ps u d) = z.member_maker (mods_read m refl []) refl (z.maker_is (params_read ps) refl (maker_body_reads u d))
 
 member_no_brace : {ts rest : List Token} {m : MemberTree} → IsMember ts rest m → after marks.CloseBrace ts ≡ None
 member_no_brace (a_field m t) = mods_no_brace m (type_no_void t).2
 member_no_brace (a_method h b) = head_no_brace h
+member_no_brace (a_maker m ps u d) = mods_no_brace m refl
 
 members_read : {ts rest : List Token} {bs : List MemberTree} → IsMembers ts rest bs → (before : List MemberTree)
     → Reads (NMembers before) ts (Ok (before ++ bs, rest))

@@ -16,7 +16,7 @@ use Rattle.java_tree.specs.Statements.{as_body, is_word}
 use Rattle.java_parse.specs.declared.End.{End}
 use Rattle.java_parse.specs.declared.End.TheVariants as ends
 use Rattle.java_parse.specs.Want.{NPost, NType, NTail, NInit, NLocal, NValue, NAct, NTested, NItem, NItems, NStmt, NForHead, NFirst, NStep, NBranches}
-use Rattle.java_parse.specs.Front.{after, after_key, word_next, index_next, stmt_snoc, arm_snoc, final_of, stepping_next, compound_next, is_target, is_call, done, starts_local, start, SOther}
+use Rattle.java_parse.specs.Front.{after, after_key, word_next, up_next, index_next, stmt_snoc, arm_snoc, final_of, stepping_next, compound_next, is_target, is_call, done, starts_local, start, SOther}
 use Rattle.java_tree.specs.Expressions.{named_base, IsDims, no_dims, one_dim, IsType, a_type, IsExpr, IsPost, field, call_on, index, name}
 use Rattle.java_tree.specs.Statements.{is_choice, IsValue, no_value, a_value, IsInit, no_init, an_init, IsLocal, a_local, IsTarget, to_name, to_field, to_index, IsCall, plain_call, call_upon, call_above, IsAct, assign, assign_by, step_after, step_before, do_call, print, do_new, IsForFirst, no_first, first_local, first_act, IsForStep, no_step, a_step, IsItem, local_item, stmt_item, IsItems, no_items, next_item, IsStmt, block, empty, acting, choice, while_loop, for_loop, return_word, break_word, continue_word, IsArms, last_arm, else_arm, more_arms}
 use Rattle.java_parse.proofs.Fronts.{Starts, start_is, done_is}
@@ -337,6 +337,61 @@ stmt_no_local (for_loop a b c d) = refl
 stmt_no_local (return_word v) = refl
 stmt_no_local break_word = refl
 stmt_no_local continue_word = refl
+
+-- no statement begins with `super` and a bracket
+post_no_up : {b : Bool} {ts rest : List Token} {e : Expression} → IsPost b ts rest e → up_next ts ≡ None
+post_no_up (field d) = post_no_up d
+post_no_up (call_on d a) = post_no_up d
+post_no_up (index d i) = post_no_up d
+post_no_up _ = refl
+
+target_no_up : {ts rest : List Token} {e : Expression} → IsTarget ts rest e → up_next ts ≡ None
+target_no_up to_name = refl
+target_no_up (to_field d) = post_no_up d
+target_no_up (to_index d i) = post_no_up d
+
+call_no_up : {ts rest : List Token} {e : Expression} → IsCall ts rest e → up_next ts ≡ None
+call_no_up (plain_call a) = refl
+call_no_up (call_upon d a) = post_no_up d
+call_no_up (call_above a) = refl
+
+act_no_up : {ts rest : List Token} {s : Statement} → IsAct ts rest s → up_next ts ≡ None
+act_no_up (assign t e) = target_no_up t
+act_no_up (assign_by h e) = refl
+act_no_up (step_after h) = refl
+act_no_up (step_before h) = refl
+act_no_up (do_call c h) = call_no_up c
+act_no_up (print c h) = call_no_up c
+act_no_up (do_new a) = refl
+
+type_no_up : {ts rest : List Token} {t : TypeName} → IsType ts rest t → up_next ts ≡ None
+type_no_up (a_type int_base d) = refl
+type_no_up (a_type boolean_base d) = refl
+type_no_up (a_type char_base d) = refl
+type_no_up (a_type named_base d) = refl
+
+local_no_up : {ts rest : List Token} {s : Statement} → IsLocal ts rest s → up_next ts ≡ None
+local_no_up (a_local not_final t i) = type_no_up t
+local_no_up (a_local is_final t i) = refl
+
+stmt_no_up : {o : Bool} {ts rest : List Token} {s : Statement} → IsStmt o ts rest s → up_next ts ≡ None
+stmt_no_up (block d) = refl
+stmt_no_up empty = refl
+stmt_no_up (acting d) = act_no_up d
+stmt_no_up (choice d) = refl
+stmt_no_up (while_loop e d) = refl
+stmt_no_up (for_loop a b c d) = refl
+stmt_no_up (return_word v) = refl
+stmt_no_up break_word = refl
+stmt_no_up continue_word = refl
+
+item_no_up : {ts rest : List Token} {s : Statement} → IsItem ts rest s → up_next ts ≡ None
+item_no_up (local_item d) = local_no_up d
+item_no_up (stmt_item d) = stmt_no_up d
+
+pub items_no_up : {us rest : List Token} {ss : Statements} → IsItems us rest ss → up_next us ≡ None
+items_no_up no_items = refl
+items_no_up (next_item d ds) = item_no_up d
 
 other_no_if : (ts : List Token) → start ts ≡ SOther → after_key keys.If ts ≡ None
 other_no_if ts h = let z = start_is ts in subst (λ s. Starts s ts) h z

@@ -8,8 +8,8 @@ use Rattle.java_tree.specs.declared.Id.{Id}
 use Rattle.java_tree.specs.declared.Modifier.{Modifier}
 use Rattle.java_tree.specs.declared.TypeName.{TypeName}
 use Rattle.java_tree.specs.declared.Param.{Param}
-use Rattle.java_tree.specs.Syntax.{Statements, no_statements, HeadTree, MemberTree, FieldTree, MethodTree, DeclTree, ClassTree, InterfaceTree}
-use Rattle.java_parse.specs.Want.{NType, NItems, NMods, NIds, NParent, NList, NParam, NParams, NMoreParams, NResult, NHead, NBody, NMember, NMethod, NMembers, NHeads, NClass, NInterface, NDecl, NDecls}
+use Rattle.java_tree.specs.Syntax.{Expressions, Statements, no_statements, HeadTree, MemberTree, FieldTree, MethodTree, MakerTree, DeclTree, ClassTree, InterfaceTree}
+use Rattle.java_parse.specs.Want.{NType, NArgs, NItems, NMods, NIds, NParent, NList, NParam, NParams, NMoreParams, NResult, NHead, NBody, NMember, NTyped, NMethod, NMaker, NMakerBody, NMembers, NHeads, NClass, NInterface, NDecl, NDecls}
 use Rattle.java_parse.proofs.Looks.{a_mark, a_key, a_word, a_modifier}
 use Rattle.java_parse.proofs.Plans.{Plan, Giving, Stopping, Asking, Looking, Choosing, Finals, Ending}
 
@@ -67,17 +67,41 @@ body_plan = Looking (a_mark marks.Semi)
     (λ w1. Giving None)
     (Looking (a_mark marks.OpenBrace) (λ w2. Asking (NItems no_statements) (λ x3. Giving (Some x3))) Stopping)
 
--- a member: modifiers, a type or `void` and a name, then a method where a bracket follows, or else a field
-abbrev pub member_plan : Plan MemberTree
-member_plan = Asking (NMods []) (λ x1. Asking NResult (λ x3. Looking a_word
-    (λ w5. Looking (a_mark marks.OpenRound)
-    (λ w6. Asking (NMethod x1 x3 w5.0 w5.1) Giving)
-    (Choosing x3 (λ w7. Looking (a_mark marks.Semi) (λ w8. Giving (FieldTree x1 w7 w5.0 w5.1)) Stopping) Stopping))
-    Stopping))
+-- a member behind its modifiers: a constructor, or else a field or a method
+abbrev pub as_maker_plan : List Modifier → List ℕ → Place → Plan MemberTree
+as_maker_plan ms n p = Asking (NMaker ms n p) Giving
+
+abbrev pub as_typed_plan : List Modifier → Plan MemberTree
+as_typed_plan ms = Asking (NTyped ms) Giving
+
+-- a field or a method behind its type: a name, then a method where a bracket follows, or else a field
+abbrev pub behind_type_plan : List Modifier → Option TypeName → Plan MemberTree
+behind_type_plan ms x1 = Looking a_word
+    (λ w3. Looking (a_mark marks.OpenRound)
+    (λ w4. Asking (NMethod ms x1 w3.0 w3.1) Giving)
+    (Choosing x1 (λ w5. Looking (a_mark marks.Semi) (λ w6. Giving (FieldTree ms w5 w3.0 w3.1)) Stopping) Stopping))
+    Stopping
+
+abbrev pub typed_plan : List Modifier → Plan MemberTree
+typed_plan ms = Asking NResult (λ x1. behind_type_plan ms x1)
 
 -- the rest of a method, of which all before its parameters has been read
 abbrev pub method_plan : List Modifier → Option TypeName → List ℕ → Place → Plan MemberTree
 method_plan ms t n p = Asking NParams (λ x1. Asking NBody (λ x3. Giving (MethodTree (record { mods = ms; type = t; name = n; params = x1; place = p }) x3 p)))
+
+-- the rest of a constructor, of which all before its parameters has been read: these, and its body in braces
+abbrev pub maker_plan : List Modifier → List ℕ → Place → Plan MemberTree
+maker_plan ms n p = Asking NParams (λ x1. Looking (a_mark marks.OpenBrace)
+    (λ w3. Asking NMakerBody (λ x4. Giving (MakerTree ms n x1 x4.0 x4.1 p)))
+    Stopping)
+
+-- the body of a constructor behind `super` and the bracket: the arguments, a `;` and the statements
+abbrev pub up_plan : Plan (Option Expressions × Statements)
+up_plan = Asking NArgs (λ x2. Looking (a_mark marks.Semi) (λ w4. Asking (NItems no_statements) (λ x5. Giving (Some x2, x5))) Stopping)
+
+-- the body of a constructor without `super`
+abbrev pub plain_plan : Plan (Option Expressions × Statements)
+plain_plan = Asking (NItems no_statements) (λ x2. Giving (None, x2))
 
 -- the members behind those already read, and the closing brace
 abbrev pub members_plan : List MemberTree → Plan (List MemberTree)

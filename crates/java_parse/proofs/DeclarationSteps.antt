@@ -9,9 +9,9 @@ use Rattle.java_tree.specs.declared.Id.{Id}
 use Rattle.java_tree.specs.declared.Modifier.{Modifier}
 use Rattle.java_tree.specs.declared.TypeName.{TypeName}
 use Rattle.java_tree.specs.declared.Param.{Param}
-use Rattle.java_tree.specs.Syntax.{Statements, no_statements, HeadTree, MemberTree, FieldTree, MethodTree, DeclTree, ClassTree, InterfaceTree}
-use Rattle.java_parse.specs.Want.{NType, NItems, NMods, NIds, NParent, NList, NParam, NParams, NMoreParams, NResult, NHead, NBody, NMember, NMethod, NMembers, NHeads, NClass, NInterface, NDecl, NDecls}
-use Rattle.java_parse.specs.Front.{after, after_key, word_next, final_of, modifier_next, at_end}
+use Rattle.java_tree.specs.Syntax.{Expressions, Statements, no_statements, HeadTree, MemberTree, FieldTree, MethodTree, MakerTree, DeclTree, ClassTree, InterfaceTree}
+use Rattle.java_parse.specs.Want.{NType, NArgs, NItems, NMods, NIds, NParent, NList, NParam, NParams, NMoreParams, NResult, NHead, NBody, NMember, NTyped, NMethod, NMaker, NMakerBody, NMembers, NHeads, NClass, NInterface, NDecl, NDecls}
+use Rattle.java_parse.specs.Front.{after, after_key, word_next, maker_next, up_next, final_of, modifier_next, at_end}
 use Rattle.java_parse.proofs.Runs.{reads, run, found, missed}
 use Rattle.java_parse.specs.Reading.{Fault, Left, ParseOutcome, give, fail, ask, ask_fails, Reads}
 use Rattle.java_parse.specs.ReadDeclarations.{mods_step, ids_step, parent_step, list_step, params_step, more_params_step, result_type_step, body_step, members_step, heads_step, class_step, interface_step, decls_step}
@@ -148,38 +148,46 @@ body_some h0 h1 a2 = reads (rw (h0, body_step, h1) (ask (run a2) give))
 pub body_open : {ts : List Token} → after marks.Semi ts ≡ None → after marks.OpenBrace ts ≡ None → Reads NBody ts (Err (Left ts))
 body_open h0 h1 = reads (rw (h0, body_step, h1) fail)
 
-pub member_method_fails : {ts : List Token} {fl : Fault} → Reads (NMods []) ts (Err fl) → Reads NMember ts (Err fl)
-member_method_fails a0 = reads (ask_fails (run a0))
+pub member_is_fails : {ts : List Token} {fl : Fault} → Reads (NMods []) ts (Err fl) → Reads NMember ts (Err fl)
+member_is_fails a0 = reads (ask_fails (run a0))
 
-pub member_method_fails2 : {ts : List Token} {ms : List Modifier} {us : List Token} {fl : Fault} → Reads (NMods []) ts (Ok (ms, us))
-    → Reads NResult us (Err fl) → Reads NMember ts (Err fl)
-member_method_fails2 a0 a1 = reads (ask (run a0) (ask_fails (run a1)))
+pub member_maker : {ts : List Token} {ms : List Modifier} {us : List Token} {n : List ℕ} {p : Place} {vs : List Token} {o : ParseOutcome MemberTree}
+    → Reads (NMods []) ts (Ok (ms, us)) → maker_next us ≡ Some (n, p, vs) → Reads (NMaker ms n p) vs o → Reads NMember ts o
+member_maker {o = Ok given} a0 h1 a2 = reads (ask (run a0) (found _ _ h1 (ask (run a2) give)))
+member_maker {o = Err fault} a0 h1 a2 = reads (ask (run a0) (found _ _ h1 (ask_fails (run a2))))
 
-pub member_method : {ts : List Token} {ms : List Modifier} {us : List Token} {t : Option TypeName} {vs : List Token} {n : List ℕ} {p : Place}
-    {ws : List Token} {q : Place} {xs : List Token} {o : ParseOutcome MemberTree} → Reads (NMods []) ts (Ok (ms, us)) → Reads NResult us (Ok (t, vs))
-    → word_next vs ≡ Some (n, p, ws) → after marks.OpenRound ws ≡ Some (q, xs) → Reads (NMethod ms t n p) xs o → Reads NMember ts o
-member_method {o = Ok given} a0 a1 h2 h3 a4 = reads (ask (run a0) (ask (run a1) (rw (h2, h3) (ask (run a4) give))))
-member_method {o = Err fault} a0 a1 h2 h3 a4 = reads (ask (run a0) (ask (run a1) (rw (h2, h3) (ask_fails (run a4)))))
+pub member_typed : {ts : List Token} {ms : List Modifier} {us : List Token} {o : ParseOutcome MemberTree} → Reads (NMods []) ts (Ok (ms, us))
+    → maker_next us ≡ None → Reads (NTyped ms) us o → Reads NMember ts o
+member_typed {o = Ok given} a0 h1 a2 = reads (ask (run a0) (missed _ h1 (ask (run a2) give)))
+member_typed {o = Err fault} a0 h1 a2 = reads (ask (run a0) (missed _ h1 (ask_fails (run a2))))
 
-pub member_field : {ts : List Token} {ms : List Modifier} {us : List Token} {t : Option TypeName} {vs : List Token} {n : List ℕ} {p : Place}
-    {ws : List Token} {u : TypeName} {q : Place} {xs : List Token} → Reads (NMods []) ts (Ok (ms, us)) → Reads NResult us (Ok (t, vs))
-    → word_next vs ≡ Some (n, p, ws) → after marks.OpenRound ws ≡ None → t ≡ Some u → after marks.Semi ws ≡ Some (q, xs)
-    → Reads NMember ts (Ok (FieldTree ms u n p, xs))
-member_field a0 a1 h2 h3 h4 h5 = reads (ask (run a0) (ask (run a1) (rw (h2, h3, h4, h5) give)))
+pub typed_is_fails : {ms : List Modifier} {ts : List Token} {fl : Fault} → Reads NResult ts (Err fl) → Reads (NTyped ms) ts (Err fl)
+typed_is_fails a0 = reads (ask_fails (run a0))
 
-pub member_field_open : {ts : List Token} {ms : List Modifier} {us : List Token} {t : Option TypeName} {vs : List Token} {n : List ℕ} {p : Place}
-    {ws : List Token} {u : TypeName} → Reads (NMods []) ts (Ok (ms, us)) → Reads NResult us (Ok (t, vs)) → word_next vs ≡ Some (n, p, ws)
-    → after marks.OpenRound ws ≡ None → t ≡ Some u → after marks.Semi ws ≡ None → Reads NMember ts (Err (Left ws))
-member_field_open a0 a1 h2 h3 h4 h5 = reads (ask (run a0) (ask (run a1) (rw (h2, h3, h4, h5) fail)))
+pub typed_method : {ms : List Modifier} {ts : List Token} {t : Option TypeName} {us : List Token} {n : List ℕ} {p : Place} {vs : List Token} {q : Place}
+    {ws : List Token} {o : ParseOutcome MemberTree} → Reads NResult ts (Ok (t, us)) → word_next us ≡ Some (n, p, vs) → after marks.OpenRound vs
+    ≡ Some (q, ws) → Reads (NMethod ms t n p) ws o → Reads (NTyped ms) ts o
+typed_method {o = Ok given} a0 h1 h2 a3 = reads (ask (run a0) (rw (h1, h2) (ask (run a3) give)))
+typed_method {o = Err fault} a0 h1 h2 a3 = reads (ask (run a0) (rw (h1, h2) (ask_fails (run a3))))
 
-pub member_void_field : {ts : List Token} {ms : List Modifier} {us : List Token} {t : Option TypeName} {vs : List Token} {n : List ℕ} {p : Place}
-    {ws : List Token} → Reads (NMods []) ts (Ok (ms, us)) → Reads NResult us (Ok (t, vs)) → word_next vs ≡ Some (n, p, ws) → after marks.OpenRound ws
-    ≡ None → t ≡ None → Reads NMember ts (Err (Left ws))
-member_void_field a0 a1 h2 h3 h4 = reads (ask (run a0) (ask (run a1) (rw (h2, h3, h4) fail)))
+pub typed_field : {ms : List Modifier} {ts : List Token} {t : Option TypeName} {us : List Token} {n : List ℕ} {p : Place} {vs : List Token}
+    {u : TypeName} {q : Place} {ws : List Token} → Reads NResult ts (Ok (t, us)) → word_next us ≡ Some (n, p, vs) → after marks.OpenRound vs ≡ None
+    → t ≡ Some u → after marks.Semi vs ≡ Some (q, ws) → Reads (NTyped ms) ts (Ok (FieldTree ms u n p, ws))
+typed_field a0 h1 h2 h3 h4 = reads (ask (run a0) (rw (h1, h2, h3, h4) give))
 
-pub member_no_name : {ts : List Token} {ms : List Modifier} {us : List Token} {t : Option TypeName} {vs : List Token}
-    → Reads (NMods []) ts (Ok (ms, us)) → Reads NResult us (Ok (t, vs)) → word_next vs ≡ None → Reads NMember ts (Err (Left vs))
-member_no_name a0 a1 h2 = reads (ask (run a0) (ask (run a1) (rw h2 fail)))
+pub typed_field_open : {ms : List Modifier} {ts : List Token} {t : Option TypeName} {us : List Token} {n : List ℕ} {p : Place} {vs : List Token}
+    {u : TypeName} → Reads NResult ts (Ok (t, us)) → word_next us ≡ Some (n, p, vs) → after marks.OpenRound vs ≡ None → t ≡ Some u
+    → after marks.Semi vs ≡ None → Reads (NTyped ms) ts (Err (Left vs))
+typed_field_open a0 h1 h2 h3 h4 = reads (ask (run a0) (rw (h1, h2, h3, h4) fail))
+
+pub typed_void_field : {ms : List Modifier} {ts : List Token} {t : Option TypeName} {us : List Token} {n : List ℕ} {p : Place} {vs : List Token}
+    → Reads NResult ts (Ok (t, us)) → word_next us ≡ Some (n, p, vs) → after marks.OpenRound vs ≡ None → t ≡ None
+    → Reads (NTyped ms) ts (Err (Left vs))
+typed_void_field a0 h1 h2 h3 = reads (ask (run a0) (rw (h1, h2, h3) fail))
+
+pub typed_no_name : {ms : List Modifier} {ts : List Token} {t : Option TypeName} {us : List Token} → Reads NResult ts (Ok (t, us))
+    → word_next us ≡ None → Reads (NTyped ms) ts (Err (Left us))
+typed_no_name a0 h1 = reads (ask (run a0) (rw h1 fail))
 
 pub method_is_fails : {ms : List Modifier} {t : Option TypeName} {n : List ℕ} {p : Place} {ts : List Token} {fl : Fault} → Reads NParams ts (Err fl)
     → Reads (NMethod ms t n p) ts (Err fl)
@@ -193,6 +201,50 @@ pub method_is : {ms : List Modifier} {t : Option TypeName} {n : List ℕ} {p : P
     {b : Option Statements} {vs : List Token} → Reads NParams ts (Ok (ps, us)) → Reads NBody us (Ok (b, vs))
     → Reads (NMethod ms t n p) ts (Ok (MethodTree (record { mods = ms; type = t; name = n; params = ps; place = p }) b p, vs))
 method_is a0 a1 = reads (ask (run a0) (ask (run a1) give))
+
+pub maker_is_fails : {ms : List Modifier} {n : List ℕ} {p : Place} {ts : List Token} {fl : Fault} → Reads NParams ts (Err fl)
+    → Reads (NMaker ms n p) ts (Err fl)
+maker_is_fails a0 = reads (ask_fails (run a0))
+
+pub maker_is_fails2 : {ms : List Modifier} {n : List ℕ} {p : Place} {ts : List Token} {ps : List Param} {us : List Token} {q : Place} {vs : List Token}
+    {fl : Fault} → Reads NParams ts (Ok (ps, us)) → after marks.OpenBrace us ≡ Some (q, vs) → Reads NMakerBody vs (Err fl)
+    → Reads (NMaker ms n p) ts (Err fl)
+maker_is_fails2 a0 h1 a2 = reads (ask (run a0) (found _ _ h1 (ask_fails (run a2))))
+
+pub maker_is : {ms : List Modifier} {n : List ℕ} {p : Place} {ts : List Token} {ps : List Param} {us : List Token} {q : Place} {vs : List Token}
+    {es : Option Expressions} {ss : Statements} {end : List Token} → Reads NParams ts (Ok (ps, us)) → after marks.OpenBrace us ≡ Some (q, vs)
+    → Reads NMakerBody vs (Ok ((es, ss), end)) → Reads (NMaker ms n p) ts (Ok (MakerTree ms n ps es ss p, end))
+maker_is a0 h1 a2 = reads (ask (run a0) (found _ _ h1 (ask (run a2) give)))
+
+pub maker_no_body : {ms : List Modifier} {n : List ℕ} {p : Place} {ts : List Token} {ps : List Param} {us : List Token}
+    → Reads NParams ts (Ok (ps, us)) → after marks.OpenBrace us ≡ None → Reads (NMaker ms n p) ts (Err (Left us))
+maker_no_body a0 h1 = reads (ask (run a0) (missed _ h1 fail))
+
+pub maker_body_up_fails : {ts : List Token} {p : Place} {us : List Token} {fl : Fault} → up_next ts ≡ Some (p, us) → Reads NArgs us (Err fl)
+    → Reads NMakerBody ts (Err fl)
+maker_body_up_fails h0 a1 = reads (found _ _ h0 (ask_fails (run a1)))
+
+pub maker_body_up_fails2 : {ts : List Token} {p : Place} {us : List Token} {es : Expressions} {vs : List Token} {q : Place} {ws : List Token}
+    {fl : Fault} → up_next ts ≡ Some (p, us) → Reads NArgs us (Ok (es, vs)) → after marks.Semi vs ≡ Some (q, ws)
+    → Reads (NItems no_statements) ws (Err fl) → Reads NMakerBody ts (Err fl)
+maker_body_up_fails2 h0 a1 h2 a3 = reads (found _ _ h0 (ask (run a1) (found _ _ h2 (ask_fails (run a3)))))
+
+pub maker_body_up : {ts : List Token} {p : Place} {us : List Token} {es : Expressions} {vs : List Token} {q : Place} {ws : List Token}
+    {ss : Statements} {end : List Token} → up_next ts ≡ Some (p, us) → Reads NArgs us (Ok (es, vs)) → after marks.Semi vs ≡ Some (q, ws)
+    → Reads (NItems no_statements) ws (Ok (ss, end)) → Reads NMakerBody ts (Ok ((Some es, ss), end))
+maker_body_up h0 a1 h2 a3 = reads (found _ _ h0 (ask (run a1) (found _ _ h2 (ask (run a3) give))))
+
+pub maker_body_open : {ts : List Token} {p : Place} {us : List Token} {es : Expressions} {vs : List Token} → up_next ts ≡ Some (p, us)
+    → Reads NArgs us (Ok (es, vs)) → after marks.Semi vs ≡ None → Reads NMakerBody ts (Err (Left vs))
+maker_body_open h0 a1 h2 = reads (found _ _ h0 (ask (run a1) (missed _ h2 fail)))
+
+pub maker_body_plain_fails : {ts : List Token} {fl : Fault} → up_next ts ≡ None → Reads (NItems no_statements) ts (Err fl)
+    → Reads NMakerBody ts (Err fl)
+maker_body_plain_fails h0 a1 = reads (missed _ h0 (ask_fails (run a1)))
+
+pub maker_body_plain : {ts : List Token} {ss : Statements} {end : List Token} → up_next ts ≡ None
+    → Reads (NItems no_statements) ts (Ok (ss, end)) → Reads NMakerBody ts (Ok ((None, ss), end))
+maker_body_plain h0 a1 = reads (missed _ h0 (ask (run a1) give))
 
 pub members_end : {bs : List MemberTree} {ts : List Token} {p : Place} {us : List Token} → after marks.CloseBrace ts ≡ Some (p, us)
     → Reads (NMembers bs) ts (Ok (bs, us))
@@ -338,16 +390,28 @@ pub ruleset declaration_steps = (
   body_some_fails,
   body_some,
   body_open,
-  member_method_fails,
-  member_method_fails2,
-  member_method,
-  member_field,
-  member_field_open,
-  member_void_field,
-  member_no_name,
+  member_is_fails,
+  member_maker,
+  member_typed,
+  typed_is_fails,
+  typed_method,
+  typed_field,
+  typed_field_open,
+  typed_void_field,
+  typed_no_name,
   method_is_fails,
   method_is_fails2,
   method_is,
+  maker_is_fails,
+  maker_is_fails2,
+  maker_is,
+  maker_no_body,
+  maker_body_up_fails,
+  maker_body_up_fails2,
+  maker_body_up,
+  maker_body_open,
+  maker_body_plain_fails,
+  maker_body_plain,
   members_end,
   members_next_fails,
   members_next,

@@ -1,9 +1,8 @@
 -- The first token that cannot stand where it does is one.
-use Rattle.std.proofs.Common.{◌≡◌, ⊎_elim, ℕ, suc, ◌≤◌, ◌<◌, List, ◌++◌, length, take, drop, sym, ◌∙◌, subst, ap, arith}
+use Rattle.std.proofs.Common.{◌≡◌, ⊎_elim, ℕ, suc, ◌≤◌, ◌<◌, List, ◌++◌, take, drop, sym, ◌∙◌, subst, ap, arith}
 use Rattle.std.proofs.lemmas.Bool.{cases_lt}
 use Rattle.std.proofs.lemmas.List.{append_assoc, take-take, take-append-drop}
 use Rattle.java_lex.specs.declared.Token.{Token}
-use Rattle.java_tree.specs.Syntax.{DeclTree}
 use Rattle.java_tree.specs.Declarations.{Derives}
 use Rattle.java_parse.specs.Beginnings.{Begins, IsExact}
 

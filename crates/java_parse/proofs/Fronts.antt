@@ -20,7 +20,7 @@ use Rattle.java_tree.specs.Nesting.{next_is}
 use Rattle.java_tree.specs.Expressions.{IsBase, int_base, boolean_base, char_base, named_base, IsPrefixed, cast_named, cast_int, cast_char, IsPost, int_literal, char_literal, string_literal, true_literal, false_literal, null_literal, this_word}
 use Rattle.java_tree.specs.Statements.{is_word, printed, printed_by, IsFinal, not_final, is_final}
 use Rattle.java_parse.specs.declared.End.{End}
-use Rattle.java_parse.specs.Front.{after, after_by, after_key, after_key_by, word_next, word_by, operator, operator_by, instance_next, least_next, least_by, least_kind, sign_next, sign_by, opens_cast, opens_by, opens_behind, cast_next, base_next, base_by, literal_next, literal_by, index_next, is_array, final_of, stands_next, stands_by, operator_of, Start, SBlock, SEmpty, SIf, SWhile, SFor, SReturn, SBreak, SContinue, SOther, start, start_by, modifier_next, modifier_by, done, done_by}
+use Rattle.java_parse.specs.Front.{after, after_by, after_key, after_key_by, word_next, word_by, maker_next, up_next, operator, operator_by, instance_next, least_next, least_by, least_kind, sign_next, sign_by, opens_cast, opens_by, opens_behind, cast_next, base_next, base_by, literal_next, literal_by, index_next, is_array, final_of, stands_next, stands_by, operator_of, Start, SBlock, SEmpty, SIf, SWhile, SFor, SReturn, SBreak, SContinue, SOther, start, start_by, modifier_next, modifier_by, done, done_by}
 use denote.Enum.Bare.{sameb, same_true}
 use Rattle.java_lex.specs.contracts.Mark.{the_type as mark_type}
 use Rattle.java_lex.specs.Lexing.{token}
@@ -68,6 +68,26 @@ word_kind _ p ts w h = cc
 pub word_is : (ts : List Token) (w : List ℕ × Place × List Token) → word_next ts ≡ Some w → ts ≡ word w.0 w.1 ∷ w.2
 word_is [] w h = cc
 word_is (t ∷ ts) w h = word_kind t.kind t.place ts w h
+
+-- a name and the bracket behind it
+pub maker_is : (ts : List Token) (w : List ℕ × Place × List Token) → maker_next ts ≡ Some w → (q : Place)
+    × (ts ≡ word w.0 w.1 ∷ mark marks.OpenRound q ∷ w.2)
+maker_is ts w h = option_cases (word_next ts)
+    (λ no. let g = rw (no, maker_next) at h in cc)
+    (λ a yes. let g = rw (yes, maker_next) at h in
+    option_cases (after marks.OpenRound a.2)
+    (λ no1. let g1 = rw no1 at g in cc)
+    (λ b yes1. let g1 = rw yes1 at g in
+    let e : (a.0, a.1, b.1) ≡ w = cc in
+    subst (λ (w : List ℕ × Place × List Token). (q : Place) × (ts ≡ word w.0 w.1 ∷ mark marks.OpenRound q ∷ w.2)) e
+    (b.0, word_is ts a yes ∙ ap (λ us. word a.0 a.1 ∷ us) (after_is marks.OpenRound a.2 b yes1))))
+
+-- `super` and the bracket behind it
+pub up_is : (ts : List Token) (w : Place × List Token) → up_next ts ≡ Some w → (q : Place) × (ts ≡ key keys.Super q ∷ mark marks.OpenRound w.0 ∷ w.1)
+up_is ts w h = option_cases (after_key keys.Super ts)
+    (λ no. let g = rw (no, up_next) at h in cc)
+    (λ a yes. let g = rw (yes, up_next) at h in
+    (a.0, after_key_is keys.Super ts a yes ∙ ap (λ us. key keys.Super a.0 ∷ us) (after_is marks.OpenRound a.1 w g)))
 
 operator_kind : (l c : ℕ) (k : TokenKind) (p : Place) (ts : List Token) (w : Mark × Place × List Token) → operator_by l c k p ts ≡ Some w →
     (token k p ∷ ts ≡ mark w.0 w.1 ∷ w.2) × (0 < level w.0) × (l ≤ level w.0) × (level w.0 ≤ c)

@@ -1,7 +1,7 @@
 -- No part leaves more tokens than it is given.
 use Rattle.std.proofs.Common.{◌≡◌, ℕ, suc, ◌<◌, ◌≤◌, List, length, Option, Some, None, Bool, true, false, Ok, Err, arith, refl}
 use Rattle.java_lex.specs.declared.Token.{Token}
-use Rattle.java_parse.specs.Want.{Want, Val, ReadStep, Give, Fail, Ask}
+use Rattle.java_parse.specs.Want.{Val, ReadStep, Give, Fail, Ask}
 use Rattle.java_parse.specs.Reading.{Fault, Left, NoMemory, ParseOutcome}
 
 -- a step leaves no more than n tokens, if its parts leave no more than they are given

@@ -1,6 +1,5 @@
 -- Two lists of tokens with one beginning, which goes up to a token t: plans are read alike of both, up to that token.
-use Rattle.std.proofs.Common.{◌≡◌, ⊎_elim, ℕ, suc, ◌<◌, ◌≤◌, List, [], ◌∷◌, length, Option, Some, None, Bool, true, false, Ok, Err, refl, sym, ap, subst, arith}
-use Rattle.std.proofs.lemmas.Bool.{cases_lt}
+use Rattle.std.proofs.Common.{◌≡◌, ℕ, suc, List, ◌∷◌, length, Option, Some, None, Bool, true, false, refl, arith}
 use Rattle.kaba_base.specs.declared.Place.{Place}
 use Rattle.kaba_base.specs.declared.words.Keyword.TheVariants as keys
 use Rattle.java_lex.specs.declared.Token.{Token}
@@ -8,8 +7,8 @@ use Rattle.java_tree.specs.Tokens.{first_place}
 use Rattle.java_tree.specs.Statements.{is_word}
 use Rattle.java_tree.specs.Nesting.{next_is}
 use Rattle.java_parse.specs.Want.{Want, Val, ReadStep, Give, Fail, Ask}
-use Rattle.java_parse.specs.Front.{after_key, final_of, at_end}
-use Rattle.java_parse.specs.Reading.{Fault, Left, NoMemory, ParseOutcome, body, RunsTo, give, fail, short, ask, ask_fails}
+use Rattle.java_parse.specs.Front.{after_key, at_end}
+use Rattle.java_parse.specs.Reading.{ParseOutcome, RunsTo, give, fail, short, ask, ask_fails}
 use Rattle.java_parse.proofs.Leaves.{Leaves, Below, fault_below}
 use Rattle.java_parse.proofs.Looks.{Look, Tests, misses, finds, a_key}
 use Rattle.java_parse.proofs.Plans.{Plan, Giving, Stopping, Asking, Looking, Peeking, Guarding, Allowing, Choosing, Testing, Heading, Finals, Ending, final_from, steps, leaves}

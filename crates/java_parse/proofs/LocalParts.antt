@@ -1,5 +1,5 @@
 -- Each part is read alike of two lists with one beginning, up to the token where that ends.
-use Rattle.std.proofs.Common.{◌≡◌, ℕ, suc, ◌<◌, ◌≤◌, List, [], ◌∷◌, length, Option, Some, None, Bool, true, false, if◌then◌else◌, refl, sym, ◌∙◌, subst, arith}
+use Rattle.std.proofs.Common.{◌≡◌, ℕ, suc, List, ◌∷◌, length, Option, Some, None, Bool, true, false, refl, sym, ◌∙◌, subst, arith}
 use Rattle.kaba_base.specs.declared.Place.{Place}
 use Rattle.kaba_base.specs.declared.words.Keyword.{Keyword}
 use Rattle.kaba_base.specs.declared.words.Keyword.TheVariants as keys
@@ -9,25 +9,27 @@ use Rattle.java_lex.specs.declared.TokenKind.TheVariants as kinds
 use Rattle.java_lex.specs.declared.Mark.{Mark}
 use Rattle.java_lex.specs.declared.Mark.TheVariants as marks
 use Rattle.java_lex.specs.Lexing.{token}
+use Rattle.java_tree.specs.declared.Modifier.{Modifier}
 use Rattle.java_tree.specs.declared.TypeBase.TheVariants as bases
 use Rattle.java_tree.specs.declared.TypeName.{TypeName}
-use Rattle.java_tree.specs.Syntax.{absent}
+use Rattle.java_tree.specs.Syntax.{MemberTree, absent}
 use Rattle.java_tree.specs.Tokens.{mark, key, word, casts}
-use Rattle.java_parse.specs.Want.{Want, Val, ReadStep, Give, Fail, Ask, NExpr, NMore, NPrefixed, NPost, NAtom, NSuper, NNew, NSized, NDims, NType, NTail, NArgs, NMoreArgs, NInit, NLocal, NValue, NAct, NActRest, NTested, NItem, NItems, NStmt, NForHead, NFirst, NStep, NBranches, NMods, NIds, NParent, NList, NParam, NParams, NMoreParams, NResult, NHead, NBody, NMember, NMethod, NMembers, NHeads, NClass, NInterface, NDecl, NDecls}
-use Rattle.java_parse.specs.Front.{cast_by, cast_end, word_next, starts_local, closes}
+use Rattle.java_parse.specs.Want.{Want, Val, ReadStep, Give, NExpr, NMore, NPrefixed, NPost, NAtom, NSuper, NNew, NSized, NDims, NType, NTail, NArgs, NMoreArgs, NInit, NLocal, NValue, NAct, NActRest, NTested, NItem, NItems, NStmt, NForHead, NFirst, NStep, NBranches, NMods, NIds, NParent, NList, NParam, NParams, NMoreParams, NResult, NHead, NBody, NMember, NTyped, NMethod, NMaker, NMakerBody, NMembers, NHeads, NClass, NInterface, NDecl, NDecls}
+use Rattle.java_parse.specs.Front.{after, maker_by, cast_by, word_next, starts_local, closes}
 use Rattle.java_parse.specs.Reading.{body}
 use Rattle.java_parse.specs.ReadExpressions.{prefixed_step}
 use Rattle.java_parse.specs.ReadStatements.{item_step, first_step, stmt_step}
+use Rattle.java_parse.specs.ReadDeclarations.{member_step, maker_body_step}
 use Rattle.java_parse.proofs.Fronts.{bool_cases}
 use Rattle.java_parse.proofs.Leaves.{on_bool}
 use Rattle.java_parse.proofs.Looks.{a_mark, an_opened}
 use Rattle.java_parse.proofs.Plans.{Plan, Giving, Testing, steps, leaves}
 use Rattle.java_parse.proofs.ExpressionPlans.{minus_plan, operand_plan, opened_plan, casted_plan, bare_plan, args_plan, atom_plan, dims_plan, expr_plan, more_args_plan, more_plan, new_plan, post_plan, sized_plan, super_plan, tail_plan, type_plan}
 use Rattle.java_parse.proofs.StatementPlans.{up_to_semi, a_first, local_item_plan, stmt_item_plan, first_local_plan, first_act_plan, acting_plan, act_plan, act_rest_plan, branches_plan, for_head_plan, init_plan, items_plan, local_plan, step_plan, tested_plan, value_plan}
-use Rattle.java_parse.proofs.DeclarationPlans.{body_plan, class_plan, decl_plan, decls_plan, head_plan, heads_plan, ids_plan, interface_plan, list_plan, member_plan, members_plan, method_plan, mods_plan, more_params_plan, param_plan, params_plan, parent_plan, result_type_plan}
-use Rattle.java_parse.proofs.PartLeaves.{cast_or, Begun, leads, other, begun}
-use Rattle.java_parse.proofs.Local.{IsPast, past_by, Same, at, on, Alike, gives, past, same_head, both_lack, both_pass, both_bool, look_alike, moved, gone, alike}
-use Rattle.java_parse.proofs.Past.{round_past, word_past, named_past, local_word, local_square, act_word, act_square, stmt_word, stmt_square}
+use Rattle.java_parse.proofs.DeclarationPlans.{body_plan, class_plan, decl_plan, decls_plan, head_plan, heads_plan, ids_plan, interface_plan, list_plan, as_maker_plan, as_typed_plan, typed_plan, maker_plan, up_plan, plain_plan, members_plan, method_plan, mods_plan, more_params_plan, param_plan, params_plan, parent_plan, result_type_plan}
+use Rattle.java_parse.proofs.PartLeaves.{cast_or, Begun, leads, other, begun, made, made_leaves}
+use Rattle.java_parse.proofs.Local.{IsPast, past_by, Same, at, on, Alike, gives, asks, past, same_head, both_lack, both_pass, both_bool, look_alike, moved, gone, alike}
+use Rattle.java_parse.proofs.Past.{round_past, word_past, named_past, local_word, local_square, act_word, act_square, stmt_word, stmt_square, made_word, super_past}
 
 -- whether a local begins is told by both lists alike; or the first ends behind a name, or behind a name and a bracket
 data Decided (us ts ss : List Token) : Type 0 where
@@ -82,6 +84,13 @@ behind_here p n q k c us vs = neither refl refl
 named_here : (p : Place) (k : TokenKind) (q : Place) (us vs : List Token) → Casting (token k q) us vs p (token k q ∷ us) (token k q ∷ vs)
 named_here p (kinds.Word n) q us vs = behind_word n q refl
 named_here p k q us vs = neither refl refl
+
+-- a member that begins with a name, by the bracket behind it
+behind_name : (ms : List Modifier) (n : List ℕ) (p : Place) (o : Option (Place × List Token)) (s : ReadStep MemberTree)
+    → ◌≡◌ {A = ReadStep MemberTree} (elim (maker_by n p o) [ Some w ↦ steps (as_maker_plan ms w.0 w.1) w.2 | None ↦ s ])
+    (elim o [ Some b ↦ steps (as_maker_plan ms n p) b.1 | None ↦ s ])
+behind_name ms n p None s = refl
+behind_name ms n p (Some b) s = refl
 
 module _ (t : Token) (us vs : List Token) where
   same_casts : {ts ss : List Token} → Same t us vs ts ss → casts ts ≡ casts ss
@@ -191,6 +200,40 @@ module _ (t : Token) (us vs : List Token) where
   kind_alike (kinds.Mark m) p xs ys same = mark_alike m p xs ys same
   kind_alike k p xs ys same = alike t us vs NPrefixed operand_plan (on (token k p) same)
 
+  -- a name, and a bracket or none behind it
+  named_made : (ms : List Modifier) (n : List ℕ) (p : Place) {xs ys : List Token} → Same t us vs xs ys
+      → Alike t us vs NMember (made ms (word n p ∷ xs)) (made ms (word n p ∷ ys))
+  named_made ms n p {xs = xs} {ys = ys} same =
+      let one : List Token → ReadStep MemberTree = λ zs. steps (as_typed_plan ms) (word n p ∷ zs) in
+      rw (behind_name ms n p (after marks.OpenRound xs) (one xs), behind_name ms n p (after marks.OpenRound ys) (one ys))
+      (look_alike t us vs NMember (a_mark marks.OpenRound) (λ w. steps (as_maker_plan ms n p) w.1) (λ w. steps (as_maker_plan ms n p) w.1)
+      (one xs) (one ys) same
+      (λ b w x xs ys h g e f d. moved t us vs NMember (λ (b : Place). as_maker_plan ms n p) h g e f (alike t us vs NMember (as_maker_plan ms n p) d))
+      (λ w x e. gone t us vs NMember (as_maker_plan ms n p) w.1 _ e) (alike t us vs NMember (as_typed_plan ms) (on (word n p) same)))
+
+  made_on : (ms : List Modifier) (k : TokenKind) (p : Place) (xs ys : List Token) → Same t us vs xs ys
+      → Alike t us vs NMember (made ms (token k p ∷ xs)) (made ms (token k p ∷ ys))
+  made_on ms (kinds.Word n) p xs ys same = named_made ms n p same
+  made_on ms k p xs ys same = alike t us vs NMember (as_typed_plan ms) (on (token k p) same)
+
+  -- `super`, and a bracket or none behind it
+  super_alike : (p : Place) {xs ys : List Token} → Same t us vs xs ys
+      → Alike t us vs NMakerBody (maker_body_step (key keys.Super p ∷ xs)) (maker_body_step (key keys.Super p ∷ ys))
+  super_alike p {xs = xs} {ys = ys} same = look_alike t us vs NMakerBody (a_mark marks.OpenRound) (λ w. steps up_plan w.1) (λ w. steps up_plan w.1)
+      (steps plain_plan (key keys.Super p ∷ xs)) (steps plain_plan (key keys.Super p ∷ ys)) same
+      (λ b w x xs ys h g e f d. moved t us vs NMakerBody (λ (b : Place). up_plan) h g e f (alike t us vs NMakerBody up_plan d))
+      (λ w x e. gone t us vs NMakerBody up_plan w.1 _ e) (alike t us vs NMakerBody plain_plan (on (key keys.Super p) same))
+
+  body_key_on : (k : Keyword) (p : Place) (xs ys : List Token) → Same t us vs xs ys
+      → Alike t us vs NMakerBody (maker_body_step (key k p ∷ xs)) (maker_body_step (key k p ∷ ys))
+  body_key_on keys.Super p xs ys same = super_alike p same
+  body_key_on k p xs ys same = alike t us vs NMakerBody plain_plan (on (key k p) same)
+
+  body_on : (k : TokenKind) (p : Place) (xs ys : List Token) → Same t us vs xs ys
+      → Alike t us vs NMakerBody (maker_body_step (token k p ∷ xs)) (maker_body_step (token k p ∷ ys))
+  body_on (kinds.Key k) p xs ys same = body_key_on k p xs ys same
+  body_on k p xs ys same = alike t us vs NMakerBody plain_plan (on (token k p) same)
+
   begun_on : (k : TokenKind) (p : Place) (xs ys : List Token) → Same t us vs xs ys → Begun k p
       → Alike t us vs NStmt (stmt_step (token k p ∷ xs)) (stmt_step (token k p ∷ ys))
   begun_on k p xs ys same (leads q h) = let e = h xs in let f = h ys in rw (e, f) (alike t us vs NStmt q same)
@@ -207,6 +250,21 @@ kind_at : (k : TokenKind) (p : Place) (us vs : List Token)
 kind_at (kinds.Mark m) p us vs = mark_at m p us vs
 kind_at k p us vs = alike (token k p) us vs NPrefixed operand_plan at
 
+made_at : (ms : List Modifier) (k : TokenKind) (p : Place) (us vs : List Token)
+    → Alike (token k p) us vs NMember (made ms (token k p ∷ us)) (made ms (token k p ∷ vs))
+made_at ms (kinds.Word n) p us vs = past (made_word ms n p us)
+made_at ms k p us vs = alike (token k p) us vs NMember (as_typed_plan ms) at
+
+body_key_at : (k : Keyword) (p : Place) (us vs : List Token)
+    → Alike (key k p) us vs NMakerBody (maker_body_step (key k p ∷ us)) (maker_body_step (key k p ∷ vs))
+body_key_at keys.Super p us vs = past (super_past p us)
+body_key_at k p us vs = alike (key k p) us vs NMakerBody plain_plan at
+
+body_at : (k : TokenKind) (p : Place) (us vs : List Token)
+    → Alike (token k p) us vs NMakerBody (maker_body_step (token k p ∷ us)) (maker_body_step (token k p ∷ vs))
+body_at (kinds.Key k) p us vs = body_key_at k p us vs
+body_at k p us vs = alike (token k p) us vs NMakerBody plain_plan at
+
 begun_at : (k : TokenKind) (p : Place) (us vs : List Token) → Begun k p
     → Alike (token k p) us vs NStmt (stmt_step (token k p ∷ us)) (stmt_step (token k p ∷ vs))
 begun_at k p us vs (leads q h) = past (subst (IsPast NStmt (suc (length us))) (sym (h us))
@@ -221,6 +279,17 @@ module _ (t : Token) (us vs : List Token) where
   stmt_alike : {ts ss : List Token} → Same t us vs ts ss → Alike t us vs NStmt (stmt_step ts) (stmt_step ss)
   stmt_alike at = begun_at t.kind t.place us vs (begun t.kind t.place)
   stmt_alike (on {ts = xs} {ss = ys} x same) = begun_on t us vs x.kind x.place xs ys same (begun x.kind x.place)
+
+  made_alike : (ms : List Modifier) {ts ss : List Token} → Same t us vs ts ss → Alike t us vs NMember (made ms ts) (made ms ss)
+  made_alike ms at = made_at ms t.kind t.place us vs
+  made_alike ms (on {ts = xs} {ss = ys} x same) = made_on t us vs ms x.kind x.place xs ys same
+
+  member_alike : {ts ss : List Token} → Same t us vs ts ss → Alike t us vs NMember (member_step ts) (member_step ss)
+  member_alike same = asks same (λ v xs ys s. made_alike v s) (λ v xs. made_leaves v (length xs) xs (omega arith))
+
+  maker_body_alike : {ts ss : List Token} → Same t us vs ts ss → Alike t us vs NMakerBody (maker_body_step ts) (maker_body_step ss)
+  maker_body_alike at = body_at t.kind t.place us vs
+  maker_body_alike (on {ts = xs} {ss = ys} x same) = body_on t us vs x.kind x.place xs ys same
 
   pub part_alike : (n : Want) (ts ss : List Token) → Same t us vs ts ss → Alike t us vs n (body n ts) (body n ss)
   part_alike (NExpr l) xs ys same = alike t us vs (NExpr l) (expr_plan l) same
@@ -259,8 +328,11 @@ module _ (t : Token) (us vs : List Token) where
   part_alike NResult xs ys same = alike t us vs NResult result_type_plan same
   part_alike NHead xs ys same = alike t us vs NHead head_plan same
   part_alike NBody xs ys same = alike t us vs NBody body_plan same
-  part_alike NMember xs ys same = alike t us vs NMember member_plan same
+  part_alike NMember xs ys same = member_alike same
+  part_alike (NTyped ms) xs ys same = alike t us vs (NTyped ms) (typed_plan ms) same
   part_alike (NMethod ms ty n p) xs ys same = alike t us vs (NMethod ms ty n p) (method_plan ms ty n p) same
+  part_alike (NMaker ms n p) xs ys same = alike t us vs (NMaker ms n p) (maker_plan ms n p) same
+  part_alike NMakerBody xs ys same = maker_body_alike same
   part_alike (NMembers bs) xs ys same = alike t us vs (NMembers bs) (members_plan bs) same
   part_alike (NHeads hs) xs ys same = alike t us vs (NHeads hs) (heads_plan hs) same
   part_alike (NClass ms) xs ys same = alike t us vs (NClass ms) (class_plan ms) same

@@ -1,5 +1,5 @@
 -- Each part leaves no more tokens than it is given.
-use Rattle.std.proofs.Common.{◌≡◌, ℕ, suc, ◌<◌, ◌≤◌, List, [], ◌∷◌, length, Option, Some, None, Bool, true, false, if◌then◌else◌, refl, sym, subst, arith}
+use Rattle.std.proofs.Common.{◌≡◌, ℕ, suc, ◌<◌, ◌≤◌, List, [], ◌∷◌, length, Some, None, refl, sym, subst, arith}
 use Rattle.kaba_base.specs.declared.Place.{Place}
 use Rattle.kaba_base.specs.declared.words.Keyword.{Keyword}
 use Rattle.kaba_base.specs.declared.words.Keyword.TheVariants as keys
@@ -9,21 +9,23 @@ use Rattle.java_lex.specs.declared.TokenKind.TheVariants as kinds
 use Rattle.java_lex.specs.declared.Mark.{Mark}
 use Rattle.java_lex.specs.declared.Mark.TheVariants as marks
 use Rattle.java_lex.specs.Lexing.{token}
+use Rattle.java_tree.specs.declared.Modifier.{Modifier}
 use Rattle.java_tree.specs.declared.TypeName.{TypeName}
-use Rattle.java_tree.specs.Syntax.{Expression, Statement, absent}
-use Rattle.java_tree.specs.Tokens.{mark, key, casts}
-use Rattle.java_parse.specs.Want.{Want, NPrefixed, NPost, ReadStep, Give, Fail, Ask, NExpr, NMore, NAtom, NSuper, NNew, NSized, NDims, NType, NTail, NArgs, NMoreArgs, NInit, NLocal, NValue, NAct, NActRest, NTested, NItem, NItems, NStmt, NForHead, NFirst, NStep, NBranches, NMods, NIds, NParent, NList, NParam, NParams, NMoreParams, NResult, NHead, NBody, NMember, NMethod, NMembers, NHeads, NClass, NInterface, NDecl, NDecls}
-use Rattle.java_parse.specs.Front.{after, word_next, opens_behind, cast_by, cast_end, starts_local}
+use Rattle.java_tree.specs.Syntax.{Expression, Statement, MemberTree, absent}
+use Rattle.java_tree.specs.Tokens.{mark, casts}
+use Rattle.java_parse.specs.Want.{Want, NPrefixed, NPost, ReadStep, NExpr, NMore, NAtom, NSuper, NNew, NSized, NDims, NType, NTail, NArgs, NMoreArgs, NInit, NLocal, NValue, NAct, NActRest, NTested, NItem, NItems, NStmt, NForHead, NFirst, NStep, NBranches, NMods, NIds, NParent, NList, NParam, NParams, NMoreParams, NResult, NHead, NBody, NMember, NTyped, NMethod, NMaker, NMakerBody, NMembers, NHeads, NClass, NInterface, NDecl, NDecls}
+use Rattle.java_parse.specs.Front.{after, word_next, maker_next, up_next, opens_behind, cast_by, cast_end, starts_local}
 use Rattle.java_parse.specs.Reading.{body}
 use Rattle.java_parse.specs.ReadExpressions.{prefixed_step}
 use Rattle.java_parse.specs.ReadStatements.{item_step, first_step, stmt_step}
-use Rattle.java_parse.proofs.Fronts.{option_cases, bool_cases}
+use Rattle.java_parse.specs.ReadDeclarations.{member_step, maker_body_step}
+use Rattle.java_parse.proofs.Fronts.{option_cases, bool_cases, maker_is, up_is}
 use Rattle.java_parse.proofs.Leaves.{Leaves, on_option}
 use Rattle.java_parse.proofs.Looks.{look_shorter, a_mark, a_word, an_opened}
 use Rattle.java_parse.proofs.Plans.{Plan, Giving, Peeking, Testing, steps, leaves}
 use Rattle.java_parse.proofs.ExpressionPlans.{minus_plan, operand_plan, opened_plan, casted_plan, bare_plan, args_plan, atom_plan, dims_plan, expr_plan, more_args_plan, more_plan, new_plan, post_plan, sized_plan, super_plan, tail_plan, type_plan}
 use Rattle.java_parse.proofs.StatementPlans.{local_item_plan, stmt_item_plan, first_local_plan, first_act_plan, block_plan, empty_plan, if_plan, while_plan, for_plan, return_plan, break_plan, continue_plan, acting_plan, act_plan, act_rest_plan, branches_plan, for_head_plan, init_plan, items_plan, local_plan, step_plan, tested_plan, value_plan}
-use Rattle.java_parse.proofs.DeclarationPlans.{body_plan, class_plan, decl_plan, decls_plan, head_plan, heads_plan, ids_plan, interface_plan, list_plan, member_plan, members_plan, method_plan, mods_plan, more_params_plan, param_plan, params_plan, parent_plan, result_type_plan}
+use Rattle.java_parse.proofs.DeclarationPlans.{body_plan, class_plan, decl_plan, decls_plan, head_plan, heads_plan, ids_plan, interface_plan, list_plan, as_maker_plan, as_typed_plan, typed_plan, maker_plan, up_plan, plain_plan, members_plan, method_plan, mods_plan, more_params_plan, param_plan, params_plan, parent_plan, result_type_plan}
 
 -- behind a round bracket at p that opens no cast to `int` or `char`: a cast to a name, or an expression in brackets
 abbrev pub cast_or : Place → List Token → ReadStep Expression
@@ -106,6 +108,32 @@ stmt_leaves : (ts : List Token) → Leaves (length ts) (stmt_step ts)
 stmt_leaves [] = leaves acting_plan 0 [] (omega arith)
 stmt_leaves (x ∷ xs) = begun_leaves x.kind x.place xs (begun x.kind x.place)
 
+-- a member behind its modifiers
+abbrev pub made : List Modifier → List Token → ReadStep MemberTree
+made ms ts = elim (maker_next ts) [
+  | Some w ↦ steps (as_maker_plan ms w.0 w.1) w.2
+  | None ↦ steps (as_typed_plan ms) ts
+]
+
+pub maker_shorter : (ts : List Token) (w : List ℕ × Place × List Token) → maker_next ts ≡ Some w → length w.2 < length ts
+maker_shorter ts w h = let e = (maker_is ts w h).1 in rw e (omega arith)
+
+pub made_leaves : (ms : List Modifier) (n : ℕ) (ts : List Token) → length ts ≤ n → Leaves n (made ms ts)
+made_leaves ms n ts h = on_option (Leaves n) (maker_next ts) (λ w. steps (as_maker_plan ms w.0 w.1) w.2) (steps (as_typed_plan ms) ts)
+    (λ no. leaves (as_typed_plan ms) n ts h)
+    (λ w yes. leaves (as_maker_plan ms w.0 w.1) n w.2 (let lt = maker_shorter ts w yes in omega (arith, h, lt)))
+
+member_leaves : (ts : List Token) → Leaves (length ts) (member_step ts)
+member_leaves ts = (omega arith, λ v rest le. made_leaves v (length ts) rest le)
+
+up_shorter : (ts : List Token) (w : Place × List Token) → up_next ts ≡ Some w → length w.1 < length ts
+up_shorter ts w h = let e = (up_is ts w h).1 in rw e (omega arith)
+
+maker_body_leaves : (ts : List Token) → Leaves (length ts) (maker_body_step ts)
+maker_body_leaves ts = on_option (Leaves (length ts)) (up_next ts) (λ w. steps up_plan w.1) (steps plain_plan ts)
+    (λ no. leaves plain_plan (length ts) ts (omega arith))
+    (λ w yes. leaves up_plan (length ts) w.1 (let lt = up_shorter ts w yes in omega (arith, lt)))
+
 pub part_leaves : (n : Want) (ts : List Token) → Leaves (length ts) (body n ts)
 part_leaves (NExpr l) ts = leaves (expr_plan l) (length ts) ts (omega arith)
 part_leaves (NMore l c e) ts = leaves (more_plan l c e) (length ts) ts (omega arith)
@@ -143,8 +171,11 @@ part_leaves (NMoreParams qs) ts = leaves (more_params_plan qs) (length ts) ts (o
 part_leaves NResult ts = leaves result_type_plan (length ts) ts (omega arith)
 part_leaves NHead ts = leaves head_plan (length ts) ts (omega arith)
 part_leaves NBody ts = leaves body_plan (length ts) ts (omega arith)
-part_leaves NMember ts = leaves member_plan (length ts) ts (omega arith)
+part_leaves NMember ts = member_leaves ts
+part_leaves (NTyped ms) ts = leaves (typed_plan ms) (length ts) ts (omega arith)
 part_leaves (NMethod ms t n p) ts = leaves (method_plan ms t n p) (length ts) ts (omega arith)
+part_leaves (NMaker ms n p) ts = leaves (maker_plan ms n p) (length ts) ts (omega arith)
+part_leaves NMakerBody ts = maker_body_leaves ts
 part_leaves (NMembers bs) ts = leaves (members_plan bs) (length ts) ts (omega arith)
 part_leaves (NHeads hs) ts = leaves (heads_plan hs) (length ts) ts (omega arith)
 part_leaves (NClass ms) ts = leaves (class_plan ms) (length ts) ts (omega arith)

@@ -1,26 +1,30 @@
 -- What is past two or three tokens, whatever it comes to.
-use Rattle.std.proofs.Common.{◌≡◌, ℕ, suc, ◌<◌, ◌≤◌, List, ◌∷◌, length, Option, Some, None, true, false, Ok, Err, subst, arith}
+use Rattle.std.proofs.Common.{◌≡◌, ℕ, suc, ◌≤◌, List, ◌∷◌, length, Some, None, true, false, Ok, Err, subst, arith}
 use Rattle.kaba_base.specs.declared.Place.{Place}
+use Rattle.kaba_base.specs.declared.words.Keyword.TheVariants as keys
 use Rattle.java_lex.specs.declared.Token.{Token}
 use Rattle.java_lex.specs.declared.Mark.TheVariants as marks
+use Rattle.java_tree.specs.declared.Modifier.{Modifier}
 use Rattle.java_tree.specs.declared.TypeBase.TheVariants as bases
 use Rattle.java_tree.specs.declared.TypeName.{TypeName}
-use Rattle.java_tree.specs.Syntax.{Expression, NameRef, IndexOf, CallOf, LocalOf}
-use Rattle.java_tree.specs.Tokens.{mark, word}
+use Rattle.java_tree.specs.Syntax.{Expression, NameRef, IndexOf, CallOf, LocalOf, Statements, no_statements}
+use Rattle.java_tree.specs.Tokens.{mark, key, word}
 use Rattle.java_tree.specs.Expressions.{operand, bare, name}
 use Rattle.java_parse.specs.declared.End.{End}
 use Rattle.java_parse.specs.declared.End.TheVariants as ends
-use Rattle.java_parse.specs.Want.{Want, NExpr, NMore, NPrefixed, NPost, NAtom, NDims, NType, NTail, NArgs, NInit, NLocal, NAct, NActRest, NStmt, Val, ReadStep, Ask}
-use Rattle.java_parse.specs.Front.{after, opens_behind, cast_by, word_next}
+use Rattle.java_parse.specs.Want.{Want, NExpr, NMore, NPrefixed, NPost, NAtom, NSuper, NDims, NType, NTail, NArgs, NInit, NLocal, NAct, NActRest, NItem, NItems, NStmt, NResult, NMember, NTyped, NMakerBody, Val, ReadStep, Ask}
+use Rattle.java_parse.specs.Front.{after, opens_behind, cast_by, word_next, maker_next, stmt_snoc}
 use Rattle.java_parse.specs.Reading.{Left, NoMemory, ParseOutcome, body, RunsTo, give, short, ask, ask_fails, Reads}
 use Rattle.java_parse.specs.ReadExpressions.{prefixed_step}
+use Rattle.java_parse.specs.ReadDeclarations.{maker_body_step}
 use Rattle.java_parse.proofs.Runs.{reads, read_once, fails_once}
 use Rattle.java_parse.proofs.CompleteExpressions.{closed_reads, stops_round}
-use Rattle.java_parse.proofs.Leaves.{Leaves, Below, fault_below, on_option}
+use Rattle.java_parse.proofs.Leaves.{Below, fault_below, on_option}
 use Rattle.java_parse.proofs.Looks.{look_shorter, a_mark, a_word, an_opened}
 use Rattle.java_parse.proofs.Plans.{Plan, Giving, Stopping, Asking, Looking, steps, leaves}
 use Rattle.java_parse.proofs.ExpressionPlans.{opened_plan, casted_plan, bare_plan}
-use Rattle.java_parse.proofs.PartLeaves.{cast_or, end_shorter, cast_shorter}
+use Rattle.java_parse.proofs.DeclarationPlans.{as_maker_plan, as_typed_plan, behind_type_plan, up_plan, plain_plan}
+use Rattle.java_parse.proofs.PartLeaves.{cast_or, end_shorter, cast_shorter, made, maker_shorter}
 use Rattle.java_parse.proofs.Local.{left_below, IsPast, past_by}
 
 -- what asks for a part that is past is past
@@ -154,3 +158,39 @@ pub stmt_square : (m : Want) (k : Val NStmt → Plan (Val m)) (n : List ℕ) (q 
     → IsPast m (suc (length xs)) (steps (Asking NStmt k) (word n q ∷ mark marks.OpenSquare r ∷ xs))
 stmt_square m k n q r xs = ask_past m NStmt (word n q ∷ mark marks.OpenSquare r ∷ xs) k (length xs)
     (stmt_past n q (mark marks.OpenSquare r ∷ xs) (length xs) (post_square n q r xs))
+
+-- a member behind its modifiers that begins with a name
+result_word : (n : List ℕ) (q : Place) (xs : List Token) → IsPast NResult (suc (length xs)) (body NResult (word n q ∷ xs))
+result_word n q xs = ask_past NResult NType (word n q ∷ xs) (λ t. Giving (Some t)) (length xs) (type_word n q xs)
+
+typed_word : (ms : List Modifier) (n : List ℕ) (q : Place) (xs : List Token) → IsPast (NTyped ms) (suc (length xs)) (body (NTyped ms) (word n q ∷ xs))
+typed_word ms n q xs = ask_past (NTyped ms) NResult (word n q ∷ xs) (λ t. behind_type_plan ms t) (length xs) (result_word n q xs)
+
+pub made_word : (ms : List Modifier) (n : List ℕ) (q : Place) (xs : List Token) → IsPast NMember (suc (length xs)) (made ms (word n q ∷ xs))
+made_word ms n q xs = on_option (IsPast NMember (suc (length xs))) (maker_next (word n q ∷ xs)) (λ w. steps (as_maker_plan ms w.0 w.1) w.2)
+    (steps (as_typed_plan ms) (word n q ∷ xs))
+    (λ no. ask_past NMember (NTyped ms) (word n q ∷ xs) Giving (length xs) (typed_word ms n q xs))
+    (λ w yes. past_by NMember (length xs) (leaves (as_maker_plan ms w.0 w.1) (length xs) w.2
+    (let lt = maker_shorter (word n q ∷ xs) w yes in omega (arith, lt))))
+
+-- statements that begin with `super`
+atom_super : (p : Place) (xs : List Token) → IsPast NAtom (suc (length xs)) (body NAtom (key keys.Super p ∷ xs))
+atom_super p xs = past_by NAtom (length xs) (leaves {A = Expression × End} (Asking NSuper Giving) (length xs) xs (omega arith))
+
+act_super : (p : Place) (xs : List Token) → IsPast NAct (suc (length xs)) (body NAct (key keys.Super p ∷ xs))
+act_super p xs = ask_past NAct NPost (key keys.Super p ∷ xs) (λ x. Asking (NActRest false p x.0 x.1) Giving) (length xs)
+    (post_past (key keys.Super p ∷ xs) (length xs) (atom_super p xs))
+
+item_super : (p : Place) (xs : List Token) → IsPast NItem (suc (length xs)) (body NItem (key keys.Super p ∷ xs))
+item_super p xs = ask_past NItem NStmt (key keys.Super p ∷ xs) Giving (length xs)
+    (ask_past NStmt NAct (key keys.Super p ∷ xs) (λ x. Looking (a_mark marks.Semi) (λ w. Giving x) Stopping) (length xs) (act_super p xs))
+
+items_super : (ss : Statements) (p : Place) (xs : List Token) → IsPast (NItems ss) (suc (length xs)) (body (NItems ss) (key keys.Super p ∷ xs))
+items_super ss p xs = ask_past (NItems ss) NItem (key keys.Super p ∷ xs) (λ x. Asking (NItems (stmt_snoc ss x)) Giving) (length xs) (item_super p xs)
+
+-- the body of a constructor that begins with `super`
+pub super_past : (p : Place) (xs : List Token) → IsPast NMakerBody (suc (length xs)) (maker_body_step (key keys.Super p ∷ xs))
+super_past p xs = on_option (IsPast NMakerBody (suc (length xs))) (after marks.OpenRound xs) (λ w. steps up_plan w.1)
+    (steps plain_plan (key keys.Super p ∷ xs))
+    (λ no. ask_past NMakerBody (NItems no_statements) (key keys.Super p ∷ xs) (λ x. Giving (None, x)) (length xs) (items_super no_statements p xs))
+    (λ w yes. past_by NMakerBody (length xs) (leaves up_plan (length xs) w.1 (let lt = look_shorter (a_mark marks.OpenRound) xs w yes in omega (arith, lt))))

@@ -1,9 +1,8 @@
 -- How a part is read, as a plan that carries no tokens; each takes them from the left.
-use Rattle.std.proofs.Common.{◌≡◌, ℕ, suc, ◌<◌, ◌≤◌, List, [], ◌∷◌, length, Option, Some, None, Bool, true, false, refl, arith}
+use Rattle.std.proofs.Common.{◌≡◌, ℕ, ◌<◌, ◌≤◌, List, length, Option, Some, None, Bool, true, false, refl, arith}
 use Rattle.kaba_base.specs.declared.Place.{Place}
 use Rattle.kaba_base.specs.declared.words.Keyword.TheVariants as keys
 use Rattle.java_lex.specs.declared.Token.{Token}
-use Rattle.java_lex.specs.Lexing.{token}
 use Rattle.java_tree.specs.Tokens.{first_place}
 use Rattle.java_tree.specs.Statements.{is_word}
 use Rattle.java_tree.specs.Nesting.{next_is}

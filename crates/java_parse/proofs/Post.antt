@@ -10,11 +10,11 @@ use Rattle.java_tree.specs.Nesting.{next_is}
 use Rattle.java_tree.proofs.Appended.{append_exprs, append_stmts, append_arms}
 use Rattle.java_parse.specs.declared.End.{End}
 use Rattle.java_parse.specs.declared.End.TheVariants as ends
-use Rattle.java_parse.specs.Want.{Want, NExpr, NMore, NPrefixed, NPost, NAtom, NSuper, NNew, NSized, NDims, NType, NTail, NArgs, NMoreArgs, NInit, NLocal, NValue, NAct, NActRest, NTested, NItem, NItems, NStmt, NForHead, NFirst, NStep, NBranches, NMods, NIds, NParent, NList, NParam, NParams, NMoreParams, NResult, NHead, NBody, NMember, NMethod, NMembers, NHeads, NClass, NInterface, NDecl, NDecls, Val}
+use Rattle.java_parse.specs.Want.{Want, NExpr, NMore, NPrefixed, NPost, NAtom, NSuper, NNew, NSized, NDims, NType, NTail, NArgs, NMoreArgs, NInit, NLocal, NValue, NAct, NActRest, NTested, NItem, NItems, NStmt, NForHead, NFirst, NStep, NBranches, NMods, NIds, NParent, NList, NParam, NParams, NMoreParams, NResult, NHead, NBody, NMember, NTyped, NMethod, NMaker, NMakerBody, NMembers, NHeads, NClass, NInterface, NDecl, NDecls, Val}
 use Rattle.java_parse.specs.Front.{after_key}
 use Rattle.java_tree.specs.Expressions.{IsBase, IsDims, IsType, IsExpr, IsPrefixed, IsPost, IsArgs, IsMoreArgs}
 use Rattle.java_tree.specs.Statements.{is_word, IsValue, IsInit, IsLocal, IsTarget, IsCall, IsAct, IsForFirst, IsForStep, IsItem, IsItems, IsStmt, IsArms}
-use Rattle.java_tree.specs.Declarations.{IsMods, IsIds, IsParent, IsList, IsParam, IsMoreParams, IsParams, IsResult, IsHead, IsBody, IsMember, IsMembers, IsHeads, IsDecl, IsPlaced}
+use Rattle.java_tree.specs.Declarations.{IsMods, IsIds, IsParent, IsList, IsParam, IsMoreParams, IsParams, IsResult, IsHead, IsBody, IsUp, IsMember, IsMembers, IsHeads, IsDecl, IsPlaced}
 
 -- an expression without operators, by how it ends
 pub data Ended : End → List Token → List Token → Expression → Type 0 where
@@ -68,6 +68,12 @@ pub record Branched (before : Arms) (ts : List Token) (a : Arms) (l : Else) (res
   pub fact : IsArms flag ts rest more l
   pub closed : flag ≡ true → after_key keys.Else rest ≡ None
 
+-- the body of a constructor behind its brace
+pub record Built (ts : List Token) (u : Option Expressions) (ss : Statements) (rest : List Token) : Type 0 where
+  pub middle : List Token
+  pub first : IsUp ts middle u
+  pub items : IsItems middle rest ss
+
 -- those before, and more of a kind that stand here
 pub record Longer {A : Type 0} (Are : List Token → List Token → List A → Type 0) (before : List A) (ts : List Token) (xs : List A) (rest : List Token)
     : Type 0 where
@@ -120,8 +126,11 @@ Post NResult ts x rest = IsResult ts rest x
 Post NHead ts x rest = IsHead ts rest x
 Post NBody ts x rest = IsBody ts rest x
 Post NMember ts x rest = IsMember ts rest x
+Post (NTyped ms) ts x rest = (us : List Token) → IsMods us ts ms → IsMember us rest x
 Post (NMethod ms t n p) ts x rest = (us vs : List Token) (q : Place) → IsMods us vs ms → IsResult vs (word n p ∷ mark marks.OpenRound q ∷ ts) t
     → IsMember us rest x
+Post (NMaker ms n p) ts x rest = (us : List Token) (q : Place) → IsMods us (word n p ∷ mark marks.OpenRound q ∷ ts) ms → IsMember us rest x
+Post NMakerBody ts x rest = Built ts x.0 x.1 rest
 Post (NMembers bs) ts x rest = Longer IsMembers bs ts x rest
 Post (NHeads hs) ts x rest = Longer IsHeads hs ts x rest
 Post (NClass ms) ts x rest = (us : List Token) (q : Place) → IsMods us (key keys.Class q ∷ ts) ms → IsDecl us rest x

@@ -12,11 +12,11 @@ use Rattle.java_tree.specs.Syntax.{Expression, CallOn, Expressions, no_more, and
 use Rattle.java_tree.specs.Statements.{as_body, printed}
 use Rattle.java_tree.specs.Expressions.{IsBase, named_base, IsDims, no_dims, one_dim, IsType, a_type, IsExpr, binary, instance_of, operand, IsPrefixed, signed, least, cast_named, cast_int, cast_char, bare, IsPost, field, call_on, index, name, call, super_call, round, new_object, new_array, IsArgs, no_args, some_args, IsMoreArgs, last_arg, next_arg}
 use Rattle.java_tree.specs.Statements.{printed, IsFinal, IsValue, no_value, a_value, IsInit, no_init, an_init, IsLocal, a_local, IsTarget, to_name, to_field, to_index, IsCall, plain_call, call_upon, call_above, IsAct, assign, assign_by, step_after, step_before, do_call, print, do_new, IsForFirst, no_first, first_local, first_act, IsForStep, no_step, a_step, IsItem, local_item, stmt_item, IsItems, no_items, next_item, IsStmt, block, empty, acting, choice, while_loop, for_loop, return_word, break_word, continue_word, IsArms, last_arm, else_arm, more_arms}
-use Rattle.java_tree.specs.Declarations.{IsMods, no_mods, next_mod, IsIds, last_id, next_id, IsParent, no_parent, a_parent, IsList, no_list, a_list, IsParam, a_param, IsMoreParams, last_param, next_param, IsParams, no_params, some_params, IsResult, no_result, a_result, IsHead, a_head, no_body, a_body, IsMember, a_field, a_method, IsMembers, no_members, next_member, IsHeads, no_heads, next_head, IsDecl, a_class, an_interface, IsPlaced, no_decls, next_decl}
+use Rattle.java_tree.specs.Declarations.{IsMods, no_mods, next_mod, IsIds, last_id, next_id, IsParent, no_parent, a_parent, IsList, no_list, a_list, IsParam, a_param, IsMoreParams, last_param, next_param, IsParams, no_params, some_params, IsResult, no_result, a_result, IsHead, a_head, no_body, a_body, IsUp, no_up, an_up, IsMember, a_field, a_method, a_maker, IsMembers, no_members, next_member, IsHeads, no_heads, next_head, IsDecl, a_class, an_interface, IsPlaced, no_decls, next_decl}
 use Rattle.java_parse.proofs.Fronts.{bool_cases}
 use Rattle.java_tree.specs.Expressions.{int_base, boolean_base, char_base, int_literal, char_literal, string_literal, true_literal, false_literal, null_literal, this_word}
 use Rattle.java_tree.specs.Statements.{not_final, is_final, printed_by, printed_args, is_out, is_called, is_word}
-use Rattle.java_tree.specs.Size.{expr_size, exprs_size, value_size, stmt_size, stmts_size, arms_size, else_size, step_size, member_size, members_size, heads_size, decl_size, tree_size}
+use Rattle.java_tree.specs.Size.{expr_size, exprs_size, value_size, stmt_size, stmts_size, arms_size, else_size, step_size, up_size, member_size, members_size, heads_size, decl_size, tree_size}
 use Rattle.std.proofs.Common.{◌*◌, length, codes}
 
 base_small : {ts rest : List Token} {b : TypeBase} {p : Place} → IsBase ts rest b p → suc (length rest) ≤ length ts
@@ -213,10 +213,15 @@ result_small (a_result t) = omega (arith, type_small t)
 head_small : {ts rest : List Token} {h : HeadTree} → IsHead ts rest h → suc (length rest) ≤ length ts
 head_small (a_head m r ps) = omega (arith, mods_small m, result_small r, params_small ps)
 
+up_small : {ts rest : List Token} {u : Option Expressions} → IsUp ts rest u → up_size u + length rest ≤ length ts
+up_small no_up = omega arith
+up_small (an_up a) = omega (arith, args_small a)
+
 member_small : {ts rest : List Token} {m : MemberTree} → IsMember ts rest m → member_size m + 4 * length rest ≤ 4 * length ts
 member_small (a_field m t) = omega (arith, mods_small m, type_small t)
 member_small (a_method h no_body) = omega (arith, head_small h)
 member_small (a_method h (a_body d)) = omega (arith, head_small h, items_small d)
+member_small (a_maker m ps u d) = omega (arith, mods_small m, params_small ps, up_small u, items_small d)
 
 members_small : {ts rest : List Token} {bs : List MemberTree} → IsMembers ts rest bs → members_size bs + 4 * length rest + 4 ≤ 4 * length ts
 members_small no_members = omega arith

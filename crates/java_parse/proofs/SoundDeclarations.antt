@@ -11,14 +11,14 @@ use Rattle.java_tree.specs.declared.TypeName.{TypeName}
 use Rattle.java_tree.specs.declared.Param.{Param}
 use Rattle.java_tree.specs.Syntax.{HeadTree, MemberTree, FieldTree, DeclTree}
 use Rattle.java_tree.specs.Tokens.{mark, word}
-use Rattle.java_parse.specs.Want.{NMods, NIds, NParent, NList, NParam, NParams, NMoreParams, NResult, NHead, NBody, NMember, NMethod, NMembers, NHeads, NClass, NInterface, NDecl, NDecls}
-use Rattle.java_parse.specs.Front.{after, after_key, word_next, modifier_next, at_end}
+use Rattle.java_parse.specs.Want.{NMods, NIds, NParent, NList, NParam, NParams, NMoreParams, NResult, NHead, NBody, NMember, NTyped, NMethod, NMaker, NMakerBody, NMembers, NHeads, NClass, NInterface, NDecl, NDecls}
+use Rattle.java_parse.specs.Front.{after, after_key, word_next, maker_next, up_next, modifier_next, at_end}
 use Rattle.java_tree.specs.Expressions.{IsType}
-use Rattle.java_tree.specs.Declarations.{IsMods, no_mods, next_mod, last_id, next_id, no_parent, a_parent, no_list, a_list, IsParam, a_param, IsMoreParams, last_param, next_param, IsParams, no_params, some_params, IsResult, no_result, a_result, a_head, no_body, a_body, IsMember, a_field, a_method, no_members, next_member, no_heads, next_head, a_class, an_interface, no_decls, next_decl}
-use Rattle.java_parse.proofs.Fronts.{option_cases, bool_cases, after_is, after_key_is, word_is, final_is, modifier_is}
+use Rattle.java_tree.specs.Declarations.{IsMods, no_mods, next_mod, last_id, next_id, no_parent, a_parent, no_list, a_list, IsParam, a_param, IsMoreParams, last_param, next_param, IsParams, no_params, some_params, IsResult, no_result, a_result, a_head, no_body, a_body, no_up, an_up, IsMember, a_field, a_method, a_maker, no_members, next_member, no_heads, next_head, a_class, an_interface, no_decls, next_decl}
+use Rattle.java_parse.proofs.Fronts.{option_cases, bool_cases, after_is, after_key_is, word_is, maker_is, up_is, final_is, modifier_is}
 use Rattle.java_parse.proofs.Post.{Longer, Post}
 use Rattle.java_parse.proofs.Runs.{Good}
-use Rattle.java_parse.specs.ReadDeclarations.{mods_step, ids_step, parent_step, list_step, param_step, params_step, more_params_step, result_type_step, head_step, body_step, member_step, method_step, members_step, heads_step, class_step, interface_step, decl_step, decls_step}
+use Rattle.java_parse.specs.ReadDeclarations.{mods_step, ids_step, parent_step, list_step, param_step, params_step, more_params_step, result_type_step, head_step, body_step, member_step, typed_step, method_step, maker_step, maker_body_step, members_step, heads_step, class_step, interface_step, decl_step, decls_step}
 use Rattle.java_parse.proofs.SoundStatements.{items_all}
 
 module _ {A : Type 0} {Are : List Token → List Token → List A → Type 0} {ts rest : List Token} where
@@ -111,19 +111,38 @@ body_good ts = option_cases (after marks.Semi ts)
     (λ w0 y0. let e0 = after_is marks.Semi ts w0 y0 in rw (y0, body_step) (rw e0 no_body))
 
 pub member_good : (ts : List Token) → Good Post (member_step ts) (Post NMember ts)
-member_good ts = λ v0 r0 d0. (λ v1 r1 d1. (option_cases (word_next r1)
-    (λ n2. rw n2 tt)
-    (λ w2 y2. let e2 = word_is r1 w2 y2 in rw y2 (option_cases (after marks.OpenRound w2.2)
-    (λ n3. rw n3 (option_cases (v1)
+member_good ts = λ v0 r0 d0. (option_cases (maker_next r0)
+    (λ n1. rw n1 (λ v r d. d ts (all_of d0)))
+    (λ w1 y1. let e1 = maker_is r0 w1 y1 in rw y1 (λ v r d. d ts e1.0 (all_of (rw e1.1 at d0)))))
+
+pub typed_good : (ms : List Modifier) (ts : List Token) → Good Post (typed_step ms ts) (Post (NTyped ms) ts)
+typed_good ms ts = λ v0 r0 d0. (option_cases (word_next r0)
+    (λ n1. rw n1 tt)
+    (λ w1 y1. let e1 = word_is r0 w1 y1 in rw y1 (option_cases (after marks.OpenRound w1.2)
+    (λ n2. rw n2 (option_cases (v0)
+    (λ n3. rw n3 tt)
+    (λ w3 y3. rw y3 (option_cases (after marks.Semi w1.2)
     (λ n4. rw n4 tt)
-    (λ w4 y4. rw y4 (option_cases (after marks.Semi w2.2)
-    (λ n5. rw n5 tt)
-    (λ w5 y5. let e5 = after_is marks.Semi w2.2 w5 y5 in rw y5 (field_good (all_of d0) d1 e2 y4 e5))))))
-    (λ w3 y3. let e3 = after_is marks.OpenRound w2.2 w3 y3 in rw y3 (λ v r d. d ts r0 w3.0 (all_of d0) (rw (e2, e3) at d1)))))))
+    (λ w4 y4. let e4 = after_is marks.Semi w1.2 w4 y4 in rw y4 (λ us m. field_good m d0 e1 y3 e4))))))
+    (λ w2 y2. let e2 = after_is marks.OpenRound w1.2 w2 y2 in rw y2 (λ v r d us m. d us ts w2.0 m (rw (e1, e2) at d0))))))
 
 pub method_good : (ms : List Modifier) (t : Option TypeName) (n : List ℕ) (p : Place) (ts : List Token)
     → Good Post (method_step ms t n p ts) (Post (NMethod ms t n p) ts)
 method_good ms t n p ts = λ v0 r0 d0. (λ v1 r1 d1. (λ us vs q m t. a_method (a_head m t d0) d1))
+
+pub maker_good : (ms : List Modifier) (n : List ℕ) (p : Place) (ts : List Token) → Good Post (maker_step ms n p ts) (Post (NMaker ms n p) ts)
+maker_good ms n p ts = λ v0 r0 d0. (option_cases (after marks.OpenBrace r0)
+    (λ n1. rw n1 tt)
+    (λ w1 y1. let e1 = after_is marks.OpenBrace r0 w1 y1 in rw y1
+    (λ v2 r2 d2. (λ us q m. a_maker m (rw e1 at d0) d2.first d2.items))))
+
+pub maker_body_good : (ts : List Token) → Good Post (maker_body_step ts) (Post NMakerBody ts)
+maker_body_good ts = option_cases (up_next ts)
+    (λ n0. rw (n0, maker_body_step) (λ v1 r1 d1. (record { middle = ts; first = no_up; items = items_all d1 })))
+    (λ w0 y0. let e0 = up_is ts w0 y0 in rw (y0, maker_body_step) (λ v1 r1 d1. (option_cases (after marks.Semi r1)
+    (λ n2. rw n2 tt)
+    (λ w2 y2. let e2 = after_is marks.Semi r1 w2 y2 in rw y2
+    (λ v3 r3 d3. (record { middle = w2.1; first = rw e0.1 (an_up (rw e2 at d1)); items = items_all d3 }))))))
 
 pub members_good : (bs : List MemberTree) (ts : List Token) → Good Post (members_step bs ts) (Post (NMembers bs) ts)
 members_good bs ts = option_cases (after marks.CloseBrace ts)

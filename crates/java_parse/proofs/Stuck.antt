@@ -15,9 +15,9 @@ use Rattle.java_tree.specs.Tokens.{mark, key, word}
 use Rattle.java_tree.specs.Expressions.{IsBase, IsDims, IsType, IsExpr, IsPrefixed, IsPost, IsArgs, IsMoreArgs}
 use Rattle.java_tree.specs.Statements.{IsValue, IsInit, IsLocal, IsAct, IsForFirst, IsForStep, IsItem, IsItems, IsStmt, IsArms}
 use Rattle.java_tree.specs.Declarations.{IsMods, IsIds, IsParent, IsList, IsParam, IsMoreParams, IsParams, IsResult, IsHead, IsBody, IsMember, IsMembers, IsHeads, IsDecl, IsPlaced}
-use Rattle.java_parse.specs.Want.{Want, NExpr, NMore, NPrefixed, NPost, NAtom, NSuper, NNew, NSized, NDims, NType, NTail, NArgs, NMoreArgs, NInit, NLocal, NValue, NAct, NActRest, NTested, NItem, NItems, NStmt, NForHead, NFirst, NStep, NBranches, NMods, NIds, NParent, NList, NParam, NParams, NMoreParams, NResult, NHead, NBody, NMember, NMethod, NMembers, NHeads, NClass, NInterface, NDecl, NDecls, Val, ReadStep, Give, Fail, Ask}
+use Rattle.java_parse.specs.Want.{Want, NExpr, NMore, NPrefixed, NPost, NAtom, NSuper, NNew, NSized, NDims, NType, NTail, NArgs, NMoreArgs, NInit, NLocal, NValue, NAct, NActRest, NTested, NItem, NItems, NStmt, NForHead, NFirst, NStep, NBranches, NMods, NIds, NParent, NList, NParam, NParams, NMoreParams, NResult, NHead, NBody, NMember, NTyped, NMethod, NMaker, NMakerBody, NMembers, NHeads, NClass, NInterface, NDecl, NDecls, Val, ReadStep, Give, Fail, Ask}
 use Rattle.java_parse.specs.Reading.{Left, NoMemory, ParseOutcome, body, RunsTo, give, fail, short, ask, ask_fails}
-use Rattle.java_parse.proofs.Post.{Ended, Tested, Headed, Post}
+use Rattle.java_parse.proofs.Post.{Ended, Tested, Headed, Built, Post}
 use Rattle.java_parse.proofs.Runs.{reads}
 use Rattle.java_parse.proofs.Cuts.{Cut, join}
 use Rattle.java_parse.proofs.Sound.{sound}
@@ -61,8 +61,12 @@ Done NResult ts rest = (t : Option TypeName) × IsResult ts rest t
 Done NHead ts rest = (h : HeadTree) × IsHead ts rest h
 Done NBody ts rest = (b : Option Statements) × IsBody ts rest b
 Done NMember ts rest = (m : MemberTree) × IsMember ts rest m
+Done (NTyped ms) ts rest = (us : List Token) → IsMods us ts ms → (m : MemberTree) × IsMember us rest m
 Done (NMethod ms t n p) ts rest = (us vs : List Token) (q : Place) → IsMods us vs ms → IsResult vs (word n p ∷ mark marks.OpenRound q ∷ ts) t
     → (m : MemberTree) × IsMember us rest m
+Done (NMaker ms n p) ts rest = (us : List Token) (q : Place) → IsMods us (word n p ∷ mark marks.OpenRound q ∷ ts) ms
+    → (m : MemberTree) × IsMember us rest m
+Done NMakerBody ts rest = (u : Option Expressions) × (ss : Statements) × Built ts u ss rest
 Done (NMembers bs) ts rest = (more : List MemberTree) × IsMembers ts rest more
 Done (NHeads hs) ts rest = (more : List HeadTree) × IsHeads ts rest more
 Done (NClass ms) ts rest = (us : List Token) (q : Place) → IsMods us (key keys.Class q ∷ ts) ms → (d : DeclTree) × IsDecl us rest d

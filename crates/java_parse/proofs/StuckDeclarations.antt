@@ -10,14 +10,15 @@ use Rattle.java_tree.specs.declared.Modifier.{Modifier}
 use Rattle.java_tree.specs.declared.TypeName.{TypeName}
 use Rattle.java_tree.specs.declared.Param.{Param}
 use Rattle.java_tree.specs.Syntax.{HeadTree, MemberTree, DeclTree}
-use Rattle.java_tree.specs.Declarations.{last_id, next_id, no_parent, a_parent, no_list, a_list, a_param, last_param, next_param, no_params, some_params, a_result, a_head, no_body, a_body, a_method, no_members, next_member, no_heads, next_head, a_class, an_interface, no_decls, next_decl}
-use Rattle.java_parse.specs.Want.{NMods, NIds, NParent, NList, NParam, NParams, NMoreParams, NResult, NHead, NBody, NMember, NMethod, NMembers, NHeads, NClass, NInterface, NDecl, NDecls}
-use Rattle.java_parse.specs.Front.{after, after_key, word_next, modifier_next, at_end}
-use Rattle.java_parse.proofs.Fronts.{option_cases, bool_cases, after_is, after_key_is, word_is, final_is}
-use Rattle.java_parse.specs.ReadDeclarations.{mods_step, ids_step, parent_step, list_step, param_step, params_step, more_params_step, result_type_step, head_step, body_step, member_step, method_step, members_step, heads_step, class_step, interface_step, decl_step, decls_step}
+use Rattle.java_tree.specs.Statements.{no_items}
+use Rattle.java_tree.specs.Declarations.{last_id, next_id, no_parent, a_parent, no_list, a_list, a_param, last_param, next_param, no_params, some_params, a_result, a_head, no_body, a_body, no_up, an_up, a_method, a_maker, no_members, next_member, no_heads, next_head, a_class, an_interface, no_decls, next_decl}
+use Rattle.java_parse.specs.Want.{NMods, NIds, NParent, NList, NParam, NParams, NMoreParams, NResult, NHead, NBody, NMember, NTyped, NMethod, NMaker, NMakerBody, NMembers, NHeads, NClass, NInterface, NDecl, NDecls}
+use Rattle.java_parse.specs.Front.{after, after_key, word_next, maker_next, up_next, modifier_next, at_end}
+use Rattle.java_parse.proofs.Fronts.{option_cases, bool_cases, after_is, after_key_is, word_is, maker_is, up_is, final_is}
+use Rattle.java_parse.specs.ReadDeclarations.{mods_step, ids_step, parent_step, list_step, param_step, params_step, more_params_step, result_type_step, head_step, body_step, member_step, typed_step, method_step, maker_step, maker_body_step, members_step, heads_step, class_step, interface_step, decl_step, decls_step}
 use Rattle.java_parse.proofs.SoundDeclarations.{all_of}
-use Rattle.java_parse.proofs.Cuts.{here, led, join}
-use Rattle.java_parse.proofs.AloneExpressions.{type_alone}
+use Rattle.java_parse.proofs.Cuts.{here, on, led, join}
+use Rattle.java_parse.proofs.AloneExpressions.{type_alone, args_alone}
 use Rattle.java_parse.proofs.AloneStatements.{final_alone}
 use Rattle.java_parse.proofs.AloneDeclarations.{mods_alone, parent_alone, list_alone, param_alone, params_alone, result_alone, head_alone, member_alone, decl_alone}
 use Rattle.java_parse.proofs.Stuck.{Stuck, Unfinished, carry, stops, same, x_word, class_key, semi, open_round, close_round, open_brace, close_brace}
@@ -129,26 +130,33 @@ empty_method tail = open_round (close_round (semi tail))
 pub member_stuck : (ts : List Token) → Unfinished (member_step ts) (Stuck NMember ts)
 member_stuck ts = (
   λ rest s. never_stuck s,
-  λ v0 r0 d0. let m = mods_alone (all_of d0) in (
-    λ rest s. carry m.cut (λ tail. x_word (empty_method tail)) s (λ us tail d. (_, a_method (a_head (m.again us) d.1 no_params) no_body)),
-    λ v1 r1 d1. let t = result_alone d1 in option_cases (word_next r1)
-        (λ n2. rw n2 (stops (join m.cut t.cut) (λ tail. x_word (empty_method tail))
-        (λ tail. (_, a_method (a_head (m.again _) (t.again (x_word (empty_method tail))) no_params) no_body))))
-        (λ w2 y2. let e2 = word_is r1 w2 y2 in
-        let short : Stuck NMember ts w2.2 = stops (join m.cut (join t.cut (led e2 here))) empty_method
-        (λ tail. (_, a_method (a_head (m.again _) (t.again (_ ∷ empty_method tail)) no_params) no_body)) in
-        rw y2 (option_cases (after marks.OpenRound w2.2)
-        (λ n3. rw n3 (option_cases (v1)
-        (λ n4. rw n4 short)
-        (λ w4 y4. rw y4 (option_cases (after marks.Semi w2.2)
-        (λ n5. rw n5 short)
-        (λ w5 y5. rw y5 tt)))))
-        (λ w3 y3. let e3 = after_is marks.OpenRound w2.2 w3 y3 in rw y3 (
-          λ rest s. carry (join m.cut (join t.cut (led e2 (led e3 here)))) same s
-              (λ us tail d. d _ _ _ (m.again _) (t.again (_ ∷ _ ∷ us))),
-          λ v r d. tt,
-        )))),
-  ),
+  λ v0 r0 d0. let m = mods_alone (all_of d0) in option_cases (maker_next r0)
+      (λ n1. rw n1 (λ rest s. carry m.cut same s (λ us tail d. d (m.cut.put us) (m.again us)), λ v r d. tt))
+      (λ w1 y1. let e1 = (maker_is r0 w1 y1).1 in rw y1 (
+        λ rest s. carry (join m.cut (led e1 (on here))) same s (λ us tail d. d _ _ (m.again (_ ∷ _ ∷ us))),
+        λ v r d. tt,
+      )),
+)
+
+pub typed_stuck : (ms : List Modifier) (ts : List Token) → Unfinished (typed_step ms ts) (Stuck (NTyped ms) ts)
+typed_stuck ms ts = (
+  λ rest s. carry here (λ tail. x_word (empty_method tail)) s (λ us tail d vs m. (_, a_method (a_head m d.1 no_params) no_body)),
+  λ v0 r0 d0. let t = result_alone d0 in option_cases (word_next r0)
+      (λ n1. rw n1 (stops t.cut (λ tail. x_word (empty_method tail))
+      (λ tail us m. (_, a_method (a_head m (t.again (x_word (empty_method tail))) no_params) no_body))))
+      (λ w1 y1. let e1 = word_is r0 w1 y1 in
+      let short : Stuck (NTyped ms) ts w1.2 = stops (join t.cut (led e1 here)) empty_method
+      (λ tail us m. (_, a_method (a_head m (t.again (_ ∷ empty_method tail)) no_params) no_body)) in
+      rw y1 (option_cases (after marks.OpenRound w1.2)
+      (λ n2. rw n2 (option_cases (v0)
+      (λ n3. rw n3 short)
+      (λ w3 y3. rw y3 (option_cases (after marks.Semi w1.2)
+      (λ n4. rw n4 short)
+      (λ w4 y4. rw y4 tt)))))
+      (λ w2 y2. let e2 = after_is marks.OpenRound w1.2 w2 y2 in rw y2 (
+        λ rest s. carry (join t.cut (led e1 (led e2 here))) same s (λ us tail d vs m. d _ _ _ m (t.again (_ ∷ _ ∷ us))),
+        λ v r d. tt,
+      )))),
 )
 
 pub method_stuck : (ms : List Modifier) (t : Option TypeName) (n : List ℕ) (p : Place) (ts : List Token)
@@ -160,6 +168,43 @@ method_stuck ms t n p ts = (
     λ v1 r1 d1. tt,
   ),
 )
+
+-- empty braces
+abbrev braces : List Token → List Token
+braces tail = open_brace (close_brace tail)
+
+pub maker_stuck : (ms : List Modifier) (n : List ℕ) (p : Place) (ts : List Token) → Unfinished (maker_step ms n p ts) (Stuck (NMaker ms n p) ts)
+maker_stuck ms n p ts = (
+  λ rest s. carry here braces s (λ us tail d vs q m. (_, a_maker m d.1 no_up no_items)),
+  λ v0 r0 d0. let k = params_alone d0 in option_cases (after marks.OpenBrace r0)
+      (λ n1. rw n1 (stops k.cut braces (λ tail us q m. (_, a_maker m (k.again (braces tail)) no_up no_items))))
+      (λ w1 y1. let e1 = after_is marks.OpenBrace r0 w1 y1 in rw y1 (
+        λ rest s. carry (join k.cut (led e1 here)) same s (λ us tail d vs q m. (_, a_maker m (k.again (_ ∷ us)) d.2.first d.2.items)),
+        λ v2 r2 d2. tt,
+      )),
+)
+
+-- no more of a body behind the arguments of `super`
+abbrev up_ends : List Token → List Token
+up_ends tail = semi (close_brace tail)
+
+pub maker_body_stuck : (ts : List Token) → Unfinished (maker_body_step ts) (Stuck NMakerBody ts)
+maker_body_stuck ts = option_cases (up_next ts)
+    (λ n0. rw (n0, maker_body_step) (
+      λ rest s. carry here same s (λ us tail d. (_, _, record { middle = us; first = no_up; items = d.1 })),
+      λ v1 r1 d1. tt,
+    ))
+    (λ w0 y0. let e0 = (up_is ts w0 y0).1 in rw (y0, maker_body_step) (
+      λ rest s. carry (led e0 (on here)) up_ends s (λ us tail d. (_, _, record { middle = close_brace tail; first = an_up d.1; items = no_items })),
+      λ v1 r1 d1. let a = args_alone d1 in option_cases (after marks.Semi r1)
+          (λ n2. rw n2 (stops (led e0 (on a.cut)) up_ends
+          (λ tail. (_, _, record { middle = close_brace tail; first = an_up (a.again (up_ends tail)); items = no_items }))))
+          (λ w2 y2. let e2 = after_is marks.Semi r1 w2 y2 in rw y2 (
+            λ rest s. carry (led e0 (on (join a.cut (led e2 here)))) same s
+                (λ us tail d. (_, _, record { middle = us; first = an_up (a.again (_ ∷ us)); items = d.1 })),
+            λ v3 r3 d3. tt,
+          )),
+    ))
 
 pub members_stuck : (bs : List MemberTree) (ts : List Token) → Unfinished (members_step bs ts) (Stuck (NMembers bs) ts)
 members_stuck bs ts = option_cases (after marks.CloseBrace ts)
@@ -184,10 +229,6 @@ heads_stuck hs ts = option_cases (after marks.CloseBrace ts)
           )),
     ))
     (λ w0 y0. rw (y0, heads_step) tt)
-
--- empty braces
-abbrev braces : List Token → List Token
-braces tail = open_brace (close_brace tail)
 
 pub class_stuck : (ms : List Modifier) (ts : List Token) → Unfinished (class_step ms ts) (Stuck (NClass ms) ts)
 class_stuck ms ts = option_cases (word_next ts)

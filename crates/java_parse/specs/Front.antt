@@ -51,6 +51,19 @@ abbrev pub word_next : List Token → Option (List ℕ × Place × List Token)
 word_next [] = None
 word_next (t ∷ ts) = word_by t.kind t.place ts
 
+-- a name that begins a constructor, its place and what follows the bracket behind it, once that was looked for
+abbrev pub maker_by : List ℕ → Place → Option (Place × List Token) → Option (List ℕ × Place × List Token)
+maker_by n p None = None
+maker_by n p (Some b) = Some (n, p, b.1)
+
+-- the name that is next with an opening bracket behind it, its place and the tokens behind the bracket
+abbrev pub maker_next : List Token → Option (List ℕ × Place × List Token)
+maker_next ts = elim (word_next ts) [ None ↦ None | Some w ↦ maker_by w.0 w.1 (after marks.OpenRound w.2) ]
+
+-- the place of an opening bracket and the tokens behind it, where `super` and the bracket are next
+abbrev pub up_next : List Token → Option (Place × List Token)
+up_next ts = elim (after_key keys.Super ts) [ None ↦ None | Some a ↦ after marks.OpenRound a.1 ]
+
 -- a binary operator whose level is within these bounds
 abbrev pub operator_by : ℕ → ℕ → TokenKind → Place → List Token → Option (Mark × Place × List Token)
 operator_by l c (kinds.Mark m) p ts = if nat_lt 0 (level m) && (nat_le l (level m) && nat_le (level m) c) then Some (m, p, ts) else None

@@ -9,9 +9,9 @@ use Rattle.java_tree.specs.declared.Id.{Id}
 use Rattle.java_tree.specs.declared.Modifier.{Modifier}
 use Rattle.java_tree.specs.declared.TypeName.{TypeName}
 use Rattle.java_tree.specs.declared.Param.{Param}
-use Rattle.java_tree.specs.Syntax.{Statements, no_statements, HeadTree, MemberTree, FieldTree, MethodTree, DeclTree, ClassTree, InterfaceTree}
-use Rattle.java_parse.specs.Want.{NType, NItems, NMods, NIds, NParent, NList, NParam, NParams, NMoreParams, NResult, NHead, NBody, NMember, NMethod, NMembers, NHeads, NClass, NInterface, NDecl, NDecls, ReadStep, Give, Fail, Ask}
-use Rattle.java_parse.specs.Front.{after, after_key, word_next, final_of, modifier_next, at_end}
+use Rattle.java_tree.specs.Syntax.{Expressions, Statements, no_statements, HeadTree, MemberTree, FieldTree, MethodTree, MakerTree, DeclTree, ClassTree, InterfaceTree}
+use Rattle.java_parse.specs.Want.{NType, NArgs, NItems, NMods, NIds, NParent, NList, NParam, NParams, NMoreParams, NResult, NHead, NBody, NMember, NTyped, NMethod, NMaker, NMakerBody, NMembers, NHeads, NClass, NInterface, NDecl, NDecls, ReadStep, Give, Fail, Ask}
+use Rattle.java_parse.specs.Front.{after, after_key, word_next, maker_next, up_next, final_of, modifier_next, at_end}
 
 -- modifiers, as long as one is next, put behind those already read
 abbrev pub mods_step : List Modifier → List Token → ReadStep (List Modifier)
@@ -98,26 +98,50 @@ body_step ts = elim (after marks.Semi ts) [
   ]
 ]
 
--- a member: modifiers, a type or `void` and a name, then a method where a bracket follows, or else a field
+-- a member: modifiers, then a constructor where a name and a bracket follow, or else a field or a method
 abbrev pub member_step : List Token → ReadStep MemberTree
-member_step ts = Ask (NMods []) ts (λ x1 r2. Ask NResult r2 (λ x3 r4. elim (word_next r4) [
-  | Some w5 ↦ elim (after marks.OpenRound w5.2) [
-    | Some w6 ↦ Ask (NMethod x1 x3 w5.0 w5.1) w6.1 Give
-    | None ↦ elim (x3) [
-      | Some w7 ↦ elim (after marks.Semi w5.2) [
-        | Some w8 ↦ Give (FieldTree x1 w7 w5.0 w5.1) w8.1
-        | None ↦ Fail w5.2
+member_step ts = Ask (NMods []) ts (λ x1 r2. elim (maker_next r2) [
+  | Some w3 ↦ Ask (NMaker x1 w3.0 w3.1) w3.2 Give
+  | None ↦ Ask (NTyped x1) r2 Give
+])
+
+-- the rest of a field or a method behind its modifiers: a type or `void` and a name, then a method where a bracket follows, or else a field
+abbrev pub typed_step : List Modifier → List Token → ReadStep MemberTree
+typed_step ms ts = Ask NResult ts (λ x1 r2. elim (word_next r2) [
+  | Some w3 ↦ elim (after marks.OpenRound w3.2) [
+    | Some w4 ↦ Ask (NMethod ms x1 w3.0 w3.1) w4.1 Give
+    | None ↦ elim (x1) [
+      | Some w5 ↦ elim (after marks.Semi w3.2) [
+        | Some w6 ↦ Give (FieldTree ms w5 w3.0 w3.1) w6.1
+        | None ↦ Fail w3.2
       ]
-      | None ↦ Fail w5.2
+      | None ↦ Fail w3.2
     ]
   ]
-  | None ↦ Fail r4
-]))
+  | None ↦ Fail r2
+])
 
 -- the rest of a method, of which all before its parameters has been read
 abbrev pub method_step : List Modifier → Option TypeName → List ℕ → Place → List Token → ReadStep MemberTree
 method_step ms t n p ts = Ask NParams ts
     (λ x1 r2. Ask NBody r2 (λ x3 r4. Give (MethodTree (record { mods = ms; type = t; name = n; params = x1; place = p }) x3 p) r4))
+
+-- the rest of a constructor, of which all before its parameters has been read: these, and its body in braces
+abbrev pub maker_step : List Modifier → List ℕ → Place → List Token → ReadStep MemberTree
+maker_step ms n p ts = Ask NParams ts (λ x1 r2. elim (after marks.OpenBrace r2) [
+  | Some w3 ↦ Ask NMakerBody w3.1 (λ x4 r5. Give (MakerTree ms n x1 x4.0 x4.1 p) r5)
+  | None ↦ Fail r2
+])
+
+-- the body of a constructor behind its brace: `super`, arguments in brackets and a `;`, or not, and the statements
+abbrev pub maker_body_step : List Token → ReadStep (Option Expressions × Statements)
+maker_body_step ts = elim (up_next ts) [
+  | Some w1 ↦ Ask NArgs w1.1 (λ x2 r3. elim (after marks.Semi r3) [
+    | Some w4 ↦ Ask (NItems no_statements) w4.1 (λ x5 r6. Give (Some x2, x5) r6)
+    | None ↦ Fail r3
+  ])
+  | None ↦ Ask (NItems no_statements) ts (λ x2 r3. Give (None, x2) r3)
+]
 
 -- the members behind those already read, and the closing brace
 abbrev pub members_step : List MemberTree → List Token → ReadStep (List MemberTree)

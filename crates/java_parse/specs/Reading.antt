@@ -1,10 +1,10 @@
 -- Mirror. Readings: what a part comes to from a list of tokens.
 use Rattle.std.specs.Prelude.{List, Result, Ok, Err}
 use Rattle.java_lex.specs.declared.Token.{Token}
-use Rattle.java_parse.specs.Want.{Want, NExpr, NMore, NPrefixed, NPost, NAtom, NSuper, NNew, NSized, NDims, NType, NTail, NArgs, NMoreArgs, NInit, NLocal, NValue, NAct, NActRest, NTested, NItem, NItems, NStmt, NForHead, NFirst, NStep, NBranches, NMods, NIds, NParent, NList, NParam, NParams, NMoreParams, NResult, NHead, NBody, NMember, NMethod, NMembers, NHeads, NClass, NInterface, NDecl, NDecls, Val, ReadStep, Give, Fail, Ask}
+use Rattle.java_parse.specs.Want.{Want, NExpr, NMore, NPrefixed, NPost, NAtom, NSuper, NNew, NSized, NDims, NType, NTail, NArgs, NMoreArgs, NInit, NLocal, NValue, NAct, NActRest, NTested, NItem, NItems, NStmt, NForHead, NFirst, NStep, NBranches, NMods, NIds, NParent, NList, NParam, NParams, NMoreParams, NResult, NHead, NBody, NMember, NTyped, NMethod, NMaker, NMakerBody, NMembers, NHeads, NClass, NInterface, NDecl, NDecls, Val, ReadStep, Give, Fail, Ask}
 use Rattle.java_parse.specs.ReadExpressions.{expr_step, more_step, prefixed_step, post_step, atom_step, super_step, new_step, sized_step, dims_step, type_step, tail_step, args_step, more_args_step}
 use Rattle.java_parse.specs.ReadStatements.{init_step, local_step, value_step, act_step, act_rest_step, tested_step, item_step, items_step, stmt_step, for_head_step, first_step, step_step, branches_step}
-use Rattle.java_parse.specs.ReadDeclarations.{mods_step, ids_step, parent_step, list_step, param_step, params_step, more_params_step, result_type_step, head_step, body_step, member_step, method_step, members_step, heads_step, class_step, interface_step, decl_step, decls_step}
+use Rattle.java_parse.specs.ReadDeclarations.{mods_step, ids_step, parent_step, list_step, param_step, params_step, more_params_step, result_type_step, head_step, body_step, member_step, typed_step, method_step, maker_step, maker_body_step, members_step, heads_step, class_step, interface_step, decl_step, decls_step}
 
 -- how a part is read
 abbrev pub body : (n : Want) → List Token → ReadStep (Val n)
@@ -45,7 +45,10 @@ body NResult ts = result_type_step ts
 body NHead ts = head_step ts
 body NBody ts = body_step ts
 body NMember ts = member_step ts
+body (NTyped ms) ts = typed_step ms ts
 body (NMethod ms t n p) ts = method_step ms t n p ts
+body (NMaker ms n p) ts = maker_step ms n p ts
+body NMakerBody ts = maker_body_step ts
 body (NMembers bs) ts = members_step bs ts
 body (NHeads hs) ts = heads_step hs ts
 body (NClass ms) ts = class_step ms ts

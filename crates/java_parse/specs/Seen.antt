@@ -11,7 +11,7 @@ use Rattle.java_tree.specs.declared.Arm.{Arm}
 use Rattle.java_tree.specs.declared.TypeBase.{TypeBase}
 use Rattle.java_tree.specs.declared.TypeBase.TheVariants as bases
 use Rattle.java_tree.specs.declared.TypeName.{TypeName}
-use Rattle.java_tree.specs.Syntax.{Expression, IntLit, CharLit, StrLit, BoolLit, NullLit, ThisRef, Arms, Else, OptionalStatement, expr_of, arms_seen, else_seen, value_of, step_seen}
+use Rattle.java_tree.specs.Syntax.{Expression, IntLit, CharLit, StrLit, BoolLit, NullLit, ThisRef, Expressions, Statements, Arms, Else, OptionalStatement, expr_of, stmts, arms_seen, else_seen, value_of, step_seen, up_seen}
 use Rattle.java_parse.specs.declared.End.{End}
 use Rattle.java_parse.specs.declared.Stop.{Stop}
 use Rattle.java_parse.specs.declared.Stop.TheVariants as stops
@@ -95,6 +95,10 @@ seen_branches (a, o) = (arms_seen a.items, else_seen o)
 -- what stands in the round brackets of a `for`, as plain data
 abbrev pub seen_steps : ForHead → OptionalStatement × Option Expression × OptionalStatement
 seen_steps h = (step_seen h.first, value_of h.test, step_seen h.step)
+
+-- what the body of a constructor holds, as plain data: the arguments of `super`, where that stands first, and the statements
+abbrev pub seen_maker_body : Option (Vec Expr Global) × Vec Stmt Global → Option Expressions × Statements
+seen_maker_body (u, b) = (up_seen u, stmts b.items)
 
 -- how a statement begins, as plain data
 abbrev pub start_seen : Begin → Start

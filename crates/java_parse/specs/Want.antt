@@ -52,7 +52,10 @@ pub data Want : Type 0 where
   NHead : Want
   NBody : Want
   NMember : Want
+  NTyped : List Modifier → Want
   NMethod : List Modifier → Option TypeName → List ℕ → Place → Want
+  NMaker : List Modifier → List ℕ → Place → Want
+  NMakerBody : Want
   NMembers : List MemberTree → Want
   NHeads : List HeadTree → Want
   NClass : List Modifier → Want
@@ -99,7 +102,10 @@ Val NResult = Option TypeName
 Val NHead = HeadTree
 Val NBody = Option Statements
 Val NMember = MemberTree
+Val (NTyped ms) = MemberTree
 Val (NMethod ms t n p) = MemberTree
+Val (NMaker ms n p) = MemberTree
+Val NMakerBody = Option Expressions × Statements
 Val (NMembers bs) = List MemberTree
 Val (NHeads hs) = List HeadTree
 Val (NClass ms) = DeclTree

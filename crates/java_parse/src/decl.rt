@@ -13,16 +13,16 @@ ghost use Rattle.java_tree.specs.declared.Head.{Head};
 ghost use Rattle.java_tree.specs.declared.Member.{Member};
 ghost use Rattle.java_tree.specs.declared.Decl.{Decl};
 ghost use Rattle.java_tree.specs.Syntax.{body_seen, head_of, heads, member_of, members, decl_of, decls};
-ghost use Rattle.java_parse.specs.Want.{NMods, NIds, NParent, NList, NParam, NParams, NResult, NHead, NBody, NMember, NMethod, NMembers, NHeads, NClass, NInterface, NDecl, NDecls};
+ghost use Rattle.java_parse.specs.Want.{NMods, NIds, NParent, NList, NParam, NParams, NResult, NHead, NBody, NMember, NTyped, NMethod, NMaker, NMakerBody, NMembers, NHeads, NClass, NInterface, NDecl, NDecls};
 ghost use Rattle.java_parse.specs.Reading.{Reads};
-ghost use Rattle.java_parse.specs.Seen.{seen};
+ghost use Rattle.java_parse.specs.Seen.{seen, seen_maker_body};
 
 use crate::Stop;
-use crate::expr::type_at;
-use crate::front::{final_at, key_at, mark_at, modifier_at, word_at};
+use crate::expr::{args, type_at};
+use crate::front::{final_at, key_at, maker_at, mark_at, modifier_at, up_at, word_at};
 use crate::stmt::items;
 use java_lex::{Mark, Token};
-use java_tree::{Decl, Head, Id, Member, Modifier, Param, Stmt, TypeName};
+use java_tree::{Decl, Expr, Head, Id, Member, Modifier, Param, Stmt, TypeName};
 use kaba_base::{Keyword, Name, Place, made};
 use std::alloc::Global;
 use std::mem::drop;
@@ -132,7 +132,8 @@ fn head(alloc: Global, tokens: &[Token]) -> Result<(Head, &[Token]), Stop<'_>>
     ensures reads { Reads NHead tokens.now (seen head_of result) }
     ensures shorter { IfOk result (λ x. length x.1.now < length tokens.now) }
 {
-    begun!((mods, ty, found, place, behind) = alloc, tokens);
+    let (mods, rest) = modifiers(alloc, tokens)?;
+    begun!((ty, found, place, behind) = alloc, rest);
     found!((_, inner) = mark_at(Mark::OpenRound, behind), behind; ty);
     let (params, rest) = made!(params(alloc, inner); ty);
     copied!(name = found.copy(alloc); ty);
@@ -166,7 +167,25 @@ fn member(alloc: Global, tokens: &[Token]) -> Result<(Member, &[Token]), Stop<'_
     ensures reads { Reads NMember tokens.now (seen member_of result) }
     ensures shorter { IfOk result (λ x. length x.1.now < length tokens.now) }
 {
-    begun!((mods, ty, found, place, behind) = alloc, tokens);
+    let (mods, rest) = modifiers(alloc, tokens)?;
+    if let Some((found, place, inner)) = maker_at(rest) {
+        let name = found.copy(alloc)?;
+        return maker(alloc, mods, name, place, inner);
+    }
+    typed(alloc, mods, rest)
+}
+
+// A field or a method behind its modifiers.
+fn typed(
+    alloc: Global,
+    mods: Vec<Modifier>,
+    tokens: &[Token],
+) -> Result<(Member, &[Token]), Stop<'_>>
+    requires room { length tokens.now < 2 ^ 32 }
+    ensures reads { Reads (NTyped mods.items) tokens.now (seen member_of result) }
+    ensures shorter { IfOk result (λ x. length x.1.now < length tokens.now) }
+{
+    begun!((ty, found, place, behind) = alloc, tokens);
     copied!(name = found.copy(alloc); ty);
     if let Some((_, inner)) = mark_at(Mark::OpenRound, behind) {
         return method(alloc, mods, ty, name, place, inner);
@@ -209,6 +228,54 @@ fn method(
         place,
     };
     Ok((Member::Method { head, body, place }, rest))
+}
+
+// The parameters and the body of a constructor.
+fn maker(
+    alloc: Global,
+    mods: Vec<Modifier>,
+    name: Name,
+    place: Place,
+    tokens: &[Token],
+) -> Result<(Member, &[Token]), Stop<'_>>
+    requires room { length tokens.now < 2 ^ 32 }
+    ensures reads { Reads (NMaker mods.items name place) tokens.now (seen member_of result) }
+    ensures shorter { IfOk result (λ x. length x.1.now < length tokens.now) }
+{
+    let (params, rest) = params(alloc, tokens)?;
+    found!((_, inner) = mark_at(Mark::OpenBrace, rest), rest);
+    let ((up, body), end) = maker_body(alloc, inner)?;
+    Ok((
+        Member::Maker {
+            mods,
+            name,
+            params,
+            up,
+            body,
+            place,
+        },
+        end,
+    ))
+}
+
+// The body of a constructor behind its opening brace, and what follows the closing one: the arguments
+// of `super`, where that stands first with a bracket behind it, and the statements.
+fn maker_body(
+    alloc: Global,
+    tokens: &[Token],
+) -> Result<((Option<Vec<Expr>>, Vec<Stmt>), &[Token]), Stop<'_>>
+    requires room { length tokens.now < 2 ^ 32 }
+    ensures reads { Reads NMakerBody tokens.now (seen seen_maker_body result) }
+    ensures shorter { IfOk result (λ x. length x.1.now < length tokens.now) }
+{
+    let Some((_, inner)) = up_at(tokens) else {
+        let (body, end) = items(alloc, tokens)?;
+        return Ok(((None, body), end));
+    };
+    let (args, rest) = args(alloc, inner)?;
+    found!((_, after) = mark_at(Mark::Semi, rest), rest);
+    let (body, end) = items(alloc, after)?;
+    Ok(((Some(args), body), end))
 }
 
 // The members behind an opening brace, and what follows the closing one.

@@ -7,7 +7,7 @@ ghost use Rattle.std.specs.Borrow.{Bor};
 ghost use Rattle.java_lex.specs.declared.Token.{Token};
 ghost use Rattle.java_lex.specs.declared.Mark.{Mark};
 ghost use Rattle.java_tree.specs.Tokens.{casts};
-ghost use Rattle.java_parse.specs.Front.{after, after_key, word_next, operator, instance_next, least_next, sign_next, opens_cast, cast_next, base_next, literal_next, index_next, final_of, modifier_next};
+ghost use Rattle.java_parse.specs.Front.{after, after_key, word_next, maker_next, up_next, operator, instance_next, least_next, sign_next, opens_cast, cast_next, base_next, literal_next, index_next, final_of, modifier_next};
 ghost use Rattle.java_parse.specs.Seen.{seen_at, seen_two, seen_word, seen_one, seen_base, seen_cast, seen_literal};
 
 use crate::End;
@@ -57,6 +57,26 @@ pub fn word_at(tokens: &[Token]) -> Option<(&Name, Place, &[Token])>
         }
     }
     None
+}
+
+/// A name and an opening bracket at the front, which begin a constructor: the name, its place, and what follows the bracket.
+pub fn maker_at(tokens: &[Token]) -> Option<(&Name, Place, &[Token])>
+    ensures value { option_map seen_word result ≡ maker_next tokens.now }
+    ensures shorter { IfSome result (λ x. length x.2.now < length tokens.now) }
+{
+    let (name, place, behind) = word_at(tokens)?;
+    let (_, inner) = mark_at(Mark::OpenRound, behind)?;
+    Some((name, place, inner))
+}
+
+/// The bracket behind `super` at the front, which calls the constructor above, and what follows the bracket.
+pub fn up_at(tokens: &[Token]) -> Option<(Place, &[Token])>
+    ensures value { option_map seen_at result ≡ up_next tokens.now }
+    ensures shorter { IfSome result (λ x. length x.1.now < length tokens.now) }
+{
+    let (_, behind) = key_at(Keyword::Super, tokens)?;
+    let (place, inner) = mark_at(Mark::OpenRound, behind)?;
+    Some((place, inner))
 }
 
 /// The binary operator at the front, where it binds within these bounds.

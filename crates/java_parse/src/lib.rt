@@ -39,11 +39,10 @@ macro_rules! unless {
     }};
 }
 
-/// Names the modifiers, the type and the name that a member begins with.
+/// Names the type and the name that a field, a method or a head begins with, behind its modifiers.
 macro_rules! begun {
-    (($mods:ident, $ty:ident, $found:ident, $place:ident, $behind:ident) = $alloc:ident, $tokens:ident) => {
-        let ($mods, rest) = modifiers($alloc, $tokens)?;
-        let ($ty, rest) = result_type($alloc, rest)?;
+    (($ty:ident, $found:ident, $place:ident, $behind:ident) = $alloc:ident, $tokens:ident) => {
+        let ($ty, rest) = result_type($alloc, $tokens)?;
         found!(($found, $place, $behind) = word_at(rest), rest; $ty);
     };
 }

@@ -14,16 +14,16 @@ use Rattle.java_tree.specs.declared.Id.{Id}
 use Rattle.java_tree.specs.declared.Modifier.{Modifier}
 use Rattle.java_tree.specs.declared.TypeName.{TypeName}
 use Rattle.java_tree.specs.declared.Param.{Param}
-use Rattle.java_tree.specs.Syntax.{Statements, HeadTree, MemberTree, FieldTree, MethodTree, DeclTree, ClassTree, InterfaceTree}
-use Rattle.java_tree.specs.Places.{nowhere, stmts_unplaced, all_unplaced, may_unplaced, id_unplaced, modifier_unplaced, type_unplaced, param_unplaced, head_unplaced, member_unplaced, decl_unplaced, unplaced}
+use Rattle.java_tree.specs.Syntax.{Expressions, Statements, HeadTree, MemberTree, FieldTree, MethodTree, MakerTree, DeclTree, ClassTree, InterfaceTree}
+use Rattle.java_tree.specs.Places.{nowhere, exprs_unplaced, stmts_unplaced, all_unplaced, may_unplaced, id_unplaced, modifier_unplaced, type_unplaced, param_unplaced, head_unplaced, member_unplaced, decl_unplaced, unplaced}
 use Rattle.java_print.specs.Items.{Item, Space, End, kinds_in}
-use Rattle.java_print.specs.Layout.{mark_then, word_then, type_items, final_items, mods_items, result_items, params_items, head_items, body_items, member_items, members_items, heads_items, ids_items, parent_items, list_items, decl_items, decls_items, tree_text}
-use Rattle.java_tree.specs.Formed.{Each, IsFormedMod, IsFormedHead, IsFormedBody, IsFormedMember, IsFormedDecl, IsFormedTree}
-use Rattle.java_tree.specs.Declarations.{IsMods, no_mods, next_mod, IsIds, last_id, next_id, IsParent, no_parent, a_parent, IsList, no_list, a_list, IsParam, a_param, IsMoreParams, last_param, next_param, IsParams, no_params, some_params, IsResult, no_result, a_result, IsHead, a_head, IsBody, no_body, a_body, IsMember, a_field, a_method, IsMembers, no_members, next_member, IsHeads, no_heads, next_head, IsDecl, a_class, an_interface, no_decls, next_decl, Derives}
+use Rattle.java_print.specs.Layout.{mark_then, word_then, type_items, final_items, mods_items, result_items, params_items, head_items, body_items, up_items, member_items, members_items, heads_items, ids_items, parent_items, list_items, decl_items, decls_items, tree_text}
+use Rattle.java_tree.specs.Formed.{Each, IsFormedMod, IsFormedHead, IsFormedBody, IsFormedUp, IsFormedMember, IsFormedDecl, IsFormedTree}
+use Rattle.java_tree.specs.Declarations.{IsMods, no_mods, next_mod, IsIds, last_id, next_id, IsParent, no_parent, a_parent, IsList, no_list, a_list, IsParam, a_param, IsMoreParams, last_param, next_param, IsParams, no_params, some_params, IsResult, no_result, a_result, IsHead, a_head, IsBody, no_body, a_body, IsUp, no_up, an_up, IsMember, a_field, a_method, a_maker, IsMembers, no_members, next_member, IsHeads, no_heads, next_head, IsDecl, a_class, an_interface, no_decls, next_decl, Derives}
 use Rattle.java_tree.specs.Formed.{IsReadAs, IsGiven}
 use Rattle.java_print.proofs.Lexes.{nothing}
 use Rattle.java_print.proofs.TreeLexes as texts
-use Rattle.java_print.proofs.ExprParsed.{Of, none, one, of_tokens, Got, step, got_in, type_found}
+use Rattle.java_print.proofs.ExprParsed.{Of, none, one, of_tokens, Got, step, got_in, type_found, args}
 use Rattle.java_print.proofs.TreeParsed.{final, stmts}
 
 -- one that is read and those that are read behind it, where together they are of a kind
@@ -100,6 +100,15 @@ body : (b : Option Statements) → IsFormedBody (may_unplaced stmts_unplaced b) 
 body None w r _ (one {ts = ts} o) = record { rest = ts; tree = None; fact = no_body; left = o; same = refl }
 body (Some ss) w r _ (one {ts = ts} o) = got_in Some Some (λ y. refl) refl (λ us y d. a_body d) (stmts ss w 4 2 (End ∷ r) ts o)
 
+up : (u : Option Expressions) → IsFormedUp (may_unplaced exprs_unplaced u) → (r : List Item) (ts : List Token) → Of (kinds_in (up_items u r)) ts
+    → Got (may_unplaced exprs_unplaced) IsUp u (kinds_in r) ts
+up None w r ts o = record { rest = ts; tree = None; fact = no_up; left = o; same = refl }
+up (Some es) w r _ (one (one {ts = ts} o)) = got_in Some Some (λ y. refl) refl (λ us y d. an_up d.1) (step (args es w _ ts o))
+
+-- a constructor without its place
+abbrev bare_maker : List Modifier → List ℕ → List Param → Option Expressions → Statements → MemberTree
+bare_maker ms n qs u ss = MakerTree ms n qs u ss nowhere
+
 member : (m : MemberTree) → IsFormedMember (member_unplaced m) → (r : List Item) (ts : List Token) → Of (kinds_in (member_items m r)) ts
     → Got member_unplaced IsMember m (kinds_in r) ts
 member (FieldTree ms t n p) w r ts o =
@@ -121,6 +130,21 @@ member (MethodTree h b p) w r ts o =
       fact = a_method x.fact y.fact;
       left = y.left;
       same = ap (λ k. MethodTree k (may_unplaced stmts_unplaced y.tree) nowhere) x.same ∙ ap (λ k. MethodTree (head_unplaced h) k nowhere) y.same;
+    }
+member (MakerTree ms n qs u ss p) w r ts o =
+    let x = step (step (mods ms w.0 _ ts o)) in
+    let y = step (params qs _ x.rest x.left) in
+    let z = up u w.3 _ y.rest y.left in
+    let v = stmts ss w.4 4 2 (End ∷ r) z.rest z.left in
+    record {
+      rest = v.rest;
+      tree = MakerTree x.tree n y.tree z.tree v.tree x.fact.1.0;
+      fact = a_maker x.fact.1.1 y.fact.1 z.fact v.fact;
+      left = v.left;
+      same = ap (λ k. bare_maker k n (all_unplaced param_unplaced y.tree) (may_unplaced exprs_unplaced z.tree) (stmts_unplaced v.tree)) x.same
+          ∙ ap (λ k. bare_maker (all_unplaced modifier_unplaced ms) n k (may_unplaced exprs_unplaced z.tree) (stmts_unplaced v.tree)) y.same
+          ∙ ap (λ k. bare_maker (all_unplaced modifier_unplaced ms) n (all_unplaced param_unplaced qs) k (stmts_unplaced v.tree)) z.same
+          ∙ ap (bare_maker (all_unplaced modifier_unplaced ms) n (all_unplaced param_unplaced qs) (may_unplaced exprs_unplaced u)) v.same;
     }
 
 members : (ms : List MemberTree) → Each IsFormedMember (all_unplaced member_unplaced ms) → (r : List Item) (ts : List Token)

@@ -10,11 +10,11 @@ use Rattle.java_tree.specs.declared.Id.{Id}
 use Rattle.java_tree.specs.declared.Modifier.{Modifier}
 use Rattle.java_tree.specs.declared.TypeName.{TypeName}
 use Rattle.java_tree.specs.declared.Param.{Param}
-use Rattle.java_tree.specs.Syntax.{Expression, CallOn, Statement, LocalOf, BlockOf, AssignOf, DoOf, PrintOf, IfOf, WhileOf, ForOf, ReturnOf, BreakOf, ContinueOf, Statements, no_statements, and_then, Arms, no_arms, and_arm, Else, no_else, otherwise, OptionalStatement, absent, present, HeadTree, MemberTree, FieldTree, MethodTree, DeclTree, ClassTree, InterfaceTree}
-use Rattle.java_tree.specs.Places.{expr_unplaced, value_unplaced, stmt_unplaced, stmts_unplaced, arms_unplaced, else_unplaced, step_unplaced, all_unplaced, may_unplaced, id_unplaced, modifier_unplaced, type_unplaced, param_unplaced, head_unplaced, member_unplaced, decl_unplaced, unplaced}
+use Rattle.java_tree.specs.Syntax.{Expression, CallOn, Expressions, Statement, LocalOf, BlockOf, AssignOf, DoOf, PrintOf, IfOf, WhileOf, ForOf, ReturnOf, BreakOf, ContinueOf, Statements, no_statements, and_then, Arms, no_arms, and_arm, Else, no_else, otherwise, OptionalStatement, absent, present, HeadTree, MemberTree, FieldTree, MethodTree, MakerTree, DeclTree, ClassTree, InterfaceTree}
+use Rattle.java_tree.specs.Places.{expr_unplaced, exprs_unplaced, value_unplaced, stmt_unplaced, stmts_unplaced, arms_unplaced, else_unplaced, step_unplaced, all_unplaced, may_unplaced, id_unplaced, modifier_unplaced, type_unplaced, param_unplaced, head_unplaced, member_unplaced, decl_unplaced, unplaced}
 use Rattle.java_print.specs.Items.{Item}
-use Rattle.java_print.specs.Layout.{expr_items, value_items, spaced_items, init_items, final_items, prints, bracketed_items, call_items, simple_items, first_items, step_items, else_then, open_body, close_body, stmt_items, stmts_items, arms_items, else_items, mods_items, result_items, params_items, head_items, body_items, member_items, members_items, heads_items, ids_items, parent_items, list_items, decl_items, decls_items}
-use Rattle.java_tree.specs.Formed.{IsFormedExpression, IsFormedValue, IsFormedStmt, AreFormedStmts, AreFormedArms, IsFormedElse, IsFormedFirst, IsFormedStep, Each, IsFormedMod, IsFormedId, IsFormedParam, IsFormedResult, IsFormedHead, IsFormedBody, IsFormedMember, IsFormedParent, IsFormedDecl, IsFormedTree}
+use Rattle.java_print.specs.Layout.{expr_items, value_items, spaced_items, init_items, final_items, prints, bracketed_items, call_items, simple_items, first_items, step_items, else_then, open_body, close_body, stmt_items, stmts_items, arms_items, else_items, mods_items, result_items, params_items, head_items, body_items, up_items, member_items, members_items, heads_items, ids_items, parent_items, list_items, decl_items, decls_items}
+use Rattle.java_tree.specs.Formed.{IsFormedExpression, IsFormedValue, IsFormedStmt, AreFormedStmts, AreFormedArms, IsFormedElse, IsFormedFirst, IsFormedStep, Each, IsFormedMod, IsFormedId, IsFormedParam, IsFormedResult, IsFormedHead, IsFormedBody, IsFormedUp, IsFormedMember, IsFormedParent, IsFormedDecl, IsFormedTree}
 use Rattle.java_print.proofs.Lexes.{Lexes, Loose, word, key, closed, space, line, margin, spaced, system_out, print_names}
 use Rattle.java_print.proofs.ExprLexes.{expr, args, a_type, commas}
 
@@ -146,10 +146,18 @@ body : (b : Option Statements) → IsFormedBody (may_unplaced stmts_unplaced b) 
 body None w r s = closed tokens.cSemi (line s)
 body (Some ss) w r s = opened (stmts ss w 4 _ (shut 2 (line s)))
 
+up : (u : Option Expressions) → IsFormedUp (may_unplaced exprs_unplaced u) → (r : List Item) → Lexes r → Lexes (up_items u r)
+unfolding unicode_ident
+up None w r s = s
+up (Some es) w r s = margin 4 (key keys.Super refl (closed tokens.cOpenRound (args false es w _ (closed tokens.cSemi (line s)))))
+
 member : (m : MemberTree) → IsFormedMember (member_unplaced m) → (r : List Item) → Lexes r → Lexes (member_items m r)
 unfolding unicode_ident
 member (FieldTree ms t n p) w r s = margin 2 (mods ms w.0 _ (a_type t w.1 _ refl (space (word w.2 refl (closed tokens.cSemi (line s))))))
 member (MethodTree h b p) w r s = margin 2 (head h w.0 _ (body b w.1 r s))
+member (MakerTree ms n qs u ss p) w r s =
+    margin 2 (mods ms w.0 _ (word w.1 refl (closed tokens.cOpenRound
+    (params false qs w.2 _ (opened (up u w.3 _ (stmts ss w.4 4 _ (shut 2 (line s)))))))))
 
 members : (ms : List MemberTree) → Each IsFormedMember (all_unplaced member_unplaced ms) → (r : List Item) → Lexes r → Lexes (members_items ms r)
 members [] w r s = s

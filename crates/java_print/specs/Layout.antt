@@ -11,7 +11,7 @@ use Rattle.java_tree.specs.declared.TypeBase.{TypeBase}
 use Rattle.java_tree.specs.declared.TypeBase.TheVariants as bases
 use Rattle.java_tree.specs.declared.TypeName.{TypeName}
 use Rattle.java_tree.specs.declared.Param.{Param}
-use Rattle.java_tree.specs.Syntax.{Expression, IntLit, CharLit, StrLit, BoolLit, NullLit, ThisRef, NameRef, FieldOf, IndexOf, CallOf, CallOn, SuperCallOf, NewOf, NewArrayOf, CastOf, InstanceOfClass, UnaryOf, BinaryOf, Expressions, no_more, and_more, Statement, LocalOf, BlockOf, AssignOf, DoOf, PrintOf, IfOf, WhileOf, ForOf, ReturnOf, BreakOf, ContinueOf, Statements, no_statements, and_then, Arms, no_arms, and_arm, Else, no_else, otherwise, OptionalStatement, absent, present, HeadTree, MemberTree, FieldTree, MethodTree, DeclTree, ClassTree, InterfaceTree}
+use Rattle.java_tree.specs.Syntax.{Expression, IntLit, CharLit, StrLit, BoolLit, NullLit, ThisRef, NameRef, FieldOf, IndexOf, CallOf, CallOn, SuperCallOf, NewOf, NewArrayOf, CastOf, InstanceOfClass, UnaryOf, BinaryOf, Expressions, no_more, and_more, Statement, LocalOf, BlockOf, AssignOf, DoOf, PrintOf, IfOf, WhileOf, ForOf, ReturnOf, BreakOf, ContinueOf, Statements, no_statements, and_then, Arms, no_arms, and_arm, Else, no_else, otherwise, OptionalStatement, absent, present, HeadTree, MemberTree, FieldTree, MethodTree, MakerTree, DeclTree, ClassTree, InterfaceTree}
 use Rattle.java_tree.specs.Tokens.{level}
 use Rattle.java_tree.specs.Statements.{is_called, printed_by}
 use Rattle.java_print.specs.Items.{Item, Lexeme, Space, End, Margin, text}
@@ -431,10 +431,32 @@ field_member_items ms t n r = Margin 2 ∷ mods_items ms (type_items t (Space �
 abbrev pub method_items : HeadTree → Option Statements → List Item → List Item
 method_items h b r = Margin 2 ∷ head_items h (body_items b r)
 
+-- `super(..)` in a constructor's body, in a line of its own
+abbrev pub up_line_items : Expressions → List Item → List Item
+up_line_items es r = Margin 4 ∷ key_then keys.Super (mark_then marks.OpenRound (args_items false es (stop_then r)))
+
+-- the `super(..)` that a constructor's body begins with, where there is one
+abbrev pub up_items : Option Expressions → List Item → List Item
+up_items None r = r
+up_items (Some es) r = up_line_items es r
+
+-- a constructor up to its body: its modifiers, its name and its parameters
+abbrev pub maker_head_items : List Modifier → List ℕ → List Param → List Item → List Item
+maker_head_items ms n qs r = mods_items ms (word_then n (mark_then marks.OpenRound (params_items false qs r)))
+
+-- the body of a constructor, and the end of the line
+abbrev pub maker_body_items : Option Expressions → Statements → List Item → List Item
+maker_body_items u ss r = open_body (up_items u (stmts_items 4 ss (close_body 2 (End ∷ r))))
+
+-- a constructor as a member, in lines of its own
+abbrev pub maker_items : List Modifier → List ℕ → List Param → Option Expressions → Statements → List Item → List Item
+maker_items ms n qs u ss r = Margin 2 ∷ maker_head_items ms n qs (maker_body_items u ss r)
+
 -- a member, in lines of its own
 abbrev pub member_items : MemberTree → List Item → List Item
 member_items (FieldTree ms t n p) r = field_member_items ms t n r
 member_items (MethodTree h b p) r = method_items h b r
+member_items (MakerTree ms n qs u ss p) r = maker_items ms n qs u ss r
 
 -- members one after another
 abbrev pub members_items : List MemberTree → List Item → List Item

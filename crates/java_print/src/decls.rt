@@ -2,16 +2,16 @@
 #![tactic(auto)]
 
 ghost use Rattle.std.specs.Prelude.{OnOk, false};
-ghost use Rattle.java_tree.specs.Syntax.{head_of, heads, member_of, members, decl_of, decls, body_seen};
-ghost use Rattle.java_print.specs.Layout.{mods_items, result_items, param_items, params_items, head_items, body_items, field_member_items, method_items, member_items, members_items, heads_items, ids_items, extends_items, parent_items, listed_items, list_items, named_items, front_items, class_supers_items, supers_items, inside_items, decl_items, decls_items};
+ghost use Rattle.java_tree.specs.Syntax.{exprs, stmts, head_of, heads, member_of, members, decl_of, decls, body_seen, up_seen};
+ghost use Rattle.java_print.specs.Layout.{mods_items, result_items, param_items, params_items, head_items, body_items, field_member_items, method_items, up_line_items, up_items, maker_head_items, maker_body_items, maker_items, member_items, members_items, heads_items, ids_items, extends_items, parent_items, listed_items, list_items, named_items, front_items, class_supers_items, supers_items, inside_items, decl_items, decls_items};
 ghost use Rattle.java_print.specs.Adds.{Puts};
 
-use crate::exprs::{put_comma, put_key_space, put_space, put_type};
+use crate::exprs::{put_args, put_comma, put_key_space, put_space, put_type};
 use crate::put::{put_end, put_key, put_margin, put_mark, put_name};
 use crate::simple::{put_final, put_stop};
-use crate::stmts::{put_open_body, put_whole_body};
+use crate::stmts::{put_close_body, put_open_body, put_stmts, put_whole_body};
 use java_lex::Mark;
-use java_tree::{Decl, Head, Id, Member, Modifier, Param, Stmt, TypeName};
+use java_tree::{Decl, Expr, Head, Id, Member, Modifier, Param, Stmt, TypeName};
 use kaba_base::{Keyword, Name};
 use std::alloc::AllocError;
 
@@ -104,6 +104,73 @@ fn put_method(into: &mut Vec<u8>, head: &Head, body: &Option<Vec<Stmt>>) -> Resu
     put_method_body(into, body)
 }
 
+/// Adds a `super(..)` in a line of its own.
+fn put_up_line(into: &mut Vec<u8>, args: &[Expr]) -> Result<(), AllocError>
+    ensures value { OnOk result (Puts into.old.items into.new.items (up_line_items (exprs args.now))) }
+{
+    put_margin(into, 4)?;
+    put_key(into, Keyword::Super)?;
+    put_mark(into, Mark::OpenRound)?;
+    put_args(into, args)?;
+    put_stop(into)
+}
+
+/// Adds the `super(..)` that the body of a constructor begins with, where there is one.
+fn put_up(into: &mut Vec<u8>, up: &Option<Vec<Expr>>) -> Result<(), AllocError>
+    ensures value { OnOk result (Puts into.old.items into.new.items (up_items (up_seen up.now))) }
+{
+    match up {
+        None => Ok(()),
+        Some(args) => put_up_line(into, args.as_slice()),
+    }
+}
+
+/// Adds a constructor up to its body.
+fn put_maker_head(
+    into: &mut Vec<u8>,
+    mods: &[Modifier],
+    name: &Name,
+    params: &[Param],
+) -> Result<(), AllocError>
+    ensures value { OnOk result (Puts into.old.items into.new.items (maker_head_items mods.now name.now params.now)) }
+{
+    put_mods(into, mods)?;
+    put_name(into, name)?;
+    put_mark(into, Mark::OpenRound)?;
+    put_params(into, params)
+}
+
+/// Adds the body of a constructor.
+fn put_maker_body(
+    into: &mut Vec<u8>,
+    up: &Option<Vec<Expr>>,
+    body: &[Stmt],
+) -> Result<(), AllocError>
+    ensures value { OnOk result (Puts into.old.items into.new.items (maker_body_items (up_seen up.now) (stmts body.now))) }
+{
+    put_open_body(into)?;
+    put_up(into, up)?;
+    put_stmts(into, 4, body)?;
+    put_close_body(into, 2)?;
+    put_end(into)
+}
+
+/// Adds a constructor of a class.
+fn put_maker(
+    into: &mut Vec<u8>,
+    mods: &[Modifier],
+    name: &Name,
+    params: &[Param],
+    up: &Option<Vec<Expr>>,
+    body: &[Stmt],
+) -> Result<(), AllocError>
+    ensures value { OnOk result (Puts into.old.items into.new.items (maker_items mods.now name.now params.now (up_seen up.now) (stmts body.now))) }
+{
+    put_margin(into, 2)?;
+    put_maker_head(into, mods, name, params)?;
+    put_maker_body(into, up, body)
+}
+
 /// Adds a member of a class.
 fn put_member(into: &mut Vec<u8>, member: &Member) -> Result<(), AllocError>
     ensures value { OnOk result (Puts into.old.items into.new.items (member_items (member_of member.now))) }
@@ -111,6 +178,21 @@ fn put_member(into: &mut Vec<u8>, member: &Member) -> Result<(), AllocError>
     match member {
         Member::Field { mods, ty, name, .. } => put_field_member(into, mods.as_slice(), ty, name),
         Member::Method { head, body, .. } => put_method(into, head, body),
+        Member::Maker {
+            mods,
+            name,
+            params,
+            up,
+            body,
+            ..
+        } => put_maker(
+            into,
+            mods.as_slice(),
+            name,
+            params.as_slice(),
+            up,
+            body.as_slice(),
+        ),
     }
 }
 

@@ -15,11 +15,11 @@ use Rattle.java_tree.specs.declared.Param.{Param}
 use Rattle.java_tree.specs.Syntax.{Expression, CallOn, Expressions, no_more, and_more, Statement, LocalOf, BlockOf, Statements, Arms, Else, OptionalStatement, HeadTree, MemberTree, DeclTree}
 use Rattle.java_tree.specs.Places.{expr_unplaced, exprs_unplaced, value_unplaced, stmt_unplaced, stmts_unplaced, arms_unplaced, else_unplaced, step_unplaced, all_unplaced, may_unplaced, id_unplaced, modifier_unplaced, type_unplaced, param_unplaced, head_unplaced, member_unplaced, decl_unplaced, unplaced}
 use Rattle.java_tree.specs.Tokens.{level}
-use Rattle.java_tree.specs.Formed.{a_small, the_least, IsFormedBase, is_target, is_call, IsFormedExpression, AreFormed, IsFormedValue, is_act, is_simple, has_arm, IsFormedStmt, AreFormedStmts, AreFormedArms, IsFormedElse, IsFormedFirst, IsFormedStep, Each, IsFormedMod, IsFormedId, IsFormedParam, IsFormedResult, IsFormedHead, IsFormedBody, IsFormedMember, IsFormedParent, IsFormedDecl, IsFormedTree}
+use Rattle.java_tree.specs.Formed.{a_small, the_least, IsFormedBase, is_target, is_call, IsFormedExpression, AreFormed, IsFormedValue, is_act, is_simple, has_arm, IsFormedStmt, AreFormedStmts, AreFormedArms, IsFormedElse, IsFormedFirst, IsFormedStep, Each, IsFormedMod, IsFormedId, IsFormedParam, IsFormedResult, IsFormedHead, IsFormedBody, IsFormedUp, IsFormedMember, IsFormedParent, IsFormedDecl, IsFormedTree}
 use Rattle.java_tree.specs.Tokens.{compound, stepping}
 use Rattle.java_tree.specs.Expressions.{IsBase, int_base, boolean_base, char_base, named_base, IsDims, no_dims, one_dim, IsType, a_type, IsExpr, binary, instance_of, operand, IsPrefixed, signed, least, cast_named, cast_int, cast_char, bare, IsPost, field, call_on, index, int_literal, char_literal, string_literal, true_literal, false_literal, null_literal, this_word, name, call, super_call, round, new_object, new_array, IsArgs, no_args, some_args, IsMoreArgs, last_arg, next_arg}
 use Rattle.java_tree.specs.Statements.{is_called, is_out, as_body, printed_args, printed_by, is_word, printed, IsFinal, not_final, is_final, IsValue, no_value, a_value, IsInit, no_init, an_init, IsLocal, a_local, IsTarget, to_name, to_field, to_index, IsCall, plain_call, call_upon, call_above, IsAct, assign, assign_by, step_after, step_before, do_call, print, do_new, IsForFirst, no_first, first_local, first_act, IsForStep, no_step, a_step, IsItem, local_item, stmt_item, IsItems, no_items, next_item, IsStmt, block, empty, acting, choice, while_loop, for_loop, return_word, break_word, continue_word, IsArms, last_arm, else_arm, more_arms}
-use Rattle.java_tree.specs.Declarations.{IsMods, no_mods, next_mod, IsIds, last_id, next_id, IsParent, no_parent, a_parent, IsList, no_list, a_list, IsParam, a_param, IsMoreParams, last_param, next_param, IsParams, no_params, some_params, IsResult, no_result, a_result, IsHead, a_head, IsBody, no_body, a_body, IsMember, a_field, a_method, IsMembers, no_members, next_member, IsHeads, no_heads, next_head, IsDecl, a_class, an_interface, IsPlaced, no_decls, next_decl}
+use Rattle.java_tree.specs.Declarations.{IsMods, no_mods, next_mod, IsIds, last_id, next_id, IsParent, no_parent, a_parent, IsList, no_list, a_list, IsParam, a_param, IsMoreParams, last_param, next_param, IsParams, no_params, some_params, IsResult, no_result, a_result, IsHead, a_head, IsBody, no_body, a_body, IsUp, no_up, an_up, IsMember, a_field, a_method, a_maker, IsMembers, no_members, next_member, IsHeads, no_heads, next_head, IsDecl, a_class, an_interface, IsPlaced, no_decls, next_decl}
 use Rattle.java_tree.specs.Formed.{IsGiven}
 
 -- what holds of a part of the text, and that the rest can be written too
@@ -250,9 +250,14 @@ body : {ts rest : List Token} {b : Option Statements} → IsBody ts rest b → A
 body no_body w = (tt, w.1)
 body (a_body d) w = items d w.1
 
+up : {ts rest : List Token} {u : Option Expressions} → IsUp ts rest u → AllWritable ts → And (IsFormedUp (may_unplaced exprs_unplaced u)) rest
+up no_up w = (tt, w)
+up (an_up a) w = let y = args a w.1.1 in (y.0, y.1.1)
+
 member : {ts rest : List Token} {m : MemberTree} → IsMember ts rest m → AllWritable ts → And (IsFormedMember (member_unplaced m)) rest
 member (a_field m t) w = let x = mods m w in let y = a_formed_type t x.1 in ((x.0, y.0, y.1.0), y.1.1.1)
 member (a_method h b) w = let x = head h w in let y = body b x.1 in ((x.0, y.0), y.1)
+member (a_maker m q u b) w = let x = mods m w in let y = params q x.1.1.1 in let z = up u y.1.1 in let v = items b z.1 in ((x.0, x.1.0, y.0, z.0, v.0), v.1)
 
 members : {ts rest : List Token} {ms : List MemberTree} → IsMembers ts rest ms → AllWritable ts
     → And (Each IsFormedMember (all_unplaced member_unplaced ms)) rest

@@ -3,3 +3,4 @@ pub mod Appended
 pub mod Sizes
 pub mod Gives
 pub mod Outputs
+mod AnyMaker

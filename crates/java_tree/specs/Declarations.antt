@@ -9,10 +9,10 @@ use Rattle.java_tree.specs.declared.Id.{Id}
 use Rattle.java_tree.specs.declared.Modifier.{Modifier}
 use Rattle.java_tree.specs.declared.TypeName.{TypeName}
 use Rattle.java_tree.specs.declared.Param.{Param}
-use Rattle.java_tree.specs.Syntax.{Statements, HeadTree, MemberTree, FieldTree, MethodTree, DeclTree, ClassTree, InterfaceTree}
+use Rattle.java_tree.specs.Syntax.{Expressions, Statements, HeadTree, MemberTree, FieldTree, MethodTree, MakerTree, DeclTree, ClassTree, InterfaceTree}
 use Rattle.java_tree.specs.Places.{unplaced}
 use Rattle.java_tree.specs.Tokens.{mark, key, word, is_modifier}
-use Rattle.java_tree.specs.Expressions.{IsType}
+use Rattle.java_tree.specs.Expressions.{IsType, IsArgs}
 use Rattle.java_tree.specs.Statements.{IsFinal, IsItems}
 
 -- mods = { public | protected | private | abstract | static | final }
@@ -69,11 +69,20 @@ pub data IsBody : List Token → List Token → Option Statements → Type 0 whe
   no_body : {p : Place} {rest : List Token} → IsBody (mark marks.Semi p ∷ rest) rest None
   a_body : {ss : Statements} {p : Place} {us rest : List Token} → IsItems us rest ss → IsBody (mark marks.OpenBrace p ∷ us) rest (Some ss)
 
--- member = mods type ID ";" | head (block | ";")
+-- ["super" "(" args ")" ";"]
+pub data IsUp : List Token → List Token → Option Expressions → Type 0 where
+  no_up : {ts : List Token} → IsUp ts ts None
+  an_up : {es : Expressions} {p q r : Place} {us rest : List Token} → IsArgs us (mark marks.Semi r ∷ rest) es →
+      IsUp (key keys.Super p ∷ mark marks.OpenRound q ∷ us) rest (Some es)
+
+-- member = mods type ID ";" | head (block | ";") | mods ID "(" params ")" "{" ["super" "(" args ")" ";"] {item} "}"
 pub data IsMember : List Token → List Token → MemberTree → Type 0 where
   a_field : {ms : List Modifier} {t : TypeName} {n : List ℕ} {p q : Place} {ts us rest : List Token} → IsMods ts us ms →
       IsType us (word n p ∷ mark marks.Semi q ∷ rest) t → IsMember ts rest (FieldTree ms t n p)
   a_method : {h : HeadTree} {b : Option Statements} {ts us rest : List Token} → IsHead ts us h → IsBody us rest b → IsMember ts rest (MethodTree h b h.place)
+  a_maker : {ms : List Modifier} {n : List ℕ} {qs : List Param} {u : Option Expressions} {ss : Statements} {p q r : Place} {ts us vs ws rest : List Token} →
+      IsMods ts (word n p ∷ mark marks.OpenRound q ∷ us) ms → IsParams us (mark marks.OpenBrace r ∷ vs) qs → IsUp vs ws u → IsItems ws rest ss →
+      IsMember ts rest (MakerTree ms n qs u ss p)
 
 -- {member} "}"
 pub data IsMembers : List Token → List Token → List MemberTree → Type 0 where

@@ -9,7 +9,7 @@ use Rattle.java_tree.specs.declared.TypeBase.{TypeBase}
 use Rattle.java_tree.specs.declared.TypeBase.TheVariants as bases
 use Rattle.java_tree.specs.declared.TypeName.{TypeName}
 use Rattle.java_tree.specs.declared.Param.{Param}
-use Rattle.java_tree.specs.Syntax.{Expression, IntLit, CharLit, StrLit, BoolLit, NullLit, ThisRef, NameRef, FieldOf, IndexOf, CallOf, CallOn, SuperCallOf, NewOf, NewArrayOf, CastOf, InstanceOfClass, UnaryOf, BinaryOf, Expressions, no_more, and_more, Statement, LocalOf, BlockOf, AssignOf, DoOf, PrintOf, IfOf, WhileOf, ForOf, ReturnOf, BreakOf, ContinueOf, Statements, no_statements, and_then, Arms, no_arms, and_arm, Else, no_else, otherwise, OptionalStatement, absent, present, HeadTree, MemberTree, FieldTree, MethodTree, DeclTree, ClassTree, InterfaceTree}
+use Rattle.java_tree.specs.Syntax.{Expression, IntLit, CharLit, StrLit, BoolLit, NullLit, ThisRef, NameRef, FieldOf, IndexOf, CallOf, CallOn, SuperCallOf, NewOf, NewArrayOf, CastOf, InstanceOfClass, UnaryOf, BinaryOf, Expressions, no_more, and_more, Statement, LocalOf, BlockOf, AssignOf, DoOf, PrintOf, IfOf, WhileOf, ForOf, ReturnOf, BreakOf, ContinueOf, Statements, no_statements, and_then, Arms, no_arms, and_arm, Else, no_else, otherwise, OptionalStatement, absent, present, HeadTree, MemberTree, FieldTree, MethodTree, MakerTree, DeclTree, ClassTree, InterfaceTree}
 use Rattle.java_tree.specs.Tokens.{level, is_sign, is_modifier}
 use Rattle.java_tree.specs.Declarations.{Derives}
 
@@ -178,10 +178,16 @@ abbrev pub IsFormedBody : Option Statements → Type 0
 IsFormedBody None = Unit {0}
 IsFormedBody (Some ss) = AreFormedStmts ss
 
--- a field or a method whose parts the grammar gives
+-- no `super(..)`, or one whose arguments the grammar gives
+abbrev pub IsFormedUp : Option Expressions → Type 0
+IsFormedUp None = Unit {0}
+IsFormedUp (Some es) = AreFormed es
+
+-- a field, a method or a constructor whose parts the grammar gives
 abbrev pub IsFormedMember : MemberTree → Type 0
 IsFormedMember (FieldTree ms t n p) = Each IsFormedMod ms × IsFormedBase t.base × IsName n
 IsFormedMember (MethodTree h b p) = IsFormedHead h × IsFormedBody b
+IsFormedMember (MakerTree ms n qs u ss p) = Each IsFormedMod ms × IsName n × Each IsFormedParam qs × IsFormedUp u × AreFormedStmts ss
 
 -- no class that is extended, or one whose name tokens have
 abbrev pub IsFormedParent : Option Id → Type 0

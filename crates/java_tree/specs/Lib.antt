@@ -5,6 +5,7 @@ pub mod Tokens
 pub mod Expressions
 pub mod Statements
 pub mod Declarations
+pub mod Makers
 pub mod Formed
 pub mod Nesting
 pub mod Arms

@@ -5,7 +5,7 @@ use Rattle.java_tree.specs.declared.Id.{Id}
 use Rattle.java_tree.specs.declared.Modifier.{Modifier}
 use Rattle.java_tree.specs.declared.TypeName.{TypeName}
 use Rattle.java_tree.specs.declared.Param.{Param}
-use Rattle.java_tree.specs.Syntax.{Expression, IntLit, CharLit, StrLit, BoolLit, NullLit, ThisRef, NameRef, FieldOf, IndexOf, CallOf, CallOn, SuperCallOf, NewOf, NewArrayOf, CastOf, InstanceOfClass, UnaryOf, BinaryOf, Expressions, no_more, and_more, Statement, LocalOf, BlockOf, AssignOf, DoOf, PrintOf, IfOf, WhileOf, ForOf, ReturnOf, BreakOf, ContinueOf, Statements, no_statements, and_then, Arms, no_arms, and_arm, Else, no_else, otherwise, OptionalStatement, absent, present, HeadTree, MemberTree, FieldTree, MethodTree, DeclTree, ClassTree, InterfaceTree}
+use Rattle.java_tree.specs.Syntax.{Expression, IntLit, CharLit, StrLit, BoolLit, NullLit, ThisRef, NameRef, FieldOf, IndexOf, CallOf, CallOn, SuperCallOf, NewOf, NewArrayOf, CastOf, InstanceOfClass, UnaryOf, BinaryOf, Expressions, no_more, and_more, Statement, LocalOf, BlockOf, AssignOf, DoOf, PrintOf, IfOf, WhileOf, ForOf, ReturnOf, BreakOf, ContinueOf, Statements, no_statements, and_then, Arms, no_arms, and_arm, Else, no_else, otherwise, OptionalStatement, absent, present, HeadTree, MemberTree, FieldTree, MethodTree, MakerTree, DeclTree, ClassTree, InterfaceTree}
 
 -- the place that every part of a tree without places has
 abbrev pub nowhere : Place
@@ -119,10 +119,12 @@ head_unplaced h = record {
   place = nowhere;
 }
 
--- a field or a method without its place and those of its parts
+-- a field, a method or a constructor without its place and those of its parts
 abbrev pub member_unplaced : MemberTree → MemberTree
 member_unplaced (FieldTree m t n p) = FieldTree (all_unplaced modifier_unplaced m) (type_unplaced t) n nowhere
 member_unplaced (MethodTree h b p) = MethodTree (head_unplaced h) (may_unplaced stmts_unplaced b) nowhere
+member_unplaced (MakerTree m n qs u ss p) = MakerTree (all_unplaced modifier_unplaced m) n (all_unplaced param_unplaced qs)
+    (may_unplaced exprs_unplaced u) (stmts_unplaced ss) nowhere
 
 -- a class or an interface without its place and those of its parts
 abbrev pub decl_unplaced : DeclTree → DeclTree

@@ -1,6 +1,6 @@
 -- Mirror. How many declarations, members, statements and expressions a tree has.
 use Rattle.std.specs.Prelude.{ℕ, ◌+◌, List, [], ◌∷◌, Option, Some, None}
-use Rattle.java_tree.specs.Syntax.{Expression, IntLit, CharLit, StrLit, BoolLit, NullLit, ThisRef, NameRef, FieldOf, IndexOf, CallOf, CallOn, SuperCallOf, NewOf, NewArrayOf, CastOf, InstanceOfClass, UnaryOf, BinaryOf, Expressions, no_more, and_more, Statement, LocalOf, BlockOf, AssignOf, DoOf, PrintOf, IfOf, WhileOf, ForOf, ReturnOf, BreakOf, ContinueOf, Statements, no_statements, and_then, Arms, no_arms, and_arm, Else, no_else, otherwise, OptionalStatement, absent, present, HeadTree, MemberTree, FieldTree, MethodTree, DeclTree, ClassTree, InterfaceTree}
+use Rattle.java_tree.specs.Syntax.{Expression, IntLit, CharLit, StrLit, BoolLit, NullLit, ThisRef, NameRef, FieldOf, IndexOf, CallOf, CallOn, SuperCallOf, NewOf, NewArrayOf, CastOf, InstanceOfClass, UnaryOf, BinaryOf, Expressions, no_more, and_more, Statement, LocalOf, BlockOf, AssignOf, DoOf, PrintOf, IfOf, WhileOf, ForOf, ReturnOf, BreakOf, ContinueOf, Statements, no_statements, and_then, Arms, no_arms, and_arm, Else, no_else, otherwise, OptionalStatement, absent, present, HeadTree, MemberTree, FieldTree, MethodTree, MakerTree, DeclTree, ClassTree, InterfaceTree}
 
 abbrev mutual
   -- how many expressions an expression has, itself among them
@@ -69,11 +69,17 @@ abbrev mutual
   step_size absent = 0
   step_size (present s) = stmt_size s
 
--- the size of a member: one for itself, and the statements and expressions of its body
+-- how many expressions the arguments of a `super(..)` have, none where it is absent
+abbrev pub up_size : Option Expressions → ℕ
+up_size None = 0
+up_size (Some es) = exprs_size es
+
+-- the size of a member: one for itself, and the statements and expressions of its body, those of a `super(..)` among them
 abbrev pub member_size : MemberTree → ℕ
 member_size (FieldTree m t n p) = 1
 member_size (MethodTree h None p) = 1
 member_size (MethodTree h (Some ss) p) = stmts_size ss + 1
+member_size (MakerTree m n qs u ss p) = up_size u + stmts_size ss + 1
 
 -- the sizes of all members of a list together
 abbrev pub members_size : List MemberTree → ℕ

@@ -98,6 +98,8 @@ pub record HeadTree : Type 0 where
 pub data MemberTree : Type 0 where
   FieldTree : List Modifier → TypeName → List ℕ → Place → MemberTree
   MethodTree : HeadTree → Option Statements → Place → MemberTree
+  -- a constructor: modifiers, name, parameters, the arguments of the `super(..)` that its body begins with, the statements behind it
+  MakerTree : List Modifier → List ℕ → List Param → Option Expressions → Statements → Place → MemberTree
 
 -- a class or an interface
 pub data DeclTree : Type 0 where
@@ -212,6 +214,11 @@ abbrev pub body_seen : Option (Vec Stmt Global) → Option Statements
 body_seen None = None
 body_seen (Some v) = Some (stmts v.items)
 
+-- the plain arguments of a `super(..)`, where there is one
+abbrev pub up_seen : Option (Vec Expr Global) → Option Expressions
+up_seen None = None
+up_seen (Some v) = Some (exprs v.items)
+
 -- the plain head of a method
 abbrev pub head_of : Head → HeadTree
 head_of h = record { mods = h.mods.items; type = h.result; name = h.name; params = h.params.items; place = h.place }
@@ -221,10 +228,11 @@ abbrev pub heads : List Head → List HeadTree
 heads [] = []
 heads (h ∷ hs) = head_of h ∷ heads hs
 
--- the plain field or method of a member
+-- the plain field, method or constructor of a member
 abbrev pub member_of : Member → MemberTree
 member_of (me.Field m t n p) = FieldTree m.items t n p
 member_of (me.Method h b p) = MethodTree (head_of h) (body_seen b) p
+member_of (me.Maker m n ps u v p) = MakerTree m.items n ps.items (up_seen u) (stmts v.items) p
 
 -- the plain members of a list
 abbrev pub members : List Member → List MemberTree

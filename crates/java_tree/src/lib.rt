@@ -4,12 +4,14 @@
 mod asked;
 /// Trees from their parts.
 pub mod build;
+mod makers;
 /// Parts of a tree that was read from no text.
 pub mod unplaced;
 
 pub use asked::{is_text, level_of, output_call};
 use java_lex::{Mark, Units};
 use kaba_base::{Keyword, Name, Place};
+pub use makers::has_maker;
 
 /// A name with its place.
 #[derive(Drop)]
@@ -46,7 +48,7 @@ pub struct TypeName {
     pub place: Place,
 }
 
-/// A parameter of a method. Its place is that of its name.
+/// A parameter of a method or a constructor. Its place is that of its name.
 #[derive(Drop)]
 pub struct Param {
     pub is_final: bool,
@@ -257,6 +259,15 @@ pub enum Member {
     Method {
         head: Head,
         body: Option<Vec<Stmt>>,
+        place: Place,
+    },
+    /// A constructor; `up` has the arguments of the `super(..)` that its body begins with, where there is one.
+    Maker {
+        mods: Vec<Modifier>,
+        name: Name,
+        params: Vec<Param>,
+        up: Option<Vec<Expr>>,
+        body: Vec<Stmt>,
         place: Place,
     },
 }
