@@ -173,7 +173,7 @@ fn is_counted(program: &Program) -> bool
 /// 6.3 to 6.5). A program comes exactly where no condition of a refusal holds of the tree, `Memory`
 /// aside. A refusal comes only where its condition holds, at the place that it holds; where several
 /// hold, any of them may come. `Memory` comes where memory is short, or where a number of the
-/// program is none of 32 bits.
+/// program is none of 32 bits. Constructors are passed over: they declare nothing, and no name in them is looked at.
 pub fn resolve(alloc: Global, tree: &Tree) -> Result<Program, Refusal>
     requires given { IsFormedTree (tree_of tree.now) }
     ensures resolves { IfOk result (λ p. Resolves (tree_of tree.now) (program_of p)) }

@@ -129,7 +129,7 @@ fn method_step(
     Ok(())
 }
 
-/// One member more of a class.
+/// One member more of a class; a constructor is passed over.
 fn body_step(owner: &Owner, written: &mut Written, member: &Member) -> Named<()>
     ensures { GivesValue (λ _. methods_seen written.new) result (body_step (table_of owner.now.tables.now) owner.now.number
         (methods_seen written.old) (member_of member.now)) }
@@ -139,6 +139,7 @@ fn body_step(owner: &Owner, written: &mut Written, member: &Member) -> Named<()>
         Member::Method { head, body, .. } => {
             method_step(owner, Kind::Method, written, head, body)
         }
+        Member::Maker { .. } => Ok(()),
     }
 }
 

@@ -6,7 +6,7 @@ use Rattle.std.proofs.lemmas.Bool.{false≢true, not-true}
 use Rattle.std.proofs.lemmas.List.{map-append, append-nil, append_assoc, length-append}
 use Rattle.std.proofs.Math.Bool.{or-true}
 use Rattle.kaba_base.proofs.ListLemmas.{contains_at}
-use Rattle.java_tree.specs.Syntax.{Statements, HeadTree, MemberTree, FieldTree, MethodTree, DeclTree, ClassTree, InterfaceTree}
+use Rattle.java_tree.specs.Syntax.{Statements, HeadTree, MemberTree, FieldTree, MethodTree, MakerTree, DeclTree, ClassTree, InterfaceTree}
 use Rattle.name_rules.specs.declared.Form.TheVariants as forms
 use Rattle.name_rules.specs.declared.Refusal.TheVariants.{NotInProfile}
 use Rattle.name_rules.specs.declared.parts.Kind.TheVariants as kinds
@@ -95,6 +95,8 @@ module _ (tree : List DeclTree) (known : List KnownClass) (are : AreKnown tree k
           turn (head_step known x.owner m x.head g) (head-tells tree known are fs ms mrest x m g f hg (subst (λ z. NoStatic z g) (sym k) static)
           (subst (λ z. AreFit z x.head.mods) (sym k) fit) (right x g.is_abstract (sym hg.abstract) w) h)
           (λ m k. subst (λ z. AreAll z (ms ++ x ∷ []) m) (sym (append-nil fs)) k) (λ r q. q)
+  member-tells c a fs frest ms mrest (MakerTree mods n ps up ss p) m e f h =
+      subst (λ z. AreAll z (ms ++ []) m) (sym (append-nil fs)) (subst (λ z. AreAll fs z m) (sym (append-nil ms)) h)
 
   -- the members of a class
   class-tells : (c : ℕ) (a : Bool) (xs : List MemberTree) (fs frest : List FieldAt) (ms mrest : List MethodAt) (m : Members)

@@ -4,7 +4,7 @@ use Rattle.std.specs.Prelude.{slice_get}
 use Rattle.std.proofs.lemmas.Option.{slice_get_within}
 use Rattle.kaba_base.proofs.ListLemmas.{append_cases}
 use Rattle.java_lex.specs.Writable.{IsName}
-use Rattle.java_tree.specs.Syntax.{HeadTree, MemberTree, FieldTree, MethodTree, DeclTree, ClassTree, InterfaceTree}
+use Rattle.java_tree.specs.Syntax.{HeadTree, MemberTree, FieldTree, MethodTree, MakerTree, DeclTree, ClassTree, InterfaceTree}
 use Rattle.name_rules.specs.declared.parts.Kind.TheVariants as kinds
 use Rattle.name_rules.specs.Outline.{FieldAt, MethodAt, fields_of, methods_of, heads_of, fields_declared, methods_declared, fields_from, methods_from, has_word, is_abstract_word, mods_of, is_interface_of}
 use Rattle.java_tree.specs.Formed.{Each, IsFormedBase, IsFormedHead, IsFormedBody, IsFormedMember, IsFormedDecl}
@@ -50,6 +50,7 @@ class-field : (c : ℕ) (xs : List MemberTree) → Each IsFormedMember xs → (i
     × IsName f.name × IsFormedBase f.type.base
 class-field c [] g i f e = absurd (cc e)
 class-field c (MethodTree h b p ∷ xs) g i f e = class-field c xs g.1 i f e
+class-field c (MakerTree mods n ps up ss p ∷ xs) g i f e = class-field c xs g.1 i f e
 class-field c (FieldTree mods u n p ∷ xs) g zero f e =
     let s = same_some e in (ap (λ z. z.owner) (sym s), subst (λ z. IsName z.name) s g.0.2, subst (λ z. IsFormedBase z.type.base) s g.0.1)
 class-field c (FieldTree mods u n p ∷ xs) g (suc i) f e = class-field c xs g.1 i f e
@@ -58,6 +59,7 @@ class-method : (c : ℕ) (a : Bool) (xs : List MemberTree) → Each IsFormedMemb
     → (m.owner ≡ c) × IsFormedHead m.head × IsFormedBody m.body × (m.kind ≡ kinds.Method) × (m.in_abstract ≡ a)
 class-method c a [] g i m e = absurd (cc e)
 class-method c a (FieldTree mods u n p ∷ xs) g i m e = class-method c a xs g.1 i m e
+class-method c a (MakerTree mods n ps up ss p ∷ xs) g i m e = class-method c a xs g.1 i m e
 class-method c a (MethodTree h b p ∷ xs) g zero m e =
     let s = same_some e in (
       ap (λ z. z.owner) (sym s),

@@ -6,7 +6,7 @@ use Rattle.std.proofs.lemmas.List.{map-append, append-nil, append_assoc, length-
 use Rattle.std.proofs.Math.Numerals.{add-one}
 use Rattle.kaba_base.proofs.ListLemmas.{contains_at}
 use Rattle.java_tree.specs.declared.TypeName.{TypeName}
-use Rattle.java_tree.specs.Syntax.{Statements, HeadTree, MemberTree, FieldTree, MethodTree, DeclTree, ClassTree, InterfaceTree}
+use Rattle.java_tree.specs.Syntax.{Statements, HeadTree, MemberTree, FieldTree, MethodTree, MakerTree, DeclTree, ClassTree, InterfaceTree}
 use Rattle.java_core.specs.declared.Ty.{Ty}
 use Rattle.java_core.specs.declared.Local.{Local}
 use Rattle.java_core.specs.Trees.{Sts, no_st}
@@ -183,6 +183,7 @@ module _ (tree : List DeclTree) (known : List KnownClass) (are : AreKnown tree k
       one ms rest (FieldTree mods u n p) w g e h = subst (λ z. BodiesAre z w) (sym (append-nil ms)) h
       one ms rest (MethodTree hd body p) w g e h =
           method-tells ms rest (record { owner = c; kind = kinds.Method; in_abstract = a; head = hd; body = body }) w e g.1 h
+      one ms rest (MakerTree mods n ps up ss p) w g e h = subst (λ z. BodiesAre z w) (sym (append-nil ms)) h
 
   heads-tells : (c : ℕ) (hs : List HeadTree) (ms mrest : List MethodAt) (w : List PlainMethod × ℕ) → methods_in tree ≡ ms ++ (heads_of c hs ++ mrest)
       → BodiesAre ms w → Tells (BodiesAre (ms ++ heads_of c hs)) (ConditionAt tree) (run (head_body_step t c) w hs)

@@ -6,7 +6,7 @@ use Rattle.std.proofs.lemmas.Bool.{false≢true, and_parts, not-true, eqb-true, 
 use Rattle.std.proofs.lemmas.List.{length-append, length-map}
 use Rattle.std.proofs.lemmas.Slice.Eq.{bytes_eq-Decides}
 use Rattle.kaba_base.proofs.ListLemmas.{map_at, at_map, append_cases}
-use Rattle.java_tree.specs.Syntax.{DeclTree, HeadTree, MemberTree, FieldTree, MethodTree, ClassTree, InterfaceTree}
+use Rattle.java_tree.specs.Syntax.{DeclTree, HeadTree, MemberTree, FieldTree, MethodTree, MakerTree, ClassTree, InterfaceTree}
 use Rattle.java_core.specs.Programs.{PlainMethod}
 use Rattle.java_core.specs.Classes.{IsSubclass}
 use Rattle.java_core.specs.Formed.{IsMain}
@@ -34,6 +34,7 @@ use Rattle.name_laws.proofs.FoundFirst.{OneMet, MeetAsInstances, one-met-of}
 owner-member : (c : ℕ) (a : Bool) (xs : List MemberTree) (i : ℕ) (m : MethodAt) → slice_get (methods_of c a xs) i ≡ Some m → m.owner ≡ c
 owner-member c a [] i m e = absurd (cc e)
 owner-member c a (FieldTree mods u n p ∷ xs) i m e = owner-member c a xs i m e
+owner-member c a (MakerTree mods n ps up ss p ∷ xs) i m e = owner-member c a xs i m e
 owner-member c a (MethodTree h b p ∷ xs) zero m e = ap (λ z. z.owner) (sym (same_some e))
 owner-member c a (MethodTree h b p ∷ xs) (suc i) m e = owner-member c a xs i m e
 

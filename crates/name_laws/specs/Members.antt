@@ -4,7 +4,7 @@ use Rattle.std.specs.Str.{bytes_eq, chars}
 use Rattle.kaba_base.specs.declared.Place.{Place}
 use Rattle.java_tree.specs.declared.TypeName.{TypeName}
 use Rattle.java_tree.specs.declared.Param.{Param}
-use Rattle.java_tree.specs.Syntax.{HeadTree, MemberTree, FieldTree, MethodTree, DeclTree, ClassTree, InterfaceTree}
+use Rattle.java_tree.specs.Syntax.{HeadTree, MemberTree, FieldTree, MethodTree, MakerTree, DeclTree, ClassTree, InterfaceTree}
 use Rattle.java_core.specs.declared.Ty.{Ty}
 use Rattle.java_core.specs.declared.TyBase.TheVariants as ty
 use Rattle.java_core.specs.declared.Field.{Field}
@@ -150,12 +150,13 @@ field_step known owner m f u n p =
       slots = m.slots;
     }))
 
--- the members so far, and one more of a class
+-- the members so far, and one more of a class; a constructor declares none
 abbrev pub member_step : List KnownClass → ℕ → Bool → Members → MemberTree → Result Members Refusal
 member_step known owner in_abstract m (FieldTree mods u n p) = with (flags_of kinds.Field mods) (λ f. field_step known owner m f u n p)
 member_step known owner in_abstract m (MethodTree h body p) =
     with (flags_of kinds.Method h.mods) (λ f. if is_wrong_body in_abstract f.is_abstract (is_some body) then Err (NotInProfile forms.Body h.place)
     else head_step known owner m h f)
+member_step known owner in_abstract m (MakerTree mods n ps up ss p) = Ok m
 
 -- the members so far, and one more method of an interface
 abbrev pub interface_step : List KnownClass → ℕ → Members → HeadTree → Result Members Refusal

@@ -1,7 +1,7 @@
 -- Mirror. Which program a tree is once its names are resolved, or the first of its faults.
 use Rattle.std.specs.Prelude.{ℕ, ◌+◌, Bool, false, List, [], ◌∷◌, ◌++◌, length, Option, Some, None, Result, Ok, slice_get, map}
 use Rattle.kaba_base.specs.declared.ClassId.{ClassId}
-use Rattle.java_tree.specs.Syntax.{Statements, HeadTree, MemberTree, FieldTree, MethodTree, DeclTree, ClassTree, InterfaceTree}
+use Rattle.java_tree.specs.Syntax.{Statements, HeadTree, MemberTree, FieldTree, MethodTree, MakerTree, DeclTree, ClassTree, InterfaceTree}
 use Rattle.java_core.specs.declared.Ty.{Ty}
 use Rattle.java_core.specs.declared.Local.{Local}
 use Rattle.java_core.specs.Trees.{at_place, Sts, no_st}
@@ -64,10 +64,11 @@ method_step t owner kind m h body =
     with (body_of t (record { owner = owner; is_static = f.is_static }) ls m.1 body)
     (λ b. Ok (m.0 ++ method_of owner h f (slot_at (slice_get t.headings (length m.0))) ls r b.0 b.1 ∷ [], b.2)))))
 
--- the methods so far, and that of one more member of a class, with its body
+-- the methods so far, and that of one more member of a class, with its body; a field and a constructor give none
 abbrev pub body_step : Table → ℕ → Methods → MemberTree → Result Methods Refusal
 body_step t owner m (FieldTree mods u n p) = Ok m
 body_step t owner m (MethodTree h body p) = method_step t owner kinds.Method m h body
+body_step t owner m (MakerTree mods n ps up ss p) = Ok m
 
 -- the methods so far, and one more of an interface, without a body
 abbrev pub head_body_step : Table → ℕ → Methods → HeadTree → Result Methods Refusal

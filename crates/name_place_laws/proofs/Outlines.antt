@@ -7,7 +7,7 @@ use Rattle.kaba_base.specs.declared.words.Keyword.{Keyword}
 use Rattle.java_tree.specs.declared.Id.{Id}
 use Rattle.java_tree.specs.declared.Modifier.{Modifier}
 use Rattle.java_tree.specs.declared.TypeName.{TypeName}
-use Rattle.java_tree.specs.Syntax.{MemberTree, FieldTree, MethodTree, DeclTree, ClassTree, InterfaceTree}
+use Rattle.java_tree.specs.Syntax.{MemberTree, FieldTree, MethodTree, MakerTree, DeclTree, ClassTree, InterfaceTree}
 use Rattle.java_tree.specs.Places.{nowhere, all_unplaced, may_unplaced, id_unplaced, modifier_unplaced, type_unplaced, param_unplaced, stmts_unplaced, head_unplaced, member_unplaced, decl_unplaced, unplaced}
 use Rattle.name_rules.specs.declared.parts.Kind.TheVariants as kinds
 use Rattle.name_rules.specs.Outline.{FieldAt, MethodAt, name_of, has_word, is_abstract_word, is_static_word, is_public_word, types_in, type_meant, id_meant, fields_of, methods_of, fields_declared, methods_declared, fields_from, methods_from, fields_in, methods_in, object, parent_meant, class_outline, field_outline, param_outline, method_outline, outline}
@@ -78,6 +78,7 @@ field-members c [] = refl
 field-members c (FieldTree ks t n p ∷ ms) =
     ap (λ z. field_at_unplaced (record { owner = c; mods = ks; type = t; name = n; place = p }) ∷ z) (field-members c ms)
 field-members c (MethodTree h b p ∷ ms) = field-members c ms
+field-members c (MakerTree ks n ps up ss p ∷ ms) = field-members c ms
 
 method-members : (c : ℕ) (abstract : Bool) (ms : List MemberTree)
     → methods_of c abstract (all_unplaced member_unplaced ms) ≡ map method_at_unplaced (methods_of c abstract ms)
@@ -85,6 +86,7 @@ method-members c abstract [] = refl
 method-members c abstract (FieldTree ks t n p ∷ ms) = method-members c abstract ms
 method-members c abstract (MethodTree h b p ∷ ms) =
     ap (λ z. method_at_unplaced (record { owner = c; kind = kinds.Method; in_abstract = abstract; head = h; body = b }) ∷ z) (method-members c abstract ms)
+method-members c abstract (MakerTree ks n ps up ss p ∷ ms) = method-members c abstract ms
 
 field-decl : (c : ℕ) (d : DeclTree) → fields_declared c (decl_unplaced d) ≡ map field_at_unplaced (fields_declared c d)
 field-decl c (ClassTree ms n e fs bs p) = field-members c bs

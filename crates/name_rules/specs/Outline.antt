@@ -15,7 +15,7 @@ use Rattle.java_tree.specs.declared.TypeName.{TypeName}
 use Rattle.java_tree.specs.declared.TypeBase.{TypeBase}
 use Rattle.java_tree.specs.declared.TypeBase.TheVariants as bases
 use Rattle.java_tree.specs.declared.Param.{Param}
-use Rattle.java_tree.specs.Syntax.{Statements, HeadTree, MemberTree, FieldTree, MethodTree, DeclTree, ClassTree, InterfaceTree}
+use Rattle.java_tree.specs.Syntax.{Statements, HeadTree, MemberTree, FieldTree, MethodTree, MakerTree, DeclTree, ClassTree, InterfaceTree}
 use Rattle.java_core.specs.declared.Ty.{Ty}
 use Rattle.java_core.specs.declared.TyBase.{TyBase}
 use Rattle.java_core.specs.declared.TyBase.TheVariants as ty
@@ -153,15 +153,17 @@ pub record MethodAt : Type 0 where
   pub head : HeadTree
   pub body : Option Statements
 
--- the field that a member of the class c is, in a list; none where it is a method
+-- the field that a member of the class c is, in a list; none where it is a method or a constructor
 abbrev pub field_member : ℕ → MemberTree → List FieldAt
 field_member c (FieldTree mods u n p) = record { owner = c; mods = mods; type = u; name = n; place = p } ∷ []
 field_member c (MethodTree h body p) = []
+field_member c (MakerTree mods n ps up ss p) = []
 
--- the method that a member of the class c is, in a list; none where it is a field
+-- the method that a member of the class c is, in a list; none where it is a field or a constructor
 abbrev pub method_member : ℕ → Bool → MemberTree → List MethodAt
 method_member c abstract (FieldTree mods u n p) = []
 method_member c abstract (MethodTree h body p) = record { owner = c; kind = kinds.Method; in_abstract = abstract; head = h; body = body } ∷ []
+method_member c abstract (MakerTree mods n ps up ss p) = []
 
 -- the fields among the members of the class c, in the order of the text
 abbrev pub fields_of : ℕ → List MemberTree → List FieldAt

@@ -227,7 +227,7 @@ fn field_step(
     add_field(alloc, draft, field)
 }
 
-/// One member more of a class.
+/// One member more of a class; a constructor is passed over.
 fn member_step(
     alloc: Global,
     known: &Types,
@@ -258,6 +258,7 @@ fn member_step(
             }
             head_step(alloc, known, owner, draft, head, flags)
         }
+        Member::Maker { .. } => Ok(()),
     }
 }
 

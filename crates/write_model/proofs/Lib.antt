@@ -1,5 +1,6 @@
 pub mod Small
 pub mod Nowhere
+pub mod NoMaker
 mod Overriding
 mod Fillers
 mod Sites

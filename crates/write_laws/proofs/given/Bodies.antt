@@ -33,7 +33,7 @@ module _ (C : Given) (B : Bodied C) where
   open C use {program as P, hierarchy as H}
   open words C use {renaming as R}
   open B use {number as m, method as k}
-  open walked P m k use {env as g, type, operand as O, tree, tree_all as all, Stands, IsTyped, IsFormedExpression as IsFormedEx}
+  open walked P m k use {env as g, type, operand as O, tree, tree_all as all, Stands, IsTyped, IsFormed as IsFormedEx}
   open walked P m k use {static as old, tree_sts as sts, tree_if as if_there}
 
   -- how an expression is written

@@ -46,7 +46,7 @@ module _ (C : Given) (B : Bodied C) where
   open C use {program as P, facts as F, hierarchy as H}
   open words C use {renaming as R, numbers as N}
   open B use {number as m, method as k}
-  open walked P m k use {env as g, type, operand as O, tree, Stands, IsTyped, IsFormedExpression as IsFormedEx, static as old, operands}
+  open walked P m k use {env as g, type, operand as O, tree, Stands, IsTyped, IsFormed as IsFormedEx, static as old, operands}
 
   pub method_formed : IsFormedMethod P k
   method_formed = C.ready.formed.methods m k B.stands

@@ -3,9 +3,9 @@ use Rattle.std.proofs.Common.{◌≡◌, ◌||◌, Bool, List, [], ◌∷◌, Op
 use Rattle.java_tree.specs.declared.Id.{Id}
 use Rattle.java_tree.specs.declared.Modifier.{Modifier}
 use Rattle.java_tree.specs.declared.TypeName.{TypeName}
-use Rattle.java_tree.specs.Syntax.{Expression, NameRef, FieldOf, IndexOf, CallOf, CallOn, SuperCallOf, NewOf, NewArrayOf, CastOf, InstanceOfClass, UnaryOf, BinaryOf, Expressions, no_more, and_more, Statement, LocalOf, BlockOf, AssignOf, DoOf, PrintOf, IfOf, WhileOf, ForOf, ReturnOf, BreakOf, Statements, no_statements, and_then, Arms, no_arms, and_arm, Else, no_else, otherwise, OptionalStatement, absent, present, HeadTree, MemberTree, FieldTree, MethodTree, DeclTree, ClassTree, InterfaceTree}
+use Rattle.java_tree.specs.Syntax.{Expression, NameRef, FieldOf, IndexOf, CallOf, CallOn, SuperCallOf, NewOf, NewArrayOf, CastOf, InstanceOfClass, UnaryOf, BinaryOf, Expressions, no_more, and_more, Statement, LocalOf, BlockOf, AssignOf, DoOf, PrintOf, IfOf, WhileOf, ForOf, ReturnOf, BreakOf, Statements, no_statements, and_then, Arms, no_arms, and_arm, Else, no_else, otherwise, OptionalStatement, absent, present, HeadTree, MemberTree, FieldTree, MethodTree, MakerTree, DeclTree, ClassTree, InterfaceTree}
 use Rattle.java_tree.specs.Places.{expr_unplaced, exprs_unplaced, value_unplaced, stmt_unplaced, stmts_unplaced, arms_unplaced, else_unplaced, step_unplaced, all_unplaced, may_unplaced, id_unplaced, modifier_unplaced, type_unplaced, param_unplaced, head_unplaced, member_unplaced, decl_unplaced, unplaced}
-use Rattle.java_tree.specs.Formed.{is_target, is_call, IsFormedExpression, AreFormed, IsFormedValue, is_act, is_simple, has_arm, IsFormedStmt, AreFormedStmts, AreFormedArms, IsFormedElse, IsFormedFirst, IsFormedStep, Each, IsFormedMod, IsFormedId, IsFormedParam, IsFormedResult, IsFormedHead, IsFormedBody, IsFormedMember, IsFormedParent, IsFormedDecl, IsFormedTree}
+use Rattle.java_tree.specs.Formed.{is_target, is_call, IsFormedExpression, AreFormed, IsFormedValue, is_act, is_simple, has_arm, IsFormedStmt, AreFormedStmts, AreFormedArms, IsFormedElse, IsFormedFirst, IsFormedStep, Each, IsFormedMod, IsFormedId, IsFormedParam, IsFormedResult, IsFormedHead, IsFormedBody, IsFormedUp, IsFormedMember, IsFormedParent, IsFormedDecl, IsFormedTree}
 
 mutual
   expr : (e : Expression) → IsFormedExpression (expr_unplaced e) ≡ IsFormedExpression e
@@ -107,9 +107,14 @@ result (Some t) = refl
 head : (d : HeadTree) → IsFormedHead (head_unplaced d) ≡ IsFormedHead d
 head d = rw (mods d.mods, result d.type, each IsFormedParam param_unplaced (λ q. refl) d.params) refl
 
+up : (u : Option Expressions) → IsFormedUp (may_unplaced exprs_unplaced u) ≡ IsFormedUp u
+up None = refl
+up (Some es) = exprs es
+
 member : (m : MemberTree) → IsFormedMember (member_unplaced m) ≡ IsFormedMember m
 member (FieldTree ms t n p) = rw (mods ms) refl
 member (MethodTree d b p) = rw (head d, body b) refl
+member (MakerTree ms n qs u ss p) = rw (mods ms, each IsFormedParam param_unplaced (λ q. refl) qs, up u, stmts ss) refl
 
 parent : (c : Option Id) → IsFormedParent (may_unplaced id_unplaced c) ≡ IsFormedParent c
 parent None = refl

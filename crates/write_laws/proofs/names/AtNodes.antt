@@ -5,7 +5,7 @@ use Rattle.std.specs.Option.{option_map_or}
 use Rattle.std.proofs.lemmas.Bool.{false≢true, and_from, and_parts, eq-eqb, lt-ltb, not-true}
 use Rattle.std.proofs.lemmas.List.Elements.{Contains-append_cases}
 use Rattle.java_tree.specs.declared.Modifier.{Modifier}
-use Rattle.java_tree.specs.Syntax.{HeadTree, MemberTree, FieldTree, MethodTree, Statements}
+use Rattle.java_tree.specs.Syntax.{HeadTree, MemberTree, FieldTree, MethodTree, MakerTree, Statements}
 use Rattle.java_core.specs.Programs.{Plain, PlainField, PlainMethod, PlainSlot}
 use Rattle.java_core.specs.Classes.{slot_of_method}
 use Rattle.kaba_order.specs.Orders.{is_live}
@@ -248,6 +248,9 @@ module _ {P : Plain} {F : Facts} {pt : PointsTo} {H : Hierarchy} (G : IsNamedPro
   turned (MethodTree h b p) (MethodTree k c q) e = sym e
   turned (FieldTree m t x p) (MethodTree k c q) e = e
   turned (MethodTree h b p) (FieldTree n u y q) e = e
+  turned (FieldTree m t x p) (MakerTree k n qs u ss q) e = e
+  turned (MethodTree h b p) (MakerTree k n qs u ss q) e = e
+  turned (MakerTree m n qs u ss p) y e = absurd e
 
   -- what a column gives a class
   abbrev AtColumn : ℕ → ℕ → MemberTree → Type 0

@@ -1,7 +1,7 @@
 -- No two fields and no two methods of one name are declared in a type, where no two of its members have one name.
 use Rattle.std.proofs.Common.{◌≡◌, ℕ, suc, ◌+◌, true, List, [], ◌∷◌, Some, None, Contains, refl, sym, ap, ◌∙◌, subst, arith}
 use Rattle.std.specs.Prelude.{slice_get}
-use Rattle.java_tree.specs.Syntax.{HeadTree, MemberTree, FieldTree, MethodTree, DeclTree, ClassTree, InterfaceTree}
+use Rattle.java_tree.specs.Syntax.{HeadTree, MemberTree, FieldTree, MethodTree, MakerTree, DeclTree, ClassTree, InterfaceTree}
 use Rattle.flow_rules.proofs.Listed.{map_from, one_from, each_from}
 use Rattle.flow_rules.specs.Ordered.{each}
 use Rattle.name_rules.specs.declared.parts.Kind.TheVariants as kinds
@@ -15,6 +15,9 @@ SameMember (FieldTree m t x p) (FieldTree n u y q) = x ≡ y
 SameMember (MethodTree h b p) (MethodTree k c q) = h.name ≡ k.name
 SameMember (FieldTree m t x p) (MethodTree k c q) = ⊥
 SameMember (MethodTree h b p) (FieldTree n u y q) = ⊥
+SameMember (FieldTree m t x p) (MakerTree k n qs u ss q) = ⊥
+SameMember (MethodTree h b p) (MakerTree k n qs u ss q) = ⊥
+SameMember (MakerTree m n qs u ss p) y = ⊥
 
 abbrev pub SameHead : HeadTree → HeadTree → Type 0
 SameHead h k = h.name ≡ k.name
@@ -30,21 +33,27 @@ field_names : (c : ℕ) (m n : MemberTree) (f g : FieldAt) → Contains (field_m
 field_names c (FieldTree m t x p) (FieldTree n u y q) f g a b e =
     ap (λ (z : FieldAt). z.name) (one_from _ f a) ∙ e ∙ ap (λ (z : FieldAt). z.name) (sym (one_from _ g b))
 field_names c (FieldTree m t x p) (MethodTree k d q) f g a b e = absurd (let l = b.1 in omega (arith, l))
+field_names c (FieldTree m t x p) (MakerTree k n qs u ss q) f g a b e = absurd (let l = b.1 in omega (arith, l))
 field_names c (MethodTree h d p) n f g a b e = absurd (let l = a.1 in omega (arith, l))
+field_names c (MakerTree m x qs u ss p) n f g a b e = absurd (let l = a.1 in omega (arith, l))
 
 method_names : (c : ℕ) (w : _) (m n : MemberTree) (f g : MethodAt) → Contains (method_member c w m) f → Contains (method_member c w n) g
     → f.head.name ≡ g.head.name → SameMember m n
 method_names c w (MethodTree h b p) (MethodTree k d q) f g a x e =
     ap (λ (z : MethodAt). z.head.name) (one_from _ f a) ∙ e ∙ ap (λ (z : MethodAt). z.head.name) (sym (one_from _ g x))
 method_names c w (MethodTree h b p) (FieldTree n u y q) f g a x e = absurd (let l = x.1 in omega (arith, l))
+method_names c w (MethodTree h b p) (MakerTree k n qs u ss q) f g a x e = absurd (let l = x.1 in omega (arith, l))
 method_names c w (FieldTree n u y q) m f g a x e = absurd (let l = a.1 in omega (arith, l))
+method_names c w (MakerTree k n qs u ss p) m f g a x e = absurd (let l = a.1 in omega (arith, l))
 
 field_once : (c : ℕ) (m : MemberTree) → Once SameField (field_member c m)
 field_once c (FieldTree m t x p) = (λ y c. absurd (let l = c.1 in omega (arith, l)), tt)
 field_once c (MethodTree h b p) = tt
+field_once c (MakerTree m n qs u ss p) = tt
 
 method_once : (c : ℕ) (w : _) (m : MemberTree) → Once SameMethod (method_member c w m)
 method_once c w (FieldTree m t x p) = tt
+method_once c w (MakerTree m n qs u ss p) = tt
 method_once c w (MethodTree h b p) = (λ y c. absurd (let l = c.1 in omega (arith, l)), tt)
 
 fields_once : (c : ℕ) (ms : List MemberTree) → Once SameMember ms → Once SameField (fields_of c ms)
@@ -81,9 +90,11 @@ declared_methods c (InterfaceTree mods n parents hs p) o = map_once SameMethod _
 member_field_owner : (c : ℕ) (m : MemberTree) (f : FieldAt) → Contains (field_member c m) f → f.owner ≡ c
 member_field_owner c (FieldTree m t x p) f a = ap (λ (z : FieldAt). z.owner) (sym (one_from _ f a))
 member_field_owner c (MethodTree h b p) f a = absurd (let l = a.1 in omega (arith, l))
+member_field_owner c (MakerTree m n qs u ss p) f a = absurd (let l = a.1 in omega (arith, l))
 
 member_method_owner : (c : ℕ) (w : _) (m : MemberTree) (f : MethodAt) → Contains (method_member c w m) f → f.owner ≡ c
 member_method_owner c w (FieldTree m t x p) f a = absurd (let l = a.1 in omega (arith, l))
+member_method_owner c w (MakerTree m n qs u ss p) f a = absurd (let l = a.1 in omega (arith, l))
 member_method_owner c w (MethodTree h b p) f a = ap (λ (z : MethodAt). z.owner) (sym (one_from _ f a))
 
 field_owner : (c : ℕ) (d : DeclTree) (f : FieldAt) → Contains (fields_declared c d) f → f.owner ≡ c
