@@ -13,7 +13,7 @@ ghost use Rattle.java_core.specs.Statics.{static_seen as seen, given_of};
 ghost use Rattle.java_check.specs.Callees.{signature_of};
 ghost use Rattle.java_check.specs.Outcome.{env_in, answer, args_answer, call_answer, super_answer, create_answer, member_answer, and_then, asked};
 
-use crate::by_number::{class_by_number, method_by_number};
+use crate::by_number::{class_by_number, code_by_number, method_by_number};
 use crate::callees::{Callee, called, method_called, param_at, result_of};
 use crate::types::{are_related, can_cast, fits, is_numeric, takes_one, takes_two};
 use crate::{Answered, CheckFault, Kind};
@@ -38,8 +38,8 @@ pub(crate) fn ask(holds: bool, kind: Kind, place: Place) -> Answered<()>
 fn self_class(p: &Program, body: MemberId) -> ClassId
     ensures { result.0 ≡ (env_in (program_of p.now) body.0).self }
 {
-    match method_by_number(p, body.0 as usize) {
-        Some(method) => method.owner,
+    match code_by_number(p, body) {
+        Some(code) => code.owner,
         None => ClassId(0),
     }
 }
@@ -55,8 +55,8 @@ fn self_type(p: &Program, body: MemberId) -> Ty
 pub(crate) fn local_type(p: &Program, body: MemberId, local: u32) -> Option<Ty>
     ensures { result ≡ slice_get (env_in (program_of p.now) body.0).locals local }
 {
-    match method_by_number(p, body.0 as usize) {
-        Some(method) => java_core::local_type(method, local),
+    match code_by_number(p, body) {
+        Some(code) => java_core::local_type(&code, local),
         None => None,
     }
 }

@@ -1,8 +1,7 @@
 //! The rules of types of a whole program.
 
 ghost use Rattle.std.specs.Prelude.{◌≡◌, ℕ, ◌<◌, None, length, map, IfOk, IfErr};
-ghost use Rattle.java_core.specs.Trees.{body_seen};
-ghost use Rattle.java_core.specs.Programs.{program_of, class_seen, method_seen};
+ghost use Rattle.java_core.specs.Programs.{program_of, class_seen, method_seen, code_seen};
 ghost use Rattle.java_core.specs.Formed.{IsFormed};
 ghost use Rattle.java_core.specs.Typing.{IsTyped};
 ghost use Rattle.java_check.specs.Fails.{IsRefused};
@@ -15,7 +14,7 @@ use crate::nearest::fault_near;
 use crate::slots::fine_classes;
 use crate::statements::check_stmts;
 use crate::{Answered, CheckFault, Kind};
-use java_core::{Checked, Class, Method, Program};
+use java_core::{Checked, Class, Code, Method, Program};
 use kaba_base::{ClassId, MemberId};
 use std::alloc::Global;
 
@@ -122,19 +121,19 @@ fn check_methods(p: &Program, methods: &[Method]) -> Answered<()>
     ensures { result ≡ methods_answer (program_of p.now) 0 (map method_seen methods.now) }
 {
     for (i, method) in methods.iter().enumerate() {
-        if let Err(fault) = check_body(p, MemberId(i as u32), method) {
+        if let Err(fault) = check_body(p, MemberId(i as u32), &method.code()) {
             return Err(fault);
         }
     }
     Ok(())
 }
 
-/// The first rule that fails in the body of a method.
-fn check_body(p: &Program, number: MemberId, method: &Method) -> Answered<()>
+/// The first rule that fails in a body.
+fn check_body(p: &Program, number: MemberId, code: &Code) -> Answered<()>
     requires { IsFormed (program_of p.now) }
-    ensures { result ≡ body_answer (program_of p.now) (env_in (program_of p.now) number.0) (body_seen method.now.body) }
+    ensures { result ≡ body_answer (program_of p.now) (env_in (program_of p.now) number.0) (code_seen code.now).body }
 {
-    match &method.body {
+    match code.body {
         Some(body) => check_stmts(p, number, body),
         None => Ok(()),
     }

@@ -11,7 +11,7 @@ ghost use Rattle.java_check.specs.Fails.{tag_of};
 ghost use Rattle.java_check.specs.Outcome.{env_in, answer, and_then, asked};
 ghost use Rattle.java_check.specs.StatementOutcome.{field_answer, target_answer, condition_answer, test_answer, assign_answer, return_answer, st_answer, sts_answer, arms_answer};
 
-use crate::by_number::method_by_number;
+use crate::by_number::code_by_number;
 use crate::expressions::{ask, local_type, type_of};
 use crate::types::{fits, fits_in, is_boolean, is_printable};
 use crate::{Answered, CheckFault, Kind};
@@ -114,12 +114,12 @@ fn check_test(p: &Program, body: MemberId, test: &Option<RExpr>) -> Answered<()>
     }
 }
 
-/// What the method of the body gives back.
+/// What the body gives back.
 fn result_type(p: &Program, body: MemberId) -> Option<Ty>
     ensures { result ≡ (env_in (program_of p.now) body.0).result }
 {
-    match method_by_number(p, body.0 as usize) {
-        Some(method) => method.result,
+    match code_by_number(p, body) {
+        Some(code) => code.result,
         None => None,
     }
 }

@@ -1,11 +1,13 @@
 -- Believed. A resolved program as plain data, and which plain data its parts are.
 use Rattle.std.specs.Prelude.{ℕ, Bool, List, Option, map}
+use Rattle.std.specs.Option.{option_copied}
 use Rattle.kaba_base.specs.declared.ClassId.{ClassId}
 use Rattle.java_core.specs.declared.Ty.{Ty}
 use Rattle.java_core.specs.declared.Local.{Local}
 use Rattle.java_core.specs.declared.Class.{Class}
 use Rattle.java_core.specs.declared.Field.{Field}
 use Rattle.java_core.specs.declared.Method.{Method}
+use Rattle.java_core.specs.declared.code.Code.{Code}
 use Rattle.java_core.specs.declared.Slot.{Slot}
 use Rattle.java_core.specs.Trees.{Tag, Sts, at_place, body_seen}
 
@@ -87,6 +89,22 @@ method_seen m =
       result = m.result;
       body = body_seen m.body;
       tag = at_place m.place;
+    }
+
+-- what a body with its heading says, as a value of the specification
+abbrev pub code_seen : Code → PlainMethod
+code_seen c =
+    record {
+      owner = c.owner.0;
+      name = c.name.now;
+      is_static = c.is_static;
+      is_public = c.is_public;
+      slot = c.slot;
+      params = map local_seen c.params.now.items;
+      locals = map local_seen c.locals.now.items;
+      result = c.result;
+      body = body_seen (option_copied c.body);
+      tag = at_place c.place;
     }
 
 -- what a slot of the code says, as a value of the specification

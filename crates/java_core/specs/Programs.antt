@@ -8,7 +8,7 @@ use Rattle.java_core.specs.declared.Field.{Field}
 use Rattle.java_core.specs.declared.Method.{Method}
 use Rattle.java_core.specs.declared.Slot.{Slot}
 use Rattle.java_core.specs.declared.Program.{Program}
-pub use Rattle.java_core.specs.Plain.{PlainLocal, PlainClass, PlainField, PlainMethod, PlainSlot, Plain, local_seen, class_seen, field_seen, method_seen, slot_seen}
+pub use Rattle.java_core.specs.Plain.{PlainLocal, PlainClass, PlainField, PlainMethod, PlainSlot, Plain, local_seen, class_seen, field_seen, method_seen, code_seen, slot_seen}
 
 -- each of its parts carries its place. No rule of types and no rule of a run looks at it
 abbrev pub program_of : Program → Plain

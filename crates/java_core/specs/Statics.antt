@@ -2,9 +2,9 @@
 use Rattle.std.specs.Prelude.{ℕ, Option, Some, None}
 use Rattle.java_core.specs.declared.Ty.{Ty}
 use Rattle.java_core.specs.declared.Program.{Program}
-use Rattle.java_core.specs.declared.Method.{Method}
+use Rattle.java_core.specs.declared.code.Code.{Code}
 use Rattle.java_core.specs.Trees.{Ex}
-use Rattle.java_core.specs.Programs.{program_of, method_seen}
+use Rattle.java_core.specs.Programs.{program_of, code_seen}
 use Rattle.java_core.specs.Types as types
 use Rattle.java_core.specs.Types.{a_value, null_value, no_value, LengthOf, CharAt, env_of, static as static_of}
 use Rattle.java_core.specs.declared.statics.Static.{Static}
@@ -18,9 +18,9 @@ static_seen (form.Value t) = a_value t
 static_seen form.Null = null_value
 static_seen form.Nothing = no_value
 
--- the static type of an expression in the body of a method of a program; b is the method's number, which no type depends on
-abbrev pub static_in : Program → ℕ → Method → Ex → types.Static
-static_in p b m e = static_of (program_of p) (env_of b (method_seen m)) e
+-- the static type of an expression in a body of a program; b is the body's number, which no type depends on
+abbrev pub static_in : Program → ℕ → Code → Ex → types.Static
+static_in p b c e = static_of (program_of p) (env_of b (code_seen c)) e
 
 -- a value of the type, or nothing
 abbrev pub given_of : Option Ty → Static

@@ -9,6 +9,7 @@ ghost use Rattle.java_core.specs.Subtypes.{subtype_rows};
 mod above;
 mod checked;
 mod classes;
+mod code;
 mod direct;
 mod made;
 mod nearest;
@@ -24,6 +25,7 @@ pub use classes::{
     declaration_of, faces_of, field_of, is_subtype, lookup, member_field, nearest_declaration,
     parent_of, slot_of, super_method,
 };
+pub use code::Code;
 use java_lex::Units;
 use kaba_base::{ClassId, MemberId, Name, Place};
 pub use owned::{declared_fields, listed_under, note_under};

@@ -4,7 +4,7 @@ ghost use Rattle.std.specs.Prelude.{◌≡◌, ◌++◌, ℕ, List, Option, map,
 ghost use Rattle.std.specs.Str.{bytes_eq, encode_utf8_all};
 ghost use Rattle.std.specs.Option.{option_map};
 ghost use Rattle.java_core.specs.Trees.{expr_of};
-ghost use Rattle.java_core.specs.Programs.{program_of, local_seen, method_seen};
+ghost use Rattle.java_core.specs.Programs.{program_of, local_seen, code_seen};
 ghost use Rattle.java_core.specs.Formed.{IsFormed};
 ghost use Rattle.java_core.specs.Classes.{slot_of};
 ghost use Rattle.java_core.specs.Types as types;
@@ -12,7 +12,7 @@ ghost use Rattle.java_core.specs.Types.{types_of, signature_of_method, call_sign
 ghost use Rattle.java_core.specs.Statics.{static_seen, static_in, string_seen, given_of};
 
 use crate::{
-    BinOp, Local, Method, Op, Program, RExpr, Ty, TyBase, UnOp, member_field, slot_of, super_method,
+    BinOp, Code, Local, Op, Program, RExpr, Ty, TyBase, UnOp, member_field, slot_of, super_method,
 };
 use kaba_base::{ClassId, MemberId, Name};
 
@@ -73,16 +73,16 @@ pub fn type_at(variables: &[Local], at: usize) -> Option<Ty>
     }
 }
 
-/// The type of a parameter or a local of a method, by its number: the parameters first, then the locals.
-pub fn local_type(method: &Method, local: u32) -> Option<Ty>
-    ensures value { result ≡ slice_get (types_of ((method_seen method.now).params ++ (method_seen method.now).locals)) local }
+/// The type of a parameter or a local of a body, by its number: the parameters first, then the locals.
+pub fn local_type(code: &Code, local: u32) -> Option<Ty>
+    ensures value { result ≡ slice_get (types_of ((code_seen code.now).params ++ (code_seen code.now).locals)) local }
 {
     let at = local as usize;
-    let count = method.params.len();
+    let count = code.params.len();
     if at < count {
-        type_at(&method.params, at)
+        type_at(code.params, at)
     } else {
-        type_at(&method.locals, at - count)
+        type_at(code.locals, at - count)
     }
 }
 
@@ -314,10 +314,10 @@ pub fn unary_type(op: UnOp) -> Ty
     }
 }
 
-/// The static type of an expression in a method.
-pub fn static_of(p: &Program, method: &Method, e: &RExpr) -> Static
+/// The static type of an expression in a body.
+pub fn static_of(p: &Program, code: &Code, e: &RExpr) -> Static
     requires { IsFormed (program_of p.now) }
-    ensures value { (b : ℕ) → static_seen result ≡ static_in p.now b method.now (expr_of e.now) }
+    ensures value { (b : ℕ) → static_seen result ≡ static_in p.now b code.now (expr_of e.now) }
 {
     match e {
         RExpr::Int { .. } => plain(TyBase::Int),
@@ -325,20 +325,20 @@ pub fn static_of(p: &Program, method: &Method, e: &RExpr) -> Static
         RExpr::Str { .. } => plain(TyBase::Str),
         RExpr::Bool { .. } => plain(TyBase::Boolean),
         RExpr::Null { .. } => Static::Null,
-        RExpr::This { .. } => plain(TyBase::Class(method.owner)),
-        RExpr::Local { local, .. } => given_of(local_type(method, *local)),
+        RExpr::This { .. } => plain(TyBase::Class(code.owner)),
+        RExpr::Local { local, .. } => given_of(local_type(code, *local)),
         RExpr::Static { field, .. } => given_of(field_type(p, *field)),
         RExpr::Own { field, .. } => given_of(field_type(p, *field)),
         RExpr::Field { base, name, .. } => {
-            given_of(access_type(p, static_of(p, method, base), name))
+            given_of(access_type(p, static_of(p, code, base), name))
         }
-        RExpr::Index { base, .. } => given_of(element_of(static_of(p, method, base))),
+        RExpr::Index { base, .. } => given_of(element_of(static_of(p, code, base))),
         RExpr::Call { base, name, .. } => match base {
-            Some(base) => call_result(p, static_of(p, method, base), name),
-            None => call_result(p, plain(TyBase::Class(method.owner)), name),
+            Some(base) => call_result(p, static_of(p, code, base), name),
+            None => call_result(p, plain(TyBase::Class(code.owner)), name),
         },
         RExpr::StaticCall { method, .. } => method_result(p, *method),
-        RExpr::SuperCall { name, .. } => super_result(p, method.owner, name),
+        RExpr::SuperCall { name, .. } => super_result(p, code.owner, name),
         RExpr::New { class, .. } => plain(TyBase::Class(*class)),
         RExpr::NewArray { ty, .. } => Static::Value(*ty),
         RExpr::Cast { ty, .. } => Static::Value(*ty),
@@ -349,10 +349,6 @@ pub fn static_of(p: &Program, method: &Method, e: &RExpr) -> Static
             left,
             right,
             ..
-        } => Static::Value(binary_type(
-            *op,
-            static_of(p, method, left),
-            static_of(p, method, right),
-        )),
+        } => Static::Value(binary_type(*op, static_of(p, code, left), static_of(p, code, right))),
     }
 }

@@ -62,7 +62,7 @@ pub fn compile(alloc: Global, p: &Program) -> Result<Image, AllocError>
             program: p,
             places: &places,
             number: MemberId(small(i)?),
-            method,
+            code: method.code(),
         };
         entries.push(add_method(&mut code, &scope)?)?;
     }

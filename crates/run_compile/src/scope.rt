@@ -7,20 +7,20 @@ ghost use Rattle.java_core.specs.Classes.{super_method};
 ghost use Rattle.java_core.specs.Types.{field_type};
 
 use java_core::{
-    Method, Program, RExpr, Static, Ty, TyBase, field_in, field_type, plain_type, slot_in,
-    static_of, super_method,
+    Code, Program, RExpr, Static, Ty, TyBase, field_in, field_type, plain_type, slot_in, static_of,
+    super_method,
 };
 use kaba_base::{MemberId, Name};
 use std::alloc::Global;
 
-/// A program, the places of its fields by their numbers, and the method whose body is compiled.
+/// A program, the places of its fields by their numbers, and the body that is compiled.
 #[derive(Clone, Copy)]
 pub struct Scope<'a> {
     pub alloc: Global,
     pub program: &'a Program,
     pub places: &'a Vec<u32>,
     pub number: MemberId,
-    pub method: &'a Method,
+    pub code: Code<'a>,
 }
 
 /// Where code is made: what it is made for, and the first slot for values that wait.
@@ -45,7 +45,7 @@ pub fn is_int(ty: Option<Ty>) -> bool
 pub fn local_type(scope: &Scope, local: u32) -> Option<Ty>
     ensures { result ≡ slice_get (env scope.now).locals local }
 {
-    java_core::local_type(scope.method, local)
+    java_core::local_type(&scope.code, local)
 }
 
 /// Whether a parameter or a local is an `int`.
@@ -55,12 +55,12 @@ pub fn is_int_local(scope: &Scope, local: u32) -> bool
     is_int(local_type(scope, local))
 }
 
-/// Whether what the method gives is an `int`.
+/// Whether what the body gives back is an `int`.
 #[tactic(auto, unfolding(crate::specs::Scopes::env))]
 pub fn gives_int(scope: &Scope) -> bool
     ensures { result ≡ is_int (env scope.now).result }
 {
-    is_int(scope.method.result)
+    is_int(scope.code.result)
 }
 
 /// Whether a field is an `int`.
@@ -90,7 +90,7 @@ pub fn field_of(scope: &Scope, e: &RExpr, name: &Name) -> Option<MemberId>
 {
     field_in(
         scope.program,
-        static_of(scope.program, scope.method, e),
+        static_of(scope.program, &scope.code, e),
         name,
     )
 }
@@ -104,12 +104,12 @@ pub fn slot_of(scope: &Scope, base: &Option<Box<RExpr>>, name: &Name) -> Option<
     match base {
         Some(base) => slot_in(
             scope.program,
-            static_of(scope.program, scope.method, base),
+            static_of(scope.program, &scope.code, base),
             name,
         ),
         None => slot_in(
             scope.program,
-            Static::Value(plain_type(TyBase::Class(scope.method.owner))),
+            Static::Value(plain_type(TyBase::Class(scope.code.owner))),
             name,
         ),
     }
@@ -121,7 +121,7 @@ pub fn super_of(scope: &Scope, name: &Name) -> Option<u32>
     requires { IsScopeReady scope.now }
     ensures { result ≡ super_method (plain scope.now) (env scope.now).self name.now }
 {
-    match super_method(scope.program, scope.method.owner, name) {
+    match super_method(scope.program, scope.code.owner, name) {
         Some(method) => Some(method.0),
         None => None,
     }

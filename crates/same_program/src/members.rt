@@ -3,15 +3,16 @@
 
 ghost use Rattle.std.specs.Prelude.{◌≡◌, ◌&&◌, ◌||◌, is_ok, map};
 ghost use Rattle.std.specs.Bool.{beq};
+ghost use Rattle.std.specs.Option.{option_copied};
 ghost use Rattle.std.specs.Str.{bytes_eq};
 ghost use Rattle.java_core.specs.Trees.{body_seen};
-ghost use Rattle.java_core.specs.Programs.{program_of, class_seen, field_seen, local_seen, method_seen};
+ghost use Rattle.java_core.specs.Programs.{program_of, class_seen, field_seen, local_seen, method_seen, code_seen};
 ghost use Rattle.same_program.specs.Same.{may_one, all_one, one_class, one_id, one_type, one_sts, one_head, one_class_as, one_field_as, one_variable, one_method_as};
 
 use crate::bodies::statements;
 use crate::names::{both, same_class, same_names, same_type, told};
 use crate::{Agreed, What};
-use java_core::{Class, Field, Local, Method, Program, RStmt, Ty};
+use java_core::{Class, Code, Field, Local, Method, Program, RStmt, Ty};
 use kaba_base::{ClassId, Place};
 
 /// Whether two classes have one name and are classes or interfaces both, and abstract both; at an interface that says nothing.
@@ -139,12 +140,12 @@ fn same_results(p: &Program, q: &Program, a: Option<Ty>, b: Option<Ty>) -> bool
 fn bodies(
     p: &Program,
     q: &Program,
-    a: &Option<Vec<RStmt>>,
-    b: &Option<Vec<RStmt>>,
+    a: Option<&Vec<RStmt>>,
+    b: Option<&Vec<RStmt>>,
     first: Place,
     second: Place,
 ) -> Agreed
-    ensures { is_ok result ≡ may_one (one_sts (program_of p.now) (program_of q.now)) (body_seen a.now) (body_seen b.now) }
+    ensures { is_ok result ≡ may_one (one_sts (program_of p.now) (program_of q.now)) (body_seen (option_copied a.entry)) (body_seen (option_copied b.entry)) }
 {
     match a {
         None => told(b.is_none(), first, second, What::Method),
@@ -156,24 +157,24 @@ fn bodies(
 }
 
 /// Whether two methods have one name, in classes of one name, and are static both.
-fn same_method_heads(p: &Program, q: &Program, a: &Method, b: &Method) -> bool
-    ensures { result ≡ ((one_class (program_of p.now) (program_of q.now) a.now.owner.0 b.now.owner.0 && bytes_eq a.now.name b.now.name)
+fn same_method_heads(p: &Program, q: &Program, a: &Code, b: &Code) -> bool
+    ensures { result ≡ ((one_class (program_of p.now) (program_of q.now) a.now.owner.0 b.now.owner.0 && bytes_eq (code_seen a.now).name (code_seen b.now).name)
         && beq a.now.is_static b.now.is_static) }
 {
-    same_class(p, q, a.owner, b.owner) && same_names(&a.name, &b.name) && a.is_static == b.is_static
+    same_class(p, q, a.owner, b.owner) && same_names(a.name, b.name) && a.is_static == b.is_static
 }
 
 /// That what two methods take and give, and their code, are one.
-fn insides(p: &Program, q: &Program, a: &Method, b: &Method) -> Agreed
-    ensures { is_ok result ≡ (all_one (one_variable (program_of p.now) (program_of q.now)) (map local_seen a.now.params.items) (map local_seen b.now.params.items)
-        && (all_one (one_variable (program_of p.now) (program_of q.now)) (map local_seen a.now.locals.items) (map local_seen b.now.locals.items)
+fn insides(p: &Program, q: &Program, a: &Code, b: &Code) -> Agreed
+    ensures { is_ok result ≡ (all_one (one_variable (program_of p.now) (program_of q.now)) (code_seen a.now).params (code_seen b.now).params
+        && (all_one (one_variable (program_of p.now) (program_of q.now)) (code_seen a.now).locals (code_seen b.now).locals
         && (may_one (one_type (program_of p.now) (program_of q.now)) a.now.result b.now.result
-        && may_one (one_sts (program_of p.now) (program_of q.now)) (body_seen a.now.body) (body_seen b.now.body)))) }
+        && may_one (one_sts (program_of p.now) (program_of q.now)) (code_seen a.now).body (code_seen b.now).body))) }
 {
     both(
-        variables(p, q, &a.params, &b.params, a.place, b.place),
+        variables(p, q, a.params, b.params, a.place, b.place),
         both(
-            variables(p, q, &a.locals, &b.locals, a.place, b.place),
+            variables(p, q, a.locals, b.locals, a.place, b.place),
             both(
                 told(
                     same_results(p, q, a.result, b.result),
@@ -181,15 +182,22 @@ fn insides(p: &Program, q: &Program, a: &Method, b: &Method) -> Agreed
                     b.place,
                     What::Method,
                 ),
-                bodies(p, q, &a.body, &b.body, a.place, b.place),
+                bodies(p, q, a.body, b.body, a.place, b.place),
             ),
         ),
     )
 }
 
-/// That two methods are one; the code of two of other names is not compared.
+/// That two methods are one.
 pub(crate) fn methods(p: &Program, q: &Program, a: &Method, b: &Method) -> Agreed
     ensures { is_ok result ≡ one_method_as (program_of p.now) (program_of q.now) (method_seen a.now) (method_seen b.now) }
+{
+    codes(p, q, &a.code(), &b.code())
+}
+
+/// That two bodies with their headings are one; two of other names are not compared further.
+fn codes(p: &Program, q: &Program, a: &Code, b: &Code) -> Agreed
+    ensures { is_ok result ≡ one_method_as (program_of p.now) (program_of q.now) (code_seen a.now) (code_seen b.now) }
 {
     if same_method_heads(p, q, a, b) {
         insides(p, q, a, b)

@@ -1,15 +1,15 @@
 //! The heads of methods.
 
 ghost use Rattle.std.specs.Prelude.{◌≡◌, ◌∷◌, [], ◌<◌, IfOk};
-ghost use Rattle.source_gen.specs.Words.{option_map, method_seen, local_seen, slot_seen, each, head_if, IsSource, old_program, renaming};
+ghost use Rattle.source_gen.specs.Words.{option_map, code_seen, local_seen, slot_seen, each, head_if, IsSource, old_program, renaming};
 ghost use Rattle.kaba_base.specs.declared.words.Keyword.TheVariants as keyword;
 ghost use Rattle.java_tree.specs.Syntax.{head_of};
 ghost use Rattle.flow_rules.specs.Operands.{result_in};
 ghost use Rattle.write_model.specs.Names as names;
 ghost use Rattle.write_model.specs.Members as members;
 
-use crate::parts::method_at;
-use java_core::{Local, Method, Slot};
+use crate::parts::code_at;
+use java_core::{Code, Local, Slot};
 use java_tree::unplaced::nowhere;
 use java_tree::{Head, Modifier, Param, TypeName};
 use kaba_base::{Keyword, Name};
@@ -38,15 +38,15 @@ pub fn public_and(alloc: Global, other: Keyword) -> Result<Vec<Modifier>, AllocE
 fn param(
     source: &Source,
     m: u64,
-    method: &Method,
+    code: &Code,
     number: u64,
     local: &Local,
 ) -> Result<Param, AllocError>
     requires { IsSource source.now }
     ensures { IfOk result (λ p. p ≡ members.param (old_program source.now) (renaming source.now)
-        source.now.hier.now m (method_seen method.now) number (local_seen local.now)) }
+        source.now.hier.now m (code_seen code.now) number (local_seen local.now)) }
 {
-    let row = variable_row(m, method, number);
+    let row = variable_row(m, code, number);
     let ty = row_type(source, row, local.ty)?;
     let name = local.name.copy(source.alloc)?;
     Ok(Param {
@@ -58,29 +58,29 @@ fn param(
 }
 
 /// The parameters.
-fn params(source: &Source, m: u64, method: &Method) -> Result<Vec<Param>, AllocError>
+fn params(source: &Source, m: u64, code: &Code) -> Result<Vec<Param>, AllocError>
     requires { IsSource source.now }
     ensures { IfOk result (λ v. v.items ≡ each (λ i k. members.param (old_program source.now) (renaming source.now) source.now.hier.now m
-        (method_seen method.now) i k ∷ []) 0 (method_seen method.now).params) }
+        (code_seen code.now) i k ∷ []) 0 (code_seen code.now).params) }
 {
     let mut list = Vec::new(source.alloc);
-    for (i, local) in method.params.iter().enumerate() {
-        let one = param(source, m, method, i as u64, local)?;
+    for (i, local) in code.params.iter().enumerate() {
+        let one = param(source, m, code, i as u64, local)?;
         list.push(one)?;
     }
     Ok(list)
 }
 
-/// What a method gives back: the type of its row's node; `None` is `void`.
-fn result_type(source: &Source, m: u64, method: &Method) -> Result<Option<TypeName>, AllocError>
+/// What a body gives back: the type of its row's node; `None` is `void`.
+fn result_type(source: &Source, m: u64, code: &Code) -> Result<Option<TypeName>, AllocError>
     requires { IsSource source.now }
     ensures { IfOk result (λ t. t ≡ option_map (names.written_type (old_program source.now) source.now.hier.now ((renaming source.now).row_type
-        (result_in (method_seen method.now).slot m))) (method_seen method.now).result) }
+        (result_in (code_seen code.now).slot m))) (code_seen code.now).result) }
 {
-    let Some(ty) = method.result else {
+    let Some(ty) = code.result else {
         return Ok(None);
     };
-    let row = result_row(m, method);
+    let row = result_row(m, code);
     Ok(Some(row_type(source, row, ty)?))
 }
 
@@ -90,14 +90,14 @@ pub fn head(
     mods: Vec<Modifier>,
     name: Name,
     m: u64,
-    method: &Method,
+    code: &Code,
 ) -> Result<Head, AllocError>
     requires { IsSource source.now }
     ensures { IfOk result (λ h. head_of h ≡ members.head (old_program source.now) (renaming source.now) source.now.hier.now mods.items name m
-        (method_seen method.now)) }
+        (code_seen code.now)) }
 {
-    let result = result_type(source, m, method)?;
-    let params = params(source, m, method)?;
+    let result = result_type(source, m, code)?;
+    let params = params(source, m, code)?;
     Ok(Head {
         mods,
         result,
@@ -118,11 +118,11 @@ pub fn first_head(
         (slot_seen slot.now)) }
 {
     let m = slot.first.0 as u64;
-    let Some(method) = method_at(source.program, m) else {
+    let Some(code) = code_at(source.program, m) else {
         return Ok(None);
     };
     let name = method_name(source, m)?;
-    let made = head(source, mods, name, m, method)?;
+    let made = head(source, mods, name, m, &code)?;
     Ok(Some(made))
 }
 

@@ -1,7 +1,7 @@
 //! The fields and methods that the types of nodes and the holders have.
 
 ghost use Rattle.std.specs.Prelude.{◌≡◌, ◌++◌, ◌∷◌, [], IfOk, OnOk, map};
-ghost use Rattle.source_gen.specs.Words.{method_seen, field_seen, head_if, IsSource, old_program, renaming};
+ghost use Rattle.source_gen.specs.Words.{method_seen, code_seen, field_seen, head_if, IsSource, old_program, renaming};
 ghost use Rattle.kaba_base.specs.declared.words.Keyword.TheVariants as keyword;
 ghost use Rattle.java_tree.specs.Syntax as tree;
 ghost use Rattle.flow_rules.specs.declared.items.RowItem.TheVariants as row;
@@ -10,7 +10,7 @@ ghost use Rattle.write_model.specs.Members as written;
 
 use crate::heads::{head, one_modifier, public_and};
 use flow_rules::RowItem;
-use java_core::{Field, Method};
+use java_core::{Code, Field, Method};
 use java_tree::unplaced::nowhere;
 use java_tree::{Decl, Head, Member, Modifier, Stmt};
 use kaba_base::{Keyword, Name};
@@ -67,12 +67,12 @@ pub fn push_bodyless(into: &mut Vec<Member>, one: Option<Head>) -> Result<(), Al
     }
 }
 
-/// The parameters of a method when its body begins, by their numbers.
-fn parameters(alloc: Global, method: &Method) -> Result<Vec<u32>, AllocError>
-    ensures { IfOk result (λ v. v.items ≡ written.parameters 0 (method_seen method.now).params) }
+/// The parameters when a body begins, by their numbers.
+fn parameters(alloc: Global, code: &Code) -> Result<Vec<u32>, AllocError>
+    ensures { IfOk result (λ v. v.items ≡ written.parameters 0 (code_seen code.now).params) }
 {
     let mut list = Vec::new(alloc);
-    for (i, _local) in method.params.iter().enumerate() {
+    for (i, _local) in code.params.iter().enumerate() {
         let Ok(number) = u32::try_from(i) else {
             return Err(AllocError);
         };
@@ -81,20 +81,20 @@ fn parameters(alloc: Global, method: &Method) -> Result<Vec<u32>, AllocError>
     Ok(list)
 }
 
-/// The statements of a method, as they are written.
-fn code(source: &Source, m: u64, method: &Method) -> Result<Option<Vec<Stmt>>, AllocError>
+/// The statements of a body, as they are written.
+fn statements(source: &Source, m: u64, code: &Code) -> Result<Option<Vec<Stmt>>, AllocError>
     requires { IsSource source.now }
     ensures { IfOk result (λ b. tree.body_seen b ≡ written.body (old_program source.now) (renaming source.now) source.now.hier.now m
-        (method_seen method.now)) }
+        (code_seen code.now)) }
 {
-    let Some(list) = &method.body else {
+    let Some(list) = code.body else {
         return Ok(None);
     };
-    let scope = parameters(source.alloc, method)?;
+    let scope = parameters(source.alloc, code)?;
     let within = Within {
         source,
         number: m,
-        method,
+        code: *code,
     };
     let made = body(&within, &scope, list)?;
     Ok(Some(made))
@@ -127,15 +127,15 @@ fn method(
     mods: Vec<Modifier>,
     name: Name,
     m: u64,
-    old: &Method,
+    old: &Code,
 ) -> Result<Member, AllocError>
     requires { IsSource source.now }
     ensures { IfOk result (λ d. tree.member_of d ≡ tree.MethodTree (written.head (old_program source.now) (renaming source.now) source.now.hier.now
-        mods.items name m (method_seen old.now)) (written.body (old_program source.now) (renaming source.now) source.now.hier.now m
-        (method_seen old.now)) names.nowhere) }
+        mods.items name m (code_seen old.now)) (written.body (old_program source.now) (renaming source.now) source.now.hier.now m
+        (code_seen old.now)) names.nowhere) }
 {
     let head = head(source, mods, name, m, old)?;
-    let body = code(source, m, old)?;
+    let body = statements(source, m, old)?;
     Ok(Member::Method {
         head,
         body,
@@ -155,10 +155,10 @@ pub fn field_member(source: &Source, f: u64, old: &Field) -> Result<Member, Allo
 }
 
 /// The body of an instance method: public, under the name of its declaration's column.
-pub fn body_member(source: &Source, m: u64, old: &Method) -> Result<Member, AllocError>
+pub fn body_member(source: &Source, m: u64, old: &Code) -> Result<Member, AllocError>
     requires { IsSource source.now }
     ensures { IfOk result (λ d. tree.member_of d ≡ written.body_member (old_program source.now) (renaming source.now) source.now.hier.now m
-        (method_seen old.now)) }
+        (code_seen old.now)) }
 {
     let name = method_name(source, m)?;
     let mods = one_modifier(source.alloc, Keyword::Public)?;
@@ -177,6 +177,18 @@ pub fn static_field(source: &Source, f: u64, old: &Field) -> Result<Member, Allo
     field(source, mods, name, f, old)
 }
 
+/// A static method of a holder by its body: it keeps its name.
+fn static_code(source: &Source, m: u64, old: &Code) -> Result<Member, AllocError>
+    requires { IsSource source.now }
+    ensures { IfOk result (λ d. tree.member_of d ≡ tree.MethodTree (written.head (old_program source.now) (renaming source.now) source.now.hier.now
+        (names.modifier keyword.Public ∷ names.modifier keyword.Static ∷ []) (code_seen old.now).name m (code_seen old.now)) (written.body (old_program
+        source.now) (renaming source.now) source.now.hier.now m (code_seen old.now)) names.nowhere) }
+{
+    let name = old.name.copy(source.alloc)?;
+    let mods = public_and(source.alloc, Keyword::Static)?;
+    method(source, mods, name, m, old)
+}
+
 /// A static method of a holder: it keeps its name.
 pub fn static_method(source: &Source, m: u64, old: &Method) -> Result<Member, AllocError>
     requires { IsSource source.now }
@@ -184,7 +196,5 @@ pub fn static_method(source: &Source, m: u64, old: &Method) -> Result<Member, Al
         (names.modifier keyword.Public ∷ names.modifier keyword.Static ∷ []) old.now.name m (method_seen old.now)) (written.body (old_program
         source.now) (renaming source.now) source.now.hier.now m (method_seen old.now)) names.nowhere) }
 {
-    let name = old.name.copy(source.alloc)?;
-    let mods = public_and(source.alloc, Keyword::Static)?;
-    method(source, mods, name, m, old)
+    static_code(source, m, &old.code())
 }

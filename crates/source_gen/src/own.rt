@@ -6,7 +6,7 @@ ghost use Rattle.java_tree.specs.Syntax as tree;
 ghost use Rattle.write_model.specs.Members as written;
 
 use crate::members::{body_member, field_member, push_member};
-use crate::parts::{Nodes, field_at, method_at};
+use crate::parts::{Nodes, code_at, field_at};
 use flow_rules::ColumnItem;
 use java_tree::Member;
 use std::alloc::AllocError;
@@ -27,8 +27,8 @@ pub fn add_own(
             Some(field) => push_member(into, field_member(source, f, field)?),
             None => Ok(()),
         },
-        Some(ColumnItem::Def(m)) => match method_at(source.program, m) {
-            Some(method) => push_member(into, body_member(source, m, method)?),
+        Some(ColumnItem::Def(m)) => match code_at(source.program, m) {
+            Some(code) => push_member(into, body_member(source, m, &code)?),
             None => Ok(()),
         },
         _ => Ok(()),

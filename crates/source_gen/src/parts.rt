@@ -1,10 +1,10 @@
 //! What is written of, and fields and methods of a program by their numbers.
 
 ghost use Rattle.std.specs.Prelude.{◌≡◌, slice_get};
-ghost use Rattle.source_gen.specs.Words.{option_map, program_of, field_seen, method_seen};
+ghost use Rattle.source_gen.specs.Words.{option_map, program_of, field_seen, code_seen};
 
 use fact_model::Facts;
-use java_core::{Field, Method, Program};
+use java_core::{Code, Field, Program};
 use write_forms::Source;
 
 /// What the types of the nodes are written of: the facts of the hierarchy besides, and which nodes of that are classes.
@@ -22,9 +22,10 @@ pub fn field_at(program: &Program, f: u64) -> Option<&Field>
     program.fields.get(f as usize)
 }
 
-/// A method by its number.
-pub fn method_at(program: &Program, m: u64) -> Option<&Method>
-    ensures { option_map (λ k. method_seen k.now) result ≡ slice_get (program_of program.now).methods m }
+/// A method's body with its heading, by the method's number.
+pub fn code_at(program: &Program, m: u64) -> Option<Code<'_>>
+    ensures { option_map code_seen result ≡ slice_get (program_of program.now).methods m }
 {
-    program.methods.get(m as usize)
+    let method = program.methods.get(m as usize)?;
+    Some(method.code())
 }

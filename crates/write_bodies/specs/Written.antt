@@ -2,15 +2,15 @@
 use Rattle.std.specs.Prelude.{ℕ, List, Option}
 use Rattle.java_tree.specs.Syntax as tree
 use Rattle.java_core.specs.Trees.{Ex, Exs, Target, St, Sts, IfArms}
-use Rattle.java_core.specs.Programs.{PlainMethod, method_seen}
+use Rattle.java_core.specs.Programs.{PlainMethod, code_seen}
 use Rattle.hier_model.specs.Hierarchies.{Hierarchy}
 use Rattle.write_model.specs.Bodies as written
 use Rattle.write_forms.specs.Sources.{old_program, renaming}
 use Rattle.write_bodies.specs.declared.within.Within.{Within}
 
--- the method, as plain data
+-- the body with its heading, as plain data
 abbrev pub method_of : Within → PlainMethod
-method_of w = method_seen w.method.now
+method_of w = code_seen w.code
 
 -- the hierarchy
 abbrev pub hierarchy_of : Within → Hierarchy

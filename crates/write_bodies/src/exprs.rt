@@ -45,13 +45,13 @@ pub fn expr(within: &Within, scope: &Vec<u32>, tree: &RExpr) -> Result<Expr, All
         RExpr::Null { .. } => Ok(Expr::Null { place: nowhere() }),
         RExpr::This { .. } => Ok(Expr::This { place: nowhere() }),
         RExpr::Local { local, .. } => Ok(Expr::Name {
-            name: variable_name(within.source.alloc, within.method, *local)?,
+            name: variable_name(within.source.alloc, &within.code, *local)?,
             place: nowhere(),
         }),
-        RExpr::Static { field, .. } => static_field(within.source, within.method, scope, *field),
+        RExpr::Static { field, .. } => static_field(within.source, &within.code, scope, *field),
         RExpr::Own { field, .. } => forms::own_field(within.source, *field),
         RExpr::Field { base, name, .. } => {
-            let found = static_of(within.source.program, within.method, base);
+            let found = static_of(within.source.program, &within.code, base);
             let base = expr(within, scope, base)?;
             forms::field(within.source, found, name, base)
         }
@@ -68,10 +68,10 @@ pub fn expr(within: &Within, scope: &Vec<u32>, tree: &RExpr) -> Result<Expr, All
         } => match base {
             None => {
                 let args = all(within, scope, args)?;
-                forms::own_call(within.source, within.method.owner, name, args)
+                forms::own_call(within.source, within.code.owner, name, args)
             }
             Some(base) => {
-                let found = static_of(within.source.program, within.method, base);
+                let found = static_of(within.source.program, &within.code, base);
                 let on = expr(within, scope, base)?;
                 let args = made!(all(within, scope, args); on);
                 forms::call(within.source, found, name, on, args)
@@ -83,11 +83,11 @@ pub fn expr(within: &Within, scope: &Vec<u32>, tree: &RExpr) -> Result<Expr, All
             ..
         } => {
             let args = all(within, scope, args)?;
-            static_call(within.source, within.method, scope, *called, args)
+            static_call(within.source, &within.code, scope, *called, args)
         }
         RExpr::SuperCall { name, args, .. } => {
             let args = all(within, scope, args)?;
-            forms::super_call(within.source, within.method.owner, name, args)
+            forms::super_call(within.source, within.code.owner, name, args)
         }
         RExpr::New {
             number,

@@ -66,11 +66,11 @@ fn declaration(within: &Within, local: u32, value: Option<Expr>) -> Result<Stmt,
     requires { IsFitting within.now.source.now.numbering.now within.now.source.now.hier.now }
     ensures value { IfOk result (λ s. stmt_of s ≡ written.declared within.now local (value_of value)) }
 {
-    let Some(variable) = variable_at(within.method, local as u64) else {
+    let Some(variable) = variable_at(&within.code, local as u64) else {
         drop(value);
         return Ok(build::block(Vec::new(within.source.alloc), nowhere()));
     };
-    let row = variable_row(within.number, within.method, local as u64);
+    let row = variable_row(within.number, &within.code, local as u64);
     let ty = made!(row_type(within.source, row, variable.ty); value);
     let name = made!(variable.name.copy(within.source.alloc); value, ty);
     Ok(Stmt::Local {

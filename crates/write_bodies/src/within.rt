@@ -1,12 +1,12 @@
-//! The method whose body is written.
+//! The body that is written.
 
-use java_core::Method;
+use java_core::Code;
 use write_forms::Source;
 
-/// The method whose body is written, by its number, and what it is written of.
+/// The body that is written, by its number, and what it is written of.
 #[derive(Clone, Copy)]
 pub struct Within<'a> {
     pub source: &'a Source<'a>,
     pub number: u64,
-    pub method: &'a Method,
+    pub code: Code<'a>,
 }

@@ -2,11 +2,11 @@
 
 ghost use Rattle.std.specs.Prelude.{◌≡◌, ◌<◌, length, slice_get};
 ghost use Rattle.flow_rules.specs.Operands.{variable_row, result_in};
-ghost use Rattle.java_core.specs.Programs.{method_seen};
+ghost use Rattle.java_core.specs.Programs.{code_seen};
 
 use flow_rules::{ColumnItem, RowItem};
 use indexmap::IndexSet;
-use java_core::Method;
+use java_core::Code;
 
 /// The items of the rows and of the columns, each in the order of their numbers.
 #[derive(Drop)]
@@ -32,20 +32,20 @@ impl Numbering {
 }
 
 /// The row of a parameter or a local: a parameter of an instance method is one of its slot.
-pub fn variable_row(m: u64, method: &Method, number: u64) -> RowItem
-    ensures value { result ≡ variable_row m (method_seen method.now) number }
+pub fn variable_row(m: u64, code: &Code, number: u64) -> RowItem
+    ensures value { result ≡ variable_row m (code_seen code.now) number }
 {
-    match method.slot {
-        Some(slot) if number < method.params.len() as u64 => RowItem::Param(slot as u64, number),
+    match code.slot {
+        Some(slot) if number < code.params.len() as u64 => RowItem::Param(slot as u64, number),
         _ => RowItem::Local(m, number),
     }
 }
 
-/// The row of what a method gives back: that of an instance method is its slot's.
-pub fn result_row(m: u64, method: &Method) -> RowItem
-    ensures value { result ≡ result_in (method_seen method.now).slot m }
+/// The row of what a body gives back: that of an instance method is its slot's.
+pub fn result_row(m: u64, code: &Code) -> RowItem
+    ensures value { result ≡ result_in (code_seen code.now).slot m }
 {
-    match method.slot {
+    match code.slot {
         Some(slot) => RowItem::Return(slot as u64),
         None => RowItem::Result(m),
     }

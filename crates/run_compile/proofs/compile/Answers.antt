@@ -1,6 +1,8 @@
-use Rattle.std.proofs.Common.{◌≡◌, [], ◌∷◌, ◌++◌, length, map, slice_get, sym, ap, ◌∙◌, arith, length-append}
+use Rattle.std.proofs.Common.{◌≡◌, [], ◌∷◌, ◌++◌, length, map, slice_get, sym, ap, ◌∙◌, arith, length-append, subst}
 use Rattle.java_core.specs.Programs.{program_of, method_seen}
-use Rattle.run_code.specs.Seen.{op_of}
+use Rattle.std.specs.Option.{option_map}
+use Rattle.run_code.specs.Seen.{op_of, entry_of}
+use Rattle.run_compile.specs.Bodies.{IsMethodCode}
 use Rattle.run_compile.specs.Scopes.{plain}
 use Rattle.run_compile.proofs.Compiled.{one_more, all_fit}
 use Rattle.run_compile.proofs.Placed.{seen_in, seen_all}
@@ -24,7 +26,9 @@ loop-i-preserved c =
       counted = omega (arith, c.loop-i.invariant.counted, ap length pushed, length-append c.loop-i.entries.items (entry ∷ []));
       compiled = rw pushed (one_more P c.in_ok-small.field-0 (method_seen k) (map op_of c.loop-i.code.items) (map op_of c.add_method.new.code.items)
           c.loop-i.entries.items (number ∙ sym c.loop-i.invariant.counted) entry at
-          c.loop-i.invariant.compiled c.in_ok-add_method.ensures);
+          c.loop-i.invariant.compiled
+          (subst (λ m. IsMethodCode P c.in_ok-small.field-0 m (map op_of c.loop-i.code.items) (map op_of c.add_method.new.code.items) (option_map entry_of entry))
+          c.code.ensures.value c.in_ok-add_method.ensures));
     }
 
 pub returns : goal.returns

@@ -12,11 +12,11 @@ typed ls i = slice_get (types_of (map local_seen ls)) i
 
 pub returns-then-at-count : goal.returns-then-at-count
 returns-then-at-count c =
-    let h : c.args.local < length c.args.method.now.params.items = omega arith in
+    let h : c.args.local < length c.args.code.now.params.now.items = omega arith in
     record { value = c.type_at.ensures.value ∙ ap (λ l. typed l c.args.local) c.deref.ensures.value ∙ type_of_param _ _ _ h }
 
 pub returns-else-at-count : goal.returns-else-at-count
 returns-else-at-count c =
     let j = c.args.local - c.len-count.result in
-    let h : length c.args.method.now.params.items + j ≡ c.args.local = omega arith in
+    let h : length c.args.code.now.params.now.items + j ≡ c.args.local = omega arith in
     record { value = c.type_at-else-at-count.ensures.value ∙ ap (λ l. typed l j) c.deref-else-at-count.ensures.value ∙ type_of_local _ _ _ _ h }

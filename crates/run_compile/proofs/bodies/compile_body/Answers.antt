@@ -14,7 +14,7 @@ returns c =
     let s = c.args.scope.now in
     let xs = stmts c.args.body.now.items in
     let old = c.args.code.now in
-    let ends = constant (option_map_or default_of s.method.now.result Nothing) in
+    let ends = constant (option_map_or default_of s.code.result Nothing) in
     body_made (plain s) (env s) xs (give false ends) old c.put.new.self c.compile_stmts.new.code _ _ c.len-end.result
     (c.in_ok-put.ensures ∙ ap (λ (o : Operand). give false o ∷ old) c.default_operand.ensures) c.len-end.ensures (c.in_ok-slots.ensures xs)
     c.in_ok-compile_stmts.ensures

@@ -5,5 +5,5 @@ use Rattle.source_gen.proofs.members.parameters.Given as goal
 
 abbrev pub invariant-loop-i : goal.invariant-loop-i
 invariant-loop-i l =
-    l.list.items ++ parameters l.i (map local_seen (drop l.i l.method.params.items))
-    ≡ parameters 0 (map local_seen l.method.params.items)
+    l.list.items ++ parameters l.i (map local_seen (drop l.i l.code.params.now.items))
+    ≡ parameters 0 (map local_seen l.code.params.now.items)
