@@ -7,7 +7,7 @@ use Rattle.kaba_base.specs.declared.NodeId.{NodeId}
 use Rattle.kaba_base.proofs.TestLemmas.{refuted}
 use Rattle.kaba_bits.specs.Sets.{bit, row, or_else, first_below, when}
 use Rattle.kaba_bits.proofs.FirstLemmas.{first_below_clear}
-use Rattle.kaba_order.specs.Orders.{is_le}
+use Rattle.kaba_order.specs.Orders.{is_le, differ}
 use Rattle.fact_model.specs.Items.{site_class, site_row, row_class, column_kind, column_class, column_slot}
 use Rattle.fact_model.specs.Classes.{is_def, is_slot, below, finds}
 use Rattle.fact_model.specs.declared.facts.Facts.{Facts}
@@ -21,7 +21,7 @@ use Rattle.hier_laws.specs.Obligations.{IsOther, Half, Rest}
 use Rattle.hier_rules.specs.declared.broken.Rule.TheVariants.{B2, B3, B4, B5, B6, B7}
 use Rattle.hier_rules.specs.Asked.{is_tie, is_super, is_called, slots_of, is_other_body, meets, places_of}
 use Rattle.hier_rules.specs.Instances.{of_both, of_row, of_column}
-use Rattle.hier_rules.specs.Obligations.{is_strictly_above, is_below, differ, row_le, column_le, place_of_site, is_nearer, has_nearer, wrong_body, wrong_need, first_wrong_need, is_between, has_between, wrong_super, first_wrong_super, is_body_at, two_bodies, first_two_bodies, unoffered, first_unoffered, untied, unheld, first_untied, wrong_outcome, first_wrong_outcome}
+use Rattle.hier_rules.specs.Obligations.{is_strictly_above, is_below, row_le, column_le, place_of_site, is_nearer, has_nearer, wrong_body, wrong_need, first_wrong_need, is_between, has_between, wrong_super, first_wrong_super, is_body_at, two_bodies, first_two_bodies, unoffered, first_unoffered, untied, unheld, first_untied, wrong_outcome, first_wrong_outcome}
 use Rattle.hier_rules.specs.Obligations as rule
 use Rattle.hier_laws.proofs.ShapeLemmas.{shape, placed}
 use Rattle.hier_laws.proofs.GivenLemmas.{given}

@@ -10,11 +10,11 @@ use Rattle.kaba_base.specs.declared.ColId.{ColId}
 use Rattle.kaba_base.specs.declared.RowId.{RowId}
 use Rattle.kaba_base.specs.declared.ClassId.{ClassId}
 use Rattle.kaba_bits.proofs.SetLemmas.{bit-below}
-use Rattle.kaba_order.specs.Orders.{is_le, is_live}
+use Rattle.kaba_order.specs.Orders.{is_le, is_live, differ}
 use Rattle.kaba_order.specs.Flips.{flip_where, is_flipped, names_node, names_pair, IsFlipped}
 use Rattle.hier_model.specs.Hierarchies.{Hierarchy, node, place_of_column, place_of_row, type_name, member_name, origin_of, is_at}
 use Rattle.hier_model.specs.Alike.{AreAlike}
-use Rattle.hier_model.specs.Differences.{each_below, only_if, differ, is_same_origin, lives_on, node_change, pair_change, changed_place, column_change, row_change, type_change, member_change, origin_change, node_changes, pair_changes, column_changes, row_changes, type_changes, member_changes, origin_changes, changes, named_node, named_pair}
+use Rattle.hier_model.specs.Differences.{each_below, only_if, is_same_origin, lives_on, node_change, pair_change, changed_place, column_change, row_change, type_change, member_change, origin_change, node_changes, pair_changes, column_changes, row_changes, type_changes, member_changes, origin_changes, changes, named_node, named_pair}
 use Rattle.hier_model.specs.declared.differences.Change.{Change}
 use Rattle.hier_model.specs.declared.differences.Change.TheVariants.{Node, Pair, Column, Row, TypeName, MemberName, Origin}
 use Rattle.hier_model.proofs.EachLemmas.{each_below-same, each_below-none, flat_map-each, one_if, none_if, All-only, All-each, flipped_nowhere, flipped_at, flipped_only}

@@ -1,7 +1,7 @@
 -- What is listed at each number below another.
-use Rattle.std.proofs.Common.{◌≡◌, ◌≢◌, ⊎_elim, ℕ, zero, suc, ◌+◌, ◌<◌, Bool, true, false, ◌&&◌, List, [], ◌∷◌, ◌++◌, get_or, All, refl, sym, ap, ◌∙◌, arith, add-one}
+use Rattle.std.proofs.Common.{◌≡◌, ◌≢◌, ⊎_elim, ℕ, zero, suc, ◌+◌, ◌<◌, ◌≤◌, Bool, true, false, ◌&&◌, List, [], ◌∷◌, ◌++◌, get_or, All, refl, sym, ap, ◌∙◌, arith, add-one}
 use Rattle.std.specs.List.{flat_map}
-use Rattle.std.proofs.lemmas.Bool.{cases_eq}
+use Rattle.std.proofs.lemmas.Bool.{cases_eq, cases_lt}
 use Rattle.std.proofs.lemmas.List.{append-nil}
 use Rattle.std.proofs.lemmas.List.Concat.{flat_map-append}
 use Rattle.std.proofs.lemmas.List.Elements.{All-append}
@@ -19,6 +19,17 @@ each_below-same (suc n) f g e = rw (each_below-same n f g e, e n) refl
 pub each_below-none : {A : Type 0} (n : ℕ) (f : ℕ → List A) → ((k : ℕ) → f k ≡ []) → each_below n f ≡ []
 each_below-none zero f e = refl
 each_below-none (suc n) f e = rw (each_below-none n f e, e n) refl
+
+-- numbers that list nothing may be left out
+pub each_below-past : {A : Type 0} (at n : ℕ) (f : ℕ → List A) → at ≤ n → ((k : ℕ) → at ≤ k → k < n → f k ≡ []) → each_below n f ≡ each_below at f
+each_below-past at zero f le none = let e : zero ≡ at = omega (arith, le) in ap (λ m. each_below m f) e
+each_below-past at (suc n) f le none =
+    ⊎_elim
+    (λ lt.
+    let front : each_below n f ≡ each_below at f = each_below-past at n f (omega (arith, lt)) (λ k low below. none k low (omega (arith, below))) in
+    ap (λ l. each_below n f ++ l) (none n (omega (arith, lt)) (omega arith)) ∙ (append-nil (each_below n f) ∙ front))
+    (λ ge. let e : suc n ≡ at = omega (arith, le, ge) in ap (λ m. each_below m f) e)
+    (cases_lt at (suc n))
 
 pub flat_map-each : {A B : Type 0} (h : A → List B) (n : ℕ) (f : ℕ → List A) → flat_map h (each_below n f) ≡ each_below n (λ k. flat_map h (f k))
 flat_map-each h zero f = refl

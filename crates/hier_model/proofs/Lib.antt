@@ -1,4 +1,5 @@
 pub mod AnyLemmas
+pub mod ClassLemmas
 pub mod LowestLemmas
 pub mod OrderedLemmas
 pub mod MergedLemmas

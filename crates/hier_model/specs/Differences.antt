@@ -1,10 +1,10 @@
--- Believed. The differences between a hierarchy and the one that an edit made of it.
+-- Mirror. The differences between a hierarchy and the one that an edit made of it.
 use Rattle.std.specs.Prelude.{◌≡◌, ℕ, suc, zero, ◌==◌, ◌&&◌, Bool, true, false, not, List, [], ◌∷◌, ◌++◌, length, Option, Some, None, Ok}
 use Rattle.std.specs.List.{flat_map}
 use Rattle.std.specs.Str.{bytes_eq}
 use Rattle.kaba_base.specs.declared.NodeId.{NodeId}
 use Rattle.kaba_base.specs.declared.ClassId.{ClassId}
-use Rattle.kaba_order.specs.Orders.{is_le, is_live}
+use Rattle.kaba_order.specs.Orders.{is_le, is_live, differ}
 use Rattle.fact_model.specs.InRange.{InRange}
 use Rattle.fact_model.specs.declared.facts.Facts.{Facts}
 use Rattle.hier_model.specs.Hierarchies.{Hierarchy, node, place_of_column, place_of_row, type_name, member_name, origin_of, is_at, IsHierarchyOf}
@@ -23,11 +23,6 @@ each_below (suc n) f = each_below n f ++ f n
 abbrev pub only_if : {A : Type 0} → Bool → A → List A
 only_if true x = x ∷ []
 only_if false x = []
-
--- whether two truth values differ
-abbrev pub differ : Bool → Bool → Bool
-differ true b = not b
-differ false b = b
 
 -- whether two origins are the same class, or both are none
 abbrev pub is_same_origin : Option ClassId → Option ClassId → Bool

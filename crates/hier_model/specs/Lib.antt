@@ -4,6 +4,8 @@ pub mod Start
 pub mod Listed
 pub mod Edits
 pub mod Nodes
+pub mod Classes
 pub mod Differences
+pub mod Kinds
 pub mod Alike
 pub mod Restored

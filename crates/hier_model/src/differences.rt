@@ -1,15 +1,18 @@
 //! The differences between a hierarchy and the one that an edit made of it.
 
-ghost use Rattle.std.specs.Prelude.{◌≡◌, ◌<◌, ◌&&◌, ◌++◌, length, IfOk, OnOk};
+ghost use Rattle.std.specs.Prelude.{◌≡◌, ℕ, ◌<◌, ◌&&◌, ◌++◌, length, IfOk, OnOk};
 ghost use Rattle.std.specs.List.{flat_map};
-ghost use Rattle.kaba_order.specs.Orders.{is_le, is_live, IsPartialOrder};
-ghost use Rattle.hier_model.specs.Differences.{IsOneEdit, HoldsChanges, changes, differ, is_same_origin, lives_on, node_change, pair_change, column_change, row_change, type_change, member_change, origin_change, each_below, node_changes, pair_changes, column_changes, row_changes, type_changes, member_changes, origin_changes, named_node, named_pair};
+ghost use Rattle.kaba_bits.specs.Sets.{bit};
+ghost use Rattle.kaba_order.specs.Orders.{is_le, is_live, IsPartialOrder, differ};
+ghost use Rattle.hier_model.specs.Differences.{IsOneEdit, HoldsChanges, changes, is_same_origin, lives_on, node_change, pair_change, column_change, row_change, type_change, member_change, origin_change, each_below, named_node, named_pair};
+ghost use Rattle.hier_model.specs.Kinds.{changes_at, changes_of, count_of};
 ghost use Rattle.hier_model.specs.Alike.{AreAlike};
 
 use crate::Hier;
 use crate::moves::is_at;
 use crate::names::is_same;
 use kaba_base::{ClassId, ColId, Name, NodeId, RowId};
+use kaba_bits::BitRow;
 use kaba_order::Order;
 use std::alloc::{AllocError, Global};
 
@@ -32,6 +35,25 @@ pub enum Change {
     Origin(NodeId, Option<ClassId>),
 }
 
+/// The kinds of changes, in the order in which they are listed.
+#[derive(Clone, Copy)]
+enum Kind {
+    /// Nodes that are live no more.
+    Nodes,
+    /// Pairs of nodes that are in one of the orders alone.
+    Pairs,
+    /// Columns that stand elsewhere.
+    Columns,
+    /// Rows that stand elsewhere.
+    Rows,
+    /// Types that have another name, of nodes that are live in both.
+    Types,
+    /// Members that have another name.
+    Members,
+    /// Origins that changed, of nodes that are live in both.
+    Origins,
+}
+
 /// All that an edit changed, and the nodes and the pairs of nodes that the changes name.
 #[derive(Drop)]
 pub struct Undo {
@@ -45,7 +67,7 @@ pub struct Undo {
 
 impl Hier {
     /// All differences between the hierarchy and one that an edit made of it. An error comes only for want of
-    /// memory. The time is in proportion to the square of the number of nodes.
+    /// memory. The time is in proportion to a 64th of the square of the number of nodes, and to what is listed.
     pub fn changes(&self, alloc: Global, newer: &Hier) -> Result<Undo, AllocError>
         requires { IsOneEdit self.now newer.now }
         ensures { IfOk result (HoldsChanges self.now newer.now) }
@@ -66,30 +88,73 @@ impl Hier {
         ensures { IfOk result (λ v. v.items ≡ changes self.now newer.now) }
     {
         let mut changes = Vec::new(alloc);
-        self.add_nodes(alloc, newer, &mut changes)?;
-        self.add_pairs(newer, &mut changes)?;
-        self.add_columns(newer, &mut changes)?;
-        self.add_rows(newer, &mut changes)?;
-        self.add_types(alloc, newer, &mut changes)?;
-        self.add_members(alloc, newer, &mut changes)?;
-        self.add_origins(newer, &mut changes)?;
+        self.add_kind(alloc, newer, Kind::Nodes, &mut changes)?;
+        self.add_kind(alloc, newer, Kind::Pairs, &mut changes)?;
+        self.add_kind(alloc, newer, Kind::Columns, &mut changes)?;
+        self.add_kind(alloc, newer, Kind::Rows, &mut changes)?;
+        self.add_kind(alloc, newer, Kind::Types, &mut changes)?;
+        self.add_kind(alloc, newer, Kind::Members, &mut changes)?;
+        self.add_kind(alloc, newer, Kind::Origins, &mut changes)?;
         Ok(changes)
     }
 
-    /// Adds the nodes that are live no more.
-    fn add_nodes(
+    /// Adds the changes of a kind.
+    fn add_kind(
         &self,
         alloc: Global,
         newer: &Hier,
+        kind: Kind,
         changes: &mut Vec<Change>,
     ) -> Result<(), AllocError>
         requires { AreAlike self.now newer.now }
-        ensures { OnOk result (changes.new.items ≡ changes.old.items ++ node_changes self.now newer.now) }
+        ensures { OnOk result (changes.new.items ≡ changes.old.items ++ changes_of kind self.now newer.now) }
     {
-        for n in 0..self.order.count() {
-            self.add_node(alloc, newer, NodeId(n), changes)?;
+        for k in 0..self.count_of(kind) {
+            self.add_at(alloc, newer, kind, k, changes)?;
         }
         Ok(())
+    }
+
+    /// How many numbers have changes of a kind.
+    fn count_of(&self, kind: Kind) -> u32
+        requires columns { length self.now.columns < 4294967295 }
+        requires rows { length self.now.rows < 4294967295 }
+        requires members { length self.now.members < 4294967295 }
+        ensures { result ≡ count_of kind self.now }
+    {
+        match kind {
+            Kind::Nodes => self.order.count(),
+            Kind::Pairs => self.order.count(),
+            Kind::Columns => self.columns.len() as u32,
+            Kind::Rows => self.rows.len() as u32,
+            Kind::Types => self.order.count(),
+            Kind::Members => self.members.len() as u32,
+            Kind::Origins => self.order.count(),
+        }
+    }
+
+    /// Adds the changes of a kind that a number has.
+    fn add_at(
+        &self,
+        alloc: Global,
+        newer: &Hier,
+        kind: Kind,
+        k: u32,
+        changes: &mut Vec<Change>,
+    ) -> Result<(), AllocError>
+        requires like { AreAlike self.now newer.now }
+        requires number { k < count_of kind self.now }
+        ensures { OnOk result (changes.new.items ≡ changes.old.items ++ changes_at kind self.now newer.now k) }
+    {
+        match kind {
+            Kind::Nodes => self.add_node(alloc, newer, NodeId(k), changes),
+            Kind::Pairs => self.add_pairs_of(alloc, newer, NodeId(k), changes),
+            Kind::Columns => self.add_column(newer, ColId(k), changes),
+            Kind::Rows => self.add_row(newer, RowId(k), changes),
+            Kind::Types => self.add_type(alloc, newer, NodeId(k), changes),
+            Kind::Members => self.add_member(alloc, newer, ColId(k), changes),
+            Kind::Origins => self.add_origin(newer, NodeId(k), changes),
+        }
     }
 
     /// Adds a node, if it is live no more.
@@ -111,29 +176,40 @@ impl Hier {
         Ok(())
     }
 
-    /// Adds the pairs of nodes that are in one of the orders alone.
-    fn add_pairs(&self, newer: &Hier, changes: &mut Vec<Change>) -> Result<(), AllocError>
-        requires { AreAlike self.now newer.now }
-        ensures { OnOk result (changes.new.items ≡ changes.old.items ++ pair_changes self.now newer.now) }
-    {
-        for a in 0..self.order.count() {
-            self.add_pairs_of(newer, NodeId(a), changes)?;
-        }
-        Ok(())
-    }
-
-    /// Adds those pairs with one node.
+    /// Adds the pairs with one node that are in one of the orders alone.
     fn add_pairs_of(
         &self,
+        alloc: Global,
         newer: &Hier,
         a: NodeId,
         changes: &mut Vec<Change>,
     ) -> Result<(), AllocError>
-        requires { AreAlike self.now newer.now }
+        requires like { AreAlike self.now newer.now }
+        requires node { a.0 < length self.now.order.live }
         ensures { OnOk result (changes.new.items ≡ changes.old.items ++ each_below (length self.now.order.live) (pair_change self.now newer.now a.0)) }
     {
-        for b in 0..self.order.count() {
+        let others = self.order.changed_above(alloc, &newer.order, a)?;
+        self.add_pairs_with(newer, a, &others, changes)
+    }
+
+    /// Adds those pairs, whose second nodes are given.
+    fn add_pairs_with(
+        &self,
+        newer: &Hier,
+        a: NodeId,
+        others: &BitRow,
+        changes: &mut Vec<Change>,
+    ) -> Result<(), AllocError>
+        requires like { AreAlike self.now newer.now }
+        requires width { length others.now ≡ length self.now.order.live }
+        requires others { (b : ℕ) → bit others.now b ≡ differ (is_le self.now.order a.0 b) (is_le newer.now.order a.0 b) }
+        ensures { OnOk result (changes.new.items ≡ changes.old.items ++ each_below (length self.now.order.live) (pair_change self.now newer.now a.0)) }
+    {
+        let _width = others.width();
+        let mut at = 0;
+        'pairs: while let Some(b) = others.next(at) {
             self.add_pair(newer, a, NodeId(b), changes)?;
+            at = b + 1;
         }
         Ok(())
     }
@@ -157,17 +233,6 @@ impl Hier {
         Ok(())
     }
 
-    /// Adds the columns that stand elsewhere.
-    fn add_columns(&self, newer: &Hier, changes: &mut Vec<Change>) -> Result<(), AllocError>
-        requires { AreAlike self.now newer.now }
-        ensures { OnOk result (changes.new.items ≡ changes.old.items ++ column_changes self.now newer.now) }
-    {
-        for c in 0..self.columns.len() {
-            self.add_column(newer, ColId(c as u32), changes)?;
-        }
-        Ok(())
-    }
-
     /// Adds a column, if it stands elsewhere.
     fn add_column(
         &self,
@@ -187,17 +252,6 @@ impl Hier {
         Ok(())
     }
 
-    /// Adds the rows that stand elsewhere.
-    fn add_rows(&self, newer: &Hier, changes: &mut Vec<Change>) -> Result<(), AllocError>
-        requires { AreAlike self.now newer.now }
-        ensures { OnOk result (changes.new.items ≡ changes.old.items ++ row_changes self.now newer.now) }
-    {
-        for r in 0..self.rows.len() {
-            self.add_row(newer, RowId(r as u32), changes)?;
-        }
-        Ok(())
-    }
-
     /// Adds a row, if it stands elsewhere.
     fn add_row(&self, newer: &Hier, r: RowId, changes: &mut Vec<Change>) -> Result<(), AllocError>
         requires like { AreAlike self.now newer.now }
@@ -207,22 +261,6 @@ impl Hier {
         let place = self.rows[r.0 as usize];
         if place.0 != newer.rows[r.0 as usize].0 {
             changes.push(Change::Row(r, place))?;
-        }
-        Ok(())
-    }
-
-    /// Adds the types that have another name, of nodes that are live in both.
-    fn add_types(
-        &self,
-        alloc: Global,
-        newer: &Hier,
-        changes: &mut Vec<Change>,
-    ) -> Result<(), AllocError>
-        requires { AreAlike self.now newer.now }
-        ensures { OnOk result (changes.new.items ≡ changes.old.items ++ type_changes self.now newer.now) }
-    {
-        for n in 0..self.order.count() {
-            self.add_type(alloc, newer, NodeId(n), changes)?;
         }
         Ok(())
     }
@@ -246,22 +284,6 @@ impl Hier {
         Ok(())
     }
 
-    /// Adds the members that have another name.
-    fn add_members(
-        &self,
-        alloc: Global,
-        newer: &Hier,
-        changes: &mut Vec<Change>,
-    ) -> Result<(), AllocError>
-        requires { AreAlike self.now newer.now }
-        ensures { OnOk result (changes.new.items ≡ changes.old.items ++ member_changes self.now newer.now) }
-    {
-        for c in 0..self.members.len() {
-            self.add_member(alloc, newer, ColId(c as u32), changes)?;
-        }
-        Ok(())
-    }
-
     /// Adds a member, if it has another name.
     fn add_member(
         &self,
@@ -277,17 +299,6 @@ impl Hier {
         let name = &self.members[c.0 as usize];
         if !is_same(name, &newer.members[c.0 as usize]) {
             changes.push(Change::MemberName(c, name.copy(alloc)?))?;
-        }
-        Ok(())
-    }
-
-    /// Adds the origins that changed, of nodes that are live in both.
-    fn add_origins(&self, newer: &Hier, changes: &mut Vec<Change>) -> Result<(), AllocError>
-        requires { AreAlike self.now newer.now }
-        ensures { OnOk result (changes.new.items ≡ changes.old.items ++ origin_changes self.now newer.now) }
-    {
-        for n in 0..self.order.count() {
-            self.add_origin(newer, NodeId(n), changes)?;
         }
         Ok(())
     }

@@ -18,6 +18,7 @@ use std::marker::Model;
 
 mod begin;
 mod changes;
+mod classes;
 mod differences;
 mod edits;
 mod items;

@@ -8,12 +8,12 @@ use Rattle.kaba_bits.proofs.FirstLemmas.{first_below_clear}
 use Rattle.kaba_order.specs.Orders.{is_le, IsPartialOrder}
 use Rattle.fact_model.specs.declared.facts.Facts.{Facts}
 use Rattle.hier_model.specs.Hierarchies.{Hierarchy, is_class_node, any_below}
-use Rattle.hier_model.proofs.AnyLemmas.{any_below_some, any_below_none}
+use Rattle.hier_model.proofs.AnyLemmas.{any_below_some}
 use Rattle.hier_rules.specs.declared.broken.Broken.{Broken}
 use Rattle.hier_rules.specs.declared.broken.Rule.TheVariants.{B9}
 use Rattle.hier_rules.specs.Instances.{of_three}
 use Rattle.hier_rules.specs.Obligations.{is_class_above, unchained}
-use Rattle.hier_rules.specs.Chains.{count_below, is_over, class_count, is_next, is_loose, is_loose_above}
+use Rattle.hier_rules.specs.Chains.{count_below, is_over, class_count, is_next, is_loose}
 
 -- a step of two counts
 le_step : (a b : Bool) (m k : ℕ) → (a ≡ true → b ≡ true) → m ≤ k → cond a (m + 1) m ≤ cond b (k + 1) k
@@ -180,12 +180,8 @@ module _ (F : Facts) (H : Hierarchy) (P : IsPartialOrder H.order) where
   none_of true true true false true v h = refl
   none_of true true true false false v h = absurd (⊎_elim (λ x. false≢true x) (λ x. false≢true x) (h refl refl))
 
-  second_false : (a b : Bool) → (a && b) ≡ false → a ≡ true → b ≡ false
-  second_false true b h e = h
-  second_false false b h e = absurd (false≢true e)
-
   -- no two class nodes at or above a node are unordered where no loose one is at or above it
-  pub no_loose : (n : ℕ) → any_below (length H.order.live) (is_loose_above F H n) ≡ false
+  pub no_loose : (n : ℕ) → ((m : ℕ) → up n m ≡ true → is_loose F H m ≡ false)
       → first_below (length H.order.live) (λ x. first_below (length H.order.live) (unchained F H n x)) ≡ None
   no_loose n none =
       first_below_clear (λ x. first_below (length H.order.live) (unchained F H n x)) (length H.order.live) (λ x xn.
@@ -193,5 +189,5 @@ module _ (F : Facts) (H : Hierarchy) (P : IsPartialOrder H.order) where
       none_of (up n x) (up n y) (nat_lt x y) (is_le H.order x y) (is_le H.order y x) (of_three B9 n x y) (λ hx hy.
       ⊎_elim (λ h. inl (says x y h).le) (λ h. inr (says y x h).le)
       (chain (length H.order.live) up within lower upper through both (class_count F H n + 1) n (omega arith)
-      (λ m h. tight m (second_false (up n m) (is_loose F H m) (any_below_none (is_loose_above F H n) (length H.order.live) m none (within n m h)) h))
+      (λ m h. tight m (none m h))
       x y hx hy))))

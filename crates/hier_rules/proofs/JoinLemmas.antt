@@ -10,6 +10,7 @@ use Rattle.std.proofs.Math.ListN.{get_or-map as get_or_map_default}
 use Rattle.kaba_base.specs.declared.NodeId.{NodeId}
 use Rattle.kaba_base.specs.declared.ColId.{ColId}
 use Rattle.kaba_bits.specs.Sets.{bit, or_else}
+use Rattle.kaba_bits.proofs.SetLemmas.{bit-below}
 use Rattle.kaba_bits.proofs.FirstLemmas.{or_else-None, cases_Option}
 use Rattle.kaba_order.specs.Orders.{is_le, is_live, is_among, merged_to, stays, IsLeastMerged}
 use Rattle.kaba_order.proofs.MergeLemmas.{among-All}
@@ -24,12 +25,14 @@ use Rattle.hier_model.specs.declared.edits.ChangeFault.{ChangeFault}
 use Rattle.hier_model.specs.declared.edits.ChangeFault.TheVariants.{UnknownNode, UnknownMember, Cycle}
 use Rattle.hier_model.proofs.FitLemmas.{all_live}
 use Rattle.hier_model.proofs.MergedLemmas.{none_between, least_is}
-use Rattle.hier_model.proofs.EditedOrders.{under_pairs, under_live, merged_made, least_among}
+use Rattle.hier_model.proofs.EditedOrders.{under_pairs, under_live, merged_le, merged_below, merged_live, merged_made, least_among}
+use Rattle.hier_model.proofs.OrderedLemmas.{made_le}
 use Rattle.hier_rules.specs.Obligations.{first_unoffered, first_untied}
 use Rattle.hier_rules.specs.Names.{first_confused, first_misnamed}
-use Rattle.hier_rules.specs.After.{AreApartOutside}
+use Rattle.hier_rules.specs.After.{AreApartOutside, AreKeptOutside}
 use Rattle.hier_rules.specs.First.{first_changed_run, first_of_edit, MeetsEdit}
 use Rattle.hier_rules.proofs.AfterLemmas.{IsJoin, after_join, bodies_after}
+use Rattle.hier_rules.proofs.LocalLemmas.{IsLocal, kept_outside, under_local, merged_local}
 
 unless_ok : (o : Option NodeId) (f : NodeId → ChangeFault) (r : Result Hierarchy ChangeFault) (h : Hierarchy) → unless o f r ≡ Ok h → (o ≡ None) × (r ≡ Ok h)
 unless_ok None f r h e = (refl, e)
@@ -147,6 +150,13 @@ module _ (F : Facts) (H : Hierarchy) (fit : IsHierarchyOf F H) where
       members = refl;
     }
 
+    one_local : IsLocal set H one
+    one_local =
+        let p = fit.sized.order in
+        merged_local H one set m low.0 made
+        (made_le H.order (λ a. is_live H.order a && stays set m a) (merged_le H.order p set m) (merged_live H.order p set m) (merged_below H.order p set m))
+        column_of row_of
+
   module _ (pt : PointsTo) (meets : MeetsEdit F pt H) (K : Hierarchy) (x : Edit) (e : changed F H x ≡ Ok K) where
     -- after a merge B4 to B7 and the last part of B8 are to be asked, and B6 at the merged nodes alone
     pub merge_after : (set : Vec NodeId Global) → x ≡ edit.Merge set → NamesSome x
@@ -170,6 +180,36 @@ module _ (F : Facts) (H : Hierarchy) (fit : IsHierarchyOf F H) where
         let a = unless_ok (first_unknown H.order (n ∷ p ∷ [])) UnknownNode (cond test (Err (Cycle n)) (Ok under)) K made in
         let join = subst (IsJoin [] H) (if_ok test (Cycle n) under K a.1).1 (under_join n.0 p.0) in
         (after_join F pt H K fit [] join meets, bodies_after F pt H K fit [] join meets)
+
+    -- after a merge no need and no super call is broken but at or below the merged nodes
+    pub merge_kept : IsHierarchyOf F K → (set : Vec NodeId Global) → x ≡ edit.Merge set → NamesSome x
+        → AreKeptOutside F pt K set.items × All (λ s. s.0 < length K.order.live) set.items
+    merge_kept fits set is names =
+        let some : 0 < length set.items = subst NamesSome is names in
+        let made : changed F H (edit.Merge set) ≡ Ok K = subst (λ (y : Edit). changed F H y ≡ Ok K) is e in
+        let a = unless_ok (first_unknown H.order set.items) UnknownNode (unless (first_between H.order set.items) Cycle (Ok (merged F H set.items))) K made in
+        let b = unless_ok (first_between H.order set.items) Cycle (Ok (merged F H set.items)) K a.1 in
+        let live = all_live H.order set.items a.0 in
+        let same = is_ok (merged F H set.items) K b.1 in
+        let local = subst (IsLocal set.items H) same (one_local set.items some live b.0) in
+        let join = subst (IsJoin set.items H) same (merged_join set.items some live b.0) in (
+          kept_outside F pt H K fits set.items local meets,
+          λ k s lt.
+              let l = bit-below H.order.live (get_or set.items k s).0 (live k s lt) in omega (arith, l, join.count),
+        )
+
+    -- after a node was put under another none but at or below it
+    pub under_kept : IsHierarchyOf F K → (n p : NodeId) → x ≡ edit.Under n p → AreKeptOutside F pt K (n ∷ []) × (n.0 < length K.order.live)
+    under_kept fits n p is =
+        let under : Hierarchy = record H { order = under_order H.order n.0 p.0 } in
+        let test = is_le H.order p.0 n.0 && not (p.0 == n.0) in
+        let made : changed F H (edit.Under n p) ≡ Ok K = subst (λ (y : Edit). changed F H y ≡ Ok K) is e in
+        let a = unless_ok (first_unknown H.order (n ∷ p ∷ [])) UnknownNode (cond test (Err (Cycle n)) (Ok under)) K made in
+        let same = (if_ok test (Cycle n) under K a.1).1 in
+        let local = subst (IsLocal (n ∷ []) H) same (under_local H under n p.0 (under_pairs H.order fit.sized.order n.0 p.0) refl refl) in
+        let join = subst (IsJoin [] H) same (under_join n.0 p.0) in
+        let l = bit-below H.order.live n.0 (all_live H.order (n ∷ p ∷ []) a.0 0 n (omega arith)) in
+        (kept_outside F pt H K fits (n ∷ []) local meets, omega (arith, l, join.count))
 
     -- where only names are other ones, only B8 is to be asked
     names_left : (Z : Hierarchy) → first_unoffered F Z ≡ first_unoffered F H → first_untied F pt Z ≡ first_untied F pt H

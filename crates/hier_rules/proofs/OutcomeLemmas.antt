@@ -5,6 +5,7 @@ use Rattle.std.specs.List.{list_any}
 use Rattle.std.proofs.lemmas.Bool.{cases_Bool, and_parts, or_cases, or_left, or_right, false≢true}
 use Rattle.kaba_bits.specs.Sets.{bit, row, first_below, when}
 use Rattle.kaba_bits.proofs.FirstLemmas.{first_below_clear}
+use Rattle.kaba_order.specs.Orders.{differ}
 use Rattle.fact_model.specs.Items.{site_class, site_row, row_class}
 use Rattle.fact_model.specs.Classes.{below}
 use Rattle.fact_model.specs.declared.facts.Facts.{Facts}
@@ -15,7 +16,7 @@ use Rattle.hier_model.specs.Hierarchies.{Hierarchy, place_of_row}
 use Rattle.hier_rules.specs.declared.broken.Rule.TheVariants.{B7}
 use Rattle.hier_rules.specs.Asked.{is_element, is_test_at, is_store_at, is_target, is_tested, is_stored, meets, is_asked, has_array}
 use Rattle.hier_rules.specs.Instances.{of_row}
-use Rattle.hier_rules.specs.Obligations.{row_le, differ, place_of_site, wrong_outcome, first_wrong_of_place}
+use Rattle.hier_rules.specs.Obligations.{row_le, place_of_site, wrong_outcome, first_wrong_of_place}
 use Rattle.std.proofs.lemmas.List.Elements.{Contains-append_cases, Contains-append_left, Contains-append_right}
 use Rattle.hier_rules.proofs.AnyLemmas.{any_weaker}
 use Rattle.hier_rules.proofs.KeyLemmas.{keys_of, keys_all}

@@ -1,8 +1,9 @@
 -- Mirror. What the search for unordered class nodes makes.
 use Rattle.std.specs.Prelude.{◌≡◌, ℕ, suc, zero, ◌+◌, ◌<◌, ◌==◌, ◌&&◌, nat_lt, not, cond, length, List, Bool, slice_index_or}
-use Rattle.kaba_bits.specs.Sets.{bit}
+use Rattle.kaba_bits.specs.Sets.{bit, row, HasWidth}
 use Rattle.fact_model.specs.declared.facts.Facts.{Facts}
-use Rattle.hier_model.specs.Hierarchies.{Hierarchy, IsHierarchyOf, is_class_node, any_below}
+use Rattle.hier_model.specs.Hierarchies.{Hierarchy, IsHierarchyOf, any_below}
+use Rattle.hier_model.specs.Classes.{AreClassNodes}
 use Rattle.hier_rules.specs.declared.chains.ClassNodes.{ClassNodes}
 use Rattle.hier_rules.specs.Obligations.{is_class_above}
 
@@ -10,11 +11,6 @@ use Rattle.hier_rules.specs.Obligations.{is_class_above}
 abbrev pub count_below : ℕ → (ℕ → Bool) → ℕ
 count_below zero p = 0
 count_below (suc n) p = cond (p n) (count_below n p + 1) (count_below n p)
-
--- the set of the class nodes
-pub record AreClassNodes (F : Facts) (H : Hierarchy) (nodes : List Bool) : Type 0 where
-  pub width : length nodes ≡ length H.order.live
-  pub exact : (n : ℕ) → bit nodes n ≡ is_class_node F H n
 
 -- a hierarchy, and the set of its class nodes
 pub record HasClassNodes (nodes : ClassNodes) : Type 0 where
@@ -38,9 +34,11 @@ module _ (F : Facts) (H : Hierarchy) where
   abbrev pub is_loose : ℕ → Bool
   is_loose n = nat_lt 0 (class_count n) && not (any_below (length H.order.live) (is_next n))
 
-  -- whether a loose class node is at or above another
-  abbrev pub is_loose_above : ℕ → ℕ → Bool
-  is_loose_above n m = is_class_above F H n m && is_loose m
+  -- for each node the set of the class nodes strictly above it
+  pub record AreOver (over : List (List Bool)) : Type 0 where
+    pub len : length over ≡ length H.order.live
+    pub widths : HasWidth (length H.order.live) over
+    pub exact : (n x : ℕ) → n < length H.order.live → bit (row over n) x ≡ is_over n x
 
   -- for each node how many class nodes are strictly above it
   pub record AreCounts (counts : List ℕ) : Type 0 where

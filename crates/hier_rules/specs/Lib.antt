@@ -10,3 +10,4 @@ pub mod Given
 pub mod Words
 pub mod Pairs
 pub mod After
+pub mod Touched

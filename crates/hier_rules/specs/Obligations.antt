@@ -4,7 +4,7 @@ use Rattle.std.specs.Prelude.{ℕ, ◌==◌, ◌&&◌, ◌||◌, nat_lt, Bool, t
 use Rattle.std.specs.Option.{option_and_then}
 use Rattle.kaba_base.specs.declared.NodeId.{NodeId}
 use Rattle.kaba_bits.specs.Sets.{bit, row, or_else, first_below, when}
-use Rattle.kaba_order.specs.Orders.{Ordered, is_le}
+use Rattle.kaba_order.specs.Orders.{Ordered, is_le, differ}
 use Rattle.fact_model.specs.Items.{site_class, site_row, row_class, column_kind, column_class, column_slot}
 use Rattle.fact_model.specs.Classes.{is_def, below, finds}
 use Rattle.fact_model.specs.declared.facts.Facts.{Facts}
@@ -26,11 +26,6 @@ abbrev pub is_below : Ordered → Option NodeId → Option NodeId → Bool
 is_below o None q = false
 is_below o (Some p) None = false
 is_below o (Some p) (Some q) = is_le o p.0 q.0
-
--- whether two answers differ
-abbrev pub differ : Bool → Bool → Bool
-differ true b = not b
-differ false b = b
 
 module _ (H : Hierarchy) where
   -- whether the row r stands at or below the row v

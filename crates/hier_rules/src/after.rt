@@ -1,19 +1,20 @@
 //! What an edit can have broken of a hierarchy that met its obligations.
 
-ghost use Rattle.std.specs.Prelude.{◌≡◌, IfOk, Ok};
+ghost use Rattle.std.specs.Prelude.{◌≡◌, ◌<◌, length, All, IfOk, Ok};
 ghost use Rattle.hier_rules.specs.Words.{or_else, IsObligationInput, IsHierarchyOf, NamesSome, MeetsEdit};
 ghost use Rattle.hier_model.specs.Edits.{changed};
 ghost use Rattle.hier_rules.specs.First.{first_changed_run, first_of_edit};
 ghost use Rattle.hier_rules.specs.Names.{first_confused};
-ghost use Rattle.hier_rules.specs.After.{AreApartOutside};
+ghost use Rattle.hier_rules.specs.After.{AreApartOutside, AreKeptOutside};
 
-use crate::bodies::{first_two_bodies_among, first_wrong_need, first_wrong_super};
+use crate::bodies::first_two_bodies_among;
 use crate::broken::Broken;
 use crate::clashes::first_confused;
 use crate::first_of_edit;
 use crate::names::first_misnamed;
 use crate::outcomes::first_wrong_outcome;
 use crate::places::Asked;
+use crate::touched::{first_wrong_need_among, first_wrong_super_among, touched};
 use hier_model::{Edit, Hier};
 use kaba_base::NodeId;
 use std::alloc::{AllocError, Global};
@@ -21,7 +22,7 @@ use std::alloc::{AllocError, Global};
 /// The first instance of the first broken obligation of B2 to B8 in the hierarchy after an edit of one that met them; `None`
 /// where all hold. What the edit cannot have broken is not asked: a merge, and a node put under another, only add to what
 /// is offered, and change no name, so that of them B4 to B7 and the last part of B8 are asked, and B6 at the merged nodes
-/// alone; of a name only B8. An error comes only for want of memory.
+/// alone, and B4 and B5 at or below the joined nodes alone; of a name only B8. An error comes only for want of memory.
 pub fn first_broken_after(
     alloc: Global,
     before: &Hier,
@@ -36,8 +37,8 @@ pub fn first_broken_after(
     ensures first { IfOk result (λ b. b ≡ first_of_edit asked.now.facts.now asked.now.pt.now asked.now.hier.now) }
 {
     match edit {
-        Edit::Merge(set) => first_after_join(alloc, asked, set),
-        Edit::Under(_, _) => first_after_join(alloc, asked, &[]),
+        Edit::Merge(set) => first_after_join(alloc, asked, set, set),
+        Edit::Under(n, _) => first_after_join(alloc, asked, &[], &[*n]),
         Edit::TypeName(_, _) => first_misnamed(alloc, asked),
         Edit::MemberName(_, _) => first_misnamed(alloc, asked),
         Edit::Move(_, _) => first_of_edit(alloc, asked),
@@ -46,21 +47,25 @@ pub fn first_broken_after(
 }
 
 /// The first instance against B4 to B7, and then against the last part of B8, where a node outside a list has no two bodies
-/// of one slot. An error comes only for want of memory.
+/// of one slot, and no need and no super call is broken but at or below the nodes of another. An error comes only for want of memory.
 fn first_after_join(
     alloc: Global,
     asked: &Asked,
     joined: &[NodeId],
+    roots: &[NodeId],
 ) -> Result<Option<Broken>, AllocError>
     requires asked { IsObligationInput asked.now }
     requires others { AreApartOutside asked.now.facts.now asked.now.hier.now joined.now }
+    requires kept { AreKeptOutside asked.now.facts.now asked.now.pt.now asked.now.hier.now roots.now }
+    requires roots { All (λ s. s.0 < length asked.now.hier.now.order.live) roots.now }
     ensures { IfOk result (λ b. b ≡ or_else (first_changed_run asked.now.facts.now asked.now.pt.now asked.now.hier.now)
         (first_confused asked.now.facts.now asked.now.hier.now)) }
 {
-    if let Some(found) = first_wrong_need(alloc, asked)? {
+    let low = touched(alloc, asked, roots)?;
+    if let Some(found) = first_wrong_need_among(alloc, asked, &low)? {
         return Ok(Some(found));
     }
-    if let Some(found) = first_wrong_super(alloc, asked)? {
+    if let Some(found) = first_wrong_super_among(alloc, asked, &low)? {
         return Ok(Some(found));
     }
     if let Some(found) = first_two_bodies_among(asked, joined) {

@@ -152,7 +152,11 @@ fn wrong_call(asked: &Asked, s: u32, x: u32) -> Option<Broken>
 }
 
 /// The first need of a site for which the wrong body is found. An error comes only for want of memory.
-fn first_wrong_need_of(alloc: Global, asked: &Asked, s: u32) -> Result<Option<Broken>, AllocError>
+pub fn first_wrong_need_of(
+    alloc: Global,
+    asked: &Asked,
+    s: u32,
+) -> Result<Option<Broken>, AllocError>
     requires asked { IsObligationInput asked.now }
     requires site { s < length asked.now.facts.now.sites.items }
     ensures { IfOk result (λ b. b ≡ first_below (slots_of asked.now.facts.now) (wrong_need asked.now.facts.now asked.now.pt.now asked.now.hier.now s)) }
@@ -232,7 +236,7 @@ pub fn first_wrong_super(alloc: Global, asked: &Asked) -> Result<Option<Broken>,
 
 /// The first body that a super call of the method of a row runs and that stands wrong.
 #[tactic(auto, using(kaba_bits::proofs::FirstLemmas::first_below_found))]
-fn first_wrong_super_of(asked: &Asked, bodies: &BitRow, r: u32) -> Option<Broken>
+pub fn first_wrong_super_of(asked: &Asked, bodies: &BitRow, r: u32) -> Option<Broken>
     requires asked { IsObligationInput asked.now }
     requires row { r < length asked.now.facts.now.rows.items }
     requires bodies { IsPairsRow (length asked.now.facts.now.columns.items) (is_super asked.now.facts.now r) bodies.now }

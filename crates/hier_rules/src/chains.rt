@@ -1,18 +1,19 @@
 //! B9: the class nodes at or above each class node form a chain.
 
-ghost use Rattle.std.specs.Prelude.{◌≡◌, ℕ, ◌+◌, ◌<◌, ◌==◌, ◌&&◌, ◌||◌, true, length, IfOk};
+ghost use Rattle.std.specs.Prelude.{◌≡◌, ℕ, ◌+◌, ◌<◌, ◌==◌, ◌&&◌, ◌||◌, true, false, length, IfOk};
+ghost use Rattle.std.specs.Bool.{OnFalse};
 ghost use Rattle.hier_rules.specs.Words.{bit, first_below, is_le, InRange};
-ghost use Rattle.hier_model.specs.Hierarchies.{IsHierarchyOf, is_class_node, any_below};
+ghost use Rattle.hier_model.specs.Hierarchies.{IsHierarchyOf, any_below};
 ghost use Rattle.hier_rules.specs.Instances.{of_three};
 ghost use Rattle.hier_rules.specs.Obligations.{is_class_above, unchained, first_unchained};
-ghost use Rattle.hier_rules.specs.Chains.{AreClassNodes, HasClassNodes, AreCounts, AreLooseNodes, is_over, class_count, is_next, is_loose, is_loose_above};
+ghost use Rattle.hier_rules.specs.Chains.{HasClassNodes, AreOver, AreCounts, AreLooseNodes, is_over, class_count, is_next, is_loose};
 
 use crate::broken::{Broken, Nodes, Rule};
-use crate::places::{is_le, is_live, node_count};
+use crate::places::{is_le, node_count};
 use fact_model::Facts;
 use hier_model::Hier;
 use kaba_base::NodeId;
-use kaba_bits::BitRow;
+use kaba_bits::{BitRow, row_at};
 use std::alloc::{AllocError, Global};
 
 /// An instance at three nodes.
@@ -45,41 +46,6 @@ fn class_le(nodes: &ClassNodes, a: u32, b: u32) -> bool
     is_le(nodes.hier, a, b)
 }
 
-/// Whether a node is a class node.
-fn is_class(facts: &Facts, hier: &Hier, n: u32) -> bool
-    requires facts { InRange facts.now }
-    requires hier { IsHierarchyOf facts.now hier.now }
-    ensures { result ≡ is_class_node facts.now hier.now n }
-{
-    is_live(hier, n) && hier.is_class_node(facts, NodeId(n))
-}
-
-/// Adds a node, if it is a class node.
-fn add_class(facts: &Facts, hier: &Hier, n: u32, classes: &mut BitRow)
-    requires facts { InRange facts.now }
-    requires hier { IsHierarchyOf facts.now hier.now }
-    requires node { n < length classes.old }
-    ensures width { length classes.new ≡ length classes.old }
-    ensures added { (x : ℕ) → bit classes.new x ≡ (bit classes.old x || ((n == x) && is_class_node facts.now hier.now n)) }
-{
-    if is_class(facts, hier, n) {
-        classes.set(n);
-    }
-}
-
-/// The class nodes. An error comes only for want of memory.
-fn class_nodes(alloc: Global, facts: &Facts, hier: &Hier) -> Result<BitRow, AllocError>
-    requires facts { InRange facts.now }
-    requires hier { IsHierarchyOf facts.now hier.now }
-    ensures { IfOk result (λ v. AreClassNodes facts.now hier.now v) }
-{
-    let mut classes = BitRow::new(alloc, node_count(hier))?;
-    for n in 0..node_count(hier) {
-        add_class(facts, hier, n, &mut classes);
-    }
-    Ok(classes)
-}
-
 /// Whether a class node is at or above another.
 fn is_class_above(nodes: &ClassNodes, n: u32, x: u32) -> bool
     requires nodes { HasClassNodes nodes.now }
@@ -90,39 +56,52 @@ fn is_class_above(nodes: &ClassNodes, n: u32, x: u32) -> bool
     nodes.classes.has(n) && nodes.classes.has(x) && class_le(nodes, n, x)
 }
 
-/// Whether a class node is strictly above another.
-fn is_over(nodes: &ClassNodes, n: u32, x: u32) -> bool
-    requires nodes { HasClassNodes nodes.now }
-    requires lower { n < length nodes.now.hier.now.order.live }
-    requires upper { x < length nodes.now.hier.now.order.live }
-    ensures { result ≡ is_over nodes.now.facts.now nodes.now.hier.now n x }
-{
-    is_class_above(nodes, n, x) && x != n
-}
-
-/// How many class nodes are strictly above a node.
-fn class_count(nodes: &ClassNodes, n: u32) -> u32
+/// The class nodes strictly above a node, if it is a class node. An error comes only for want of memory.
+fn over_row(alloc: Global, nodes: &ClassNodes, n: u32) -> Result<BitRow, AllocError>
     requires nodes { HasClassNodes nodes.now }
     requires node { n < length nodes.now.hier.now.order.live }
-    ensures { result ≡ class_count nodes.now.facts.now nodes.now.hier.now n }
+    ensures width { IfOk result (λ r. length r ≡ length nodes.now.hier.now.order.live) }
+    ensures exact { IfOk result (λ r. (x : ℕ) → bit r x ≡ is_over nodes.now.facts.now nodes.now.hier.now n x) }
 {
-    let mut count = 0;
-    for x in 0..node_count(nodes.hier) {
-        if is_over(nodes, n, x) {
-            count += 1;
-        }
+    if !nodes.classes.has(n) {
+        return BitRow::new(alloc, node_count(nodes.hier));
     }
-    count
+    let mut over = nodes.hier.order().above(NodeId(n)).copy(alloc)?;
+    over.and_into(nodes.classes);
+    over.remove(n);
+    Ok(over)
 }
 
 /// The same for each node. An error comes only for want of memory.
-fn class_counts(alloc: Global, nodes: &ClassNodes) -> Result<Vec<u32>, AllocError>
+fn over_rows(alloc: Global, nodes: &ClassNodes) -> Result<Vec<BitRow>, AllocError>
     requires nodes { HasClassNodes nodes.now }
+    ensures { IfOk result (λ v. AreOver nodes.now.facts.now nodes.now.hier.now v.items) }
+{
+    let mut over = Vec::new(alloc);
+    for n in 0..node_count(nodes.hier) {
+        over.push(over_row(alloc, nodes, n)?)?;
+    }
+    Ok(over)
+}
+
+/// How many class nodes are strictly above a node.
+fn class_count(nodes: &ClassNodes, over: &BitRow, n: u32) -> u32
+    requires width { length over.now ≡ length nodes.now.hier.now.order.live }
+    requires over { (x : ℕ) → bit over.now x ≡ is_over nodes.now.facts.now nodes.now.hier.now n x }
+    ensures { result ≡ class_count nodes.now.facts.now nodes.now.hier.now n }
+{
+    over.count()
+}
+
+/// The same for each node. An error comes only for want of memory.
+fn class_counts(alloc: Global, nodes: &ClassNodes, over: &[BitRow]) -> Result<Vec<u32>, AllocError>
+    requires nodes { HasClassNodes nodes.now }
+    requires over { AreOver nodes.now.facts.now nodes.now.hier.now over.now }
     ensures { IfOk result (λ v. AreCounts nodes.now.facts.now nodes.now.hier.now v.items) }
 {
     let mut counts = Vec::new(alloc);
     for n in 0..node_count(nodes.hier) {
-        counts.push(class_count(nodes, n))?;
+        counts.push(class_count(nodes, row_at(over, n as usize), n))?;
     }
     Ok(counts)
 }
@@ -134,89 +113,80 @@ fn is_one_fewer(a: u32, b: u32) -> bool
     a < b && b - a == 1
 }
 
-/// Whether a class node is strictly above another, and has one fewer above it.
-fn is_next(nodes: &ClassNodes, counts: &[u32], n: u32, z: u32) -> bool
-    requires nodes { HasClassNodes nodes.now }
-    requires counts { AreCounts nodes.now.facts.now nodes.now.hier.now counts.now }
-    requires lower { n < length nodes.now.hier.now.order.live }
-    requires upper { z < length nodes.now.hier.now.order.live }
-    ensures { result ≡ is_next nodes.now.facts.now nodes.now.hier.now n z }
-{
-    is_over(nodes, n, z) && is_one_fewer(counts[z as usize], counts[n as usize])
-}
-
-/// Whether there is one.
-#[tactic(auto, using(hier_model::proofs::AnyLemmas::any_below_found))]
-fn has_next(nodes: &ClassNodes, counts: &[u32], n: u32) -> bool
+/// Whether one of the class nodes strictly above a node has one fewer above it.
+fn has_next(nodes: &ClassNodes, over: &BitRow, counts: &[u32], n: u32) -> bool
     requires nodes { HasClassNodes nodes.now }
     requires counts { AreCounts nodes.now.facts.now nodes.now.hier.now counts.now }
     requires node { n < length nodes.now.hier.now.order.live }
+    requires width { length over.now ≡ length nodes.now.hier.now.order.live }
+    requires over { (x : ℕ) → bit over.now x ≡ is_over nodes.now.facts.now nodes.now.hier.now n x }
     ensures { result ≡ any_below (length nodes.now.hier.now.order.live) (is_next nodes.now.facts.now nodes.now.hier.now n) }
 {
-    any_below!(z < node_count(nodes.hier); is_next(nodes, counts, n, z))
+    let _width = over.width();
+    let mut at = 0;
+    'scan: while let Some(z) = over.next(at) {
+        if is_one_fewer(counts[z as usize], counts[n as usize]) {
+            return true;
+        }
+        at = z + 1;
+    }
+    false
 }
 
 /// Whether class nodes are above a node, and none of them has one fewer above it.
-fn is_loose(nodes: &ClassNodes, counts: &[u32], n: u32) -> bool
+fn is_loose(nodes: &ClassNodes, over: &[BitRow], counts: &[u32], n: u32) -> bool
     requires nodes { HasClassNodes nodes.now }
+    requires over { AreOver nodes.now.facts.now nodes.now.hier.now over.now }
     requires counts { AreCounts nodes.now.facts.now nodes.now.hier.now counts.now }
     requires node { n < length nodes.now.hier.now.order.live }
     ensures { result ≡ is_loose nodes.now.facts.now nodes.now.hier.now n }
 {
-    0 < counts[n as usize] && !has_next(nodes, counts, n)
+    0 < counts[n as usize] && !has_next(nodes, row_at(over, n as usize), counts, n)
 }
 
 /// Adds a node, if it is loose.
-fn add_loose(nodes: &ClassNodes, counts: &[u32], n: u32, loose: &mut BitRow)
+fn add_loose(nodes: &ClassNodes, over: &[BitRow], counts: &[u32], n: u32, loose: &mut BitRow)
     requires nodes { HasClassNodes nodes.now }
+    requires over { AreOver nodes.now.facts.now nodes.now.hier.now over.now }
     requires counts { AreCounts nodes.now.facts.now nodes.now.hier.now counts.now }
     requires node { n < length nodes.now.hier.now.order.live }
     requires width { length loose.old ≡ length nodes.now.hier.now.order.live }
     ensures width { length loose.new ≡ length loose.old }
     ensures added { (x : ℕ) → bit loose.new x ≡ (bit loose.old x || ((n == x) && is_loose nodes.now.facts.now nodes.now.hier.now n)) }
 {
-    if is_loose(nodes, counts, n) {
+    if is_loose(nodes, over, counts, n) {
         loose.set(n);
     }
 }
 
 /// The loose nodes. An error comes only for want of memory.
-fn loose_nodes(alloc: Global, nodes: &ClassNodes) -> Result<BitRow, AllocError>
+fn loose_nodes(alloc: Global, nodes: &ClassNodes, over: &[BitRow]) -> Result<BitRow, AllocError>
     requires nodes { HasClassNodes nodes.now }
+    requires over { AreOver nodes.now.facts.now nodes.now.hier.now over.now }
     ensures { IfOk result (λ v. AreLooseNodes nodes.now.facts.now nodes.now.hier.now v) }
 {
-    let counts = class_counts(alloc, nodes)?;
+    let counts = class_counts(alloc, nodes, over)?;
     let mut loose = BitRow::new(alloc, node_count(nodes.hier))?;
     for n in 0..node_count(nodes.hier) {
-        add_loose(nodes, &counts, n, &mut loose);
+        add_loose(nodes, over, &counts, n, &mut loose);
     }
     Ok(loose)
 }
 
-/// Whether a loose class node is at or above another.
-fn is_loose_above(nodes: &ClassNodes, loose: &BitRow, n: u32, m: u32) -> bool
-    requires nodes { HasClassNodes nodes.now }
-    requires loose { AreLooseNodes nodes.now.facts.now nodes.now.hier.now loose.now }
-    requires lower { n < length nodes.now.hier.now.order.live }
-    requires upper { m < length nodes.now.hier.now.order.live }
-    ensures { result ≡ is_loose_above nodes.now.facts.now nodes.now.hier.now n m }
-{
-    is_class_above(nodes, n, m) && loose.has(m)
-}
-
-/// Whether there is one.
-#[tactic(auto, using(hier_model::proofs::AnyLemmas::any_below_found))]
-fn has_loose(nodes: &ClassNodes, loose: &BitRow, n: u32) -> bool
-    requires nodes { HasClassNodes nodes.now }
+/// Whether a loose class node may be at or above a node: if not, none is.
+fn may_have_loose(nodes: &ClassNodes, over: &BitRow, loose: &BitRow, n: u32) -> bool
     requires loose { AreLooseNodes nodes.now.facts.now nodes.now.hier.now loose.now }
     requires node { n < length nodes.now.hier.now.order.live }
-    ensures { result ≡ any_below (length nodes.now.hier.now.order.live) (is_loose_above nodes.now.facts.now nodes.now.hier.now n) }
+    requires width { length over.now ≡ length nodes.now.hier.now.order.live }
+    requires over { (x : ℕ) → bit over.now x ≡ is_over nodes.now.facts.now nodes.now.hier.now n x }
+    ensures { OnFalse result ((m : ℕ) → is_class_above nodes.now.facts.now nodes.now.hier.now n m ≡ true → is_loose nodes.now.facts.now nodes.now.hier.now m ≡ false) }
 {
-    any_below!(m < node_count(nodes.hier); is_loose_above(nodes, loose, n, m))
+    loose.has(n) || over.meets(loose)
 }
 
-/// The first instance against B9. The time is in proportion to the square of the number of nodes. An error comes
-/// only for want of memory.
+/// The first instance against B9. An error comes only for want of memory. The time is in proportion to a 64th of the square
+/// of the number of nodes, to the number of columns and sites, and to that of the pairs of class nodes of which one is
+/// above the other.
 #[tactic(auto, using(kaba_bits::proofs::FirstLemmas::first_below_found))]
 pub fn first_unchained(
     alloc: Global,
@@ -227,25 +197,33 @@ pub fn first_unchained(
     requires hier { IsHierarchyOf facts.now hier.now }
     ensures { IfOk result (λ b. b ≡ first_unchained facts.now hier.now) }
 {
-    let classes = class_nodes(alloc, facts, hier)?;
+    let classes = hier.class_nodes(alloc, facts)?;
     let nodes = ClassNodes {
         facts,
         hier,
         classes: &classes,
     };
-    let loose = loose_nodes(alloc, &nodes)?;
-    first_found_below!(n < node_count(hier); first_unchained_above(&nodes, &loose, n))
+    let over = over_rows(alloc, &nodes)?;
+    let loose = loose_nodes(alloc, &nodes, &over)?;
+    first_found_below!(n < node_count(hier); first_unchained_above(&nodes, row_at(&over, n as usize), &loose, n))
 }
 
 /// The first two class nodes at or above a node that are not ordered: none, where no loose one is at or above it.
-fn first_unchained_above(nodes: &ClassNodes, loose: &BitRow, n: u32) -> Option<Broken>
+fn first_unchained_above(
+    nodes: &ClassNodes,
+    over: &BitRow,
+    loose: &BitRow,
+    n: u32,
+) -> Option<Broken>
     requires nodes { HasClassNodes nodes.now }
     requires loose { AreLooseNodes nodes.now.facts.now nodes.now.hier.now loose.now }
     requires node { n < length nodes.now.hier.now.order.live }
+    requires width { length over.now ≡ length nodes.now.hier.now.order.live }
+    requires over { (x : ℕ) → bit over.now x ≡ is_over nodes.now.facts.now nodes.now.hier.now n x }
     ensures { result ≡ first_below (length nodes.now.hier.now.order.live) (λ x. first_below (length nodes.now.hier.now.order.live)
         (unchained nodes.now.facts.now nodes.now.hier.now n x)) }
 {
-    if !has_loose(nodes, loose, n) {
+    if !may_have_loose(nodes, over, loose, n) {
         return None;
     }
     first_unchained_at(nodes, n)

@@ -53,6 +53,7 @@ mod pairs;
 mod places;
 mod rows;
 mod taken;
+mod touched;
 
 pub use after::first_broken_after;
 use bodies::{first_two_bodies, first_wrong_need, first_wrong_super};

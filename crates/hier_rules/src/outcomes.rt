@@ -2,10 +2,11 @@
 
 ghost use Rattle.std.specs.Prelude.{◌≡◌, ℕ, ◌<◌, ◌↔◌, ◌==◌, ◌&&◌, ◌||◌, ◌++◌, true, map, filter, length, IfOk, Contains};
 ghost use Rattle.hier_rules.specs.Words.{list_any, IsNonDecreasing, bit, row, first_below, row_class, IsObligationInput};
+ghost use Rattle.kaba_order.specs.Orders.{differ};
 ghost use Rattle.fact_model.specs.Classes.{below};
 ghost use Rattle.fact_model.specs.InRange.{InRange, IsClass};
 ghost use Rattle.hier_rules.specs.Asked.{is_element, is_array_at, has_array, is_test_at, is_store_at, is_target, is_tested, meets, is_asked};
-ghost use Rattle.hier_rules.specs.Obligations.{row_le, differ, wrong_outcome, first_wrong_of_place, first_wrong_outcome};
+ghost use Rattle.hier_rules.specs.Obligations.{row_le, wrong_outcome, first_wrong_of_place, first_wrong_outcome};
 
 use crate::broken::{Broken, Rule};
 use crate::places::{Asked, place_of_row, row_le};

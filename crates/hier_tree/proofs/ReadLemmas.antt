@@ -8,7 +8,7 @@ use Rattle.kaba_bits.specs.Sets.{bit, row, first_below}
 use Rattle.kaba_bits.proofs.FirstLemmas.{first_below_None, or_else-None, when-None as none_when}
 use Rattle.kaba_bits.proofs.SetLemmas.{bit-below}
 use Rattle.kaba_bits.proofs.RowLemmas.{bit-row-below}
-use Rattle.kaba_order.specs.Orders.{is_le}
+use Rattle.kaba_order.specs.Orders.{is_le, differ}
 use Rattle.fact_model.specs.Items.{site_class, site_row, row_class, column_kind, column_class, column_slot}
 use Rattle.fact_model.specs.Classes.{is_def, is_slot, below, finds}
 use Rattle.fact_model.specs.InRange.{InRange, IsRow, IsCol}
@@ -31,7 +31,7 @@ use Rattle.hier_laws.specs.Obligations.{NoneIsOwn, Half}
 use Rattle.hier_rules.specs.declared.broken.Rule.TheVariants.{B2, B3, B4, B5, B7}
 use Rattle.hier_rules.specs.Asked.{is_tie, is_super, is_called, bound_of, slots_of, is_other_body, meets, places_of}
 use Rattle.hier_rules.specs.Instances.{of_both, of_row}
-use Rattle.hier_rules.specs.Obligations.{differ, row_le, column_le, place_of_site, has_nearer, wrong_body, wrong_need, first_wrong_need, is_between, has_between, wrong_super, first_wrong_super, first_unoffered, untied, unheld, first_untied, wrong_outcome, first_wrong_outcome}
+use Rattle.hier_rules.specs.Obligations.{row_le, column_le, place_of_site, has_nearer, wrong_body, wrong_need, first_wrong_need, is_between, has_between, wrong_super, first_wrong_super, first_unoffered, untied, unheld, first_untied, wrong_outcome, first_wrong_outcome}
 use Rattle.hier_rules.specs.Obligations as rule
 use Rattle.hier_laws.proofs.ShapeLemmas.{shape}
 use Rattle.hier_laws.proofs.GivenLemmas.{given, row_below, site_below, point_site, tie_at, super_at, called_at, found_at, super_fact, met, meet_site, meet_target, def_is as def_kind}

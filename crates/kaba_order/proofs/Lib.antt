@@ -5,3 +5,4 @@ pub mod StepLemmas
 pub mod UniqueLemmas
 pub mod BeyondLemmas
 pub mod FlipLemmas
+pub mod ChangedLemmas

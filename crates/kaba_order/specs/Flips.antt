@@ -1,4 +1,4 @@
--- Believed. Orders in which nodes and pairs were exchanged: live for dead, and related for unrelated.
+-- Mirror. Orders in which nodes and pairs were exchanged: live for dead, and related for unrelated.
 use Rattle.std.specs.Prelude.{◌≡◌, ℕ, ◌==◌, ◌&&◌, Bool, true, false, not, List, [], ◌∷◌, length}
 use Rattle.kaba_base.specs.declared.NodeId.{NodeId}
 use Rattle.kaba_order.specs.Orders.{Ordered, is_le, is_live, IsPartialOrder}

@@ -22,6 +22,11 @@ is_le o a b = bit (row o.le a) b
 abbrev pub is_live : Ordered → ℕ → Bool
 is_live o a = bit o.live a
 
+-- whether two truth values differ
+abbrev pub differ : Bool → Bool → Bool
+differ true b = not b
+differ false b = b
+
 -- a partial order on the live nodes
 pub record IsPartialOrder (o : Ordered) : Type 0 where
   pub count : length o.le ≡ length o.live

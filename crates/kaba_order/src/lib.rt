@@ -5,7 +5,7 @@ ghost use Rattle.std.specs.Prelude.{◌≡◌, ℕ, ◌+◌, ◌<◌, ◌↔◌,
 ghost use Rattle.kaba_bits.specs.Sets.{bit, row, HasWidth, ListsBelow};
 ghost use Rattle.kaba_order.specs.Beyond.{IsBeyond};
 ghost use Rattle.kaba_order.specs.Flips.{IsFlipped, HasFlipped};
-ghost use Rattle.kaba_order.specs.Orders.{Ordered, IsPartialOrder, is_le, is_live, IsStrictlyBelow, IsCover, numbers, IsLeastWith, IsUnder, IsDropped, IsBetween, IsFirstBetween, IsLeastOf, IsLeastMerged, IsMerged};
+ghost use Rattle.kaba_order.specs.Orders.{Ordered, IsPartialOrder, is_le, is_live, IsStrictlyBelow, IsCover, numbers, IsLeastWith, IsUnder, IsDropped, IsBetween, IsFirstBetween, IsLeastOf, IsLeastMerged, IsMerged, differ};
 
 use kaba_base::NodeId;
 use kaba_bits::{BitRow, row_at};
@@ -150,6 +150,28 @@ impl Order {
     {
         let _ = &self.live;
         self.is_strictly_below(n, b) && !beyond.has(b.0)
+    }
+
+    /// The nodes that are at or above a node in just one of two orders on as many nodes. An error comes only for want
+    /// of memory. The time is in proportion to a 64th of the number of nodes, and to the number of those found.
+    #[tactic(auto, using(crate::proofs::ChangedLemmas::in_just_one))]
+    pub fn changed_above(
+        &self,
+        alloc: Global,
+        newer: &Order,
+        n: NodeId,
+    ) -> Result<BitRow, AllocError>
+        requires n { n.0 < length self.now.live }
+        requires count { length newer.now.live ≡ length self.now.live }
+        ensures width { IfOk result (λ r. length r ≡ length self.now.live) }
+        ensures nodes { IfOk result (λ r. (b : ℕ) → bit r b ≡ differ (is_le self.now n.0 b) (is_le newer.now n.0 b)) }
+    {
+        let above = &self.le[n.0 as usize];
+        let newly = &newer.le[n.0 as usize];
+        let mut changed = BitRow::new(alloc, self.count())?;
+        rows::add_missing(&mut changed, above, newly);
+        rows::add_missing(&mut changed, newly, above);
+        Ok(changed)
     }
 
     /// Makes one node, the least of a list, of all its nodes, and closes the order; the list is not empty

@@ -64,3 +64,18 @@ pub fn drop_from(le: &mut [BitRow], n: u32)
     let row = &mut le[n as usize];
     row.clear();
 }
+
+/// Adds the numbers of one set that are not in another to a third one of the same width.
+pub fn add_missing(set: &mut BitRow, row: &BitRow, other: &BitRow)
+    requires row { length row.now ≡ length set.old }
+    requires other { length other.now ≡ length set.old }
+    ensures width { length set.new ≡ length set.old }
+    ensures bits { (b : ℕ) → bit set.new b ≡ (bit set.old b || (bit row.now b && not (bit other.now b))) }
+{
+    let _width = row.width();
+    let mut at = 0;
+    'scan: while let Some(b) = row.next_beyond(other, at) {
+        set.set(b);
+        at = b + 1;
+    }
+}

@@ -2,7 +2,7 @@
 use Rattle.std.proofs.Common.{◌≡◌, ◌≢◌, ℕ, ◌<◌, ◌&&◌, ◌||◌, eqb, Bool, true, false, length, Some, None, refl, sym, ap, ◌∙◌}
 use Rattle.std.specs.Prelude.{not}
 use Rattle.std.proofs.lemmas.Bool.{false≢true, and_from, or_left, ne_eqb}
-use Rattle.kaba_order.specs.Orders.{is_le}
+use Rattle.kaba_order.specs.Orders.{is_le, differ}
 use Rattle.fact_model.specs.Items.{site_class, site_row, row_class, column_kind, column_class, column_slot}
 use Rattle.fact_model.specs.Classes.{is_def, below}
 use Rattle.fact_model.specs.InRange.{InRange}
@@ -20,7 +20,7 @@ use Rattle.hier_model.specs.Edits.{is_one_slot}
 use Rattle.hier_laws.specs.Shapes.{Given}
 use Rattle.hier_laws.specs.Obligations.{NoneIsNearer, SupersStandAbove, NoneIsBetween, TestsFail, Half}
 use Rattle.hier_rules.specs.Asked.{is_super, is_other_body}
-use Rattle.hier_rules.specs.Obligations.{differ, row_le, column_le, place_of_site, is_nearer, has_nearer, is_between, has_between}
+use Rattle.hier_rules.specs.Obligations.{row_le, column_le, place_of_site, is_nearer, has_nearer, is_between, has_between}
 use Rattle.hier_rules.specs.Obligations as rule
 use Rattle.hier_rules.specs.First.{first_broken}
 use Rattle.hier_laws.proofs.ShapeLemmas.{shape, placed}

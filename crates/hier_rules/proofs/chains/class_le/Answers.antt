@@ -1,5 +1,5 @@
 use Rattle.std.proofs.Common.{sym, ◌∙◌}
-use Rattle.hier_rules.proofs.NameLemmas.{class_live}
+use Rattle.hier_model.proofs.ClassLemmas.{class_live}
 use Rattle.hier_rules.proofs.chains.class_le.Goals as goal
 
 pub is_le-requires-clause-a : goal.is_le-requires-clause-a

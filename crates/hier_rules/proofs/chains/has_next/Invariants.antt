@@ -1,7 +1,13 @@
-use Rattle.std.proofs.Common.{◌≡◌, false}
+use Rattle.std.proofs.Common.{◌≡◌, ◌-◌, ◌≤◌, length, false}
 use Rattle.hier_model.specs.Hierarchies.{any_below}
 use Rattle.hier_rules.specs.Chains.{is_next}
 use Rattle.hier_rules.proofs.chains.has_next.Given as goal
 
-abbrev pub invariant-loop-z : goal.invariant-loop-z
-invariant-loop-z l = any_below l.z (is_next l.nodes.facts.now l.nodes.hier.now l.n) ≡ false
+abbrev pub invariant-scan : goal.invariant-scan
+invariant-scan l = record {
+  below : l.at ≤ length l.over;
+  none : any_below l.at (is_next l.nodes.facts.now l.nodes.hier.now l.n) ≡ false;
+}
+
+abbrev pub decreases-scan : goal.decreases-scan
+decreases-scan l = length l.over - l.at

@@ -1,5 +1,5 @@
 use Rattle.std.proofs.Common.{◌∙◌, arith}
-use Rattle.hier_rules.proofs.NameLemmas.{marked_next, marked_all}
+use Rattle.hier_model.proofs.ClassLemmas.{marked_next, marked_all}
 use Rattle.hier_rules.proofs.chains.loose_nodes.Goals as goal
 
 pub loop-n-preserved : goal.loop-n-preserved

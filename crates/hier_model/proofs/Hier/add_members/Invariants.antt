@@ -1,6 +1,0 @@
-use Rattle.std.proofs.Common.{◌≡◌, ◌++◌}
-use Rattle.hier_model.specs.Differences.{each_below, member_change}
-use Rattle.hier_model.proofs.Hier.add_members.Given as goal
-
-abbrev pub invariant-loop-c : goal.invariant-loop-c
-invariant-loop-c l = l.changes.items ≡ l.fn.changes.items ++ each_below l.c (member_change l.self l.newer)

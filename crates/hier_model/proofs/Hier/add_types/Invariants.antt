@@ -1,6 +1,0 @@
-use Rattle.std.proofs.Common.{◌≡◌, ◌++◌}
-use Rattle.hier_model.specs.Differences.{each_below, type_change}
-use Rattle.hier_model.proofs.Hier.add_types.Given as goal
-
-abbrev pub invariant-loop-n : goal.invariant-loop-n
-invariant-loop-n l = l.changes.items ≡ l.fn.changes.items ++ each_below l.n (type_change l.self l.newer)

@@ -1,0 +1,25 @@
+-- Mirror. What an edit touched, and what holds outside of it.
+use Rattle.std.specs.Prelude.{◌≡◌, ℕ, ◌<◌, ◌&&◌, false, Bool, List, length, None}
+use Rattle.kaba_base.specs.declared.NodeId.{NodeId}
+use Rattle.kaba_bits.specs.Sets.{bit, first_below}
+use Rattle.kaba_order.specs.Orders.{Ordered, is_live, is_below_some}
+use Rattle.fact_model.specs.declared.facts.Facts.{Facts}
+use Rattle.fact_model.specs.declared.sets.PointsTo.{PointsTo}
+use Rattle.hier_model.specs.Hierarchies.{Hierarchy, place_of_row}
+use Rattle.hier_rules.specs.Asked.{slots_of}
+use Rattle.hier_rules.specs.Obligations.{place_of_site, wrong_need, wrong_super}
+
+-- the set of the live nodes that are at or below some node of a list
+pub record IsTouched (o : Ordered) (roots : List NodeId) (low : List Bool) : Type 0 where
+  pub width : length low ≡ length o.live
+  pub exact : (n : ℕ) → bit low n ≡ (is_live o n && is_below_some o roots n)
+
+-- no need of a site is broken at a node outside a set
+pub record NeedsHold (F : Facts) (pt : PointsTo) (H : Hierarchy) (low : List Bool) : Type 0 where
+  pub width : length low ≡ length H.order.live
+  pub each : (s : ℕ) → s < length F.sites.items → bit low (place_of_site F H s) ≡ false → first_below (slots_of F) (wrong_need F pt H s) ≡ None
+
+-- no super call of a row's method is broken at a node outside a set
+pub record SupersHold (F : Facts) (H : Hierarchy) (low : List Bool) : Type 0 where
+  pub width : length low ≡ length H.order.live
+  pub each : (r : ℕ) → r < length F.rows.items → bit low (place_of_row H r) ≡ false → first_below (length F.columns.items) (wrong_super F H r) ≡ None
