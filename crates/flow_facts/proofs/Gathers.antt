@@ -6,6 +6,7 @@ use Rattle.std.proofs.lemmas.List.{append_assoc, append-nil, take_more, map-appe
 use Rattle.std.proofs.lemmas.Grind.{flat_map-append}
 use Rattle.java_core.specs.Programs.{Plain}
 use Rattle.flow_rules.specs.Lists.{Numbers, news_of, flows_of, loads_of, stores_of, calls_of, casts_of, tests_of, accesses_of, supers_of, ties_of}
+use Rattle.flow_rules.specs.Spots.{marks_of}
 use Rattle.flow_rules.specs.Numbered.{BodyParts}
 use Rattle.flow_rules.specs.Parts.{Part}
 use Rattle.flow_facts.specs.declared.gathering.Lists.{Lists}
@@ -41,6 +42,7 @@ module _ (N : Numbers) (P : Plain) where
     supers = sym (append-nil _);
     ties = sym (append-nil _);
     calls = sym (append-nil _);
+    marks = sym (append-nil _);
   }
 
   pub part_more : {m : ℕ} {slot : Option ℕ} {ps : List Part} {p : Part} {old mid new : Lists} → ArePartsAdded N P m slot ps old mid
@@ -57,6 +59,7 @@ module _ (N : Numbers) (P : Plain) where
     supers = more (supers_of N m) ps p _ a.supers b.supers;
     ties = more (ties_of N P m slot) ps p _ a.ties b.ties;
     calls = more (calls_of N) ps p _ a.calls b.calls;
+    marks = more (marks_of N) ps p _ a.marks b.marks;
   }
 
   pub body_more : {bs : List BodyParts} {b : BodyParts} {mid new : Lists} → AreGathered N P bs mid → ArePartsAdded N P b.number b.slot b.parts mid new
@@ -76,4 +79,5 @@ module _ (N : Numbers) (P : Plain) where
         };
         tests = last (λ b. flat_map (tests_of N) b.parts) bs b g.tests h.tests;
         calls = last (λ b. flat_map (calls_of N) b.parts) bs b g.calls h.calls;
+        marks = last (λ b. flat_map (marks_of N) b.parts) bs b g.marks h.marks;
       }

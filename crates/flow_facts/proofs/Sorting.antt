@@ -6,28 +6,22 @@ use Rattle.std.specs.Ordering.{nat_cmp, is_lt}
 use Rattle.std.specs.List.Sorted.{IsSortedByKey, IsStableByKey, IsSortedByKeyClosure, IsStableByKeyClosure, IsNonDecreasingBy, ties}
 use Rattle.std.specs.Fn.{Called}
 use Rattle.std.proofs.lemmas.Fn.{always_returns_same}
-use Rattle.std.proofs.Common.{ltb-true, ltb-false, eqb-true, eq-eqb}
+use Rattle.std.proofs.Common.{ltb-true, eqb-true, eq-eqb}
 use denote.Param.Members.{Mut}
 use denote.Ref.{Bor}
 use Rattle.std.proofs.lemmas.List.Sorted.{IsNonDecreasingBy-from_sort}
 use Rattle.flow_rules.specs.Ordered.{put_in, by_place}
+use Rattle.flow_rules.proofs.ByPlace as places
 
 module _ {A : Type 0} (at : A → ℕ) where
-  -- no element stands before n
   abbrev Low : ℕ → List A → Type 0
-  Low n [] = Unit {0}
-  Low n (z ∷ zs) = (n ≤ at z) × Low n zs
+  Low n zs = places.Low at n zs
 
   abbrev Rising : List A → Type 0
-  Rising [] = Unit {0}
-  Rising (z ∷ zs) = Low (at z) zs × Rising zs
+  Rising zs = places.Rising at zs
 
   abbrev kept : ℕ → List A → List A
   kept n xs = filter (λ y. n == at y) xs
-
-  lower : (m n : ℕ) (zs : List A) → m ≤ n → Low n zs → Low m zs
-  lower m n [] h l = tt
-  lower m n (z ∷ zs) h l = (omega (arith, h, l.0), lower m n zs h l.1)
 
   -- from positions
   low_from : (n : ℕ) (zs : List A) → ((j : ℕ) (d : A) → j < length zs → n ≤ at (slice_index_or zs j d)) → Low n zs
@@ -41,24 +35,6 @@ module _ {A : Type 0} (at : A → ℕ) where
     rising_from zs
         (λ i j d le l. h (suc i) (suc j) d (omega (arith, le)) (omega (arith, l))),
   )
-
-  -- an element put in
-  low_in : (n : ℕ) (a : A) (zs : List A) → n ≤ at a → Low n zs → Low n (put_in at a zs)
-  low_in n a [] h l = (h, tt)
-  low_in n a (z ∷ zs) h l =
-      elim (nat_lt (at z) (at a)) as (λ b. Low n (cond b (z ∷ put_in at a zs) (a ∷ (z ∷ zs)))) [ true ↦ (l.0, low_in n a zs h l.1) | false ↦ (h, l) ]
-
-  rising_in : (a : A) (zs : List A) → Rising zs → Rising (put_in at a zs)
-  rising_in a [] r = (tt, tt)
-  rising_in a (z ∷ zs) r =
-      elim (nat_lt (at z) (at a)) as (λ b. nat_lt (at z) (at a) ≡ b → Rising (cond b (z ∷ put_in at a zs) (a ∷ (z ∷ zs)))) [
-        | true ↦ λ e. (low_in (at z) a zs (let h = ltb-true (at z) (at a) e in omega (arith, h)) r.0, rising_in a zs r.1)
-        | false ↦ λ e. let le : at a ≤ at z = ltb-false (at z) (at a) e in ((le, lower (at a) (at z) zs le r.0), r)
-      ] refl
-
-  rising_all : (xs : List A) → Rising (by_place at xs)
-  rising_all [] = tt
-  rising_all (x ∷ xs) = rising_in x (by_place at xs) (rising_all xs)
 
   -- what of one place is kept
   swapped : (p q : Bool) (a z : A) (zs ws : List A) → (p ≡ true → q ≡ true → ⊥) → ws ≡ cond p (a ∷ zs) zs
@@ -141,7 +117,7 @@ module _ {A : Type 0} (at : A → ℕ) where
 
   pub sorted_is : (xs ys : List A) → IsSortedByKey at nat_cmp ys → IsStableByKey at nat_cmp xs ys → ys ≡ by_place at xs
   sorted_is xs ys s st =
-      alone ys (by_place at xs) (rising_from ys (IsNonDecreasingBy-from_sort at ys s)) (rising_all xs)
+      alone ys (by_place at xs) (rising_from ys (IsNonDecreasingBy-from_sort at ys s)) (places.rising_all at xs)
       (λ x. sym (ties_kept x ys) ∙ st x ∙ ties_kept x xs ∙ sym (kept_all (at x) xs))
 
   -- the same by what a closure answers

@@ -14,6 +14,8 @@ use Rattle.flow_rules.specs.Ordered.{by_place, each}
 use Rattle.flow_rules.specs.Parts.{Part}
 use Rattle.flow_rules.specs.Numbered as numbered
 use Rattle.flow_rules.specs.Lists.{Numbers, calls_of, tests_of}
+use Rattle.flow_rules.specs.declared.items.Mark.{Mark}
+use Rattle.flow_rules.specs.Spots.{marks_of}
 use Rattle.flow_rules.specs.Facts.{numbers, gathered, row_info, column_info, site_info, column_body, call_seen, IsSameSet, body_seen as plain_body}
 use Rattle.flow_facts.specs.Views.{body_seen}
 use Rattle.flow_facts.specs.Seen.{numbers_seen}
@@ -66,3 +68,8 @@ module _ (P : Plain) (d : Numbered) (n : IsNumbered P d) where
       (map body_seen d.bodies.items))
       → ys ≡ by_place (λ t. t.place.at) (gathered P (λ b. tests_of (numbers P)))
   tests_whole ys h = h ∙ ap (by_place (λ t. t.place.at)) (gathered_whole (λ N b. tests_of N) _ refl)
+
+  pub marks_whole : (ys : List Mark) → ys ≡ by_place (λ x. x.place.at) (flat_map (λ b. flat_map (marks_of (numbers_seen d.numbering)) b.parts)
+      (map body_seen d.bodies.items))
+      → ys ≡ by_place (λ x. x.place.at) (gathered P (λ b. marks_of (numbers P)))
+  marks_whole ys h = h ∙ ap (by_place (λ x. x.place.at)) (gathered_whole (λ N b. marks_of N) _ refl)

@@ -4,6 +4,7 @@ use Rattle.std.specs.List.{flat_map}
 use Rattle.std.specs.Str.{bytes_eq, encode_utf8_all}
 use Rattle.java_core.specs.Programs.{Plain}
 use Rattle.flow_rules.specs.Lists.{Numbers, calls_of, tests_of}
+use Rattle.flow_rules.specs.Spots.{marks_of, numbered_spots}
 use Rattle.flow_rules.specs.Numbered.{BodyParts}
 use Rattle.flow_rules.specs.Ordered.{by_place, once, each}
 use Rattle.flow_rules.specs.Facts.{row_info, column_info, site_info, column_body, class_seen, class_facts, all_names, all_variables, call_seen, body_seen as plain_body}
@@ -31,14 +32,16 @@ pub record AreTexts (P : Plain) (t : Texts) : Type 0 where
   pub words : t.words.items ≡ once bytes_eq encode_utf8_all (all_names P)
   pub variables : t.variables.items ≡ all_variables P
 
--- what the parts of the bodies give to each list, the calls and the tests by their place
+-- what the parts of the bodies give to each list, the calls, the tests and both together by their place
 pub record AreOrderedLists (N : Numbers) (P : Plain) (bs : List BodyParts) (l : Lists) (listed : List CallInfo) : Type 0 where
   pub unordered : AreUnordered N P bs l.unordered
   pub calls : map call_seen listed ≡ map (λ c. c.item) (by_place (λ c. c.place.at) (flat_map (λ b. flat_map (calls_of N) b.parts) bs))
   pub tests : l.tests.items ≡ by_place (λ t. t.place.at) (flat_map (λ b. flat_map (tests_of N) b.parts) bs)
+  pub marks : l.marks.items ≡ by_place (λ x. x.place.at) (flat_map (λ b. flat_map (marks_of N) b.parts) bs)
 
 -- all of it
 pub record IsSaid (P : Plain) (d : Numbered) (s : Said) : Type 0 where
   pub tables : AreFactTables P d s.tables
   pub texts : AreTexts P s.texts
   pub lists : AreOrderedLists (numbers_seen d.numbering) P (map body_seen d.bodies.items) s.lists s.calls.items
+  pub spots : s.spots.items ≡ numbered_spots 0 0 s.lists.marks.items

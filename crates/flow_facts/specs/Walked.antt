@@ -2,7 +2,7 @@
 use Rattle.std.specs.Prelude.{◌≡◌, ℕ, ◌+◌, ◌++◌, ◌∷◌, Bool, true, List, length, Option}
 use Rattle.kaba_base.specs.declared.Place.{Place}
 use Rattle.java_core.specs.Trees.{Ex, Exs}
-use Rattle.java_core.specs.Programs.{Plain, PlainMethod, program_of, method_seen}
+use Rattle.java_core.specs.Programs.{Plain, PlainMethod, program_of, code_seen}
 use Rattle.flow_rules.specs.declared.items.ObjectType.{ObjectType}
 use Rattle.flow_rules.specs.declared.items.Operand.{Operand}
 use Rattle.flow_rules.specs.declared.items.Part.{Part}
@@ -13,11 +13,11 @@ use Rattle.flow_rules.specs.Parts as plain
 use Rattle.flow_facts.specs.declared.enclosing.Enclosing.{Enclosing}
 use Rattle.flow_facts.specs.Views.{parts_seen, call_operand}
 
--- what is said of the body of a method, by its program, the types there, its number and itself
+-- what is said of a body, by its program, the types there, its number and itself
 abbrev pub in_body : {X : Type 0} → Enclosing → (Plain → (Ex → Option ObjectType) → ℕ → PlainMethod → X) → X
 in_body w f =
     let P = program_of w.program.now in
-    let k = method_seen w.method.now in
+    let k = code_seen w.code in
     f P (object_type P k) w.number k
 
 -- so many parts more, which are these

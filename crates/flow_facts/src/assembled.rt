@@ -18,8 +18,9 @@ use crate::infos::{body_infos, column_infos, point_rows, row_infos, site_infos};
 use crate::lists::PlacedCall;
 use crate::names::{class_infos, variables, words};
 use crate::ordered::by_place;
+use crate::spots::spots_of;
 use crate::stages::{Numbered, Tables, Texts};
-use fact_model::{CallInfo, Facts};
+use fact_model::{CallInfo, Facts, Spot};
 use java_core::Program;
 use std::alloc::Global;
 use std::mem::{drop, replace};
@@ -80,16 +81,19 @@ fn list_texts(alloc: Global, program: &Program) -> Tried<Texts>
     })
 }
 
-/// Puts the tests in the order of their places, and takes the calls out by theirs.
+/// Puts the tests and the marks in the order of their places, and takes the calls out by theirs.
 fn put_in_order(alloc: Global, lists: &mut Lists) -> Tried<Vec<CallInfo>>
     ensures { (N : Numbers) (P : Plain) (bs : List numbered.BodyParts) → AreGathered N P bs lists.old
         → IfOk result (λ calls. AreOrderedLists N P bs lists.new calls.items) }
 {
     let calls = replace(&mut lists.calls, Vec::new(alloc));
     let tests = replace(&mut lists.tests, Vec::new(alloc));
-    let calls = made!(calls_in_order(alloc, calls); tests);
-    let tests = made!(by_place(tests); calls);
+    let marks = replace(&mut lists.marks, Vec::new(alloc));
+    let calls = made!(calls_in_order(alloc, calls); tests, marks);
+    let tests = made!(by_place(tests); calls, marks);
+    let marks = made!(by_place(marks); calls, tests);
     lists.tests = tests;
+    lists.marks = marks;
     Ok(calls)
 }
 
@@ -100,6 +104,7 @@ pub struct Said {
     pub texts: Texts,
     pub lists: Lists,
     pub calls: Vec<CallInfo>,
+    pub spots: Vec<Spot>,
 }
 
 /// Says all of what is numbered.
@@ -117,11 +122,13 @@ fn say(alloc: Global, program: &Program, numbered: &Numbered) -> Tried<Said>
     };
     let mut lists = made!(gather(&given, &numbered.bodies); tables, texts);
     let calls = made!(put_in_order(alloc, &mut lists); tables, texts, lists);
+    let spots = made!(spots_of(alloc, &lists.marks); tables, texts, lists, calls);
     Ok(Said {
         tables,
         texts,
         lists,
         calls,
+        spots,
     })
 }
 
@@ -154,7 +161,7 @@ fn assemble(alloc: Global, numbered: Numbered, said: Said) -> Facts
         vars: texts.variables,
         makers: None,
         makes: Vec::new(alloc),
-        spots: Vec::new(alloc),
+        spots: said.spots,
     }
 }
 

@@ -8,7 +8,7 @@ ghost use Rattle.flow_rules.specs.Parts as plain;
 ghost use Rattle.flow_rules.specs.Types.{object_type};
 ghost use Rattle.flow_facts.specs.Views.{static_place, variable_operand};
 ghost use Rattle.flow_facts.specs.Walked.{IsAdded, IsGained, in_body};
-ghost use Rattle.flow_facts.specs.Words.{program_of, method_seen, IsFormed, parts_seen};
+ghost use Rattle.flow_facts.specs.Words.{program_of, code_seen, IsFormed, parts_seen};
 
 use crate::Tried;
 use crate::enclosing::Enclosing;
@@ -221,10 +221,10 @@ fn walk_arms(
 pub fn parts_of(of: &Enclosing) -> Tried<Vec<Part>>
     requires { IsFormed (program_of of.now.program.now) }
     ensures value { IfOk result (λ v. parts_seen v.items ≡ plain.parts_of (program_of of.now.program.now) of.now.number
-        (method_seen of.now.method.now)) }
+        (code_seen of.now.code)) }
 {
     let mut parts = Vec::new(of.alloc);
-    match &of.method.body {
+    match of.code.body {
         Some(body) => {
             made!(walk_stmts(of, body, &mut parts));
             Ok(parts)

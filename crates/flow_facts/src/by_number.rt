@@ -6,9 +6,9 @@ ghost use Rattle.std.specs.Str.{encode_utf8_all};
 ghost use Rattle.java_core.specs.Programs.{field_seen, slot_seen};
 ghost use Rattle.flow_rules.specs.Facts.{class_text, name_in};
 ghost use Rattle.flow_rules.specs.declared.items.ColumnItem.TheVariants as column;
-ghost use Rattle.flow_facts.specs.Words.{program_of, method_seen};
+ghost use Rattle.flow_facts.specs.Words.{program_of, code_seen};
 
-use java_core::{Field, Method, Program, Slot};
+use java_core::{Code, Field, Program, Slot};
 use kaba_base::Name;
 
 /// The name of a class by its number.
@@ -27,11 +27,12 @@ pub fn field_by_number(program: &Program, field: u64) -> Option<&Field>
     program.fields.get(field as usize)
 }
 
-/// A method by its number.
-pub fn method_by_number(program: &Program, method: u64) -> Option<&Method>
-    ensures value { option_map (λ k. method_seen k.now) result ≡ slice_get (program_of program.now).methods method }
+/// What a method is, by its number.
+pub fn method_by_number(program: &Program, method: u64) -> Option<Code<'_>>
+    ensures value { option_map code_seen result ≡ slice_get (program_of program.now).methods method }
 {
-    program.methods.get(method as usize)
+    let method = program.methods.get(method as usize)?;
+    Some(method.code())
 }
 
 /// A slot by its number.

@@ -1,13 +1,13 @@
 //! What the walk over a body is given.
 
-use java_core::{Method, Program};
+use java_core::{Code, Program};
 use std::alloc::Global;
 
-/// The method whose body is walked, by its number in its program.
+/// The body that is walked, by its number in its program.
 #[derive(Clone, Copy)]
 pub struct Enclosing<'a> {
     pub alloc: Global,
     pub program: &'a Program,
     pub number: u64,
-    pub method: &'a Method,
+    pub code: Code<'a>,
 }

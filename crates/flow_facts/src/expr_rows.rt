@@ -5,13 +5,13 @@ ghost use Rattle.std.specs.Option.{option_map};
 ghost use Rattle.java_core.specs.Trees.{expr_of};
 ghost use Rattle.java_core.specs.Statics.{static_seen};
 ghost use Rattle.flow_rules.specs.Operands.{object_static, object_field, call_slot, super_slot, type_in, row_of};
-ghost use Rattle.flow_facts.specs.Words.{program_of, method_seen, IsFormed};
+ghost use Rattle.flow_facts.specs.Words.{program_of, code_seen, IsFormed};
 
 use crate::by_number::method_by_number;
 use crate::types::{object_class, object_field, object_of};
 use crate::walk::{class_object, variable_row};
 use flow_rules::{ObjectType, RowItem};
-use java_core::{Method, Program, RExpr, Static, slot_of, static_of, super_method};
+use java_core::{Code, Program, RExpr, Static, slot_of, static_of, super_method};
 use kaba_base::{ClassId, Name};
 
 /// The type that an expression gives, where a row can have it.
@@ -24,13 +24,13 @@ fn object_static(found: Static) -> Option<ObjectType>
     }
 }
 
-/// The static type of an expression in a method, where a row can have it.
+/// The static type of an expression in a body, where a row can have it.
 #[tactic(auto, unfolding(flow_rules::specs::Operands::type_in))]
-pub fn type_of(program: &Program, method: &Method, e: &RExpr) -> Option<ObjectType>
+pub fn type_of(program: &Program, code: &Code, e: &RExpr) -> Option<ObjectType>
     requires { IsFormed (program_of program.now) }
-    ensures value { (m : ℕ) → result ≡ type_in (program_of program.now) m (method_seen method.now) (expr_of e.now) }
+    ensures value { (m : ℕ) → result ≡ type_in (program_of program.now) m (code_seen code.now) (expr_of e.now) }
 {
-    object_static(static_of(program, method, e))
+    object_static(static_of(program, code, e))
 }
 
 /// The row of the field that a type has under a name.
@@ -87,31 +87,31 @@ fn super_row(program: &Program, class: ClassId, name: &Name) -> Option<RowItem>
     }
 }
 
-/// The row that types an expression in the method of the number `m`: of a variable and
+/// The row that types an expression in the body of the number `m`: of a variable and
 /// `this` their own, of a field access that of the field, of a call that of the return, of an element that of
 /// the array, and of a creation or a cast its own. A literal, `null`, an operator and an `instanceof` have none.
 /// It takes a step for each form on the way to the base of the expression.
 #[tactic(auto, unfolding(flow_rules::specs::Operands::type_in))]
-pub fn row_of(program: &Program, m: u64, method: &Method, e: &RExpr) -> Option<RowItem>
+pub fn row_of(program: &Program, m: u64, code: &Code, e: &RExpr) -> Option<RowItem>
     requires { IsFormed (program_of program.now) }
-    ensures value { result ≡ row_of (program_of program.now) (type_in (program_of program.now) m (method_seen method.now))
-        m (method_seen method.now) (expr_of e.now) }
+    ensures value { result ≡ row_of (program_of program.now) (type_in (program_of program.now) m (code_seen code.now))
+        m (code_seen code.now) (expr_of e.now) }
 {
     match e {
         RExpr::This { .. } => Some(RowItem::This(m)),
-        RExpr::Local { local, .. } => Some(variable_row(m, method, *local as u64)),
+        RExpr::Local { local, .. } => Some(variable_row(m, code, *local as u64)),
         RExpr::Static { field, .. } => Some(RowItem::Field(field.0 as u64)),
         RExpr::Own { field, .. } => Some(RowItem::Field(field.0 as u64)),
         RExpr::Field { base, name, .. } => {
-            access_row(program, type_of(program, method, base), name)
+            access_row(program, type_of(program, code, base), name)
         }
-        RExpr::Index { base, .. } => row_of(program, m, method, base),
+        RExpr::Index { base, .. } => row_of(program, m, code, base),
         RExpr::Call { base, name, .. } => match base {
-            Some(base) => call_row(program, type_of(program, method, base), name),
-            None => call_row(program, class_object(method.owner), name),
+            Some(base) => call_row(program, type_of(program, code, base), name),
+            None => call_row(program, class_object(code.owner), name),
         },
         RExpr::StaticCall { method, .. } => Some(RowItem::Result(method.0 as u64)),
-        RExpr::SuperCall { name, .. } => super_row(program, method.owner, name),
+        RExpr::SuperCall { name, .. } => super_row(program, code.owner, name),
         RExpr::New { number, .. } => Some(RowItem::New(*number as u64)),
         RExpr::NewArray { number, .. } => Some(RowItem::New(*number as u64)),
         RExpr::Cast { number, .. } => Some(RowItem::Cast(*number as u64)),

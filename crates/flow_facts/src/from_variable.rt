@@ -2,7 +2,7 @@
 
 ghost use Rattle.std.specs.Prelude.{◌≡◌, ℕ, ◌+◌, ◌<◌, ◌^◌, ◌++◌, List, OnOk, length, map};
 ghost use Rattle.java_core.specs.Programs.{PlainMethod, PlainLocal, local_seen};
-ghost use Rattle.flow_facts.specs.Words.{Plain, program_of, method_seen, each};
+ghost use Rattle.flow_facts.specs.Words.{Plain, program_of, code_seen, each};
 
 use crate::Tried;
 use crate::enclosing::Enclosing;
@@ -15,7 +15,7 @@ pub trait FromVariable: Sized {
     /// Adds what it gives.
     fn add(of: &Enclosing, number: usize, local: &Local, list: &mut Vec<Self>) -> Tried<()>
         ensures value { OnOk result (list.new.items ≡ list.old.items
-            ++ given (program_of of.now.program.now) of.now.number (method_seen of.now.method.now) number (local_seen local.now)) };
+            ++ given (program_of of.now.program.now) of.now.number (code_seen of.now.code) number (local_seen local.now)) };
 }
 
 /// Adds what parameters or locals give, the first of which has the number `first`.
@@ -27,7 +27,7 @@ fn add_from_those<T: FromVariable + Drop>(
 ) -> Tried<()>
     requires { first + length locals.now.items < 2 ^ 64 }
     ensures value { OnOk result (list.new.items ≡ list.old.items
-        ++ each (T.given (program_of of.now.program.now) of.now.number (method_seen of.now.method.now)) first (map local_seen locals.now.items)) }
+        ++ each (T.given (program_of of.now.program.now) of.now.number (code_seen of.now.code)) first (map local_seen locals.now.items)) }
 {
     let mut number = first;
     for local in locals {
@@ -40,12 +40,12 @@ fn add_from_those<T: FromVariable + Drop>(
 /// Adds what the parameters and then the locals of a method give.
 pub fn add_from_variables<T: FromVariable + Drop>(of: &Enclosing, list: &mut Vec<T>) -> Tried<()>
     ensures value { OnOk result (list.new.items ≡ list.old.items
-        ++ each (T.given (program_of of.now.program.now) of.now.number (method_seen of.now.method.now)) 0
-        (method_seen of.now.method.now).params
-        ++ each (T.given (program_of of.now.program.now) of.now.number (method_seen of.now.method.now))
-        (length (method_seen of.now.method.now).params) (method_seen of.now.method.now).locals) }
+        ++ each (T.given (program_of of.now.program.now) of.now.number (code_seen of.now.code)) 0
+        (code_seen of.now.code).params
+        ++ each (T.given (program_of of.now.program.now) of.now.number (code_seen of.now.code))
+        (length (code_seen of.now.code).params) (code_seen of.now.code).locals) }
 {
-    made!(add_from_those(of, &of.method.params, 0, list));
-    let count = of.method.params.len();
-    add_from_those(of, &of.method.locals, count, list)
+    made!(add_from_those(of, of.code.params, 0, list));
+    let count = of.code.params.len();
+    add_from_those(of, of.code.locals, count, list)
 }

@@ -10,10 +10,11 @@ use crate::lists::{
     PlacedCall, add_accesses, add_calls, add_casts, add_flows, add_loads, add_news, add_stores,
     add_supers, add_tests,
 };
+use crate::spots::add_marks;
 use crate::stages::Unordered;
 use crate::ties::add_ties;
 use fact_model::TestInfo;
-use flow_rules::{Body, Part};
+use flow_rules::{Body, Mark, Part};
 use std::mem::drop;
 
 /// The lists that the parts of bodies give.
@@ -22,6 +23,7 @@ pub struct Lists {
     pub unordered: Unordered,
     pub calls: Vec<PlacedCall>,
     pub tests: Vec<TestInfo>,
+    pub marks: Vec<Mark>,
 }
 
 /// Adds what a part of a method's body gives. The slot is the method's.
@@ -38,6 +40,7 @@ fn add_part(given: &Given, m: u64, slot: Option<u32>, part: &Part, lists: &mut L
     made!(add_calls(given, part, &mut lists.calls));
     made!(add_casts(n, part, &mut lists.unordered.casts));
     made!(add_tests(n, part, &mut lists.tests));
+    made!(add_marks(n, part, &mut lists.marks));
     made!(add_accesses(n, part, &mut lists.unordered.accesses));
     made!(add_supers(n, m, part, &mut lists.unordered.supers));
     add_ties(given.program, n, m, slot, part, &mut lists.unordered.ties)
@@ -82,6 +85,7 @@ pub fn gather(given: &Given, bodies: &Vec<Body>) -> Tried<Lists>
         unordered,
         calls: Vec::new(alloc),
         tests: Vec::new(alloc),
+        marks: Vec::new(alloc),
     };
     for body in bodies {
         made!(

@@ -3,7 +3,7 @@
 ghost use Rattle.std.specs.Prelude.{◌≡◌, ℕ, ◌+◌, ◌<◌, ◌++◌, ◌∷◌, [], List, Option, Some, None, IfOk, OnOk, length, map, slice_get};
 ghost use Rattle.std.specs.Option.{option_map, option_map_or};
 ghost use Rattle.flow_rules.specs.Facts.{row_info, site_of_row, this_of_row, column_info, kind_of, owner_of, slot_in, name_in, site_info, field_at, fields_of, field_cell, site_cells, param_points, body_if, column_body, body_seen, class_facts, class_seen, is_holder, variable_names, all_variables};
-ghost use Rattle.flow_facts.specs.Words.{Plain, program_of, method_seen, IsFormed, each, numbers_seen, if_there};
+ghost use Rattle.flow_facts.specs.Words.{Plain, program_of, code_seen, IsFormed, each, numbers_seen, if_there};
 
 use crate::Tried;
 use crate::by_number::{class_name, field_by_number, method_by_number};
@@ -13,7 +13,7 @@ use crate::lists::put_if;
 use crate::numbering::Numbering;
 use fact_model::{BodyInfo, ColKind, ColumnInfo, RowInfo, SiteInfo};
 use flow_rules::{Column, ColumnItem, Point, PointItem, Row, RowItem, Site, number_among};
-use java_core::{Method, Program};
+use java_core::{Code, Program};
 use kaba_base::{ClassId, ColId, Name, RowId, SiteId, put};
 use std::alloc::Global;
 use std::mem::drop;
@@ -124,7 +124,7 @@ fn named(program: &Program, item: ColumnItem) -> Option<&Name>
         },
         ColumnItem::Dcl(method) | ColumnItem::Def(method) => {
             match method_by_number(program, method) {
-                Some(method) => Some(&method.name),
+                Some(method) => Some(method.name),
                 None => None,
             }
         }
@@ -194,11 +194,11 @@ pub fn point_rows(alloc: Global, points: &Vec<Point>) -> Tried<Vec<RowId>>
 }
 
 /// The points of the parameters of a method.
-fn param_points(given: &Given, m: u64, method: &Method) -> Tried<Vec<Option<u32>>>
-    ensures value { (P : Plain) → IfOk result (λ v. v.items ≡ param_points (numbers_seen given.now.numbering.now) P m (method_seen method.now)) }
+fn param_points(given: &Given, m: u64, code: &Code) -> Tried<Vec<Option<u32>>>
+    ensures value { (P : Plain) → IfOk result (λ v. v.items ≡ param_points (numbers_seen given.now.numbering.now) P m (code_seen code.now)) }
 {
     let mut list = Vec::new(given.alloc);
-    for (i, _param) in method.params.iter().enumerate() {
+    for (i, _param) in code.params.iter().enumerate() {
         made!(put(
             &mut list,
             given.numbering.point(PointItem::Local(m, i as u64))
@@ -208,15 +208,15 @@ fn param_points(given: &Given, m: u64, method: &Method) -> Tried<Vec<Option<u32>
 }
 
 /// The body of a method, where its `this` is a flow point.
-fn method_body(given: &Given, c: u32, m: u64, method: &Method) -> Tried<Option<BodyInfo>>
+fn method_body(given: &Given, c: u32, m: u64, code: &Code) -> Tried<Option<BodyInfo>>
     ensures value { (P : Plain) → IfOk result (λ o. if_there body_seen o
-        ≡ body_if (numbers_seen given.now.numbering.now) P c m (method_seen method.now)
+        ≡ body_if (numbers_seen given.now.numbering.now) P c m (code_seen code.now)
         ((numbers_seen given.now.numbering.now).point (PointItem.This m))) }
 {
     match given.numbering.point(PointItem::This(m)) {
         Some(this) => {
             let (column, result) = (ColId(c), given.numbering.point(PointItem::Result(m)));
-            let params = made!(param_points(given, m, method));
+            let params = made!(param_points(given, m, code));
             Ok(Some(BodyInfo {
                 column,
                 this,
@@ -235,7 +235,7 @@ fn body_of(given: &Given, c: u32, item: ColumnItem) -> Tried<Option<BodyInfo>>
 {
     match item {
         ColumnItem::Def(m) => match method_by_number(given.program, m) {
-            Some(method) => method_body(given, c, m, method),
+            Some(method) => method_body(given, c, m, &method),
             None => Ok(None),
         },
         _ => Ok(None),

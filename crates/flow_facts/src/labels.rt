@@ -18,7 +18,7 @@ fn variable_name(program: &Program, method: u64, i: u64) -> Option<&Name>
     ensures value { option_map_or (λ x. x.now) result [] ≡ variable_name (program_of program.now) method i }
 {
     match method_by_number(program, method) {
-        Some(method) => match variable_at(method, i) {
+        Some(method) => match variable_at(&method, i) {
             Some(variable) => Some(&variable.name),
             None => None,
         },
@@ -67,7 +67,7 @@ fn add_method(program: &Program, method: u64, text: &mut String) -> Tried<()>
     ensures value { OnOk result (string_bytes text.new ≡ string_bytes text.old ++ method_text (program_of program.now) method) }
 {
     match method_by_number(program, method) {
-        Some(method) => add_member(program, method.owner.0 as u64, &method.name, text),
+        Some(method) => add_member(program, method.owner.0 as u64, method.name, text),
         None => Ok(()),
     }
 }

@@ -48,6 +48,7 @@ mod names;
 mod numbering;
 mod ordered;
 mod points;
+mod spots;
 mod stages;
 mod survey;
 mod ties;

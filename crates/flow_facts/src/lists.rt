@@ -34,7 +34,7 @@ pub fn put_if<T: Drop>(list: &mut Vec<T>, item: Option<T>) -> Tried<()>
 }
 
 /// The number of an operand's flow point.
-fn point_at(n: &Numbering, operand: &Operand) -> Option<u32>
+pub fn point_at(n: &Numbering, operand: &Operand) -> Option<u32>
     ensures value { result ≡ point_at (numbers_seen n.now) operand.now }
 {
     match operand.point {

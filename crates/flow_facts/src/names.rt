@@ -7,7 +7,7 @@ ghost use Rattle.std.specs.Str.{bytes_eq, encode_utf8_all};
 ghost use Rattle.java_core.specs.Programs.{class_seen as plain_class, local_seen};
 ghost use Rattle.flow_rules.specs.Ordered.{once, once_after};
 ghost use Rattle.flow_rules.specs.Facts.{class_seen, class_facts, is_holder, all_names, all_variables, variable_names};
-ghost use Rattle.flow_facts.specs.Holders.{AreHolders};
+ghost use Rattle.flow_facts.specs.Holders.{AreStaticHolders};
 ghost use Rattle.flow_facts.specs.Words.{Plain, program_of, method_seen, each};
 
 use crate::Tried;
@@ -81,7 +81,7 @@ fn mark_members(program: &Program, holders: &mut [bool])
 
 /// For each class, whether it has static members.
 fn holders(alloc: Global, program: &Program) -> Tried<Vec<bool>>
-    ensures { IfOk result (λ v. AreHolders (program_of program.now) v.items) }
+    ensures { IfOk result (λ v. AreStaticHolders (program_of program.now) v.items) }
 {
     let mut holders = vec![in alloc; false; program.classes.len()]?;
     mark_members(program, &mut holders);
@@ -106,7 +106,7 @@ fn class_info(alloc: Global, class: &Class, holder: bool) -> Tried<ClassInfo>
 
 /// The classes, each with whether it has static members.
 fn list_classes(alloc: Global, program: &Program, holders: &[bool]) -> Tried<Vec<ClassInfo>>
-    requires { AreHolders (program_of program.now) holders.now }
+    requires { AreStaticHolders (program_of program.now) holders.now }
     ensures value { IfOk result (λ v. map class_seen v.items
         ≡ each (class_facts (program_of program.now)) 0 (program_of program.now).classes) }
 {

@@ -7,7 +7,9 @@ use crate::Tried;
 use crate::cells::FieldCell;
 use crate::lists::PlacedCall;
 use fact_model::TestInfo;
-use flow_rules::{Column, ColumnItem, Outline, Point, PointAt, PointItem, Row, RowItem, Site};
+use flow_rules::{
+    Column, ColumnItem, Mark, Outline, Point, PointAt, PointItem, Row, RowItem, Site,
+};
 use indexmap::IndexSet;
 use std::alloc::{AllocError, Global};
 use std::hash::Hash;
@@ -72,6 +74,14 @@ impl HasPlace for PlacedCall {
 
 impl HasPlace for TestInfo {
     ghost at = { λ t. t.place.at };
+
+    fn at(&self) -> u32 {
+        self.place.at
+    }
+}
+
+impl HasPlace for Mark {
+    ghost at = { λ m. m.place.at };
 
     fn at(&self) -> u32 {
         self.place.at

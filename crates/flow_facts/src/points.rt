@@ -5,7 +5,7 @@ ghost use Rattle.std.specs.List.{flat_map};
 ghost use Rattle.flow_rules.specs.Ordered.{by_place};
 ghost use Rattle.flow_rules.specs.Parts as plain;
 ghost use Rattle.flow_rules.specs.Numbered.{own_point, form_points, variable_points, method_points};
-ghost use Rattle.flow_facts.specs.Words.{Plain, method_seen, parts_seen};
+ghost use Rattle.flow_facts.specs.Words.{Plain, code_seen, parts_seen};
 
 use crate::Tried;
 use crate::enclosing::Enclosing;
@@ -63,7 +63,7 @@ impl FromVariable for PointAt {
 
     fn add(of: &Enclosing, number: usize, local: &Local, points: &mut Vec<PointAt>) -> Tried<()> {
         let item = PointItem::Local(of.number, number as u64);
-        let row = variable_row(of.number, of.method, number as u64);
+        let row = variable_row(of.number, &of.code, number as u64);
         let place = local.place;
         put(points, PointAt { item, place, row })
     }
@@ -72,19 +72,19 @@ impl FromVariable for PointAt {
 /// What may be flow points of a body with these parts.
 pub fn method_points(of: &Enclosing, parts: &Vec<Part>) -> Tried<Vec<PointAt>>
     ensures value { (P : Plain) → parts_seen parts.now.items
-        ≡ plain.parts_of P of.now.number (method_seen of.now.method.now)
-        → IfOk result (λ v. v.items ≡ method_points P of.now.number (method_seen of.now.method.now)) }
+        ≡ plain.parts_of P of.now.number (code_seen of.now.code)
+        → IfOk result (λ v. v.items ≡ method_points P of.now.number (code_seen of.now.code)) }
 {
-    let place = of.method.place;
+    let place = of.code.place;
     let mut points = Vec::new(of.alloc);
-    if !of.method.is_static {
+    if !of.code.is_static {
         let item = PointItem::This(of.number);
         let row = RowItem::This(of.number);
         made!(put(&mut points, PointAt { item, place, row }); points);
     }
     made!(add_from_variables(of, &mut points); points);
     let item = PointItem::Result(of.number);
-    let row = result_row(of.number, of.method.slot);
+    let row = result_row(of.number, of.code.slot);
     made!(put(&mut points, PointAt { item, place, row }); points);
     let mut forms = made!(form_points(of.alloc, parts); points);
     made!(points.append(&mut forms); points, forms);

@@ -5,7 +5,7 @@ ghost use Rattle.java_core.specs.Programs.{field_seen};
 ghost use Rattle.flow_rules.specs.Parts as plain;
 ghost use Rattle.flow_rules.specs.Numbered.{row_if, own_row, form_rows, mark, array_mark, form_columns, is_first, field_rows, this_rows, result_rows, variable_rows, method_rows, field_columns, method_columns, static_points, body_at, outline_if, bodies_of};
 ghost use Rattle.flow_rules.specs.Operands.{result_in};
-ghost use Rattle.flow_facts.specs.Words.{Plain, program_of, method_seen, IsFormed, each, parts_seen, body_seen, outline_seen};
+ghost use Rattle.flow_facts.specs.Words.{Plain, program_of, code_seen, IsFormed, each, parts_seen, body_seen, outline_seen};
 
 use crate::Tried;
 use crate::bodies::parts_of;
@@ -59,9 +59,9 @@ impl FromPart for Row {
 
 /// Whether a method has the rows of its slot's return and parameters; a static method has its own.
 fn is_first(of: &Enclosing) -> bool
-    ensures value { result ≡ is_first (program_of of.now.program.now) of.now.number (method_seen of.now.method.now) }
+    ensures value { result ≡ is_first (program_of of.now.program.now) of.now.number (code_seen of.now.code) }
 {
-    match of.method.slot {
+    match of.code.slot {
         None => true,
         Some(slot) => match slot_by_number(of.program, slot as u64) {
             Some(slot) => slot.first.0 as u64 == of.number,
@@ -75,8 +75,8 @@ impl FromVariable for Row {
     ghost given = { variable_rows };
 
     fn add(of: &Enclosing, number: usize, local: &Local, rows: &mut Vec<Row>) -> Tried<()> {
-        if is_first(of) || number >= of.method.params.len() {
-            let item = variable_row(of.number, of.method, number as u64);
+        if is_first(of) || number >= of.code.params.len() {
+            let item = variable_row(of.number, &of.code, number as u64);
             return add_row(rows, item, local.place, object_of(local.ty));
         }
         Ok(())
@@ -85,19 +85,19 @@ impl FromVariable for Row {
 
 /// Adds the rows of a method, whose body has these parts.
 fn add_method_rows(of: &Enclosing, parts: &Vec<Part>, rows: &mut Vec<Row>) -> Tried<()>
-    requires { parts_seen parts.now.items ≡ plain.parts_of (program_of of.now.program.now) of.now.number (method_seen of.now.method.now) }
+    requires { parts_seen parts.now.items ≡ plain.parts_of (program_of of.now.program.now) of.now.number (code_seen of.now.code) }
     ensures value { OnOk result (rows.new.items ≡ rows.old.items ++ method_rows
         (program_of of.now.program.now) of.now.number
-        (method_seen of.now.method.now)) }
+        (code_seen of.now.code)) }
 {
-    let method = of.method;
-    if method.body.is_some() && !method.is_static {
-        let (this, class) = (RowItem::This(of.number), class_object(method.owner));
-        made!(add_row(rows, this, method.place, class));
+    let code = &of.code;
+    if code.body.is_some() && !code.is_static {
+        let (this, class) = (RowItem::This(of.number), class_object(code.owner));
+        made!(add_row(rows, this, code.place, class));
     }
     if is_first(of) {
-        let (result, ty) = (result_row(of.number, method.slot), object_if(method.result));
-        made!(add_row(rows, result, method.place, ty));
+        let (result, ty) = (result_row(of.number, code.slot), object_if(code.result));
+        made!(add_row(rows, result, code.place, ty));
     }
     made!(add_from_variables(of, rows));
     add_from(parts, rows)
@@ -145,15 +145,15 @@ impl FromPart for Column {
 /// Adds the columns of a method, whose body has these parts.
 fn add_method_columns(of: &Enclosing, parts: &Vec<Part>, columns: &mut Vec<Column>) -> Tried<()>
     ensures value { (P : Plain) → parts_seen parts.now.items
-        ≡ plain.parts_of P of.now.number (method_seen of.now.method.now)
+        ≡ plain.parts_of P of.now.number (code_seen of.now.code)
         → OnOk result (columns.new.items ≡ columns.old.items ++ method_columns P of.now.number
-        (method_seen of.now.method.now)) }
+        (code_seen of.now.code)) }
 {
-    let method = of.method;
-    if !method.is_static {
-        let (item, place) = (ColumnItem::Dcl(of.number), method.place);
+    let code = &of.code;
+    if !code.is_static {
+        let (item, place) = (ColumnItem::Dcl(of.number), code.place);
         made!(put(columns, Column { item, place }));
-        if method.body.is_some() {
+        if code.body.is_some() {
             let item = ColumnItem::Def(of.number);
             made!(put(columns, Column { item, place }));
         }
@@ -201,28 +201,28 @@ fn survey_method(of: &Enclosing, survey: &mut Surveyed) -> Tried<()>
     requires { IsFormed (program_of of.now.program.now) }
     ensures rows { OnOk result (survey.new.rows.items ≡ survey.old.rows.items ++ method_rows
         (program_of of.now.program.now) of.now.number
-        (method_seen of.now.method.now)) }
+        (code_seen of.now.code)) }
     ensures columns { OnOk result (survey.new.columns.items ≡ survey.old.columns.items ++ method_columns
         (program_of of.now.program.now) of.now.number
-        (method_seen of.now.method.now)) }
+        (code_seen of.now.code)) }
     ensures statics { OnOk result (survey.new.statics ≡ survey.old.statics) }
     ensures outlines { OnOk result (map outline_seen survey.new.outlines.items
-        ≡ map outline_seen survey.old.outlines.items ++ outline_if (program_of of.now.program.now) of.now.number (method_seen of.now.method.now)) }
+        ≡ map outline_seen survey.old.outlines.items ++ outline_if (program_of of.now.program.now) of.now.number (code_seen of.now.code)) }
     ensures bodies { OnOk result (map body_seen survey.new.bodies.items
-        ≡ map body_seen survey.old.bodies.items ++ body_at (program_of of.now.program.now) of.now.number (method_seen of.now.method.now)) }
+        ≡ map body_seen survey.old.bodies.items ++ body_at (program_of of.now.program.now) of.now.number (code_seen of.now.code)) }
 {
-    let method = of.method;
+    let code = &of.code;
     let parts = parts_of(of)?;
     made!(add_method_rows(of, &parts, &mut survey.rows); parts);
     made!(add_method_columns(of, &parts, &mut survey.columns); parts);
-    if method.body.is_some() {
+    if code.body.is_some() {
         let points = made!(method_points(of, &parts); parts);
-        let place = method.place;
+        let place = code.place;
         made!(survey.outlines.push(Outline { place, points }) => AllocError; parts);
     }
     survey.bodies.push(Body {
         number: of.number,
-        slot: method.slot,
+        slot: code.slot,
         parts,
     })?;
     Ok(())
@@ -258,7 +258,7 @@ pub fn survey(alloc: Global, program: &Program) -> Tried<Surveyed>
             alloc,
             program,
             number: m as u64,
-            method,
+            code: method.code(),
         };
         made!(survey_method(&of, &mut survey); survey);
     }

@@ -4,11 +4,11 @@ ghost use Rattle.std.specs.Prelude.{◌≡◌, Option, Some, None, slice_get, op
 ghost use Rattle.std.specs.Option.{option_map};
 ghost use Rattle.flow_rules.specs.Operands.{object_of, object_if, object_class, object_field, call_slot, call_declaration};
 ghost use Rattle.flow_rules.specs.Types.{field_object, slot_object, method_object, variable_object, element_object};
-ghost use Rattle.flow_facts.specs.Words.{program_of, method_seen, IsFormed};
+ghost use Rattle.flow_facts.specs.Words.{program_of, code_seen, IsFormed};
 
 use crate::by_number::{field_by_number, method_by_number, slot_by_number};
 use flow_rules::ObjectType;
-use java_core::{Method, Program, Ty, TyBase, declaration_of, member_field};
+use java_core::{Code, Program, Ty, TyBase, declaration_of, member_field};
 use kaba_base::{ClassId, MemberId, Name};
 
 /// The type, where a row can have it.
@@ -106,16 +106,16 @@ pub fn number_of(member: Option<MemberId>) -> Option<u32>
     }
 }
 
-/// The type of a parameter or a local of a method.
-pub fn variable_object(method: &Method, local: u32) -> Option<ObjectType>
-    ensures value { result ≡ variable_object (method_seen method.now) local }
+/// The type of a parameter or a local of a body.
+pub fn variable_object(code: &Code, local: u32) -> Option<ObjectType>
+    ensures value { result ≡ variable_object (code_seen code.now) local }
 {
     let at = local as usize;
-    let count = method.params.len();
+    let count = code.params.len();
     if at < count {
-        return object_of(method.params[at].ty);
+        return object_of(code.params[at].ty);
     }
-    match method.locals.get(at - count) {
+    match code.locals.get(at - count) {
         Some(local) => object_of(local.ty),
         None => None,
     }

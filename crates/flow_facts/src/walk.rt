@@ -9,7 +9,7 @@ ghost use Rattle.flow_rules.specs.Types.{object_type};
 ghost use Rattle.flow_facts.specs.Views.{load_operand, call_operand, static_operand, super_operand, variable_operand};
 ghost use Rattle.flow_facts.specs.Walked.{IsAdded, IsOperandMade, IsWalked, AreWalked, args_from, parts_from, call_from};
 ghost use Rattle.flow_rules.specs.Parts as plain;
-ghost use Rattle.flow_facts.specs.Words.{program_of, method_seen, IsFormed, part_seen, parts_seen};
+ghost use Rattle.flow_facts.specs.Words.{program_of, code_seen, IsFormed, part_seen, parts_seen};
 
 use crate::Tried;
 use crate::by_number::method_by_number;
@@ -19,7 +19,7 @@ use crate::types::{
     object_of, slot_object, variable_object,
 };
 use flow_rules::{ObjectType, Operand, Part, PointItem, RowItem};
-use java_core::{BinOp, Method, Program, RExpr, super_method};
+use java_core::{BinOp, Code, Program, RExpr, super_method};
 use kaba_base::{ClassId, Name, Place, put};
 
 /// No flow point, no row and no type that a row can have.
@@ -39,34 +39,34 @@ pub fn class_object(class: ClassId) -> Option<ObjectType>
 
 /// What `this` is.
 pub fn this_operand(within: &Enclosing) -> Operand
-    ensures value { result ≡ this_operand within.now.number (method_seen within.now.method.now) }
+    ensures value { result ≡ this_operand within.now.number (code_seen within.now.code) }
 {
     Operand {
         point: Some(PointItem::This(within.number)),
         row: Some(RowItem::This(within.number)),
-        ty: class_object(within.method.owner),
+        ty: class_object(within.code.owner),
         created: None,
     }
 }
 
 /// The row of a parameter or a local.
-pub fn variable_row(m: u64, method: &Method, local: u64) -> RowItem
-    ensures value { result ≡ variable_row m (method_seen method.now) local }
+pub fn variable_row(m: u64, code: &Code, local: u64) -> RowItem
+    ensures value { result ≡ variable_row m (code_seen code.now) local }
 {
-    match method.slot {
-        Some(slot) if local < method.params.len() as u64 => RowItem::Param(slot as u64, local),
+    match code.slot {
+        Some(slot) if local < code.params.len() as u64 => RowItem::Param(slot as u64, local),
         _ => RowItem::Local(m, local),
     }
 }
 
 /// What a parameter or a local is.
 pub fn variable_operand(within: &Enclosing, local: u32) -> Operand
-    ensures value { result ≡ variable_operand within.now.number (method_seen within.now.method.now) local }
+    ensures value { result ≡ variable_operand within.now.number (code_seen within.now.code) local }
 {
     Operand {
         point: Some(PointItem::Local(within.number, local as u64)),
-        row: Some(variable_row(within.number, within.method, local as u64)),
-        ty: variable_object(within.method, local),
+        row: Some(variable_row(within.number, &within.code, local as u64)),
+        ty: variable_object(&within.code, local),
         created: None,
     }
 }
@@ -139,7 +139,7 @@ fn fill(parts: &mut Vec<Part>, at: usize, part: Part)
 #[cycle(walk)]
 pub fn walk(within: &Enclosing, used: bool, e: &RExpr, parts: &mut Vec<Part>) -> Tried<Operand>
     requires { IsFormed (program_of within.now.program.now) }
-    ensures { IfOk result (λ o. IsWalked (program_of within.now.program.now) within.now.number (method_seen within.now.method.now)
+    ensures { IfOk result (λ o. IsWalked (program_of within.now.program.now) within.now.number (code_seen within.now.code)
         used (expr_of e.now) parts.old.items parts.new.items o) }
 {
     match e {
@@ -310,7 +310,7 @@ fn walk_all(
     parts: &mut Vec<Part>,
 ) -> Tried<Vec<Operand>>
     requires { IsFormed (program_of within.now.program.now) }
-    ensures { IfOk result (λ o. AreWalked (program_of within.now.program.now) within.now.number (method_seen within.now.method.now) used
+    ensures { IfOk result (λ o. AreWalked (program_of within.now.program.now) within.now.number (code_seen within.now.code) used
         (exprs args.now.items) parts.old.items parts.new.items o.items) }
 {
     let mut list = Vec::new(within.alloc);
@@ -333,7 +333,7 @@ fn add_call(
 ) -> Tried<Operand>
     requires { IsFormed (program_of within.now.program.now) }
     ensures { IfOk result (λ o. IsOperandMade parts.old.items parts.new.items (1 + sizes (exprs args.now.items))
-        (call_from (program_of within.now.program.now) within.now.number (method_seen within.now.method.now) place base name.now
+        (call_from (program_of within.now.program.now) within.now.number (code_seen within.now.code) place base name.now
         (length parts.old.items) (exprs args.now.items)) o
         (call_operand (program_of within.now.program.now) within.now.number (length parts.old.items) base.ty name.now)) }
 {
@@ -377,10 +377,10 @@ fn add_static_call(
 ) -> Tried<Operand>
     requires { IsFormed (program_of within.now.program.now) }
     ensures { IfOk result (λ o. IsOperandMade parts.old.items parts.new.items (1 + sizes (exprs args.now.items))
-        (plain.a_static_call place callee (args_from (program_of within.now.program.now) within.now.number (method_seen within.now.method.now)
+        (plain.a_static_call place callee (args_from (program_of within.now.program.now) within.now.number (code_seen within.now.code)
         (length parts.old.items + 1) (exprs args.now.items))
         (static_operand (program_of within.now.program.now) within.now.number (length parts.old.items) callee)
-        ∷ parts_from (program_of within.now.program.now) within.now.number (method_seen within.now.method.now) false
+        ∷ parts_from (program_of within.now.program.now) within.now.number (code_seen within.now.code) false
         (length parts.old.items + 1) (exprs args.now.items)) o
         (static_operand (program_of within.now.program.now) within.now.number (length parts.old.items) callee)) }
 {
@@ -409,18 +409,18 @@ fn add_super_call(
 ) -> Tried<Operand>
     requires { IsFormed (program_of within.now.program.now) }
     ensures { IfOk result (λ o. IsOperandMade parts.old.items parts.new.items (1 + sizes (exprs args.now.items))
-        (plain.a_super_call place (super_method (program_of within.now.program.now) within.now.method.now.owner.0 name.now)
-        (args_from (program_of within.now.program.now) within.now.number (method_seen within.now.method.now)
+        (plain.a_super_call place (super_method (program_of within.now.program.now) within.now.code.owner.0 name.now)
+        (args_from (program_of within.now.program.now) within.now.number (code_seen within.now.code)
         (length parts.old.items + 1) (exprs args.now.items))
-        (super_operand (program_of within.now.program.now) within.now.number (length parts.old.items) within.now.method.now.owner.0 name.now)
-        ∷ parts_from (program_of within.now.program.now) within.now.number (method_seen within.now.method.now) false
+        (super_operand (program_of within.now.program.now) within.now.number (length parts.old.items) within.now.code.owner.0 name.now)
+        ∷ parts_from (program_of within.now.program.now) within.now.number (code_seen within.now.code) false
         (length parts.old.items + 1) (exprs args.now.items)) o
-        (super_operand (program_of within.now.program.now) within.now.number (length parts.old.items) within.now.method.now.owner.0 name.now)) }
+        (super_operand (program_of within.now.program.now) within.now.number (length parts.old.items) within.now.code.owner.0 name.now)) }
 {
     let at = parts.len();
     made!(add(parts, Part::Pair(BinOp::Both, NOTHING, NOTHING)));
     let args = made!(walk_all(within, false, args, parts));
-    let callee = number_of(super_method(within.program, within.method.owner, name));
+    let callee = number_of(super_method(within.program, within.code.owner, name));
     let own = super_operand(within, at, callee);
     fill(parts, at, Part::SuperCall(place, callee, args, own));
     Ok(own)

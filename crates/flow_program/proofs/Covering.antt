@@ -8,6 +8,8 @@ use Rattle.flow_laws.specs.cover.Covers.{solved, CoversProgram}
 use Rattle.flow_laws.specs.cover.Slotted.{HaveSlots}
 use Rattle.flow_laws.proofs.cover.Solved.{solved_closed, solved_covers}
 use Rattle.flow_laws.proofs.cover.Programs.{program_covers}
+use Rattle.sure_laws.specs.Laws.{MeetInSets, RunsMeetInSets}
+use Rattle.sure_laws.proofs.Meeting.{meet_in_sets}
 use Rattle.flow_program.specs.Solved.{HasCoveringSets}
 
 have_slots : (P : Plain) → IsFormed P → HaveSlots P
@@ -22,3 +24,8 @@ covering P F formed typed facts = program_covers P F formed typed (have_slots P 
 pub solved_cover : (P : Plain) (F : Facts) → CoversProgram P F → HasCoveringSets P F
 unfolding HasCoveringSets
 solved_cover P F c t are words n = record { covers = solved_covers F t are P c.covers words n; same = c.same (solved t) (solved_closed F t are) words n }
+
+-- what runs meet is in the sets
+pub meeting : (P : Plain) (F : Facts) → IsFormed P → IsTyped P → IsFactsOf P F → MeetInSets P F
+unfolding RunsMeetInSets
+meeting P F = meet_in_sets P F

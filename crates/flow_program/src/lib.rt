@@ -28,7 +28,8 @@ fn are_numbered(facts: &Facts) -> bool
 /// The facts of a program (Andersen, 1994, for the points-to sets; Snelting and Tip, 2000, for the table).
 ///
 /// They are in range and in order, and each family of sets that their inclusions close covers each run of
-/// the program, their points-to sets among them. A `TooMany` tells of what there is more than its limit:
+/// the program, their points-to sets among them: what a run meets has its site in the set of its operand, receiver,
+/// `this` or base. A `TooMany` tells of what there is more than its limit:
 /// first of the rows, then of the columns, the sites, and the flow points with the cells. `Memory` comes
 /// where memory is short, and where the calls or the `instanceof`s and casts are 4,294,967,295 or more.
 pub fn facts(alloc: Global, program: &Checked) -> Result<Facts, FactsFault>

@@ -16,17 +16,17 @@ use Rattle.flow_rules.specs.Numbered.{rows_of, columns_of, sites_of, points_of, 
 use Rattle.flow_rules.specs.Lists.{news_of, ties_of}
 use Rattle.flow_rules.specs.Facts.{numbers, gathered, cells_of}
 
-abbrev place : ℕ → Tag
+abbrev pub place : ℕ → Tag
 place n = record { label = 0; place = record { at = n; line = 1 } }
 
-abbrev of_p : Ty
+abbrev pub of_p : Ty
 of_p = record { base = Class (record { 0 = 1 }); dim = 0 }
 
 abbrev code : Sts
 code = st_then (declare (place 50) 1 (Some (create (place 54) 0 1 no_ex)))
     (st_then (assign (place 62) (to_field (place 61) (local (place 60) 1) (codes "b")) (local (place 64) 1)) no_st)
 
-abbrev main_method : PlainMethod
+abbrev pub main_method : PlainMethod
 main_method =
     record {
       owner = 2;
@@ -41,7 +41,7 @@ main_method =
       tag = place 40;
     }
 
-abbrev program : Plain
+abbrev pub program : Plain
 program =
     record {
       classes = record { name = codes "Object"; is_interface = false; is_abstract = false; parent = None; faces = []; tag = place 0 }

@@ -4,3 +4,6 @@ pub mod Examples
 pub mod Listed
 pub mod Keys
 pub mod NumberedItems
+pub mod ByPlace
+pub mod Spotted
+mod SpotExamples

@@ -35,6 +35,7 @@ use Rattle.flow_rules.specs.declared.items.Site.{Site}
 use Rattle.flow_rules.specs.Ordered.{by_place, once, each, when}
 use Rattle.flow_rules.specs.Parts.{Part}
 use Rattle.flow_rules.specs.Numbered.{BodyParts, bodies_of, rows_of, columns_of, sites_of, points_of, row_number, column_number, site_number, point_number}
+use Rattle.flow_rules.specs.Spots.{marks_of, numbered_spots}
 use Rattle.flow_rules.specs.Lists.{Numbers, PlainCall, news_of, flows_of, loads_of, stores_of, calls_of, casts_of, tests_of, accesses_of, supers_of, ties_of}
 
 -- what there is too much of, and the number one past the limit
@@ -290,8 +291,8 @@ module _ (P : Plain) where
     -- no creation has a constructor
     pub makers : F.makers ≡ None
     pub makes : F.makes.items ≡ []
-    -- and no spot is given
-    pub spots : F.spots.items ≡ []
+    -- the casts and the calls through a receiver, by place
+    pub spots : F.spots.items ≡ numbered_spots 0 0 (by_place (λ x. x.place.at) (gathered (λ b. marks_of numbers)))
 
 -- the names in the facts: each of the text once, in the order of the program, and those of the variables
 pub record AreNamesOf (P : Plain) (F : Facts) : Type 0 where

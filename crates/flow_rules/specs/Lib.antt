@@ -5,4 +5,5 @@ pub mod Parts
 pub mod Ordered
 pub mod Numbered
 pub mod Lists
+pub mod Spots
 pub mod Facts

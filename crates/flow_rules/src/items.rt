@@ -1,5 +1,6 @@
 //! What is numbered: rows, columns, sites and flow points.
 
+use fact_model::SpotKind;
 use java_core::BinOp;
 use kaba_base::{ClassId, Place};
 
@@ -157,4 +158,12 @@ pub enum Part {
     ElementStore(Place, Operand, Operand),
     /// A value that a body gives back.
     Return(Operand),
+}
+
+/// A call or a test that a part of a body gives to the facts: whether it has a spot, and its place.
+#[derive(Clone, Copy)]
+pub struct Mark {
+    pub kind: SpotKind,
+    pub is_spot: bool,
+    pub place: Place,
 }

@@ -12,8 +12,8 @@ mod variables;
 
 pub use faults::{Counted, FactsFault};
 pub use items::{
-    Body, Column, ColumnItem, ObjectType, Operand, Outline, Part, Point, PointAt, PointItem, Row,
-    RowItem, Site,
+    Body, Column, ColumnItem, Mark, ObjectType, Operand, Outline, Part, Point, PointAt, PointItem,
+    Row, RowItem, Site,
 };
 pub use numbers::{number_among, number_of_column, number_of_row};
 pub use variables::variable_at;

@@ -60,7 +60,7 @@ casting =
 -- whether each cast passes
 abbrev passing : List Event → List Bool
 passing [] = []
-passing (cast_met m d o b ∷ es) = b ∷ passing es
+passing (cast_met m d b ∷ es) = b ∷ passing es
 passing (body_ran m d c ∷ es) = passing es
 passing (body_entered c ∷ es) = passing es
 passing (field_touched f ∷ es) = passing es

@@ -10,20 +10,25 @@ use Rattle.java_core.specs.declared.BinOp.TheVariants as bin
 use Rattle.java_core.specs.declared.Op.{Op}
 use Rattle.java_core.specs.declared.Fault.{Fault}
 use Rattle.java_core.specs.declared.Fault.TheVariants as fault
-use Rattle.java_core.specs.Trees.{Ex, Exs, no_ex, ex_then, number, character, text, truth, null, this, local, static_field, own_field, field, index, call, static_call, super_call, create, create_array, cast, instance_of, unary, binary, Target, to_local, to_static, to_own, to_field, to_element, no_target, St, Sts, IfArms, declare, block, assign, act, print, choose, loop, return, break, continue, no_st, st_then, otherwise, arm, no_other}
-use Rattle.java_core.specs.Types.{Env, element_in, StringMethod, LengthOf, CharAt, Equals, is_plus}
-use Rattle.java_meaning.specs.Moment.{End, Ended, Going, Value, Number, Truth, CodeUnit, Nothing, Text, Object, Kind, an_object, an_array, Cell, own_type, own_class, Spot, held, Met, State, Frame, Faulted, Wrong, Escaped, Outcome, stop, Body, Lang, step, step_of, with_some, or_fault, with_result, on_bool, look, look_all}
-use Rattle.java_meaning.specs.Values.{arguments, number_of, truth_of, natural_of, text_of, arith as op_arith, unary_value, same_value, compared, join, is_text, equals_value}
+use Rattle.java_core.specs.Trees.{Tag, Ex, Exs, no_ex, ex_then, number, character, text, truth, null, this, local, static_field, own_field, field, index, call, static_call, super_call, create, create_array, cast, instance_of, unary, binary, Target, to_local, to_static, to_own, to_field, to_element, no_target, St, Sts, IfArms, declare, block, assign, act, print, choose, loop, return, break, continue, no_st, st_then, otherwise, arm, no_other}
+use Rattle.java_core.specs.Types.{Env, class_type, element_in, StringMethod, LengthOf, CharAt, Equals, is_plus}
+use Rattle.java_meaning.specs.Moment.{End, Ended, Going, Value, Number, Truth, CodeUnit, Nothing, Text, Object, Kind, an_object, an_array, Cell, own_type, own_class, Spot, held, tested, Met, State, Frame, Faulted, Wrong, Escaped, Outcome, stop, Body, Lang, step, step_of, with_some, or_fault, with_result, on_bool, look, look_all}
+use Rattle.java_meaning.specs.Values.{cast_number, arguments, number_of, truth_of, natural_of, text_of, arith as op_arith, unary_value, same_value, compared, join, is_text, equals_value}
 use Rattle.java_meaning.specs.Meaning.{Flow, Next, Broke, Continued, Gave, ToValue, ToFlow, Later, on_test, with_cell, read_static, write_static, read_field, write_field, names_length, read_member, element_type, place_in, read_element, on_fitting, write_element, enter, call_object, string_call, text_method, call_on, call_static, call_super, make_cell, make_object, make_array, is_number_type, cast_object, cast_to, test_class, after_left, join_values, compute, operate, write_local, after_one, after_turn, value, values, run_test, run_print, run_initial, run_return, run_assign, run_one, run_all, run_arms, meaning, start, run_in}
 
 -- the language without its watch: it notes as before
 abbrev pub unguarded : Lang → Lang
 unguarded L = record L { sees = λ p v h. true; sees_all = λ b vs h. true }
 
+-- where a run looks at what a cast tests, the cast is none to a number
+abbrev pub Reached : Spot → Type 0
+Reached (tested b (cast t n u e) z) = is_number_type u.base u.dim ≡ false
+Reached p = Unit {0}
+
 -- what holds of the record at its start, and after each look that passes
 pub record IsKept (L : Lang) (Ok : List Met → Type 0) : Type 0 where
   pub none : Ok []
-  pub note : (p : Spot) (v : Value) (h : List Cell) (m : List Met) → L.sees p v h ≡ true → Ok m → Ok (L.note p v h m)
+  pub note : (p : Spot) (v : Value) (h : List Cell) (m : List Met) → L.sees p v h ≡ true → Reached p → Ok m → Ok (L.note p v h m)
   pub note_all : (b : ℕ) (vs : List Value) (h : List Cell) (m : List Met) → L.sees_all b vs h ≡ true → Ok m → Ok (L.note_all b vs h m)
 
 module _ (L : Lang) (Ok : List Met → Type 0) (kept : IsKept L Ok) where
@@ -52,7 +57,8 @@ module _ (L : Lang) (Ok : List Met → Type 0) (kept : IsKept L Ok) where
   with_result_kept (Err x) s le g h e = ends (Faulted x) s le
   with_result_kept (good a) s le g h e = e a
 
-  with_cell_kept : (v : Value) (s : State) → Ok s.met → (g h : ℕ → Cell → Outcome) → ((a : ℕ) (c : Cell) → R (g a c) (h a c)) → R (with_cell v s g) (with_cell v s h)
+  with_cell_kept : (v : Value) (s : State) → Ok s.met → (g h : ℕ → Cell → Outcome) → ((a : ℕ) (c : Cell) → R (g a c) (h a c))
+      → R (with_cell v s g) (with_cell v s h)
   with_cell_kept Nothing s le g h e = ends (Faulted fault.Null) s le
   with_cell_kept (Object a) s le g h e = with_some_kept (slice_get s.cells a) s le _ _ (λ c. e a c)
   with_cell_kept v s le g h e = ends Wrong s le
@@ -82,12 +88,12 @@ module _ (L : Lang) (Ok : List Met → Type 0) (kept : IsKept L Ok) where
   on_test_kept Nothing s g h g' h' le e d = ends Wrong s le
   on_test_kept v s g h g' h' le e d = ends Wrong s le
 
-  look_kept : (p : Spot) (v : Value) (s : State) (g g' : State → Outcome) → Ok s.met → AlikeS g g' → R (look L p v s g) (look M p v s g')
-  look_kept p v s g g' le e = go (L.sees p v s.cells) refl
+  look_kept : (p : Spot) (v : Value) (s : State) (g g' : State → Outcome) → Reached p → Ok s.met → AlikeS g g' → R (look L p v s g) (look M p v s g')
+  look_kept p v s g g' r le e = go (L.sees p v s.cells) refl
     where
       go : (b : Bool) → L.sees p v s.cells ≡ b → R (on_bool b (record s { met = L.note p v s.cells s.met }) g (stop Escaped))
           (g' (record s { met = L.note p v s.cells s.met }))
-      go true d = e _ (kept.note p v s.cells s.met d le)
+      go true d = e _ (kept.note p v s.cells s.met d r le)
       go false d = it_escapes refl
 
   look_all_kept : (b : ℕ) (vs : List Value) (s : State) (g g' : State → Outcome) → Ok s.met → AlikeS g g' → R (look_all L b vs s g) (look_all M b vs s g')
@@ -112,21 +118,21 @@ module _ (L : Lang) (Ok : List Met → Type 0) (kept : IsKept L Ok) where
   write_static_kept : (x : ℕ) (v : Value) (s : State) (k k' : State → Outcome) → Ok s.met → AlikeS k k'
       → R (write_static L x v s k) (write_static M x v s k')
   write_static_kept x v s k k' le e =
-      with_some_kept (L.field_type x) s le _ _ (λ t. with_some_kept (slice_get s.statics x) s le _ _ (λ old. look_kept _ _ s _ _ le (λ s1 l1. e _ l1)))
+      with_some_kept (L.field_type x) s le _ _ (λ t. with_some_kept (slice_get s.statics x) s le _ _ (λ old. look_kept _ _ s _ _ tt le (λ s1 l1. e _ l1)))
 
   read_field_kept : (b : ℕ) (e d : Ex) (x : Option ℕ) (a : ℕ) (c : Cell) (s : State) (k k' : ToValue) → Ok s.met → AlikeV k k'
       → R (read_field L b e d x a c s k) (read_field M b e d x a c s k')
   read_field_kept b e d x a c s k k' le h =
       with_some_kept (own_class c.kind) s le _ _
       (λ t. with_some_kept x s le _ _ (λ j. with_some_kept (L.index t j) s le _ _ (λ i. with_some_kept (slice_get c.values i) s le _ _ (λ u.
-      look_kept _ _ s _ _ le (λ s1 l1. look_kept _ _ s1 _ _ l1 (λ s2 l2. h u s2 l2))))))
+      look_kept _ _ s _ _ tt le (λ s1 l1. look_kept _ _ s1 _ _ tt l1 (λ s2 l2. h u s2 l2))))))
 
   write_field_kept : (b : ℕ) (e : Ex) (x : Option ℕ) (v : Value) (a : ℕ) (c : Cell) (s : State) (k k' : State → Outcome) → Ok s.met
       → AlikeS k k' → R (write_field L b e x v a c s k) (write_field M b e x v a c s k')
   write_field_kept b e x v a c s k k' le h =
       with_some_kept (own_class c.kind) s le _ _
       (λ t. with_some_kept x s le _ _ (λ j. with_some_kept (L.field_type j) s le _ _ (λ u. with_some_kept (L.index t j) s le _ _ (λ i.
-      with_some_kept (slice_get c.values i) s le _ _ (λ old. look_kept _ _ s _ _ le (λ s1 l1. look_kept _ _ s1 _ _ l1 (λ s2 l2. h _ l2)))))))
+      with_some_kept (slice_get c.values i) s le _ _ (λ old. look_kept _ _ s _ _ tt le (λ s1 l1. look_kept _ _ s1 _ _ tt l1 (λ s2 l2. h _ l2)))))))
 
   read_member_kept : (g : Env) (e d : Ex) (x : List ℕ) (t : Kind) (a : ℕ) (c : Cell) (s : State) (k k' : ToValue) → Ok s.met
       → AlikeV k k' → R (read_member L g e d x t a c s k) (read_member M g e d x t a c s k')
@@ -139,7 +145,7 @@ module _ (L : Lang) (Ok : List Met → Type 0) (kept : IsKept L Ok) where
   read_element_kept b d v i s k k' le h =
       with_cell_kept v s le _ _ (λ a c. with_some_kept (element_type c.kind) s le _ _
       (λ t. or_fault_kept fault.Bounds (option_and_then (λ n. slice_get c.values n) (natural_of i)) s le _ _ (λ u.
-      look_kept _ _ s _ _ le (λ s1 l1. h u s1 l1))))
+      look_kept _ _ s _ _ tt le (λ s1 l1. h u s1 l1))))
 
   on_fitting_kept : (v : Value) (t : Ty) (s : State) (k k' : State → Outcome) → Ok s.met → AlikeS k k'
       → R (on_fitting L v t s k) (on_fitting M v t s k')
@@ -152,7 +158,7 @@ module _ (L : Lang) (Ok : List Met → Type 0) (kept : IsKept L Ok) where
       → R (write_element L v i u s k) (write_element M v i u s k')
   write_element_kept v i u s k k' le h =
       with_cell_kept v s le _ _ (λ a c. with_some_kept (element_type c.kind) s le _ _ (λ t. or_fault_kept fault.Bounds (place_in c i) s le _ _ (λ n.
-      on_fitting_kept u t s _ _ le (λ s1 l1. look_kept _ _ s1 _ _ l1 (λ s2 l2. h _ l2)))))
+      on_fitting_kept u t s _ _ le (λ s1 l1. look_kept _ _ s1 _ _ tt l1 (λ s2 l2. h _ l2)))))
 
   string_call_kept : (x : StringMethod) (u : List ℕ) (vs : List Value) (s : State) (k k' : ToValue) → Ok s.met → AlikeV k k'
       → R (string_call x u vs s k) (string_call x u vs s k')
@@ -169,7 +175,7 @@ module _ (L : Lang) (Ok : List Met → Type 0) (kept : IsKept L Ok) where
 
   make_cell_kept : (b : ℕ) (d : Ex) (c : Cell) (s : State) (k k' : ToValue) → Ok s.met → AlikeV k k'
       → R (make_cell L b d c s k) (make_cell M b d c s k')
-  make_cell_kept b d c s k k' le h = look_kept _ _ _ _ _ le (λ s1 l1. h _ s1 l1)
+  make_cell_kept b d c s k k' le h = look_kept _ _ _ _ _ tt le (λ s1 l1. h _ s1 l1)
 
   make_object_kept : (g : Env) (d : Ex) (n c : ℕ) (vs : List Value) (s : State) (k k' : ToValue) → Ok s.met → AlikeV k k'
       → R (make_object L g d n c vs s k) (make_object M g d n c vs s k')
@@ -182,26 +188,32 @@ module _ (L : Lang) (Ok : List Met → Type 0) (kept : IsKept L Ok) where
       with_some_kept (element_in t.base t.dim) s le _ _ (λ u. or_fault_kept fault.NegativeSize (natural_of size) s le _ _ (λ many.
       step_kept s _ _ le (λ s1 l1. make_cell_kept g.body d _ s1 k k' l1 h)))
 
-  cast_object_kept : (b : ℕ) (d : Ex) (t : Ty) (v : Value) (s : State) (k k' : ToValue) → Ok s.met → AlikeV k k'
-      → R (cast_object L b d t v s k) (cast_object M b d t v s k')
-  cast_object_kept b d t Nothing s k k' le h = h _ s le
-  cast_object_kept b d t (Object a) s k k' le h =
-      with_some_kept (slice_get s.cells a) s le _ _ (λ c. look_kept _ _ s _ _ le (λ s1 l1.
-      on_bool_kept (L.is_sub (own_type c.kind) t) s1 _ _ _ _ l1 (λ s2 l2. look_kept _ _ s2 _ _ l2 (λ s3 l3. h _ s3 l3))
+  cast_object_kept : (b : ℕ) (w : Tag) (n : ℕ) (t : Ty) (e : Ex) (v : Value) (s : State) (k k' : ToValue) → is_number_type t.base t.dim ≡ false → Ok s.met
+      → AlikeV k k' → R (cast_object L b (cast w n t e) t v s k) (cast_object M b (cast w n t e) t v s k')
+  cast_object_kept b w n t e Nothing s k k' r le h = h _ s le
+  cast_object_kept b w n t e (Object a) s k k' r le h =
+      with_some_kept (slice_get s.cells a) s le _ _ (λ c. look_kept (tested b (cast w n t e) (L.is_sub (own_type c.kind) t)) (Object a) s _ _ r le (λ s1 l1.
+      on_bool_kept (L.is_sub (own_type c.kind) t) s1 _ _ _ _ l1 (λ s2 l2. look_kept _ _ s2 _ _ tt l2 (λ s3 l3. h _ s3 l3))
       (stop_kept (Faulted fault.ClassCast))))
-  cast_object_kept b d t v s k k' le h = ends Wrong s le
+  cast_object_kept b w n t e v s k k' r le h = ends Wrong s le
 
-  cast_kept : (b : ℕ) (d : Ex) (t : Ty) (v : Value) (s : State) (k k' : ToValue) → Ok s.met → AlikeV k k'
-      → R (cast_to L b d t v s k) (cast_to M b d t v s k')
-  cast_kept b d t v s k k' le h =
-      on_bool_kept (is_number_type t.base t.dim) s _ _ _ _ le (λ s1 l1. with_some_kept (number_of v) s1 l1 _ _ (λ a. h _ s1 l1))
-      (λ s1 l1. cast_object_kept b d t v s1 k k' l1 h)
+  cast_kept : (b : ℕ) (w : Tag) (n : ℕ) (t : Ty) (e : Ex) (v : Value) (s : State) (k k' : ToValue) → Ok s.met → AlikeV k k'
+      → R (cast_to L b (cast w n t e) t v s k) (cast_to M b (cast w n t e) t v s k')
+  cast_kept b w n t e v s k k' le h = go (is_number_type t.base t.dim) refl
+    where
+      go : (z : Bool) → is_number_type t.base t.dim ≡ z → R (on_bool z s (λ s1. with_some (number_of v) s1 (λ a. k (cast_number t.base a) s1)) (λ s1.
+          cast_object L b (cast w n t e) t v s1 k)) (on_bool z s (λ s1. with_some (number_of v) s1 (λ a. k' (cast_number t.base a) s1)) (λ s1.
+          cast_object M b (cast w n t e) t v s1 k'))
+      go true r = with_some_kept (number_of v) s le _ _ (λ a. h _ s le)
+      go false r = cast_object_kept b w n t e v s k k' r le h
 
-  test_class_kept : (b : ℕ) (d : Ex) (t : ℕ) (v : Value) (s : State) (k k' : ToValue) → Ok s.met → AlikeV k k'
-      → R (test_class L b d t v s k) (test_class M b d t v s k')
-  test_class_kept b d t Nothing s k k' le h = h _ s le
-  test_class_kept b d t (Object a) s k k' le h = with_some_kept (slice_get s.cells a) s le _ _ (λ c. look_kept _ _ s _ _ le (λ s1 l1. h _ s1 l1))
-  test_class_kept b d t v s k k' le h = ends Wrong s le
+  test_class_kept : (b : ℕ) (w : Tag) (n : ℕ) (e : Ex) (t : ℕ) (v : Value) (s : State) (k k' : ToValue) → Ok s.met → AlikeV k k'
+      → R (test_class L b (instance_of w n e t) t v s k) (test_class M b (instance_of w n e t) t v s k')
+  test_class_kept b w n e t Nothing s k k' le h = h _ s le
+  test_class_kept b w n e t (Object a) s k k' le h =
+      with_some_kept (slice_get s.cells a) s le _ _ (λ c. look_kept (tested b (instance_of w n e t) (L.is_sub (own_type c.kind) (class_type t))) (Object a) s
+      _ _ tt le (λ s1 l1. h _ s1 l1))
+  test_class_kept b w n e t v s k k' le h = ends Wrong s le
 
   after_left_kept : (o : BinOp) (v : Value) (s : State) (r r' : State → Outcome) (k k' : ToValue) → Ok s.met → AlikeS r r' → AlikeV k k'
       → R (after_left o v s r k) (after_left o v s r' k')
@@ -211,7 +223,8 @@ module _ (L : Lang) (Ok : List Met → Type 0) (kept : IsKept L Ok) where
 
   join_kept : (v w : Value) (s : State) (k k' : ToValue) → Ok s.met → AlikeV k k' → R (join_values v w s k) (join_values v w s k')
   join_kept v w s k k' le h =
-      with_some_kept (text_of s.strings v) s le _ _ (λ a. with_some_kept (text_of s.strings w) s le _ _ (λ b. with_result_kept (join a b) s le _ _ (λ u. h _ _ le)))
+      with_some_kept (text_of s.strings v) s le _ _ (λ a. with_some_kept (text_of s.strings w) s le _ _ (λ b. with_result_kept (join a b) s le _ _
+      (λ u. h _ _ le)))
 
   compute_kept : (joins : Bool) (a b : Option ℤ) (v w : Value) (o : Op) (s : State) (k k' : ToValue) → Ok s.met → AlikeV k k'
       → R (compute joins a b v w o s k) (compute joins a b v w o s k')
@@ -233,7 +246,7 @@ module _ (L : Lang) (Ok : List Met → Type 0) (kept : IsKept L Ok) where
       → R (write_local L x v f s k) (write_local M x v f s k')
   write_local_kept x v f s k k' le h =
       with_some_kept (slice_get f.env.locals x) s le _ _ (λ t. with_some_kept (slice_get f.locals x) s le _ _
-      (λ old. look_kept _ _ s _ _ le (λ s1 l1. h _ _ s1 l1)))
+      (λ old. look_kept _ _ s _ _ tt le (λ s1 l1. h _ _ s1 l1)))
 
   after_one_kept : (w : Flow) (f : Frame) (s : State) (g g' : Frame → State → Outcome) (k k' : ToFlow) → Ok s.met → R (g f s) (g' f s)
       → AlikeF k k' → R (after_one w f s g k) (after_one w f s g' k')
@@ -265,8 +278,8 @@ module _ (L : Lang) (Ok : List Met → Type 0) (kept : IsKept L Ok) where
     call_object_kept g e d x a o vs s k k' le h =
         with_some_kept (own_class o.kind) s le _ _
         (λ t. step_kept s _ _ le (λ s1 l1. with_some_kept (L.slot g e x) s1 l1 _ _ (λ j. with_some_kept (L.body t j) s1 l1 _ _ (λ y.
-        look_kept _ _ s1 _ _ l1 (λ s2 l2. look_kept _ _ s2 _ _ l2 (λ s3 l3.
-        enter_kept y (Object a) vs s3 _ _ l3 (λ u s4 l4. look_kept (held g.body d) u s4 _ _ l4 (λ s5 l5. h u s5 l5))))))))
+        look_kept _ _ s1 _ _ tt l1 (λ s2 l2. look_kept _ _ s2 _ _ tt l2 (λ s3 l3.
+        enter_kept y (Object a) vs s3 _ _ l3 (λ u s4 l4. look_kept (held g.body d) u s4 _ _ tt l4 (λ s5 l5. h u s5 l5))))))))
 
     call_kept : (g : Env) (e d : Ex) (x : List ℕ) (v : Value) (vs : List Value) (s : State) (k k' : ToValue)
         → Ok s.met → AlikeV k k'
@@ -284,14 +297,14 @@ module _ (L : Lang) (Ok : List Met → Type 0) (kept : IsKept L Ok) where
         → AlikeV k k' → R (call_static L b g d x vs s k) (call_static M c g d x vs s k')
     call_static_kept g d x vs s k k' le h =
         step_kept s _ _ le (λ s1 l1. with_some_kept (L.static_body x) s1 l1 _ _ (λ y.
-        enter_kept y Nothing vs s1 _ _ l1 (λ u s4 l4. look_kept (held g.body d) u s4 _ _ l4 (λ s5 l5. h u s5 l5))))
+        enter_kept y Nothing vs s1 _ _ l1 (λ u s4 l4. look_kept (held g.body d) u s4 _ _ tt l4 (λ s5 l5. h u s5 l5))))
 
     call_super_kept : (g : Env) (d : Ex) (x : List ℕ) (v : Value) (vs : List Value) (s : State) (k k' : ToValue)
         → Ok s.met → AlikeV k k'
         → R (call_super L b g d x v vs s k) (call_super M c g d x v vs s k')
     call_super_kept g d x v vs s k k' le h =
-        step_kept s _ _ le (λ s1 l1. with_some_kept (L.super_body g.self x) s1 l1 _ _ (λ y. look_kept _ _ s1 _ _ l1 (λ s2 l2.
-        enter_kept y v vs s2 _ _ l2 (λ u s4 l4. look_kept (held g.body d) u s4 _ _ l4 (λ s5 l5. h u s5 l5)))))
+        step_kept s _ _ le (λ s1 l1. with_some_kept (L.super_body g.self x) s1 l1 _ _ (λ y. look_kept _ _ s1 _ _ tt l1 (λ s2 l2.
+        enter_kept y v vs s2 _ _ l2 (λ u s4 l4. look_kept (held g.body d) u s4 _ _ tt l4 (λ s5 l5. h u s5 l5)))))
 
     mutual
       pub value_kept : (e : Ex) (f : Frame) (s : State) (k k' : ToValue) → Ok s.met → AlikeV k k'
@@ -322,9 +335,9 @@ module _ (L : Lang) (Ok : List Met → Type 0) (kept : IsKept L Ok) where
       value_kept (create_array t n u e) f s k k' le h =
           value_kept e f s _ _ le (λ v s1 l1. with_some_kept (number_of v) s1 l1 _ _ (λ size. make_array_kept f.env (create_array t n u e) n u
           size s1 k k' l1 h))
-      value_kept (cast t n u e) f s k k' le h = value_kept e f s _ _ le (λ v s1 l1. cast_kept f.env.body (cast t n u e) u v s1 k k' l1 h)
+      value_kept (cast t n u e) f s k k' le h = value_kept e f s _ _ le (λ v s1 l1. cast_kept f.env.body t n u e v s1 k k' l1 h)
       value_kept (instance_of t n e x) f s k k' le h =
-          value_kept e f s _ _ le (λ v s1 l1. test_class_kept f.env.body (instance_of t n e x) x v s1 k k' l1 h)
+          value_kept e f s _ _ le (λ v s1 l1. test_class_kept f.env.body t n e x v s1 k k' l1 h)
       value_kept (unary t o e) f s k k' le h = value_kept e f s _ _ le (λ v s1 l1. with_some_kept (unary_value o v) s1 l1 _ _ (λ u. h u s1 l1))
       value_kept (binary t o e d) f s k k' le h =
           value_kept e f s _ _ le (λ v s1 l1. after_left_kept o v s1 _ _ k k' l1
@@ -354,7 +367,7 @@ module _ (L : Lang) (Ok : List Met → Type 0) (kept : IsKept L Ok) where
         → R (run_return L b e f s k) (run_return M c e f s k')
     return_kept None f s k k' le h = h _ f s le
     return_kept (Some e) f s k k' le h =
-        value_kept e f s _ _ le (λ v s1 l1. with_some_kept f.env.result s1 l1 _ _ (λ t. look_kept _ _ s1 _ _ l1 (λ s2 l2. h _ f s2 l2)))
+        value_kept e f s _ _ le (λ v s1 l1. with_some_kept f.env.result s1 l1 _ _ (λ t. look_kept _ _ s1 _ _ tt l1 (λ s2 l2. h _ f s2 l2)))
 
     assign_kept : (t : Target) (d : Ex) (f : Frame) (s : State) (k k' : ToFlow) → Ok s.met → AlikeF k k'
         → R (run_assign L b t d f s k) (run_assign M c t d f s k')

@@ -4,3 +4,9 @@ pub mod Tested
 pub mod Touched
 pub mod Sure
 mod Examples
+pub mod FactSpots
+pub mod Shapes
+pub mod Families
+pub mod Shaped
+pub mod Meeting
+pub mod OwnSpots

@@ -1,6 +1,6 @@
 -- What the record of a run tells: each object that is looked at has a place in the typed sets of its spot.
 use Rattle.std.proofs.Common.{◌≡◌, ℕ, List, [], ◌∷◌, Option, Some, None, refl, sym, ap, subst, ⊎_elim, arith}
-use Rattle.std.specs.Prelude.{true, false, Contains, slice_get}
+use Rattle.std.specs.Prelude.{◌≢◌, true, false, Contains, slice_get}
 use Rattle.std.specs.Option.{option_map, option_map_or, option_and_then}
 use Rattle.std.proofs.lemmas.Bool.{false≢true}
 use Rattle.std.proofs.lemmas.List.Elements.{Contains-append_cases}
@@ -9,51 +9,45 @@ use Rattle.java_core.specs.Programs.{Plain, PlainMethod}
 use Rattle.java_core.specs.Classes.{slot_of, lookup, super_method}
 use Rattle.java_core.specs.Types.{class_of, field_in}
 use Rattle.java_core.proofs.Retagging.{static_same}
-use Rattle.java_core.specs.Typing.{IsTyped}
-use Rattle.java_core.specs.Formed.{IsFormed}
-use Rattle.java_meaning.specs.Moment.{Value, Object, Cell, Spot, Met, Body}
+use Rattle.java_meaning.specs.Moment.{Value, Object, Cell, Spot, Met, Escaped, Body}
 use Rattle.java_meaning.specs.Meaning.{run_in}
 use Rattle.java_meaning.specs.Languages.{body_with, body_of, language_of}
 use Rattle.java_meaning.specs.Watched.{RetaggedBody, s_no_body, s_body, IsUnwatched, watched_with}
 use Rattle.java_meaning.proofs.Plain.{run_same}
 use Rattle.fact_model.specs.declared.facts.Facts.{Facts}
 use Rattle.flow_rules.specs.Labels.{label_sts}
-use Rattle.flow_rules.specs.Facts.{IsFactsOf}
 use Rattle.flow_laws.proofs.cover.Labelled.{sts_same}
 use Rattle.flow_rules.proofs.Listed.{one_from}
-use Rattle.flow_laws.specs.cover.Covers.{Sets, IsClosed}
+use Rattle.flow_laws.specs.cover.Families.{Family}
+use Rattle.flow_laws.specs.cover.Covers.{Sets}
 use Rattle.flow_laws.specs.cover.Covers.{labelled_body as watched_body, is_seen}
-use Rattle.flow_laws.specs.cover.Slotted.{HaveSlots}
-use Rattle.flow_laws.proofs.cover.Included.{family}
-use Rattle.flow_laws.proofs.cover.Escapes.{closely, kinded_closely}
-use Rattle.flow_laws.proofs.cover.Covered.{all_kinded}
+use Rattle.flow_laws.proofs.cover.Escapes.{seen_by}
 use Rattle.sure_laws.specs.Laws.{IsRunRecorded}
 use Rattle.sure_laws.specs.Events.{site_of, recording, labelled_body, recorded}
-use Rattle.sure_laws.proofs.Kept.{IsKept, run_keeps}
+use Rattle.sure_laws.proofs.Kept.{Reached, IsKept, run_keeps}
 
-module _ (P : Plain) (F : Facts) (S : Sets) where
-  -- an object that is looked at is in the set of its spot
+module _ (P : Plain) (F : Facts) (S : Sets) (V : Family) where
+  -- an object that is looked at is in the set that the family has for its spot
   abbrev pub IsIn : Value → Spot → Option ℕ → Type 0
-  IsIn (Object a) p o = (family P F S).spot p o ≡ true
+  IsIn (Object a) p o = (V.spot p o ≡ true) × Reached p
   IsIn v p o = Unit {0}
 
   abbrev pub AreIn : List Met → Type 0
   AreIn m = (x : Met) → Contains m x → IsIn x.value x.spot x.site
 
-  seen_in : (p : Spot) (v : Value) (h : List Cell) → is_seen P F S ((family P F S).spot p) v h ≡ true → IsIn v p (site_of h v)
-  seen_in p (Object a) h e = go (slice_get h a) e
+  seen_in : (p : Spot) (v : Value) (h : List Cell) → is_seen P F S (V.spot p) v h ≡ true → Reached p → IsIn v p (site_of h v)
+  seen_in p (Object a) h e r = (go (slice_get h a) e, r)
     where
-      go : (z : Option Cell) → option_map_or (λ c. (family P F S).spot p c.site) z false ≡ true
-          → (family P F S).spot p (option_and_then (λ (c : Cell). c.site) z) ≡ true
+      go : (z : Option Cell) → option_map_or (λ c. V.spot p c.site) z false ≡ true → V.spot p (option_and_then (λ (c : Cell). c.site) z) ≡ true
       go None e = absurd (false≢true e)
       go (Some c) e = e
-  seen_in p v h e = tt
+  seen_in p v h e r = tt
 
-  keeps : IsKept (watched_with P (watched_body P F S) (closely P F S recording.note)) AreIn
+  keeps : IsKept (watched_with P (watched_body P F S) (seen_by P F S V recording.note)) AreIn
   keeps = record {
     none = λ x c. absurd (omega (arith, c.1));
-    note = λ p v h m e k x c. ⊎_elim (k x)
-        (λ d. subst (λ (z : Met). IsIn z.value z.spot z.site) (one_from _ x d) (seen_in p v h e))
+    note = λ p v h m e r k x c. ⊎_elim (k x)
+        (λ d. subst (λ (z : Met). IsIn z.value z.spot z.site) (one_from _ x d) (seen_in p v h e r))
         (Contains-append_cases m (record { spot = p; value = v; site = site_of h v } ∷ []) x c);
     note_all = λ b vs h m e k. k;
   }
@@ -62,13 +56,14 @@ module _ (P : Plain) (F : Facts) (S : Sets) where
   unfolding watched_body labelled_body
   same_bodies = refl
 
-  -- each object that the run looks at is in the set of its spot
-  pub recorded_in : IsFormed P → IsTyped P → HaveSlots P → IsFactsOf P F → IsClosed F S → (words : List (List ℕ)) (n : ℕ) → AreIn (recorded P words n).met
+  -- each object that the run looks at is in the set of its spot, where no run under the watch of the family escapes
+  pub recorded_in : ((words : List (List ℕ)) (n : ℕ)
+      → (run_in (watched_with P (watched_body P F S) (seen_by P F S V recording.note)) P.main words n).end ≢ Escaped)
+      → (words : List (List ℕ)) (n : ℕ) → AreIn (recorded P words n).met
   unfolding recorded
-  recorded_in formed typed slots facts closed words n =
+  recorded_in never words n =
       subst (λ (b : ℕ → Option Body). AreIn (run_in (watched_with P b recording) P.main words n).met) same_bodies
-      (run_keeps (watched_with P (watched_body P F S) (closely P F S recording.note)) AreIn keeps P.main words n
-      (kinded_closely P F facts (all_kinded P F formed typed slots facts) S closed recording.note words n))
+      (run_keeps (watched_with P (watched_body P F S) (seen_by P F S V recording.note)) AreIn keeps P.main words n (never words n))
 
 found_retagged : (P : Plain) (m : ℕ) → RetaggedBody (labelled_body P m) (body_of P m)
 unfolding labelled_body

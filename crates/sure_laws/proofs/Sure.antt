@@ -1,11 +1,11 @@
 -- What the run of a typed program meets is as the report on its facts and their points-to sets says.
 use Rattle.std.proofs.Common.{◌≡◌, ℕ, [], Option, Some, None, length, refl, sym, ap, ◌∙◌, subst, arith}
-use Rattle.std.specs.Prelude.{◌<◌, ◌==◌, Bool, true, false, Contains, slice_get, position}
+use Rattle.std.specs.Prelude.{◌<◌, ◌==◌, ◌||◌, Bool, true, false, Contains, slice_get, position}
 use Rattle.std.specs.Option.{option_map_or, is_some}
 use Rattle.std.proofs.lemmas.Bool.{false≢true, eqb-true, eq-eqb, and_parts, and_from}
 use Rattle.std.proofs.lemmas.List.Elements.{All-contains, All-filter, filter_passes}
 use Rattle.kaba_bits.specs.Sets.{bit, row}
-use Rattle.java_core.specs.Trees.{Ex, cast}
+use Rattle.java_core.specs.Trees.{Ex, call, cast}
 use Rattle.java_core.specs.Programs.{Plain, PlainMethod}
 use Rattle.java_core.specs.Classes.{below}
 use Rattle.java_core.specs.Types.{class_type, is_subtype}
@@ -36,7 +36,8 @@ use Rattle.flow_rules.specs.Facts.{PlainBody, numbers, body_seen, body_if, colum
 use Rattle.flow_rules.proofs.Listed.{one, one_from, flat_from, contains_at, below_at, index_at, map_has, map_from, each_has}
 use Rattle.flow_rules.proofs.NumberedItems.{numbered_columns}
 use Rattle.flow_laws.specs.cover.Covers.{solved, passes, operand_at, at_point, point_sites}
-use Rattle.flow_laws.specs.cover.Slotted.{HaveSlots}
+use Rattle.flow_laws.specs.cover.Families.{Family}
+use Rattle.java_meaning.specs.Meaning.{is_number_type}
 use Rattle.flow_laws.proofs.cover.Included.{site_as, accesses_as, accessed_as, same_number, tests_as, finds_as, strictly, typed_sites, family}
 use Rattle.flow_laws.proofs.cover.Solved.{solved_closed}
 use Rattle.flow_laws.proofs.order.Classes.{below_subclass}
@@ -49,15 +50,17 @@ use Rattle.sure_report.specs.declared.Bodies.{Bodies}
 use Rattle.sure_report.specs.declared.Bodies.TheVariants.{Zero, One, Many}
 use Rattle.sure_report.specs.declared.Sure.{Sure}
 use Rattle.sure_report.specs.Report.{is_cast, cast_spots, test_at, IsNumberOf, AreSpotsInRange, MayRun, MayRunThese, IsUnreached, IsSureReport}
-use Rattle.sure_laws.specs.Events.{Event, cast_met, body_ran, body_entered, field_touched, spot_events, met_events, test_events, recorded, events}
-use Rattle.sure_laws.specs.Laws.{cast_of, call_of, Allows, IsAsSaid, IsTrueOfRuns, ReportsAreTrue}
-use Rattle.sure_laws.proofs.Recorded.{IsIn, recorded_in}
+use Rattle.sure_laws.specs.Events.{Event, body_ran, body_entered, field_touched, spot_events, met_events, test_events, recorded, events}
+use Rattle.sure_laws.specs.Laws.{IsInSet, cast_of, call_of, Allows, PassesWhereSure, RunsWhatIsSaid, IsAsSaid, IsTrueOfRuns, ReportsAreTrue}
+use Rattle.sure_laws.proofs.Kept.{Reached}
+use Rattle.sure_laws.proofs.Recorded.{IsIn}
+use Rattle.sure_laws.proofs.FactSpots.{spots_in_range}
+use Rattle.sure_laws.proofs.Shapes.{some_of}
+use Rattle.sure_laws.proofs.Families.{sited, cast_there, call_there, shapes}
+use Rattle.sure_laws.proofs.Meeting.{shapes_in, typed_in, tested_sited, met_in}
+use Rattle.sure_laws.proofs.OwnSpots.{own_cast, own_call}
 use Rattle.sure_laws.proofs.Touched.{is_accessed_at}
 use Rattle.sure_laws.proofs.Tested.{tested_flat}
-
-have_slots : (P : Plain) → IsFormed P → HaveSlots P
-unfolding HaveSlots
-have_slots P formed m k e s = (formed.methods m k e).slotted s
 
 bools_are : (a b : Bool) → same_bool a b ≡ true → b ≡ true → a ≡ true
 bools_are true b h e = refl
@@ -68,8 +71,18 @@ in_range : (F : Facts) (k : SpotKind) (n : ℕ) → IsNumberOf F k n → is_cast
 in_range F spot.Cast n h e = h
 in_range F spot.Call n h e = absurd (false≢true e)
 
-module _ (P : Plain) (F : Facts) (t : PointsTo) (r : Sure) (formed : IsFormed P) (typed : IsTyped P) (facts : IsFactsOf P F) (spots : AreSpotsInRange F)
+module _ (P : Plain) (F : Facts) (t : PointsTo) (r : Sure) (formed : IsFormed P) (typed : IsTyped P) (facts : IsFactsOf P F)
     (sets : AreSets F t) (sure : IsSureReport F t r) where
+  abbrev spots : AreSpotsInRange F
+  spots = spots_in_range P F facts
+
+  -- the two families
+  abbrev V : Family
+  V = family P F (solved t)
+
+  abbrev W : Family
+  W = shapes P F
+
   -- a site at a point that has a number
   at_number : (o : Option ℕ) (q s : ℕ) → o ≡ Some q → at_point P F (solved t) o s ≡ true → bit (row t.points.items q) s ≡ true
   at_number o q s e h = subst (λ z. at_point P F (solved t) z s ≡ true) e h
@@ -99,14 +112,15 @@ module _ (P : Plain) (F : Facts) (t : PointsTo) (r : Sure) (formed : IsFormed P)
       subst (λ z. Contains F.tests.items z) (sym (index_at F.tests.items x.at _ y.0 y.1)) (contains_at F.tests.items x.at y.0 y.1)
 
   -- a cast that is sure passes
-  cast_true : (m : ℕ) (d : Ex) (o : Option ℕ) (b : Bool) → (family P F (solved t)).spot (tested m d b) o ≡ true → IsAsSaid P F r (cast_met m d o b)
-  cast_true m d o b h i x s ex er (cast_of {u = u} {e = e} from class) es =
-      let z = and_parts (point_sites P F (solved t) (operand_at P m e) s) (tests_as P F (solved t) d b s)
-      (subst (λ y. passes (typed_sites P F (solved t) (tested m d b)) y ≡ true) es h) in
-      let in_set = at_number (point_at (numbers P) (operand_at P m e)) (test_at F x.at).from s from z.0 in
-      let flat = tested_flat P formed typed F facts (test_at F x.at) (tests_listed i x ex) s ((sets.points (test_at F x.at).from s).0 in_set) in
-      bools_are b (is_subtype P (site_as P F (solved t) s) u) z.1
-      (ap (λ y. is_subtype P (site_as P F (solved t) s) y) class ∙ passes_test (test_at F x.at) s flat ((sure.casts.each i x true ex er).0 refl s in_set))
+  cast_true : (m : ℕ) (d : Ex) (o : Option ℕ) (b : Bool) → V.spot (tested m d b) o ≡ true → sited P o ≡ true → PassesWhereSure P F r m d b
+  cast_true m d o b h si i x ex er (cast_of {u = u} {e = e} from class) =
+      let s = some_of (site_in (numbers P) o) si in
+      let z = and_parts (point_sites P F (solved t) (operand_at P m e) s.0) (tests_as P F (solved t) d b s.0)
+      (subst (λ y. passes (typed_sites P F (solved t) (tested m d b)) y ≡ true) s.1 h) in
+      let in_set = at_number (point_at (numbers P) (operand_at P m e)) (test_at F x.at).from s.0 from z.0 in
+      let flat = tested_flat P formed typed F facts (test_at F x.at) (tests_listed i x ex) s.0 ((sets.points (test_at F x.at).from s.0).0 in_set) in
+      bools_are b (is_subtype P (site_as P F (solved t) s.0) u) z.1
+      (ap (λ y. is_subtype P (site_as P F (solved t) s.0) y) class ∙ passes_test (test_at F x.at) s.0 flat ((sure.casts.each i x true ex er).0 refl s.0 in_set))
 
   allowed : (k : CallInfo) (v : Bodies) (c n : ℕ) → MayRunThese F t k v → MayRun F t k n → (numbers P).column (column.Def c) ≡ Some n → Allows P v c
   allowed k Zero c n h w e = h n w
@@ -114,12 +128,13 @@ module _ (P : Plain) (F : Facts) (t : PointsTo) (r : Sure) (formed : IsFormed P)
   allowed k Many c n h w e = tt
 
   -- a call runs a body that the report allows
-  call_true : (m : ℕ) (d : Ex) (c : ℕ) (o : Option ℕ) → (family P F (solved t)).spot (ran m d c) o ≡ true → IsAsSaid P F r (body_ran m d c)
+  call_true : (m : ℕ) (d : Ex) (c : ℕ) (o : Option ℕ) → V.spot (ran m d c) o ≡ true → RunsWhatIsSaid P F r m d c
   call_true m d c o h i x k v ex ek ev (call_of {e = e} {y = y} {es = es} from slot) =
       let s = site_there (typed_sites P F (solved t) (ran m d c)) (site_in (numbers P) o) h in
       let z = and_parts (point_sites P F (solved t) (operand_at P m e) s.0) (finds_as P F (solved t) m d c s.0) s.2 in
       let f = both_there (finds F (site_class F s.0) k.slot) ((numbers P).column (column.Def c))
-      (subst (λ y. option_map_or (λ j. same_number P F (solved t) (finds F (site_class F s.0) j) ((numbers P).column (column.Def c))) y true ≡ true) slot z.1) in
+      (subst (λ y. option_map_or (λ j. same_number P F (solved t) (finds F (site_class F s.0) j) ((numbers P).column (column.Def c))) y true
+      ≡ true) slot z.1) in
       allowed k v c f.0 (sure.calls.each i x v ex ev k ek)
       (record { site = s.0; there = at_number (point_at (numbers P) (operand_at P m e)) k.receiver s.0 from z.0; found = f.1 }) f.2
 
@@ -182,31 +197,48 @@ module _ (P : Plain) (F : Facts) (t : PointsTo) (r : Sure) (formed : IsFormed P)
       method_of None g h = absurd (false≢true h)
       method_of (Some k) g h = (k, g, h)
 
-  -- what is looked at is met as the report says
-  test_true : (m : ℕ) (d : Ex) (o : Option ℕ) (b : Bool) (e : Event) → (family P F (solved t)).spot (tested m d b) o ≡ true → Contains (test_events m d o b) e
+  -- what is looked at is met as the report says: a cast and a call have their spots
+  own_point : (m : ℕ) (e : Ex) (o : Option ℕ) → IsInSet P F (solved t) (point_sites P F (solved t) (operand_at P m e)) o
+      → (q : ℕ) × (point_at (numbers P) (operand_at P m e) ≡ Some q)
+  own_point m e o i = let q = at_is P F (solved t) (point_at (numbers P) (operand_at P m e)) i.site i.there in (q.number, q.there)
+
+  test_true : (m : ℕ) (d : Ex) (o : Option ℕ) (b : Bool) (e : Event) → V.spot (tested m d b) o ≡ true → W.spot (tested m d b) o ≡ true
+      → Reached (tested m d b) → Contains (test_events m d b) e → IsAsSaid P F r e
+  test_true m (cast w n u x) o b e h g k c = subst (λ z. IsAsSaid P F r z) (one_from _ e c) (
+    (let q = own_point m x o (met_in P F (solved t) (tested m (cast w n u x) b) o h g k) in
+        own_cast P F m w n u x q.0 k (and_parts (sited P o || is_number_type u.base u.dim) (cast_there P F m (cast w n u x)) g).1 q.1),
+    cast_true m (cast w n u x) o b h (tested_sited P F (solved t) m (cast w n u x) b o k g),
+  )
+  test_true m d o b e h g k c = absurd (omega (arith, c.1))
+
+  run_true : (m : ℕ) (d : Ex) (x : ℕ) (o : Option ℕ) → V.spot (ran m d x) o ≡ true → call_there P F m d ≡ true → IsAsSaid P F r (body_ran m d x)
+  run_true m (call w e y es) x o h g = (
+    (let q = own_point m e o (met_in P F (solved t) (ran m (call w e y es) x) o h g tt) in own_call P F m w e y es q.0 g q.1),
+    call_true m (call w e y es) x o h,
+  )
+  run_true m d x o h g = absurd (false≢true g)
+
+  spot_true : (p : Spot) (o : Option ℕ) (e : Event) → V.spot p o ≡ true → W.spot p o ≡ true → Reached p → Contains (spot_events p) e → IsAsSaid P F r e
+  spot_true (tested m d b) o e h g k c = test_true m d o b e h g k c
+  spot_true (ran m d x) o e h g k c = subst (λ z. IsAsSaid P F r z) (one_from _ e c) (run_true m d x o h g)
+  spot_true (self_of x) o e h g k c = subst (λ z. IsAsSaid P F r z) (one_from _ e c) (body_true x o h)
+  spot_true (touched m x f) o e h g k c = subst (λ z. IsAsSaid P F r z) (one_from _ e c) (field_true m x f o h)
+  spot_true p o e h g k c = absurd (omega (arith, c.1))
+
+  met_true : (v : Value) (p : Spot) (o : Option ℕ) (e : Event) → IsIn P F (solved t) V v p o → IsIn P F (solved t) W v p o → Contains (met_events v p) e
       → IsAsSaid P F r e
-  test_true m (cast w n u x) o b e h c = subst (λ z. IsAsSaid P F r z) (one_from _ e c) (cast_true m (cast w n u x) o b h)
-  test_true m d o b e h c = absurd (omega (arith, c.1))
-
-  spot_true : (p : Spot) (o : Option ℕ) (e : Event) → (family P F (solved t)).spot p o ≡ true → Contains (spot_events p o) e → IsAsSaid P F r e
-  spot_true (tested m d b) o e h c = test_true m d o b e h c
-  spot_true (ran m d x) o e h c = subst (λ z. IsAsSaid P F r z) (one_from _ e c) (call_true m d x o h)
-  spot_true (self_of x) o e h c = subst (λ z. IsAsSaid P F r z) (one_from _ e c) (body_true x o h)
-  spot_true (touched m x f) o e h c = subst (λ z. IsAsSaid P F r z) (one_from _ e c) (field_true m x f o h)
-  spot_true p o e h c = absurd (omega (arith, c.1))
-
-  met_true : (v : Value) (p : Spot) (o : Option ℕ) (e : Event) → IsIn P F (solved t) v p o → Contains (met_events v p o) e → IsAsSaid P F r e
-  met_true (Object a) p o e h c = spot_true p o e h c
-  met_true v p o e h c = absurd (omega (arith, c.1))
+  met_true (Object a) p o e h g c = spot_true p o e h.0 g.0 h.1 c
+  met_true v p o e h g c = absurd (omega (arith, c.1))
 
   true_of_runs : IsTrueOfRuns P F r
   unfolding IsTrueOfRuns events
   true_of_runs words n e c =
-      let x = flat_from (λ (x : Met). met_events x.value x.spot x.site) (recorded P words n).met e c in
-      met_true x.0.value x.0.spot x.0.site e
-      (recorded_in P F (solved t) formed typed (have_slots P formed) facts (solved_closed F t sets) words n x.0 x.1) x.2
+      let x = flat_from (λ (x : Met). met_events x.value x.spot) (recorded P words n).met e c in
+      let closed = solved_closed F t sets in
+      met_true x.0.value x.0.spot x.0.site e (typed_in P F (solved t) formed typed facts closed words n x.0 x.1)
+      (shapes_in P F (solved t) formed typed facts closed words n x.0 x.1) x.2
 
 -- the theorem: for all words and every bound
 pub reports_true : ReportsAreTrue
 unfolding ReportsAreTrue
-reports_true P F t r formed typed facts spots sets sure = true_of_runs P F t r formed typed facts spots sets sure
+reports_true P F t r formed typed facts sets sure = true_of_runs P F t r formed typed facts sets sure

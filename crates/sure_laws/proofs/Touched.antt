@@ -68,7 +68,8 @@ module _ (P : Plain) (formed : IsFormed P) (typed : IsTyped P) (F : Facts) (fact
       same a (a_result n j d s r) i = absurd (let w = sym s ∙ i in cc)
       same a (a_form n j q d c g) i = absurd (form_item n j q d c g i)
         where
-          form_item : (n : ℕ) (j : PlainMethod) (q : Part) → slice_get P.methods n ≡ Some j → Contains (parts_of P n j) q → IsGiven a q → a.item ≡ point.This m → ⊥
+          form_item : (n : ℕ) (j : PlainMethod) (q : Part) → slice_get P.methods n ≡ Some j → Contains (parts_of P n j) q → IsGiven a q
+              → a.item ≡ point.This m → ⊥
           form_item n j q d c g i =
               let y = subst (λ z. HasLabel n z) g.given (part_labelled P formed typed q (record { number = n; method = j; stands = d; part = c })) in
               let w = sym y.1 ∙ g.point_is ∙ ap (λ z. Some z) i in cc
@@ -88,7 +89,8 @@ module _ (P : Plain) (formed : IsFormed P) (typed : IsTyped P) (F : Facts) (fact
       same a (a_result n j d s r) i = absurd (let w = sym s ∙ i in cc)
       same a (a_form n j q d c g) i = absurd (form_item n j q d c g i)
         where
-          form_item : (n : ℕ) (j : PlainMethod) (q : Part) → slice_get P.methods n ≡ Some j → Contains (parts_of P n j) q → IsGiven a q → a.item ≡ point.Local m x → ⊥
+          form_item : (n : ℕ) (j : PlainMethod) (q : Part) → slice_get P.methods n ≡ Some j → Contains (parts_of P n j) q → IsGiven a q
+              → a.item ≡ point.Local m x → ⊥
           form_item n j q d c g i =
               let y = subst (λ z. HasLabel n z) g.given (part_labelled P formed typed q (record { number = n; method = j; stands = d; part = c })) in
               let w = sym y.1 ∙ g.point_is ∙ ap (λ z. Some z) i in cc
@@ -103,7 +105,8 @@ module _ (P : Plain) (formed : IsFormed P) (typed : IsTyped P) (F : Facts) (fact
       same a (a_result n j d s r) i = absurd (let w = sym s ∙ i in cc)
       same a (a_form n j q d c g) i = absurd (form_item n j q d c g i)
         where
-          form_item : (n : ℕ) (j : PlainMethod) (q : Part) → slice_get P.methods n ≡ Some j → Contains (parts_of P n j) q → IsGiven a q → a.item ≡ point.Static f → ⊥
+          form_item : (n : ℕ) (j : PlainMethod) (q : Part) → slice_get P.methods n ≡ Some j → Contains (parts_of P n j) q → IsGiven a q
+              → a.item ≡ point.Static f → ⊥
           form_item n j q d c g i =
               let y = subst (λ z. HasLabel n z) g.given (part_labelled P formed typed q (record { number = n; method = j; stands = d; part = c })) in
               let w = sym y.1 ∙ g.point_is ∙ ap (λ z. Some z) i in cc
@@ -204,11 +207,13 @@ module _ (P : Plain) (formed : IsFormed P) (typed : IsTyped P) (F : Facts) (fact
     access_at e f q d (a_load w b (Some g) o) c h eq ed =
         let z = and_parts (g == f) (same_number P F S (point_at (numbers P) b) (point_at (numbers P) (operand_at P m e))) h in
         listed_access (a_load w b (Some g) o) b g q d c refl (base_row (a_load w b (Some g) o) b c refl)
-        (points_are (point_at (numbers P) b) (point_at (numbers P) (operand_at P m e)) q z.1 eq) (ap (λ y. (numbers P).column (column.Fld y)) (eqb-true g f z.0) ∙ ed)
+        (points_are (point_at (numbers P) b) (point_at (numbers P) (operand_at P m e)) q z.1 eq) (ap (λ y. (numbers P).column (column.Fld y))
+        (eqb-true g f z.0) ∙ ed)
     access_at e f q d (a_store w b (Some g) o) c h eq ed =
         let z = and_parts (g == f) (same_number P F S (point_at (numbers P) b) (point_at (numbers P) (operand_at P m e))) h in
         listed_access (a_store w b (Some g) o) b g q d c refl (base_row (a_store w b (Some g) o) b c refl)
-        (points_are (point_at (numbers P) b) (point_at (numbers P) (operand_at P m e)) q z.1 eq) (ap (λ y. (numbers P).column (column.Fld y)) (eqb-true g f z.0) ∙ ed)
+        (points_are (point_at (numbers P) b) (point_at (numbers P) (operand_at P m e)) q z.1 eq) (ap (λ y. (numbers P).column (column.Fld y))
+        (eqb-true g f z.0) ∙ ed)
     access_at e f q d (a_load w b None o) c h eq ed = absurd (false≢true h)
     access_at e f q d (a_store w b None o) c h eq ed = absurd (false≢true h)
     access_at e f q d p c h eq ed = absurd (false≢true h)

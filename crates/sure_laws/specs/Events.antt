@@ -14,8 +14,8 @@ use Rattle.flow_rules.specs.Labels.{label_sts}
 -- what a run meets. Bodies are named by the numbers of their methods; a cast and a call by the body that they stand in
 -- and by their form there, which carries its place
 pub data Event : Type 0 where
-  -- a cast of an object or array that this creation made, and whether it passes
-  cast_met : ℕ → Ex → Option ℕ → Bool → Event
+  -- a cast of an object, and whether it passes
+  cast_met : ℕ → Ex → Bool → Event
   -- a call through a receiver, and the body that it runs
   body_ran : ℕ → Ex → ℕ → Event
   -- a body of an instance method that is entered
@@ -24,49 +24,49 @@ pub data Event : Type 0 where
   field_touched : ℕ → Event
 
 -- a test is met as a cast; an `instanceof` is none
-abbrev pub test_events : ℕ → Ex → Option ℕ → Bool → List Event
-test_events m (cast t n u e) o b = cast_met m (cast t n u e) o b ∷ []
-test_events m (instance_of t n e c) o b = []
-test_events m (number t z) o b = []
-test_events m (character t c) o b = []
-test_events m (text t u) o b = []
-test_events m (truth t z) o b = []
-test_events m (null t) o b = []
-test_events m (this t) o b = []
-test_events m (local t i) o b = []
-test_events m (static_field t f) o b = []
-test_events m (own_field t f) o b = []
-test_events m (field t e x) o b = []
-test_events m (index t e i) o b = []
-test_events m (call t e x es) o b = []
-test_events m (static_call t d es) o b = []
-test_events m (super_call t x es) o b = []
-test_events m (create t n c es) o b = []
-test_events m (create_array t n u e) o b = []
-test_events m (unary t z e) o b = []
-test_events m (binary t z e d) o b = []
+abbrev pub test_events : ℕ → Ex → Bool → List Event
+test_events m (cast t n u e) b = cast_met m (cast t n u e) b ∷ []
+test_events m (instance_of t n e c) b = []
+test_events m (number t z) b = []
+test_events m (character t c) b = []
+test_events m (text t u) b = []
+test_events m (truth t z) b = []
+test_events m (null t) b = []
+test_events m (this t) b = []
+test_events m (local t i) b = []
+test_events m (static_field t f) b = []
+test_events m (own_field t f) b = []
+test_events m (field t e x) b = []
+test_events m (index t e i) b = []
+test_events m (call t e x es) b = []
+test_events m (static_call t d es) b = []
+test_events m (super_call t x es) b = []
+test_events m (create t n c es) b = []
+test_events m (create_array t n u e) b = []
+test_events m (unary t z e) b = []
+test_events m (binary t z e d) b = []
 
--- what is met at a spot, of the creation o
-abbrev pub spot_events : Spot → Option ℕ → List Event
-spot_events (tested m d b) o = test_events m d o b
-spot_events (ran m d c) o = body_ran m d c ∷ []
-spot_events (self_of c) o = body_entered c ∷ []
-spot_events (touched m e f) o = field_touched f ∷ []
-spot_events (held m e) o = []
-spot_events (bound m i) o = []
-spot_events (result_of m) o = []
-spot_events (set_static f) o = []
-spot_events (kept c f) o = []
-spot_events (put_in c) o = []
+-- what is met at a spot
+abbrev pub spot_events : Spot → List Event
+spot_events (tested m d b) = test_events m d b
+spot_events (ran m d c) = body_ran m d c ∷ []
+spot_events (self_of c) = body_entered c ∷ []
+spot_events (touched m e f) = field_touched f ∷ []
+spot_events (held m e) = []
+spot_events (bound m i) = []
+spot_events (result_of m) = []
+spot_events (set_static f) = []
+spot_events (kept c f) = []
+spot_events (put_in c) = []
 
 -- what is met where an object or array is looked at; nothing is met of other values, and `this` in a body is none of them
-abbrev pub met_events : Value → Spot → Option ℕ → List Event
-met_events (Object a) p o = spot_events p o
-met_events (Number n) p o = []
-met_events (Truth b) p o = []
-met_events (CodeUnit c) p o = []
-met_events Nothing p o = []
-met_events (Text a) p o = []
+abbrev pub met_events : Value → Spot → List Event
+met_events (Object a) p = spot_events p
+met_events (Number n) p = []
+met_events (Truth b) p = []
+met_events (CodeUnit c) p = []
+met_events Nothing p = []
+met_events (Text a) p = []
 
 -- the creation that made an object or array
 abbrev pub site_of : List Cell → Value → Option ℕ
@@ -96,4 +96,4 @@ recorded P words n = run_in (watched_with P (labelled_body P) recording) P.main 
 
 -- what the run of the program on the words meets, with n steps
 unfoldable pub events : Plain → List (List ℕ) → ℕ → List Event
-events P words n = flat_map (λ x. met_events x.value x.spot x.site) (recorded P words n).met
+events P words n = flat_map (λ x. met_events x.value x.spot) (recorded P words n).met

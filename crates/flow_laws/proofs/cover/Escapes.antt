@@ -5,9 +5,10 @@ use Rattle.std.specs.Option.{option_map_or, option_and_then}
 use Rattle.std.specs.List.{AllByRecursion}
 use Rattle.std.proofs.lemmas.Bool.{and_from, and_parts}
 use Rattle.java_core.specs.declared.Ty.{Ty}
-use Rattle.java_core.specs.Programs.{Plain}
+use Rattle.java_core.specs.Trees.{Sts}
+use Rattle.java_core.specs.Programs.{Plain, PlainMethod}
 use Rattle.java_core.specs.Classes.{lookup, super_method}
-use Rattle.java_core.specs.Types.{field_type, types_of}
+use Rattle.java_core.specs.Types.{field_type, types_of, env_of}
 use Rattle.java_meaning.specs.Moment.{Value, Nothing, Object, Cell, Spot, held, bound, self_of, result_of, set_static, kept, touched, tested, ran, Met, End, Escaped, Body, Lang}
 use Rattle.java_meaning.specs.Values.{default_of}
 use Rattle.java_meaning.specs.Meaning.{run_in}
@@ -23,7 +24,8 @@ use Rattle.flow_rules.specs.Types.{field_object}
 use Rattle.flow_rules.specs.Labels.{label_sts}
 use Rattle.flow_rules.specs.Lists.{point_at, site_in}
 use Rattle.flow_rules.specs.Facts.{numbers, IsFactsOf}
-use Rattle.flow_laws.specs.cover.Families.{ArePlain, IsIncluded, AreIncluded, Begins}
+use Rattle.java_meaning.specs.EachStatement.{InSts}
+use Rattle.flow_laws.specs.cover.Families.{Family, ArePlain, IsIncluded, AreIncluded, Begins, included}
 use Rattle.flow_laws.specs.cover.Watched.{Of, IsWatched}
 use Rattle.flow_laws.specs.cover.Covers.{Sets, has, IsClosed, operand_at, passes, at_point, at_cell, field_cell, held_in, point_sites, tested_by, called_on, sites_at, spot_set, is_seen, are_seen, labelled_with, labelled_body, watched, CoversEachRun}
 use Rattle.flow_laws.proofs.cover.Held.{default_plain, Stays}
@@ -86,7 +88,7 @@ module _ (P : Plain) (F : Facts) (S : Sets) where
       (value_seen (bound b i) v h (p 0 i v (omega arith) refl)) (all_seen b (suc i) vs h (λ x y w e d. p (suc x) y w (omega (arith, e)) d))
 
   -- the run that eyes watch
-  abbrev eyed : Eyes → Lang
+  abbrev pub eyed : Eyes → Lang
   eyed eyes = watched_with P (labelled_body P F S) eyes
 
   abbrev of_sets : Eyes
@@ -97,21 +99,25 @@ module _ (P : Plain) (F : Facts) (S : Sets) where
     note_all = λ b vs h m. m;
   }
 
-  -- the watch of the typed sets themselves, with a record
-  abbrev pub closely : (Spot → Value → List Cell → List Met → List Met) → Eyes
-  closely note = record {
-    sees = λ p v h. is_seen P F S ((family P F S).spot p) v h;
+  -- the watch of a family itself, with a record
+  abbrev pub seen_by : Family → (Spot → Value → List Cell → List Met → List Met) → Eyes
+  seen_by V note = record {
+    sees = λ p v h. is_seen P F S (V.spot p) v h;
     sees_all = λ b vs h. true;
     note = note;
     note_all = λ b vs h m. m;
   }
 
-  seen_closely : (p : Spot) (v : Value) (h : List Cell) → Of h v ((family P F S).spot p) → is_seen P F S ((family P F S).spot p) v h ≡ true
-  seen_closely p (Object a) h o = subst (λ z. option_map_or (λ c. (family P F S).spot p c.site) z false ≡ true) (sym o.there) o.member
-  seen_closely p v h o = refl
+  -- that of the typed sets
+  abbrev pub closely : (Spot → Value → List Cell → List Met → List Met) → Eyes
+  closely note = seen_by (family P F S) note
 
-  watches_closely : (note : Spot → Value → List Cell → List Met → List Met) → IsWatched (eyed (closely note)) (family P F S)
-  watches_closely note = record { sees = seen_closely; sees_all = λ b vs h p. refl }
+  seen_closely : (V : Family) (p : Spot) (v : Value) (h : List Cell) → Of h v (V.spot p) → is_seen P F S (V.spot p) v h ≡ true
+  seen_closely V p (Object a) h o = subst (λ z. option_map_or (λ c. V.spot p c.site) z false ≡ true) (sym o.there) o.member
+  seen_closely V p v h o = refl
+
+  watches_closely : (V : Family) (note : Spot → Value → List Cell → List Met → List Met) → IsWatched (eyed (seen_by V note)) V
+  watches_closely V note = record { sees = seen_closely V; sees_all = λ b vs h p. refl }
 
   watches : IsWatched (watched P F S) (family P F S)
   watches = record {
@@ -120,23 +126,22 @@ module _ (P : Plain) (F : Facts) (S : Sets) where
         (let z : x ≡ y = omega (arith, e) in z) (p x v d));
   }
 
-  module _ (closed : (ps : List Fact) (f : Fact) → Inclusion F ps f → AllByRecursion (λ p. has S p ≡ true) ps → has S f ≡ true)
-      (facts : IsFactsOf P F) (kinded : IsKinded P F) (eyes : Eyes) where
-    body_included : (c : ℕ) (b : Body) → labelled_body P F S c ≡ Some b → IsIncluded (eyed eyes) (MadeAs P F S) (family P F S) b
+  -- a family that the code of each body stays in
+  module _ (V : Family) (eyes : Eyes) (code : (c : ℕ) (h : PlainMethod) → slice_get P.methods c ≡ Some h → (xs : Sts) → h.body ≡ Some xs
+      → InSts (included (eyed eyes) (MadeAs P F S) V (env_of c h)) (label_sts 0 xs)) where
+    body_included : (c : ℕ) (b : Body) → labelled_body P F S c ≡ Some b → IsIncluded (eyed eyes) (MadeAs P F S) V b
     unfolding labelled_body
     body_included c b e =
         let h = then_some (labelled_with P F S c) (slice_get P.methods c) b e in
         let y = mapped_some (λ xs. body_with c h.0 (label_sts 0 xs)) h.0.body b h.2 in
-        let B : ClosedBody =
-        record { program = P; facts = F; sets = S; eyes = eyes; closed = closed; are_facts = facts; kinded = kinded; number = c; method = h.0; stands = h.1 } in
-        subst (λ z. IsIncluded (eyed eyes) (MadeAs P F S) (family P F S) z) y.2 (record {
-          code = included_code B y.0 y.1;
+        subst (λ z. IsIncluded (eyed eyes) (MadeAs P F S) V z) y.2 (record {
+          code = code c h.0 h.1 y.0 y.1;
           rest = map_plain default_of (types_of h.0.locals) default_no_object;
           ends = optional_default h.0.result;
         })
 
-    all_included : AreIncluded (eyed eyes) (MadeAs P F S) (family P F S)
-    all_included = record {
+    pub code_included : AreIncluded (eyed eyes) (MadeAs P F S) V
+    code_included = record {
       places = same_place P;
       fresh = λ c. map_plain (λ f. default_at P f) (layout P c) (λ f a e. optional_default (field_type P f) a e);
       statics = map_plain (λ f. default_of f.ty) P.fields (λ f a e. default_no_object f.ty a e);
@@ -145,8 +150,21 @@ module _ (P : Plain) (F : Facts) (S : Sets) where
       super_bodies = λ c x b e. let z = then_some (labelled_body P F S) (super_method P c x) b e in body_included z.0 b z.2;
     }
 
-begins : (P : Plain) (F : Facts) (S : Sets) (eyes : Eyes) (m : ℕ) → Begins (eyed P F S eyes) (MadeAs P F S) (family P F S) m
-begins P F S eyes m = record { made = record { sited = λ t e. absurd (cc); typed = λ s e. absurd (cc) }; words = λ b e. refl }
+  -- a body with the closed sets
+  abbrev pub closed_body : ((ps : List Fact) (f : Fact) → Inclusion F ps f → AllByRecursion (λ p. has S p ≡ true) ps → has S f ≡ true)
+      → IsFactsOf P F → IsKinded P F → Eyes → (c : ℕ) (h : PlainMethod) → slice_get P.methods c ≡ Some h → ClosedBody
+  closed_body closed facts kinded eyes c h e =
+      record { program = P; facts = F; sets = S; eyes = eyes; closed = closed; are_facts = facts; kinded = kinded; number = c; method = h; stands = e }
+
+  module _ (closed : (ps : List Fact) (f : Fact) → Inclusion F ps f → AllByRecursion (λ p. has S p ≡ true) ps → has S f ≡ true)
+      (facts : IsFactsOf P F) (kinded : IsKinded P F) (eyes : Eyes) where
+    all_included : AreIncluded (eyed eyes) (MadeAs P F S) (family P F S)
+    all_included = code_included (family P F S) eyes (λ c h e. included_code (closed_body closed facts kinded eyes c h e))
+
+-- a run begins with words that have no site
+pub begins : (P : Plain) (F : Facts) (S : Sets) (V : Family) (eyes : Eyes) (m : ℕ)
+    → ((b : Body) → labelled_body P F S m ≡ Some b → V.spot (bound b.env.body 0) None ≡ true) → Begins (eyed P F S eyes) (MadeAs P F S) V m
+begins P F S V eyes m words = record { made = record { sited = λ t e. absurd (cc); typed = λ s e. absurd (cc) }; words = words }
 
 stays_not : (e : End) → Stays e → e ≢ Escaped
 stays_not e s d = subst (λ z. Stays z) d s
@@ -155,13 +173,21 @@ pub kinded_covers : (P : Plain) (F : Facts) → IsFactsOf P F → IsKinded P F �
 unfolding CoversEachRun IsClosed
 kinded_covers P F facts kinded =
     λ S closed words n. stays_not _ (run_stays (watched P F S) (MadeAs P F S) (family P F S) (all_included P F S closed facts kinded (of_sets P F S))
-    (watches P F S) P.main (begins P F S (of_sets P F S) P.main) words n)
+    (watches P F S) P.main (begins P F S (family P F S) (of_sets P F S) P.main (λ b e. refl)) words n)
 
--- nor does one under the closer watch of the typed sets, whatever it notes
+-- nor does one under the watch of a family that all code stays in, whatever it notes
+pub family_covers : (P : Plain) (F : Facts) (S : Sets) (V : Family) (note : Spot → Value → List Cell → List Met → List Met)
+    → AreIncluded (eyed P F S (seen_by P F S V note)) (MadeAs P F S) V → ((b : Body) → labelled_body P F S P.main ≡ Some b
+    → V.spot (bound b.env.body 0) None ≡ true)
+    → (words : List (List ℕ)) (n : ℕ) → (run_in (watched_with P (labelled_body P F S) (seen_by P F S V note)) P.main words n).end ≢ Escaped
+family_covers P F S V note all begin words n =
+    stays_not _ (run_stays (eyed P F S (seen_by P F S V note)) (MadeAs P F S) V all (watches_closely P F S V note) P.main
+    (begins P F S V (seen_by P F S V note) P.main begin) words n)
+
+-- nor one under the closer watch of the typed sets
 pub kinded_closely : (P : Plain) (F : Facts) → IsFactsOf P F → IsKinded P F → (S : Sets) → IsClosed F S
     → (note : Spot → Value → List Cell → List Met → List Met) (words : List (List ℕ)) (n : ℕ)
     → (run_in (watched_with P (labelled_body P F S) (closely P F S note)) P.main words n).end ≢ Escaped
 unfolding IsClosed
 kinded_closely P F facts kinded S closed note words n =
-    stays_not _ (run_stays (eyed P F S (closely P F S note)) (MadeAs P F S) (family P F S) (all_included P F S closed facts kinded (closely P F S note))
-    (watches_closely P F S note) P.main (begins P F S (closely P F S note) P.main) words n)
+    family_covers P F S (family P F S) note (all_included P F S closed facts kinded (closely P F S note)) (λ b e. refl) words n

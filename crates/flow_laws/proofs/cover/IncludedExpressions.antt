@@ -67,13 +67,13 @@ module _ (B : ClosedBody) where
   pass_all (ex_then e es) X h = (h zero e refl, pass_all es (λ x. X (suc x)) (λ i d f. h (suc i) d f))
 
   -- a body that is found
-  record Found (c : ℕ) (b : Body) : Type 0 where
-    method : PlainMethod
-    there : slice_get P.methods c ≡ Some method
-    has_body : is_some method.body ≡ true
-    body_is : b.env.body ≡ c
+  pub record Found (c : ℕ) (b : Body) : Type 0 where
+    pub method : PlainMethod
+    pub there : slice_get P.methods c ≡ Some method
+    pub has_body : is_some method.body ≡ true
+    pub body_is : b.env.body ≡ c
 
-  found : (c : ℕ) (b : Body) → labelled_body P F S c ≡ Some b → Found c b
+  pub found : (c : ℕ) (b : Body) → labelled_body P F S c ≡ Some b → Found c b
   unfolding labelled_body
   found c b e =
       let h = then_some (labelled_with P F S c) (slice_get P.methods c) b e in

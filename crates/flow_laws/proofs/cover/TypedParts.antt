@@ -90,7 +90,7 @@ module _ (B : TypedBody) where
   unfolding field_in
   field_class s x f e = let z = then_some (λ c. member_field P c x) (class_of s) f e in (z.0, z.1)
 
-  access_of : (s : Static) (x : List ℕ) (f : ℕ) → field_in P s x ≡ Some f → access_type P s x ≡ field_type P f
+  pub access_of : (s : Static) (x : List ℕ) (f : ℕ) → field_in P s x ≡ Some f → access_type P s x ≡ field_type P f
   unfolding access_type
   access_of s x f e =
       let c = field_class s x f e in

@@ -2,7 +2,8 @@ use Rattle.std.proofs.Common.{subst}
 use Rattle.java_core.specs.Programs.{program_of}
 use Rattle.flow_rules.specs.Facts.{AreNamesOf, IsFactsOf, IsWithinLimits}
 use Rattle.flow_laws.proofs.order.Order.{in_range, in_order}
-use Rattle.flow_program.proofs.Covering.{covering, solved_cover}
+use Rattle.sure_laws.proofs.FactSpots.{spots_in_range}
+use Rattle.flow_program.proofs.Covering.{covering, solved_cover, meeting}
 use Rattle.flow_program.proofs.facts.Goals as goal
 
 pub returns-then-are_numbered-clause-ok : goal.returns-then-are_numbered-clause-ok
@@ -24,5 +25,7 @@ returns-then-are_numbered-clause-ok c =
       in_range = in_range P formed typed F is within.counts few.0 few.1;
       in_order = in_order P formed typed F is named;
       covers = covers;
+      spots = spots_in_range P F is;
       solved = solved_cover P F covers;
+      meets = meeting P F formed typed is;
     }

@@ -1,8 +1,9 @@
 -- The lists of the facts, each by what is said of it.
-use Rattle.std.proofs.Common.{refl}
+use Rattle.std.proofs.Common.{refl, ap, ◌∙◌}
 use Rattle.flow_rules.specs.Lists.{news_of, flows_of, loads_of, stores_of, casts_of, accesses_of, supers_of, ties_of}
+use Rattle.flow_rules.specs.Spots.{numbered_spots}
 use Rattle.flow_facts.proofs.Along.{same_set}
-use Rattle.flow_facts.proofs.Whole.{rows_whole, columns_whole, sites_whole, points_whole, bodies_whole, set_whole, calls_whole, tests_whole}
+use Rattle.flow_facts.proofs.Whole.{rows_whole, columns_whole, sites_whole, points_whole, bodies_whole, set_whole, calls_whole, tests_whole, marks_whole}
 use Rattle.flow_facts.proofs.assembled.assemble.Goals as goal
 
 pub returns : goal.returns
@@ -31,7 +32,7 @@ returns c = λ P n s.
         tests = tests_whole P d n _ l.tests;
         makers = refl;
         makes = c.new.ensures.items;
-        spots = c.new-2.ensures.items;
+        spots = s.spots ∙ ap (numbered_spots 0 0) (marks_whole P d n _ l.marks);
       },
       record { words = s.texts.words; vars = same_set s.texts.variables },
     )

@@ -1,6 +1,6 @@
 use Rattle.std.proofs.Common.{arith, length, ap, sym, ◌∙◌}
 use Rattle.java_core.specs.Trees.{at_place, to_element, target_of, expr_of}
-use Rattle.java_core.specs.Programs.{program_of, method_seen}
+use Rattle.java_core.specs.Programs.{program_of, code_seen}
 use Rattle.flow_facts.specs.Views.{parts_seen}
 use Rattle.flow_facts.proofs.Passed.{on_ok}
 use Rattle.flow_facts.proofs.Composed.{own_store, element_store}
@@ -13,7 +13,7 @@ returns-in-Ok c =
     rw form (on_ok c.add.result (λ h. record {
       grown = omega (arith, v.grown, h.grown);
       parts = own_store (program_of c.args.within.now.program.now) c.args.within.now.number
-          (method_seen c.args.within.now.method.now) (at_place c.in-Own.place)
+          (code_seen c.args.within.now.code) (at_place c.in-Own.place)
           c.args.place c.in-Own.field.0 (expr_of c.args.value.now)
           (parts_seen c.args.parts.now.items) _ _ (length c.args.parts.now.items) _ _ v.parts v.value c.this_operand.ensures.value h.parts;
     }) c.add.ensures)
@@ -29,7 +29,7 @@ returns-in-Ok-walk-5 c =
     rw form (on_ok c.add-in-Index.result (λ h. record {
       grown = omega (arith, b.grown, i.grown, v.grown, h.grown);
       parts = element_store (program_of c.args.within.now.program.now) c.args.within.now.number
-          (method_seen c.args.within.now.method.now) (at_place c.in-Index.place)
+          (code_seen c.args.within.now.code) (at_place c.in-Index.place)
           c.args.place (expr_of c.deref-in-Index.result.now) (expr_of c.deref-in-Index-2.result.now)
           (expr_of c.args.value.now)
           (parts_seen c.args.parts.now.items) _ _ _ _ (length c.args.parts.now.items) _ _ _ _

@@ -14,4 +14,5 @@ returns c = on_ok c.add_ties.result (λ h. record {
   supers = c.in-Ok-add_supers.ensures.value;
   ties = h;
   calls = c.in-Ok-add_calls.ensures.value;
+  marks = c.in-Ok-add_marks.ensures.value;
 }) c.add_ties.ensures.value

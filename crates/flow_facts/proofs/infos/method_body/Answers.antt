@@ -1,5 +1,5 @@
 use Rattle.std.proofs.Common.{◌≡◌, ℕ, List, [], ◌∷◌, ap, ◌∙◌, Option, Some}
-use Rattle.java_core.specs.Programs.{Plain, PlainMethod, method_seen}
+use Rattle.java_core.specs.Programs.{Plain, PlainMethod, code_seen}
 use Rattle.flow_rules.specs.declared.items.PointItem.TheVariants as point
 use Rattle.flow_rules.specs.Lists.{Numbers}
 use Rattle.flow_rules.specs.Facts.{PlainBody, body_if, param_points}
@@ -16,6 +16,6 @@ one_body N P c m k t p r h e g =
 
 pub returns-in-Ok : goal.returns-in-Ok
 returns-in-Ok c = record {
-  value = λ P. one_body (numbers_seen c.args.given.now.numbering.now) P c.args.c c.args.m (method_seen c.args.method.now) c.in-Some.this
+  value = λ P. one_body (numbers_seen c.args.given.now.numbering.now) P c.args.c c.args.m (code_seen c.args.code.now) c.in-Some.this
       c.in-Ok.made.items c.point-result.result c.in-Some.ensures.value (c.in-Ok.ensures.value P) c.point-result.ensures.value;
 }

@@ -7,5 +7,5 @@ use Rattle.flow_facts.proofs.infos.param_points.Given as goal
 
 abbrev pub invariant-loop-i : goal.invariant-loop-i
 invariant-loop-i l = l.list.items ++ each (λ i v. (numbers_seen l.given.numbering.now).point (point.Local l.m i) ∷ []) l.i
-    (map local_seen (drop l.i l.method.params.items)) ≡ each (λ i v. (numbers_seen l.given.numbering.now).point (point.Local l.m i) ∷ []) 0
-    (map local_seen l.method.params.items)
+    (map local_seen (drop l.i l.code.params.now.items)) ≡ each (λ i v. (numbers_seen l.given.numbering.now).point (point.Local l.m i) ∷ []) 0
+    (map local_seen l.code.params.now.items)

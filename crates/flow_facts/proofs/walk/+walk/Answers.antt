@@ -2,7 +2,7 @@
 use Rattle.std.proofs.Common.{rules, ◌≡◌, length, sym, ap, ◌∙◌, refl}
 use Rattle.std.specs.Prelude.{Some}
 use Rattle.java_core.specs.Trees.{at_place, call, field, index, create_array, cast, instance_of, unary, binary, expr_of, exprs}
-use Rattle.java_core.specs.Programs.{program_of, method_seen}
+use Rattle.java_core.specs.Programs.{program_of, code_seen}
 use Rattle.flow_rules.specs.declared.items.RowItem.TheVariants as row
 use Rattle.flow_rules.specs.declared.items.PointItem.TheVariants as point
 use Rattle.flow_rules.specs.Labels.{label}
@@ -20,7 +20,7 @@ walk-returns-in-Ok t c =
     let f = c.in-Own.field.0 in
     let value : c.labelled-own.result ≡ labelled_operand c.args.within.now.number (length c.args.parts.now.items) (Some (row.Field f))
     (field_object P f) = search rules in
-    own_walked P c.args.within.now.number (method_seen c.args.within.now.method.now) (ap expr_of c.in-Own.is)
+    own_walked P c.args.within.now.number (code_seen c.args.within.now.code) (ap expr_of c.in-Own.is)
     c.in-Ok.ensures c.this_operand-this.ensures.value value
 
 pub walk-returns-in-Ok-walk : goal.walk-returns-in-Ok-walk
@@ -31,7 +31,7 @@ walk-returns-in-Ok-walk t c =
     let accessed = c.is_accessed-accessed.ensures.value n ∙ ap (λ y. is_accessed (label n (expr_of y))) (c.deref.ensures
     ∙ sym c.deref-in-Field.ensures) in
     if_ok c.add_load.result (λ o h. field_walked (program_of c.args.within.now.program.now) c.args.within.now.number
-    (method_seen c.args.within.now.method.now) form accessed
+    (code_seen c.args.within.now.code) form accessed
     c.in-Ok-walk.ensures h) c.add_load.ensures
 
 pub walk-returns-in-Ok-walk-3 : goal.walk-returns-in-Ok-walk-3
@@ -43,14 +43,14 @@ walk-returns-in-Ok-walk-3 t c =
     let value : c.labelled-own-in-Index.result ≡ labelled_operand c.args.within.now.number (length c.walk-in-Index.new.parts.items) b.row
     (element_object b.ty) = search rules in
     let h = c.in-Ok-add.ensures in
-    index_walked (program_of c.args.within.now.program.now) c.args.within.now.number (method_seen c.args.within.now.method.now) form
+    index_walked (program_of c.args.within.now.program.now) c.args.within.now.number (code_seen c.args.within.now.code) form
     c.in-Ok-walk-2.ensures
     h value c.in-Ok-walk-3.ensures
 
 pub walk-returns-in-None : goal.walk-returns-in-None
 walk-returns-in-None t c =
     let P = program_of c.args.within.now.program.now in
-    let K = method_seen c.args.within.now.method.now in
+    let K = code_seen c.args.within.now.code in
     if_ok c.add_call.result (λ o h. call_walked P c.args.within.now.number K (own_call _ _ _ _ _ c.in-Call.is c.in-None.is)
     (this_walked P c.args.within.now.number K refl c.this_operand-this-in-None.ensures.value) h) c.add_call.ensures
 
@@ -59,19 +59,19 @@ walk-returns-in-Ok-walk-4 t c =
     let form = call_on c.args.e.now c.in-Call.base c.in-Some.base c.in-Call.name c.in-Call.args c.in-Call.place c.in-Call.is c.in-Some.is
     ∙ ap (λ y. call (at_place c.in-Call.place) (expr_of y) c.in-Call.name (exprs c.in-Call.args.items)) (sym c.deref-in-Some.ensures) in
     if_ok c.add_call-in-Some.result (λ o h. call_walked (program_of c.args.within.now.program.now) c.args.within.now.number
-    (method_seen c.args.within.now.method.now) form
+    (code_seen c.args.within.now.code) form
     c.in-Ok-walk-4.ensures h) c.add_call-in-Some.ensures
 
 pub walk-returns-in-StaticCall : goal.walk-returns-in-StaticCall
 walk-returns-in-StaticCall t c =
     if_ok c.add_static_call.result (λ o h. made_walked (program_of c.args.within.now.program.now) c.args.within.now.number
-    (method_seen c.args.within.now.method.now)
+    (code_seen c.args.within.now.code)
     (static_form _ _ _ _ c.in-StaticCall.is) h) c.add_static_call.ensures
 
 pub walk-returns-in-SuperCall : goal.walk-returns-in-SuperCall
 walk-returns-in-SuperCall t c =
     if_ok c.add_super_call.result (λ o h. made_walked (program_of c.args.within.now.program.now) c.args.within.now.number
-    (method_seen c.args.within.now.method.now)
+    (code_seen c.args.within.now.code)
     (super_form _ _ _ _ c.in-SuperCall.is) h) c.add_super_call.ensures
 
 pub walk-returns-in-Ok-walk_all : goal.walk-returns-in-Ok-walk_all
@@ -85,7 +85,7 @@ walk-returns-in-Ok-walk_all t c =
     } = search rules in
     let h = c.in-Ok-add-2.ensures in
     let g = c.in-Ok-walk_all.ensures in
-    creation_walked (program_of c.args.within.now.program.now) c.args.within.now.number (method_seen c.args.within.now.method.now)
+    creation_walked (program_of c.args.within.now.program.now) c.args.within.now.number (code_seen c.args.within.now.code)
     (creation_form _ _ _ _ _ c.in-New.is)
     h value g
 
@@ -101,7 +101,7 @@ walk-returns-in-Ok-walk-5 t c =
       created = Some c.in-NewArray.number;
     } = search rules in
     let h = c.in-Ok-add-3.ensures in
-    array_walked (program_of c.args.within.now.program.now) c.args.within.now.number (method_seen c.args.within.now.method.now) form
+    array_walked (program_of c.args.within.now.program.now) c.args.within.now.number (code_seen c.args.within.now.code) form
     h value c.in-Ok-walk-5.ensures
 
 pub walk-returns-in-Ok-walk-6 : goal.walk-returns-in-Ok-walk-6
@@ -113,7 +113,7 @@ walk-returns-in-Ok-walk-6 t c =
     (object_of c.in-Cast.ty) = search rules in
     let at : c.len-at.result ≡ n = search rules in
     let h = c.in-Ok-add-4.ensures in
-    cast_walked (program_of c.args.within.now.program.now) c.args.within.now.number (method_seen c.args.within.now.method.now) form
+    cast_walked (program_of c.args.within.now.program.now) c.args.within.now.number (code_seen c.args.within.now.code) form
     h c.in-Ok-walk-6.ensures value c.fill.ensures.grown
     (λ xs ys q e. c.fill.ensures.parts xs ys q (e ∙ sym at))
 
@@ -125,7 +125,7 @@ walk-returns-in-Ok-add-5 t c =
     let value : c.labelled-own-in-InstanceOf.result ≡ labelled_operand c.args.within.now.number (length c.walk-in-InstanceOf.new.parts.items)
     (Some (row.Test c.in-InstanceOf.number)) (class_object c.in-InstanceOf.class.0) = search rules in
     let h = c.in-Ok-add-5.ensures in
-    test_walked (program_of c.args.within.now.program.now) c.args.within.now.number (method_seen c.args.within.now.method.now) form
+    test_walked (program_of c.args.within.now.program.now) c.args.within.now.number (code_seen c.args.within.now.code) form
     c.in-Ok-walk-7.ensures
     h value refl
 
@@ -133,7 +133,7 @@ pub walk-returns-in-Ok-walk-8 : goal.walk-returns-in-Ok-walk-8
 walk-returns-in-Ok-walk-8 t c =
     let form = ap expr_of c.in-Unary.is ∙ ap (λ y. unary (at_place c.in-Unary.place) c.in-Unary.op (expr_of y))
     (sym c.deref-in-Unary.ensures) in
-    unary_walked (program_of c.args.within.now.program.now) c.args.within.now.number (method_seen c.args.within.now.method.now) form
+    unary_walked (program_of c.args.within.now.program.now) c.args.within.now.number (code_seen c.args.within.now.code) form
     c.in-Ok-walk-8.ensures refl
 
 pub walk-returns-in-Ok-add-6 : goal.walk-returns-in-Ok-add-6
@@ -144,6 +144,6 @@ walk-returns-in-Ok-add-6 t c =
     ∙ ap (λ y. binary (at_place c.in-Binary.place) c.in-Binary.op (expr_of c.deref-in-Binary.result.now) (expr_of y))
     (sym c.deref-in-Binary-2.ensures) in
     let h = c.in-Ok-add-6.ensures in
-    binary_walked (program_of c.args.within.now.program.now) c.args.within.now.number (method_seen c.args.within.now.method.now)
+    binary_walked (program_of c.args.within.now.program.now) c.args.within.now.number (code_seen c.args.within.now.code)
     form c.in-Ok-walk-9.ensures
     c.in-Ok-walk-10.ensures h refl

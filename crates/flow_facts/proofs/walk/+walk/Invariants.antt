@@ -1,7 +1,7 @@
 -- What the arguments left will add.
 use Rattle.std.proofs.Common.{◌≡◌, ◌+◌, ◌++◌, drop, length}
 use Rattle.java_core.specs.Trees.{exprs}
-use Rattle.java_core.specs.Programs.{program_of, method_seen}
+use Rattle.java_core.specs.Programs.{program_of, code_seen}
 use Rattle.flow_rules.specs.Labels.{sizes, label_all}
 use Rattle.flow_rules.specs.Operands.{operands_of}
 use Rattle.flow_rules.specs.Parts.{parts_all}
@@ -12,7 +12,7 @@ use Rattle.flow_facts.proofs.walk.+walk.Given as goal
 abbrev pub invariant-walk_all-loop-e : goal.invariant-walk_all-loop-e
 invariant-walk_all-loop-e l =
     let P = program_of l.within.program.now in
-    let K = method_seen l.within.method.now in
+    let K = code_seen l.within.code in
     let rest = exprs (drop l.e-index l.args.items) in
     record {
       grown : length l.parts.items + sizes rest ≡ length l.fn.parts.items + sizes (exprs l.args.items);
