@@ -83,7 +83,8 @@ shows bound script facts p r is h =
 pub regenerated : (bound : ℕ) (script : List ℕ) (program : Program) (facts : Facts) (p : Proposal) (tree : Hierarchy) (log : List TreeStep) (text : List ℕ)
     (r : Result Reply AllocError) → (is : IsProposal bound script facts p)
     → IsWritten program facts p.sets p.edited.hier tree log text
-    → IfOk r (λ reply. GivesReply (edit_status p.edited.refusals.items) text (p.edited.refusals.items ++ log_text log) reply.status reply.out.items reply.err.items)
+    → IfOk r (λ reply. GivesReply (edit_status p.edited.refusals.items) text (p.edited.refusals.items ++ log_text log) reply.status reply.out.items
+    reply.err.items)
     → IfOk r (λ reply. RegenOf bound script program facts reply.status reply.out.items reply.err.items)
 regenerated bound script program facts p tree log text (Err e) is written h = tt
 regenerated bound script program facts p tree log text (Ok reply) is written h = inr (record {

@@ -9,7 +9,7 @@ use Rattle.java_run.specs.Outcomes.{meant}
 use Rattle.fact_model.specs.declared.facts.Facts.{Facts}
 use Rattle.flow_rules.specs.Facts.{IsWithinLimits}
 use Rattle.edit_script.specs.declared.lines.Line.{Line}
-use Rattle.kaba_words.specs.Commands.{Cmd, run, table, lattice, base, why, same, edit, regen, make, help, version, usual_concepts}
+use Rattle.kaba_words.specs.Commands.{Cmd, run, table, lattice, base, why, sure, same, edit, regen, make, help, version, usual_concepts}
 use Rattle.kaba_top.specs.TextPrograms.{IsTypedText}
 use Rattle.kaba_top.specs.TextFacts.{HasTextFacts}
 use Rattle.kaba_top.specs.Lines.{line}
@@ -18,6 +18,7 @@ use Rattle.kaba_top.specs.RunAnswers.{EndGives, RunAnswers}
 use Rattle.kaba_top.specs.FactsAnswers.{HasFacts, AnalysisAnswers, TableOf, LatticeOf}
 use Rattle.kaba_top.specs.BaseAnswers.{BaseOf}
 use Rattle.kaba_top.specs.WhyAnswers.{WhyOf}
+use Rattle.kaba_top.specs.SureAnswers.{SureOf}
 use Rattle.kaba_top.specs.SameAnswers.{SameOf}
 use Rattle.kaba_top.specs.ScriptAnswers.{HasLattice, ScriptAnswers, refusals}
 use Rattle.kaba_top.specs.EditAnswers.{ShowsHierarchy, EditOf}
@@ -127,6 +128,10 @@ module _ (status : ℕ) (out err : List ℕ) where
       (λ bytes t b. of_text (AnalysisAnswers (WhyOf row column)) ((status ≡ 0) ⊎ (status ≡ 71)) bytes t.0 t.1
       (λ p e c. of_facts (WhyOf row column) ((status ≡ 0) ⊎ (status ≡ 71)) p (subst IsWithinLimits e t.2)
       (λ F h g. ⊎_elim (λ n. inr n.says.status_is) (λ l. inl l.gives.status_is) g) c) b) a
+  done (sure file) first second r a =
+      of_file (TextAnswers (AnalysisAnswers SureOf)) IsTakenWithin (status ≡ 0) first file r
+      (λ bytes t b. of_text (AnalysisAnswers SureOf) (status ≡ 0) bytes t.0 t.1
+      (λ p e c. of_facts SureOf (status ≡ 0) p (subst IsWithinLimits e t.2) (λ F h g. g.gives.status_is) c) b) a
   done (same file other) first second r a =
       of_named (λ p. NamedAnswers (SameOf file other p) second other) ((status ≡ 0) ⊎ (status ≡ 1)) first file r.0
       (λ p b. of_named (SameOf file other p) ((status ≡ 0) ⊎ (status ≡ 1)) second other r.1

@@ -8,6 +8,7 @@ pub mod Analysing
 pub mod BaseLemmas
 pub mod Reaching
 pub mod ReadsOne
+pub mod Judging
 pub mod Promised
 pub mod Making
 pub mod Stuck
@@ -26,6 +27,7 @@ pub mod OneAnalysis
 pub mod OneBase
 pub mod OneWhy
 pub mod WhyLemmas
+pub mod OneSure
 pub mod OneSame
 pub mod Absent
 pub mod Naming

@@ -13,7 +13,7 @@ use Rattle.kaba_top.specs.Reading.{IsRefusedText}
 use Rattle.kaba_top.specs.SameAnswers.{named, IsFileNamed, SameOf}
 use Rattle.kaba_top.specs.Answers.{IsTooLarge, IsShelfFault, NamedAnswers, CommandReplies}
 use Rattle.kaba_top.specs.Fetching.{IsThere, IsFileRefused}
-use Rattle.kaba_top.specs.Named.{IsNamedReading, IsProgramThere, NothingFor, IsNoProgram, IsProgramFound, NamedReplies}
+use Rattle.kaba_top.specs.Named.{IsNamedReading, IsProgramThere, NothingFor, IsProgramFound, NamedReplies}
 
 -- a line for err, and nothing for out
 record IsLine (out err : List ℕ) : Type 0 where

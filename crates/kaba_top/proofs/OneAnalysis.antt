@@ -1,5 +1,5 @@
 -- The analysis of a program has one answer, and so have a script, an edit and what is written.
-use Rattle.std.proofs.Common.{◌≡◌, ◌⊎◌, inl, inr, ⊎_elim, ℕ, ◌≤◌, Bool, true, false, List, [], ◌∷◌, ◌++◌, length, map, Option, Some, None, refl, sym, ap, ◌∙◌, subst, arith, codes}
+use Rattle.std.proofs.Common.{◌≡◌, inl, inr, ⊎_elim, ℕ, ◌≤◌, Bool, true, false, List, [], ◌∷◌, ◌++◌, length, map, Option, Some, None, refl, sym, ap, ◌∙◌, subst, arith, codes}
 use Rattle.std.specs.Str.{encode_utf8_all}
 use Rattle.std.specs.List.{flat_map}
 use Rattle.std.proofs.lemmas.Option.{same_Some}
@@ -289,7 +289,8 @@ one_written F G same p q e H K t v w a b =
 
 module _ (p q : Program) (same_program : program_of p ≡ program_of q) {F G : Facts} (same : AreSameFacts F G) (bound : ℕ) (text : List ℕ) where
   module _ (h : HasLattice bound F) (k : HasLattice bound G) (es fs : List Line) (one : AreOneList es fs) where
-    ended : {log other : List GrowthStep} {end end2 : GrowthEnd} → Grows F h.sets (edited bound F h es) log end → Grows G k.sets (edited bound G k fs) other end2
+    ended : {log other : List GrowthStep} {end end2 : GrowthEnd} → Grows F h.sets (edited bound F h es) log end
+        → Grows G k.sets (edited bound G k fs) other end2
         → (log ≡ other) × (end ≡ end2)
     ended {log} {other} {end} {end2} a b =
         one_tree G k.sets (edited bound G k fs) log other end end2 (steps_on same bound h k (one_edited same bound h k es fs one) a) b

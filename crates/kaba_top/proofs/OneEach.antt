@@ -1,5 +1,5 @@
 -- For one list of words and one pair of files there is one answer.
-use Rattle.std.proofs.Common.{◌≡◌, inl, inr, ℕ, ◌-◌, Bool, true, false, List, [], length, map, Some, refl, sym, ap, ◌∙◌, subst, arith}
+use Rattle.std.proofs.Common.{◌≡◌, inl, inr, ℕ, ◌-◌, Bool, true, false, List, [], length, map, refl, sym, ap, ◌∙◌, subst, arith}
 use Rattle.std.proofs.lemmas.List.{length-map}
 use Rattle.std.proofs.lemmas.Option.{same_Some}
 use Rattle.kaba_base.specs.Outside.{Files}
@@ -15,7 +15,7 @@ use Rattle.hier_view.specs.Text.{live_nodes}
 use Rattle.tree_merge.specs.declared.steps.TreeStep.{TreeStep}
 use Rattle.tree_merge.specs.Logs.{step_of, steps_of}
 use Rattle.concept_build.specs.Laws.{told}
-use Rattle.kaba_words.specs.Commands.{Cmd, run, table, lattice, base, why, same, edit, regen, make, help, version, usual_concepts}
+use Rattle.kaba_words.specs.Commands.{Cmd, run, table, lattice, base, why, sure, same, edit, regen, make, help, version, usual_concepts}
 use Rattle.kaba_top.specs.declared.make.Counts.{Counts}
 use Rattle.kaba_top.specs.About.{help_text, version_text}
 use Rattle.kaba_top.specs.Lines.{usage, cannot_read, file_too_large}
@@ -24,6 +24,7 @@ use Rattle.kaba_top.specs.RunAnswers.{EndGives, RunAnswers}
 use Rattle.kaba_top.specs.FactsAnswers.{AnalysisAnswers, TableOf, LatticeOf, too_many_concepts}
 use Rattle.kaba_top.specs.BaseAnswers.{BaseOf}
 use Rattle.kaba_top.specs.WhyAnswers.{WhyOf}
+use Rattle.kaba_top.specs.SureAnswers.{SureOf}
 use Rattle.kaba_top.specs.EditAnswers.{EditOf}
 use Rattle.kaba_top.specs.RegenAnswers.{RegenOf}
 use Rattle.kaba_top.specs.MakeAnswers.{sample_text, MadeTextAnswers, RunGives, WrittenGives, MadeOf, MakeAnswers, counts_of, made_steps}
@@ -34,6 +35,7 @@ use Rattle.kaba_words.proofs.OneCommand.{one_command}
 use Rattle.kaba_top.proofs.OneText.{one_text}
 use Rattle.kaba_top.proofs.OneBase.{one_base_text}
 use Rattle.kaba_top.proofs.OneWhy.{one_why_text}
+use Rattle.kaba_top.proofs.OneSure.{one_sure_text}
 use Rattle.kaba_top.proofs.OneSame.{one_same}
 use Rattle.kaba_top.proofs.Absent.{none_some}
 use Rattle.kaba_top.proofs.OneAnalysis.{said, given, one_analysis, one_table_text, one_lattice_text, one_edit_text, one_regen_text, one_told, tree_of_start, trees_same, one_written, few}
@@ -163,6 +165,9 @@ one_of_command (base file) first second =
 one_of_command (why file row column) first second =
     one_file (TextAnswers (AnalysisAnswers (WhyOf row column))) (one_text (AnalysisAnswers (WhyOf row column)) (AnalysisAnswers (WhyOf row column))
     (λ p q alike. one_analysis (WhyOf row column) (WhyOf row column) (λ F G s. one_why_text row column s) p q alike)) first file
+one_of_command (sure file) first second =
+    one_file (TextAnswers (AnalysisAnswers SureOf)) (one_text (AnalysisAnswers SureOf) (AnalysisAnswers SureOf)
+    (λ p q alike. one_analysis SureOf SureOf (λ F G s. one_sure_text s) p q alike)) first file
 one_of_command (same file other) first second = one_same file other first second
 one_of_command (edit bound file script) first second =
     one_file (λ bytes. FileAnswers (EditAnswers bound bytes) second script)

@@ -6,11 +6,11 @@ use Rattle.kaba_base.specs.Outside.{Files}
 use Rattle.java_core.specs.declared.Program.{Program}
 use Rattle.java_core.specs.Programs.{Plain, program_of}
 use Rattle.rebuild_model.specs.OnePrograms as programs
-use Rattle.kaba_top.specs.Lines.{line, file_too_large, cannot_read}
+use Rattle.kaba_top.specs.Lines.{line, cannot_read}
 use Rattle.kaba_top.specs.Reading.{IsRefusedText}
 use Rattle.kaba_top.specs.SameAnswers.{named, IsFileNamed, SameOf}
 use Rattle.kaba_top.specs.Answers.{IsTooLarge, NamedTextAnswers, NamedAnswers, SameAnswers}
-use Rattle.kaba_top.specs.OneAnswer.{AreOneAnswer, AreOneKind}
+use Rattle.kaba_top.specs.OneAnswer.{AreOneKind}
 use Rattle.kaba_top.proofs.OneText.{one_program, not_both, one_refusal}
 use Rattle.kaba_top.proofs.OneAnalysis.{said, given}
 use Rattle.kaba_top.proofs.Absent.{none_some}

@@ -1,5 +1,5 @@
 -- `why` has for a program one answer, but for the trail that it shows.
-use Rattle.std.proofs.Common.{◌≡◌, inl, inr, ℕ, ◌<◌, List, [], length, refl, sym, subst, ◌∙◌}
+use Rattle.std.proofs.Common.{inl, inr, ℕ, ◌<◌, length, refl, sym, subst, ◌∙◌}
 use Rattle.fact_model.specs.declared.facts.Facts.{Facts}
 use Rattle.why_table.specs.Found.{HasEntry}
 use Rattle.flow_program.specs.Same.{AreSameFacts}

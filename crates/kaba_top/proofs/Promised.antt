@@ -1,5 +1,5 @@
 -- What is promised follows from the answers.
-use Rattle.std.proofs.Common.{◌≡◌, ◌⊎◌, inl, inr, ℕ, Bool, ◌==◌, true, false, List, [], ◌∷◌, ◌++◌, length, if◌then◌else◌, Option, Some, None, Result, Ok, Err, refl, sym, ap, ◌∙◌, subst, arith}
+use Rattle.std.proofs.Common.{◌≡◌, ◌⊎◌, inl, inr, ℕ, Bool, ◌==◌, true, false, List, length, if◌then◌else◌, Option, sym, ap, ◌∙◌, subst, arith}
 use Rattle.kaba_base.specs.Outside.{Files}
 use Rattle.java_tree.specs.Syntax.{DeclTree}
 use Rattle.java_tree.specs.Places.{unplaced}
@@ -12,24 +12,24 @@ use Rattle.name_rules.specs.Causes.{HasNoCondition}
 use Rattle.fact_model.specs.declared.facts.Facts.{Facts}
 use Rattle.fact_model.specs.declared.sets.PointsTo.{PointsTo}
 use Rattle.hier_model.specs.Hierarchies.{Hierarchy}
-use Rattle.hier_model.specs.Edits.{changed}
-use Rattle.hier_model.specs.declared.edits.Edit.{Edit}
-use Rattle.hier_model.specs.declared.edits.Act.{Act}
-use Rattle.hier_model.specs.declared.edits.Act.TheVariants as acts
-use Rattle.hier_model.specs.declared.edits.ChangeFault.{ChangeFault}
-use Rattle.hier_rules.specs.declared.broken.Broken.{Broken}
-use Rattle.hier_rules.specs.First.{first_of_edit}
-use Rattle.hier_edit.specs.Applied.{unless_broken, outcome}
-use Rattle.hier_script.specs.Scripts.{History, unedited, kept, taken_back, refusal, undo_refusal, after_act, act_refusal, after_acts, refusals_from}
+use Rattle.hier_script.specs.Scripts.{unedited}
 use Rattle.edit_script.specs.declared.lines.Line.{Line}
 use Rattle.edit_script.specs.Script.{AreEditsOf}
 use Rattle.java_write.specs.Written.{IsWrittenText, tree_of_hierarchy}
-use Rattle.kaba_words.specs.Commands.{Cmd, run, table, lattice, base, why, same, edit, regen, make, help, version}
+use Rattle.kaba_words.specs.Commands.{Cmd, run, table, lattice, base, why, sure, same, edit, regen, make, help, version}
 use Rattle.stem_base.proofs.Laws.{are_a_base, none_shorter}
 use Rattle.java_meaning.proofs.UntaggedRuns.{same_aside}
 use Rattle.write_model.proofs.Nowhere.{without_places}
+use Rattle.write_model.proofs.NoMaker.{no_maker}
 use Rattle.name_place_laws.specs.Laws.{HasNoPlaces}
 use Rattle.name_place_laws.proofs.Whole.{has_no_places}
+use Rattle.sure_laws.specs.Laws.{IsTrueOfRuns, ReportsAreTrue}
+use Rattle.sure_laws.proofs.Sure.{reports_true}
+use Rattle.sure_report.specs.declared.Sure.{Sure}
+use Rattle.sure_report.specs.Report.{IsSureReport}
+use Rattle.fact_model.specs.Flowing.{AreSets}
+use Rattle.flow_rules.specs.Facts.{IsFactsOf}
+use Rattle.kaba_top.proofs.Judging.{judged}
 use Rattle.kaba_top.proofs.ReadsOne.{reads_one}
 use Rattle.kaba_top.proofs.TakenAgain.{taken_again}
 use Rattle.kaba_top.specs.TextPrograms.{IsTypedText}
@@ -39,6 +39,7 @@ use Rattle.kaba_top.specs.TextFacts.{HasTextFacts}
 use Rattle.kaba_top.specs.FactsAnswers.{HasFacts, AnalysisAnswers, LatticeOf}
 use Rattle.kaba_top.specs.BaseAnswers.{BaseOf}
 use Rattle.kaba_top.specs.WhyAnswers.{WhyOf}
+use Rattle.kaba_top.specs.SureAnswers.{SureOf}
 use Rattle.kaba_top.specs.SameAnswers.{SameOf}
 use Rattle.java_core.specs.Formed.{IsFormed}
 use Rattle.java_core.specs.Typing.{IsTyped}
@@ -49,12 +50,18 @@ use Rattle.kaba_top.specs.ScriptAnswers.{HasLattice, IsRun, ScriptAnswers, start
 use Rattle.kaba_top.specs.EditAnswers.{EditOf, ShowsHierarchy}
 use Rattle.kaba_top.specs.RegenAnswers.{IsRegeneration, RegenOf}
 use Rattle.kaba_top.specs.Answers.{FileAnswers, NamedAnswers, EditAnswers, RegenAnswers, CommandAnswers, Replies}
-use Rattle.kaba_top.specs.Promise.{ShowsLattice, ShowsBase, ShowsTrail, IsSameProgram, AreJudged, none, made, breaks, unmade, undone, none_left, JudgesEdits, IsRebuilt, TellsEdits, WritesProgram, FindsNoTree, OfFile, Promises, IsPromised}
+use Rattle.kaba_top.specs.Promise.{ShowsLattice, ShowsBase, ShowsTrail, ShowsSure, IsSameProgram, JudgesEdits, IsRebuilt, TellsEdits, WritesProgram, FindsNoTree, OfFile, Promises, IsPromised}
 
 -- programs that are one have the same run
 runs_alike : (P Q : Plain) → IsFormed P → IsTyped P → IsFormed Q → AreOne P Q → HasSameRun P Q
 unfolding OneRunsTheSame
 runs_alike = one_runs_the_same
+
+-- what is sure by the report is so in each run
+reported : (P : Plain) (F : Facts) (t : PointsTo) (r : Sure) → IsFormed P → IsTyped P → IsFactsOf P F → AreSets F t → IsSureReport F t r
+    → IsTrueOfRuns P F r
+unfolding ReportsAreTrue
+reported = reports_true
 
 -- what is known of the facts of a program tells which facts they are
 text_facts : (p : Program) (F : Facts) → HasFacts p F → HasTextFacts (program_of p) F
@@ -179,41 +186,20 @@ module _ (status : ℕ) (out err : List ℕ) (j : IsJudging status) where
     shown_is = shown.gives.out_is;
   }
 
--- each edit is made or refused as the hierarchy after it meets its obligations, and each undo as there is something to take back
-module _ (F : Facts) (pt : PointsTo) where
-  -- the further acts are judged, whatever the history
-  abbrev AreRestJudged : List Line → Type 0
-  AreRestJudged lines = (h : History) → AreJudged F pt h.present h.past lines (after_acts F pt h lines).present (refusals_from F pt h lines)
-
-  by_tested : (h : History) (K : Hierarchy) (line : Line) (e : Edit) (lines : List Line) (o : Option Broken) → line.act ≡ acts.Edit e
-      → changed F h.present e ≡ Ok K → first_of_edit F pt K ≡ o → AreRestJudged lines
-      → AreJudged F pt h.present h.past (line ∷ lines) (after_acts F pt (kept h (unless_broken K o)) lines).present
-      (refusal line.number (unless_broken K o) ++ refusals_from F pt (kept h (unless_broken K o)) lines)
-  by_tested h K line e lines None is c t rest = made is c t (rest (kept h (Ok K)))
-  by_tested h K line e lines (Some b) is c t rest = breaks is c t (rest h)
-
-  by_changed : (h : History) (line : Line) (e : Edit) (lines : List Line) (r : Result Hierarchy ChangeFault) → line.act ≡ acts.Edit e
-      → changed F h.present e ≡ r → AreRestJudged lines
-      → AreJudged F pt h.present h.past (line ∷ lines) (after_acts F pt (kept h (outcome F pt r)) lines).present
-      (refusal line.number (outcome F pt r) ++ refusals_from F pt (kept h (outcome F pt r)) lines)
-  by_changed h line e lines (Ok K) is c rest = by_tested h K line e lines (first_of_edit F pt K) is c refl rest
-  by_changed h line e lines (Err fault) is c rest = unmade is c (rest h)
-
-  by_undo : (H : Hierarchy) (past : List Hierarchy) (line : Line) (lines : List Line) → line.act ≡ acts.Undo → AreRestJudged lines
-      → AreJudged F pt H past (line ∷ lines) (after_acts F pt (taken_back H past) lines).present
-      (undo_refusal line.number past ++ refusals_from F pt (taken_back H past) lines)
-  by_undo H [] line lines is rest = none_left is (rest (unedited H))
-  by_undo H (K ∷ past) line lines is rest = undone is (rest (record { present = K; past = past }))
-
-  by_act : (h : History) (line : Line) (a : Act) (lines : List Line) → line.act ≡ a → AreRestJudged lines
-      → AreJudged F pt h.present h.past (line ∷ lines) (after_acts F pt (after_act F pt h a) lines).present
-      (act_refusal F pt line.number h a ++ refusals_from F pt (after_act F pt h a) lines)
-  by_act h line (acts.Edit e) lines is rest = by_changed h line e lines (changed F h.present e) is refl rest
-  by_act h line acts.Undo lines is rest = by_undo h.present h.past line lines is rest
-
-  judged : (lines : List Line) → AreRestJudged lines
-  judged [] h = none
-  judged (line ∷ lines) h = by_act h line line.act lines refl (judged lines)
+  sure_shown : (bytes : List ℕ) (p : Program) → IsTypedText bytes (program_of p) → (F : Facts) → HasFacts p F → SureOf F status out err
+      → ShowsSure bytes out
+  sure_shown bytes p text F facts a = record {
+    program = p;
+    facts = F;
+    sets = a.sets;
+    report = a.report;
+    text = text;
+    facts_are = text_facts p F facts;
+    sets_are = a.are_sets;
+    is = a.is;
+    true_of_runs = reported (program_of p) F a.sets a.report text.formed text.typed facts.is a.are_sets a.is;
+    shown_is = a.gives.out_is;
+  }
 
 -- the edits of a run
 abbrev judges : (bound : ℕ) (bytes script : List ℕ) (p : Program) (F : Facts) → IsTypedText bytes (program_of p) → HasFacts p F
@@ -243,13 +229,14 @@ rebuilt p F H text out e w =
       tokens = w.read.tokens;
       lexed = w.read.lexed;
       derives = w.read.derived;
+      makerless = no_maker (program_of p) F H;
       new = w.new;
       resolves = w.resolves;
       typed = w.keeps.typed;
       rebuilds = w.keeps.rebuilds;
       offers = w.keeps.rows;
       same = w.keeps.run;
-      taken = λ nested. taken_again text tree new w.read nested w.none w.resolves w.formed w.keeps.typed bare;
+      taken = λ nested. taken_again text tree new w.read nested (no_maker (program_of p) F H) w.none w.resolves w.formed w.keeps.typed bare;
       one = λ again is. sym bare ∙ reads_one text tree new again w.read w.resolves is;
       same_again = λ again is.
           let same = same_aside new again (reads_one text tree new again w.read w.resolves is) in
@@ -398,6 +385,11 @@ command_promised (why file row column) first second status out err a = λ z.
     (λ bytes. in_text status out err (inl z) (AnalysisAnswers (WhyOf row column)) (ShowsTrail row column bytes out) bytes
     (λ p text. in_facts status out err (inl z) (WhyOf row column) (ShowsTrail row column bytes out) p
     (trail_shown status out err (inl z) row column bytes p text)))
+    a
+command_promised (sure file) first second status out err a = λ z.
+    in_file status out err (inl z) (TextAnswers (AnalysisAnswers SureOf)) (λ bytes. ShowsSure bytes out) first file
+    (λ bytes. in_text status out err (inl z) (AnalysisAnswers SureOf) (ShowsSure bytes out) bytes
+    (λ p text. in_facts status out err (inl z) SureOf (ShowsSure bytes out) p (sure_shown status out err (inl z) bytes p text)))
     a
 command_promised (same file other) first second status out err a = λ z.
     in_named status out err (inl z) (λ p. NamedAnswers (SameOf file other p) second other)

@@ -5,7 +5,7 @@ use Rattle.std.specs.List.{list_any}
 use Rattle.std.specs.Str.{bytes_eq}
 use Rattle.kaba_base.specs.Words.{is_name}
 use Rattle.kaba_bits.specs.Sets.{bit, row, or_else, first_below, when}
-use Rattle.kaba_order.specs.Orders.{is_le, is_live}
+use Rattle.kaba_order.specs.Orders.{is_le, is_live, differ}
 use Rattle.fact_model.specs.declared.facts.Facts.{Facts}
 use Rattle.fact_model.specs.declared.facts.StoreInfo.{StoreInfo}
 use Rattle.fact_model.specs.declared.facts.TestInfo.{TestInfo}
@@ -17,7 +17,7 @@ use Rattle.hier_model.specs.Names.{is_field}
 use Rattle.hier_model.specs.Edits.{is_one_slot}
 use Rattle.hier_rules.specs.declared.broken.Rule.TheVariants.{B3, B4, B5, B6, B7, B8, B9}
 use Rattle.hier_rules.specs.Asked.{is_pair, is_tie, is_super, is_called, bound_of, slots_of, are_two_slots, is_other_body, is_element, has_array, is_test_at, is_store_at, is_tested, is_stored, meets, places_of}
-use Rattle.hier_rules.specs.Obligations.{differ, row_le, column_le, is_above, unoffered, first_unoffered, first_untied, wrong_body, is_between, wrong_super, first_wrong_super, is_body_at, two_bodies, first_two_bodies, is_class_above, unchained, first_unchained, wrong_need, first_wrong_need, wrong_outcome, first_wrong_outcome, untied, unheld}
+use Rattle.hier_rules.specs.Obligations.{row_le, column_le, is_above, unoffered, first_unoffered, first_untied, wrong_body, is_between, wrong_super, first_wrong_super, is_body_at, two_bodies, first_two_bodies, is_class_above, unchained, first_unchained, wrong_need, first_wrong_need, wrong_outcome, first_wrong_outcome, untied, unheld}
 use Rattle.hier_rules.specs.Names.{is_member, known_names, is_reserved, is_variable, method_slot, unwritable_type, first_unwritable, is_other_type, taken_type, first_taken_type, is_type, taken_field, first_taken_field, clash, confused, first_confused, first_misnamed}
 use Rattle.hier_rules.specs.First.{first_changed_run, first_of_edit}
 use Rattle.hier_rules.specs.Instances.{of_both, of_row, of_column, of_node, of_three}

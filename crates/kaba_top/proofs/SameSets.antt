@@ -1,5 +1,5 @@
 -- Facts that are the same have the same points-to sets and the same table.
-use Rattle.std.proofs.Common.{◌≡◌, ◌⊎◌, inl, inr, ⊎_elim, ℕ, ◌<◌, Bool, true, List, [], ◌∷◌, length, Contains, Option, Some, None, sym, ap, ◌∙◌, subst}
+use Rattle.std.proofs.Common.{◌≡◌, inl, inr, ⊎_elim, ℕ, ◌<◌, Bool, true, List, [], ◌∷◌, length, Contains, Option, Some, None, sym, ap, ◌∙◌, subst}
 use Rattle.kaba_bits.specs.Sets.{bit, row, HasWidth}
 use Rattle.kaba_bits.proofs.RowLemmas.{same_rows}
 use Rattle.kaba_base.specs.declared.ColId.{ColId}

@@ -6,7 +6,7 @@ use Rattle.java_core.specs.Programs.{program_of}
 use Rattle.java_meaning.specs.Moment as meaning
 use Rattle.fact_model.specs.declared.facts.Facts.{Facts}
 use Rattle.java_run.specs.Outcomes.{meant}
-use Rattle.kaba_words.specs.Commands.{Cmd, run, table, lattice, base, why, same, edit, regen, make, help, version}
+use Rattle.kaba_words.specs.Commands.{Cmd, run, table, lattice, base, why, sure, same, edit, regen, make, help, version}
 use Rattle.kaba_top.specs.About.{help_text, version_text}
 use Rattle.kaba_top.specs.Lines.{Says, GivesReply}
 use Rattle.kaba_top.specs.Reading.{IsRefusedText, TextAnswers}
@@ -14,6 +14,7 @@ use Rattle.kaba_top.specs.RunAnswers.{EndGives, RunAnswers}
 use Rattle.kaba_top.specs.FactsAnswers.{AnalysisAnswers, TableOf, LatticeOf}
 use Rattle.kaba_top.specs.BaseAnswers.{BaseOf}
 use Rattle.kaba_top.specs.WhyAnswers.{WhyOf}
+use Rattle.kaba_top.specs.SureAnswers.{SureOf}
 use Rattle.kaba_top.specs.SameAnswers.{SameOf}
 use Rattle.hier_view.specs.Text.{hierarchy_text}
 use Rattle.edit_script.specs.declared.lines.Line.{Line}
@@ -21,7 +22,7 @@ use Rattle.kaba_top.specs.Logs.{log_text}
 use Rattle.kaba_top.specs.ScriptAnswers.{HasLattice, ScriptAnswers, edited, refusals}
 use Rattle.kaba_top.specs.EditAnswers.{EditOf, ShowsHierarchy}
 use Rattle.kaba_top.specs.RegenAnswers.{IsRegeneration, IsWithoutTree, RegenOf}
-use Rattle.kaba_top.specs.MakeAnswers.{sample_text, MadeTextAnswers, RunGives, WrittenGives, MadeOf, MakeAnswers, counts_of, made_steps, summary}
+use Rattle.kaba_top.specs.MakeAnswers.{sample_text, MadeTextAnswers, RunGives, WrittenGives, MadeOf, MakeAnswers, counts_of, made_steps}
 use Rattle.kaba_top.specs.declared.make.Counts.{Counts}
 use Rattle.kaba_top.specs.Answers.{FileAnswers, NamedAnswers, EditAnswers, RegenAnswers, CommandAnswers, Answers, Replies}
 
@@ -85,6 +86,9 @@ base_other f status out err a = elim a.answers as (λ _. IsOther status) [
 why_other : (row column : ℕ) (f : Facts) → AreOther (WhyOf row column f)
 why_other row column f status out err (inl none) = said 71 (omega arith, omega arith) _ status out err none.says
 why_other row column f status out err (inr shown) = gave 0 (omega arith, omega arith) _ _ status out err shown.gives
+
+sure_other : (f : Facts) → AreOther (SureOf f)
+sure_other f status out err a = gave 0 (omega arith, omega arith) _ _ status out err a.gives
 
 after_script : (none : Bool) (bytes refusals : List ℕ) → AreOther (GivesReply (if none then 0 else 4) bytes refusals)
 after_script true bytes refusals status out err h = gave 0 (omega arith, omega arith) _ _ status out err h
@@ -181,6 +185,8 @@ command_other (base file) first second =
 command_other (why file row column) first second =
     file_other (TextAnswers (AnalysisAnswers (WhyOf row column))) (text_other (AnalysisAnswers (WhyOf row column))
     (analysis_other (WhyOf row column) (why_other row column))) first file
+command_other (sure file) first second =
+    file_other (TextAnswers (AnalysisAnswers SureOf)) (text_other (AnalysisAnswers SureOf) (analysis_other SureOf sure_other)) first file
 command_other (same file other) first second =
     named_other (λ p. NamedAnswers (SameOf file other p) second other) (λ p. named_other (SameOf file other p) (same_other file other p) second other)
     first file

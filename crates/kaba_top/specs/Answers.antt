@@ -1,7 +1,7 @@
 -- Believed. The answers of the program, for the words and the files.
 use Rattle.std.specs.Prelude.{◌≡◌, ◌⊎◌, ℕ, ◌<◌, ◌≤◌, List, [], length, Option, Some, None}
 use Rattle.kaba_base.specs.Outside.{Files, Rose, taken_more, HoldsPrefix}
-use Rattle.kaba_words.specs.Commands.{Cmd, run, table, lattice, base, why, same, edit, regen, make, help, version, Fits, FitsNone}
+use Rattle.kaba_words.specs.Commands.{Cmd, run, table, lattice, base, why, sure, same, edit, regen, make, help, version, Fits, FitsNone}
 use Rattle.kaba_top.specs.About.{help_text, version_text}
 use Rattle.kaba_top.specs.Agreement.{Agrees}
 use Rattle.kaba_top.specs.Lines.{Says, GivesReply, usage, cannot_read, most_bytes, file_too_large}
@@ -11,6 +11,7 @@ use Rattle.kaba_top.specs.RunAnswers.{RunAnswers}
 use Rattle.kaba_top.specs.FactsAnswers.{AnalysisAnswers, TableOf, LatticeOf}
 use Rattle.kaba_top.specs.BaseAnswers.{BaseOf}
 use Rattle.kaba_top.specs.WhyAnswers.{WhyOf}
+use Rattle.kaba_top.specs.SureAnswers.{SureOf}
 use Rattle.kaba_top.specs.SameAnswers.{IsFileNamed, SameOf}
 use Rattle.kaba_top.specs.EditAnswers.{EditOf}
 use Rattle.kaba_top.specs.RegenAnswers.{RegenOf}
@@ -72,6 +73,7 @@ CommandAnswers (table file) first second = FileAnswers (TextAnswers (AnalysisAns
 CommandAnswers (lattice json bound file) first second = FileAnswers (TextAnswers (AnalysisAnswers (LatticeOf json bound))) first file
 CommandAnswers (base file) first second = FileAnswers (TextAnswers (AnalysisAnswers BaseOf)) first file
 CommandAnswers (why file row column) first second = FileAnswers (TextAnswers (AnalysisAnswers (WhyOf row column))) first file
+CommandAnswers (sure file) first second = FileAnswers (TextAnswers (AnalysisAnswers SureOf)) first file
 CommandAnswers (same file other) first second = SameAnswers file other first second
 CommandAnswers (edit bound file script) first second = FileAnswers (λ bytes. FileAnswers (EditAnswers bound bytes) second script) first file
 CommandAnswers (regen bound file script) first second = FileAnswers (λ bytes. FileAnswers (RegenAnswers bound bytes) second script) first file
@@ -86,6 +88,7 @@ NamesFiles (table file) name = name ≡ file
 NamesFiles (lattice json bound file) name = name ≡ file
 NamesFiles (base file) name = name ≡ file
 NamesFiles (why file row column) name = name ≡ file
+NamesFiles (sure file) name = name ≡ file
 NamesFiles (same file other) name = (name ≡ file) ⊎ (name ≡ other)
 NamesFiles (edit bound file script) name = (name ≡ file) ⊎ (name ≡ script)
 NamesFiles (regen bound file script) name = (name ≡ file) ⊎ (name ≡ script)

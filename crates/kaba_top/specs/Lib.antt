@@ -9,6 +9,7 @@ pub mod RunAnswers
 pub mod FactsAnswers
 pub mod BaseAnswers
 pub mod WhyAnswers
+pub mod SureAnswers
 pub mod SameAnswers
 pub mod Named
 pub mod ScriptAnswers

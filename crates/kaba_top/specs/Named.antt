@@ -3,7 +3,7 @@ use Rattle.std.specs.Prelude.{◌≡◌, ◌⊎◌, ℕ, ◌≤◌, List, length
 use Rattle.kaba_base.specs.Outside.{Files}
 use Rattle.java_core.specs.declared.Program.{Program}
 use Rattle.java_core.specs.Programs.{program_of}
-use Rattle.kaba_top.specs.declared.same.Found.{FoundProgram}
+use Rattle.kaba_top.specs.declared.same.Found.{Found}
 use Rattle.kaba_top.specs.declared.same.Found.TheVariants as founds
 use Rattle.kaba_top.specs.Lines.{most_bytes}
 use Rattle.kaba_top.specs.Agreement.{Agrees}
@@ -13,7 +13,7 @@ use Rattle.kaba_top.specs.SameAnswers.{IsFileNamed}
 use Rattle.kaba_top.specs.Answers.{IsShelfFault, IsAnswered, NamedAnswers}
 
 -- the bytes are those of this typed program, or a reply with the file's name refuses them
-abbrev pub IsNamedReading : List ℕ → List ℕ → FoundProgram → Type 0
+abbrev pub IsNamedReading : List ℕ → List ℕ → Found → Type 0
 IsNamedReading file bytes (founds.Typed program) = IsTypedText bytes (program_of program)
 IsNamedReading file bytes (founds.Refused reply) = IsFileNamed file (IsRefusedText bytes) reply.status reply.out.items reply.err.items
 
@@ -37,7 +37,7 @@ pub record IsNoProgram (told : Option Files) (name : List ℕ) (status : ℕ) (o
   pub refused : NamedAnswers NothingFor files name status out err
 
 -- the program of the file was found, or the reply says that there is none, or that there was a fault
-abbrev pub IsProgramFound : Option Files → ℕ → ℕ → List ℕ → FoundProgram → Type 0
+abbrev pub IsProgramFound : Option Files → ℕ → ℕ → List ℕ → Found → Type 0
 IsProgramFound told before now name (founds.Typed program) = IsProgramThere told name program
 IsProgramFound told before now name (founds.Refused reply) = IsNoProgram told name reply.status reply.out.items reply.err.items
     ⊎ IsShelfFault before now name reply.status reply.out.items reply.err.items

@@ -9,7 +9,7 @@ use Rattle.fact_model.specs.Concepts.{AreMoreThan}
 use Rattle.stem_base.specs.Base.{common, AreMoreStems}
 use Rattle.flow_rules.specs.Facts.{IsWithinLimits}
 use Rattle.edit_script.specs.Script.{IsFirstBadLine, HasTooManyEdits}
-use Rattle.kaba_words.specs.Commands.{Cmd, run, table, lattice, base, why, same, edit, regen, make, help, version, Fits, usual_concepts}
+use Rattle.kaba_words.specs.Commands.{Cmd, run, table, lattice, base, why, sure, same, edit, regen, make, help, version, Fits, usual_concepts}
 use Rattle.kaba_top.specs.Lines.{line, most_bytes}
 use Rattle.kaba_top.specs.TextPrograms.{IsTypedText}
 use Rattle.kaba_top.specs.TextFacts.{HasTextFacts}
@@ -122,6 +122,7 @@ HasAllInput (table file) first second = OfSmallFile first file IsTakenWithin
 HasAllInput (lattice json bound file) first second = OfSmallFile first file (IsTakenFor bound)
 HasAllInput (base file) first second = OfSmallFile first file IsTakenForBase
 HasAllInput (why file row column) first second = OfSmallFile first file IsTakenWithin
+HasAllInput (sure file) first second = OfSmallFile first file IsTakenWithin
 HasAllInput (same file other) first second = OfSmallFile first file IsTaken × OfSmallFile second other IsTaken
 HasAllInput (edit bound file script) first second = OfSmallFile first file (IsTakenFor bound) × OfSmallFile second script IsAcceptedScript
 HasAllInput (regen bound file script) first second = OfSmallFile first file (IsTakenFor bound) × OfSmallFile second script IsAcceptedScript
@@ -137,6 +138,7 @@ IsDoneWith (table file) status = status ≡ 0
 IsDoneWith (lattice json bound file) status = status ≡ 0
 IsDoneWith (base file) status = status ≡ 0
 IsDoneWith (why file row column) status = (status ≡ 0) ⊎ (status ≡ 71)
+IsDoneWith (sure file) status = status ≡ 0
 IsDoneWith (same file other) status = (status ≡ 0) ⊎ (status ≡ 1)
 IsDoneWith (edit bound file script) status = (status ≡ 0) ⊎ (status ≡ 4)
 IsDoneWith (regen bound file script) status = (status ≡ 0) ⊎ ((status ≡ 4) ⊎ (status ≡ 5))

@@ -1,11 +1,12 @@
 -- Believed. What Kaba promises of its analysis and of the programs that it writes, without the answers around it.
-use Rattle.std.specs.Prelude.{◌≡◌, ◌⊎◌, ℕ, ◌≤◌, Bool, List, [], ◌∷◌, ◌++◌, codes, length, Option, Some, None, Ok, Err}
+use Rattle.std.specs.Prelude.{◌≡◌, ◌⊎◌, ℕ, ◌≤◌, Bool, false, List, [], ◌∷◌, ◌++◌, codes, length, Option, Some, None, Ok, Err}
 use Rattle.kaba_base.specs.Outside.{Files, taken_more}
 use Rattle.java_tree.specs.Syntax.{DeclTree}
 use Rattle.java_lex.specs.declared.Token.{Token}
 use Rattle.java_lex.specs.Lexing.{tokens_of}
 use Rattle.java_tree.specs.Nesting.{nesting_of}
 use Rattle.java_tree.specs.Declarations.{Derives}
+use Rattle.java_tree.specs.Makers.{has_maker}
 use Rattle.java_core.specs.declared.Program.{Program}
 use Rattle.java_core.specs.Programs.{Plain, program_of}
 use Rattle.java_core.specs.Untagged.{untagged}
@@ -23,6 +24,10 @@ use Rattle.stem_base.specs.Text.{base_text}
 use Rattle.why_table.specs.declared.trail.Trail.{Trail}
 use Rattle.why_table.specs.Found.{HasEntry, IsTrailOf}
 use Rattle.why_table.specs.Text.{trail_text}
+use Rattle.sure_report.specs.declared.Sure.{Sure}
+use Rattle.sure_report.specs.Report.{IsSureReport}
+use Rattle.sure_report.specs.Text.{sure_text}
+use Rattle.sure_laws.specs.Laws.{IsTrueOfRuns}
 use Rattle.hier_model.specs.Hierarchies.{Hierarchy}
 use Rattle.hier_model.specs.Edits.{changed}
 use Rattle.hier_model.specs.Start.{start_from}
@@ -46,7 +51,7 @@ use Rattle.rebuild_model.specs.OnePrograms.{AreOne}
 use Rattle.rebuild_model.specs.Rebuilds.{Rebuilds}
 use Rattle.rebuild_laws.specs.types.Rows.{OffersRows}
 use Rattle.rebuild_laws.specs.runs.Same.{HasSameRun}
-use Rattle.kaba_words.specs.Commands.{Cmd, run, table, lattice, base, why, same, edit, regen, make, help, version, Fits}
+use Rattle.kaba_words.specs.Commands.{Cmd, run, table, lattice, base, why, sure, same, edit, regen, make, help, version, Fits}
 use Rattle.kaba_top.specs.TextPrograms.{IsTypedText, most_nesting}
 use Rattle.kaba_top.specs.TextFacts.{HasTextFacts, shown}
 use Rattle.kaba_top.specs.Agreement.{Agrees}
@@ -93,6 +98,20 @@ pub record ShowsTrail (row column : ℕ) (bytes out : List ℕ) : Type 0 where
   pub is : IsTrailOf facts (record { 0 = row }) (record { 0 = column }) trail.steps.items
   pub shown_is : out ≡ trail_text trail.steps.items
 
+-- the report on the facts and their points-to sets is shown, and it is true of every run: for all words and every bound on the steps no cast that is
+-- sure fails, a call runs only bodies that are told of it, and no run enters a body or touches a field that is dead
+pub record ShowsSure (bytes out : List ℕ) : Type 0 where
+  pub program : Program
+  pub facts : Facts
+  pub sets : PointsTo
+  pub report : Sure
+  pub text : IsTypedText bytes (program_of program)
+  pub facts_are : HasTextFacts (program_of program) facts
+  pub sets_are : AreSets facts sets
+  pub is : IsSureReport facts sets report
+  pub true_of_runs : IsTrueOfRuns (program_of program) facts report
+  pub shown_is : out ≡ sure_text facts report
+
 -- the programs of two texts are one, and have for all words and every bound on the steps the same output, end and steps
 pub record IsSameProgram (bytes others : List ℕ) : Type 0 where
   pub program : Program
@@ -135,13 +154,14 @@ pub record JudgesEdits (bytes script : List ℕ) (program : Program) (facts : Fa
   pub are : AreEditsOf script edits
   pub judged : AreJudged facts sets (start_from facts table lattice) [] edits after told
 
--- the tokens of what is written derive a tree that resolves to a typed program; it rebuilds the old one over the hierarchy, offers each row its
--- columns, and has for all words and every bound on the steps the same output, end and steps
+-- the tokens of what is written derive a tree without a constructor that resolves to a typed program; it rebuilds the old one over the hierarchy,
+-- offers each row its columns, and has for all words and every bound on the steps the same output, end and steps
 pub record IsRebuilt (program : Program) (facts : Facts) (H : Hierarchy) (text : List ℕ) : Type 0 where
   pub tree : List DeclTree
   pub tokens : List Token
   pub lexed : tokens_of text ≡ Ok tokens
   pub derives : Derives tokens tree
+  pub makerless : has_maker tree ≡ false
   pub new : Program
   pub resolves : Resolves tree (program_of new)
   pub typed : IsTyped (program_of new)
@@ -205,6 +225,7 @@ abbrev pub Promises : Cmd → Files → Files → ℕ → List ℕ → List ℕ 
 Promises (lattice json bound file) first second status out err = status ≡ 0 → OfFile first file (λ bytes. ShowsLattice json bytes out)
 Promises (base file) first second status out err = status ≡ 0 → OfFile first file (λ bytes. ShowsBase bytes out)
 Promises (why file row column) first second status out err = status ≡ 0 → OfFile first file (λ bytes. ShowsTrail row column bytes out)
+Promises (sure file) first second status out err = status ≡ 0 → OfFile first file (λ bytes. ShowsSure bytes out)
 Promises (same file other) first second status out err = status ≡ 0 → OfFile first file (λ bytes. OfFile second other (λ others. IsSameProgram bytes others))
 Promises (edit bound file script) first second status out err = (status ≡ 0) ⊎ (status ≡ 4)
     → OfFile first file (λ bytes. OfFile second script (λ lines. TellsEdits bytes lines out err))

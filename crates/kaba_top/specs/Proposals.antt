@@ -1,5 +1,5 @@
 -- Mirror. What is known once a script was run on the hierarchy of a program, and once a tree of classes was looked for.
-use Rattle.std.specs.Prelude.{◌≡◌, ℕ, ◌≤◌, List, length}
+use Rattle.std.specs.Prelude.{ℕ, ◌≤◌, List, length}
 use Rattle.java_core.specs.declared.Program.{Program}
 use Rattle.fact_model.specs.declared.facts.Facts.{Facts}
 use Rattle.fact_model.specs.declared.sets.PointsTo.{PointsTo}

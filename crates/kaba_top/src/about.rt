@@ -22,6 +22,7 @@ pub fn help_reply(alloc: Global) -> Tried<Reply>
         \x20 lattice [-j] [-c N] FILE   prints the concept lattice of that table, as JSON with -j, of at most N concepts\n\
         \x20 base FILE                  prints the least base of implications of that table: which members always come together\n\
         \x20 why FILE ROW COLUMN        prints why the row has the column, step by step\n\
+        \x20 sure FILE                  prints what is sure of every run: casts that pass, calls with one body, members never reached\n\
         \x20 same FILE FILE             tells whether the programs of two files are one, but for layout and order\n\
         \x20 edit [-c N] FILE SCRIPT    prints the class hierarchy after the edits of a script, and a line for each refused one\n\
         \x20 regen [-c N] FILE SCRIPT   prints the program that is written of that hierarchy, its classes brought into a tree\n\

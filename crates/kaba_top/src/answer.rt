@@ -4,7 +4,7 @@
 ghost use Rattle.std.specs.Prelude.{◌≡◌, ◌≤◌, IfOk, length, string_bytes};
 ghost use Rattle.kaba_top.specs.Words.{texts, most_bytes, IsTask};
 ghost use Rattle.kaba_base.specs.Outside.{Files};
-ghost use Rattle.kaba_words.specs.Commands.{run, table, lattice, base, why, most_concepts};
+ghost use Rattle.kaba_words.specs.Commands.{run, table, lattice, base, why, sure, most_concepts};
 ghost use Rattle.kaba_top.specs.Answers.{CommandReplies, Replies};
 ghost use Rattle.kaba_top.specs.Fetching.{FileReplies};
 ghost use Rattle.kaba_top.specs.Shown.{ShownAnswers, command_showing};
@@ -21,6 +21,7 @@ use crate::reply::Reply;
 use crate::run::run_text;
 use crate::same::same_command;
 use crate::script::Task;
+use crate::sure::sure_text;
 use crate::why::{Asked, why_text};
 use kaba_base::Shelf;
 use kaba_words::{Command, WordsFault, read_words};
@@ -98,6 +99,17 @@ fn why_command<F: Shelf>(
 {
     match fetch_file(alloc, shelf, file)? {
         Fetched::Bytes(bytes) => why_text(alloc, &bytes, Asked { row, column }),
+        Fetched::Refused(reply) => Ok(reply),
+    }
+}
+
+/// The reply of `sure`.
+fn sure_command<F: Shelf>(alloc: Global, shelf: &mut F, file: &String) -> Tried<Reply>
+    ensures replies { IfOk result (λ reply. CommandReplies (F.files shelf.old) (F.faults shelf.old)
+        (F.faults shelf.new) (sure (string_bytes file.now)) reply.status reply.out.items reply.err.items) }
+{
+    match fetch_file(alloc, shelf, file)? {
+        Fetched::Bytes(bytes) => sure_text(alloc, &bytes),
         Fetched::Refused(reply) => Ok(reply),
     }
 }
@@ -182,6 +194,7 @@ pub fn answer<F: Shelf>(alloc: Global, words: &Vec<String>, shelf: &mut F) -> Tr
         }
         Ok(Command::Base(file)) => base_command(alloc, shelf, &file),
         Ok(Command::Why(file, row, column)) => why_command(alloc, shelf, &file, row, column),
+        Ok(Command::Sure(file)) => sure_command(alloc, shelf, &file),
         Ok(Command::Same(file, other)) => same_command(alloc, shelf, &file, &other),
         Ok(Command::Edit(bound, file, script)) => {
             script_command(alloc, shelf, Shows::Hierarchy, &file, &script, bound)

@@ -22,6 +22,7 @@ mod reply;
 mod run;
 mod same;
 mod script;
+mod sure;
 mod why;
 
 use crate::answer::answer;

@@ -2,7 +2,7 @@
 use Rattle.std.proofs.Common.{◌≡◌, ℕ, ◌<◌, ◌^◌, Bool, true, false, List, [], ◌∷◌, refl, sym, ap, ◌∙◌, subst, arith, codes}
 use Rattle.std.proofs.lemmas.Fmt.{decimal_injective}
 use Rattle.kaba_words.proofs.Patterns.{other}
-use Rattle.kaba_words.specs.Commands.{Cmd, run, table, lattice, base, why, same, edit, regen, make, help, version, IsNumberWord, most_steps, most_concepts, most_samples, FitsRun, TakesFlag, BoundAfter, TakesBound, FitsLattice, FitsWhy, row_word, column_word, FitsEdit, FitsMake, FitsArguments, Fits}
+use Rattle.kaba_words.specs.Commands.{Cmd, run, table, lattice, base, why, sure, same, edit, regen, make, help, version, IsNumberWord, most_steps, most_concepts, most_samples, FitsRun, TakesFlag, BoundAfter, TakesBound, FitsLattice, FitsWhy, row_word, column_word, FitsEdit, FitsMake, FitsArguments, Fits}
 
 heads : {A : Type 0} {x y : A} {xs ys : List A} → x ∷ xs ≡ y ∷ ys → x ≡ y
 heads e = cc e
@@ -81,6 +81,8 @@ one_of name words (base f) (base f2) h k = ap base (heads (sym h.1 ∙ k.1))
 one_of name words (base f) d h k = absurd (other name (codes "base") words d h.0 refl k)
 one_of name words (why f r c) (why f2 r2 c2) h k = one_why words f f2 r r2 c c2 h.1 k.1
 one_of name words (why f r c) d h k = absurd (other name (codes "why") words d h.0 refl k)
+one_of name words (sure f) (sure f2) h k = ap sure (heads (sym h.1 ∙ k.1))
+one_of name words (sure f) d h k = absurd (other name (codes "sure") words d h.0 refl k)
 one_of name words (same a b) (same a2 b2) h k = let e = sym h.1 ∙ k.1 in λ i. same (heads e i) (heads (tails e) i)
 one_of name words (same a b) d h k = absurd (other name (codes "same") words d h.0 refl k)
 one_of name words (edit b f x) (edit b2 f2 x2) h k = let o = one_edit words b b2 f f2 x x2 h.1 k.1 in λ i. edit (o.0 i) (o.1 i) (o.2 i)

@@ -4,7 +4,7 @@ use Rattle.std.specs.Str.{bytes_eq}
 use Rattle.std.proofs.lemmas.Bool.{false≢true}
 use Rattle.std.proofs.lemmas.Slice.Eq.{bytes_eq-Decides}
 use Rattle.std.proofs.lemmas.Fmt.{decimal_injective}
-use Rattle.kaba_words.specs.Commands.{Cmd, run, table, lattice, base, why, same, edit, regen, make, help, version, FitsRun, FitsLattice, FitsWhy, NoEdit, NoMake, FitsNone, Fits, TakesFlag, TakesBound, BoundAfter, IsNumberWord, most_concepts, most_samples}
+use Rattle.kaba_words.specs.Commands.{Cmd, run, table, lattice, base, why, sure, same, edit, regen, make, help, version, FitsRun, FitsLattice, FitsWhy, NoEdit, NoMake, FitsNone, Fits, TakesFlag, TakesBound, BoundAfter, IsNumberWord, most_concepts, most_samples}
 
 -- two words that differ
 apart : (a b : List ℕ) → bytes_eq a b ≡ false → a ≡ b → ⊥
@@ -17,6 +17,7 @@ name_of (table file) = codes "table"
 name_of (lattice json bound file) = codes "lattice"
 name_of (base file) = codes "base"
 name_of (why file row column) = codes "why"
+name_of (sure file) = codes "sure"
 name_of (same first second) = codes "same"
 name_of (edit bound file script) = codes "edit"
 name_of (regen bound file script) = codes "regen"
@@ -52,6 +53,10 @@ pub none_of_why : {name : List ℕ} {more : List (List ℕ)} → name ≡ codes 
     → FitsNone (name ∷ more)
 none_of_why e none (why file row column) h = none file row column h.1
 none_of_why {name} {more} e none command h = other name (codes "why") more command e refl h
+
+pub none_of_sure : {name : List ℕ} {more : List (List ℕ)} → name ≡ codes "sure" → ((file : List ℕ) → more ≡ file ∷ [] → ⊥) → FitsNone (name ∷ more)
+none_of_sure e none (sure file) h = none file h.1
+none_of_sure {name} {more} e none command h = other name (codes "sure") more command e refl h
 
 pub none_of_same : {name : List ℕ} {more : List (List ℕ)} → name ≡ codes "same" → ((first second : List ℕ) → more ≡ first ∷ second ∷ [] → ⊥)
     → FitsNone (name ∷ more)

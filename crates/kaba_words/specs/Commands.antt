@@ -14,6 +14,7 @@ pub data Cmd : Type 0 where
   lattice : (json : Bool) (bound : ℕ) (file : List ℕ) → Cmd
   base : (file : List ℕ) → Cmd
   why : (file : List ℕ) (row column : ℕ) → Cmd
+  sure : (file : List ℕ) → Cmd
   same : (first second : List ℕ) → Cmd
   edit : (bound : ℕ) (file script : List ℕ) → Cmd
   regen : (bound : ℕ) (file script : List ℕ) → Cmd
@@ -32,6 +33,7 @@ command_of (commands.Table file) = table (string_bytes file)
 command_of (commands.Lattice json bound file) = lattice json bound (string_bytes file)
 command_of (commands.Base file) = base (string_bytes file)
 command_of (commands.Why file row column) = why (string_bytes file) row column
+command_of (commands.Sure file) = sure (string_bytes file)
 command_of (commands.Same first second) = same (string_bytes first) (string_bytes second)
 command_of (commands.Edit bound file script) = edit bound (string_bytes file) (string_bytes script)
 command_of (commands.Regen bound file script) = regen bound (string_bytes file) (string_bytes script)
@@ -145,6 +147,7 @@ FitsArguments name words (table file) = (name ≡ codes "table") × (words ≡ f
 FitsArguments name words (lattice json bound file) = (name ≡ codes "lattice") × FitsLattice words json bound file
 FitsArguments name words (base file) = (name ≡ codes "base") × (words ≡ file ∷ [])
 FitsArguments name words (why file row column) = (name ≡ codes "why") × FitsWhy words file row column
+FitsArguments name words (sure file) = (name ≡ codes "sure") × (words ≡ file ∷ [])
 FitsArguments name words (same first second) = (name ≡ codes "same") × (words ≡ first ∷ second ∷ [])
 FitsArguments name words (edit bound file script) = (name ≡ codes "edit") × FitsEdit words bound file script
 FitsArguments name words (regen bound file script) = (name ≡ codes "regen") × FitsEdit words bound file script

@@ -21,6 +21,8 @@ pub enum Command {
     Base(String),
     /// `why FILE ROW COLUMN`: why the row of this number has the column of this number.
     Why(String, u32, u32),
+    /// `sure FILE`: what is sure of every run of the file's program.
+    Sure(String),
     /// `same FILE FILE`: whether the programs of the two files are one.
     Same(String, String),
     /// `edit [-c N] FILE SCRIPT`: the hierarchy of the file's program after the edits of the script.
@@ -242,6 +244,17 @@ fn read_why(alloc: Global, mut arguments: Arguments<'_>) -> Result<Command, Word
     Ok(Command::Why(made!(String::from_str(alloc, file)), row, column))
 }
 
+/// The command `sure`, of which the words after its name are left.
+fn read_sure(alloc: Global, mut arguments: Arguments<'_>) -> Result<Command, WordsFault>
+    ensures command { IfOk result (λ command. Fits (codes "sure" ∷ texts arguments.entry.words.now) (command_of command)) }
+    ensures usage { result ≡ Err WordsFault.Usage → (file : List ℕ) → texts arguments.entry.words.now ≡ file ∷ [] → ⊥ }
+{
+    let Some(file) = arguments.last() else {
+        return Err(WordsFault::Usage);
+    };
+    Ok(Command::Sure(made!(String::from_str(alloc, file))))
+}
+
 /// The command `same`, of which the words after its name are left.
 fn read_same(alloc: Global, mut arguments: Arguments<'_>) -> Result<Command, WordsFault>
     ensures command { IfOk result (λ command. Fits (codes "same" ∷ texts arguments.entry.words.now) (command_of command)) }
@@ -356,6 +369,7 @@ fn read_named(alloc: Global, name: &str, arguments: Arguments<'_>) -> Result<Com
         "lattice" => read_lattice(alloc, arguments),
         "base" => read_base(alloc, arguments),
         "why" => read_why(alloc, arguments),
+        "sure" => read_sure(alloc, arguments),
         "same" => read_same(alloc, arguments),
         "edit" => read_edit(alloc, false, arguments),
         "regen" => read_edit(alloc, true, arguments),

@@ -1,15 +1,19 @@
-//! The hierarchy that a program starts with: what its nodes offer, and which obligation it breaks.
+//! The hierarchy that a program starts with: what its nodes offer, which obligation it breaks, and that an edit is made
+//! and taken back.
 
 ghost use Rattle.std.specs.Prelude.{◌≡◌, ◌≤◌, length};
 ghost use Rattle.fact_model.specs.InRange.{InRange};
 ghost use Rattle.fact_model.specs.InOrder.{InOrder};
+ghost use Rattle.fact_model.specs.Flowing.{AreSets};
 ghost use Rattle.hier_model.specs.Hierarchies.{IsHierarchyOf};
+ghost use Rattle.hier_rules.specs.First.{MeetsEdit};
 
 use concept_build::concepts;
-use fact_model::Facts;
+use fact_model::{Facts, PointsTo};
 use flow_program::facts;
-use hier_model::{Hier, start};
+use hier_model::{Edit, Hier, start};
 use hier_rules::{Asked, Broken, first_broken};
+use hier_undo::apply_and_take_back;
 use java_check::check;
 use java_core::Checked;
 use java_lex::lex;
@@ -26,7 +30,7 @@ const TEXT: &[u8] = b"class A { int f; int g; }\n\
     A x = new A(); x.f = 1; A y = new A(); y.g = 2; A z = new A(); z.f = 3; z.g = 4; } }\n";
 
 /// The typed program of a text, if it is that of one.
-fn typed(alloc: Global, bytes: &Vec<u8>) -> Result<Option<Checked>, AllocError>
+pub fn typed(alloc: Global, bytes: &Vec<u8>) -> Result<Option<Checked>, AllocError>
     requires small { length bytes.now.items ≤ 1048576 }
 {
     let Ok(tokens) = lex(alloc, bytes) else {
@@ -74,6 +78,27 @@ fn add_broken(text: &mut String, broken: Option<Broken>) -> Result<(), AllocErro
     }
 }
 
+/// Merges two nodes and takes that back: whether it was made, and the hierarchy, which is as before.
+fn add_undone(
+    alloc: Global,
+    text: &mut String,
+    facts: &Facts,
+    sets: &PointsTo,
+    mut hier: Hier,
+) -> Result<(), AllocError>
+    requires range { InRange facts.now }
+    requires sets { AreSets facts.now sets.now }
+    requires fits { IsHierarchyOf facts.now hier }
+    requires meets { MeetsEdit facts.now sets.now hier }
+{
+    let edit = Edit::Merge([NodeId(1), NodeId(2)].to_vec(alloc)?);
+    match apply_and_take_back(alloc, &mut hier, facts, sets, &edit) {
+        Ok(()) => text.push_str("a merge is made and taken back\n")?,
+        Err(_) => text.push_str("a merge is refused\n")?,
+    }
+    add_offered(alloc, text, facts, &hier)
+}
+
 /// The hierarchy that facts start with.
 fn add_start(alloc: Global, text: &mut String, facts: &Facts) -> Result<(), AllocError>
     requires range { InRange facts.now }
@@ -92,7 +117,8 @@ fn add_start(alloc: Global, text: &mut String, facts: &Facts) -> Result<(), Allo
         pt: &sets,
         hier: &hier,
     };
-    add_broken(text, first_broken(alloc, &asked)?)
+    add_broken(text, first_broken(alloc, &asked)?)?;
+    add_undone(alloc, text, facts, &sets, hier)
 }
 
 /// The hierarchy that the program starts with.

@@ -6,15 +6,19 @@ mod hierarchy;
 mod layout;
 mod orders;
 mod outside;
+mod readings;
 mod sets;
+mod sure;
 
 use hierarchy::add_hierarchy;
 use layout::add_again;
 use orders::add_orders;
 use outside::{add_reads, add_writes};
+use readings::add_readings;
 use sets::add_sets;
 use std::alloc::{AllocError, Global};
 use std::io::{self, Read};
+use sure::add_sure;
 
 fn main(rt: HostRuntime) -> io::Result<()> {
     let alloc = rt.alloc();
@@ -35,6 +39,8 @@ fn lines(alloc: Global, program: &Vec<u8>) -> Result<String, AllocError> {
     add_sets(alloc, &mut text)?;
     add_orders(alloc, &mut text)?;
     add_hierarchy(alloc, &mut text)?;
+    add_sure(alloc, &mut text)?;
+    add_readings(alloc, &mut text)?;
     add_again(alloc, &mut text, program)?;
     Ok(text)
 }

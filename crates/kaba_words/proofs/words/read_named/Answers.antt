@@ -1,4 +1,4 @@
-use Rattle.kaba_words.proofs.Patterns.{none_of_run, none_of_table, none_of_lattice, none_of_base, none_of_why, none_of_same, none_of_edit, none_of_regen, none_of_make}
+use Rattle.kaba_words.proofs.Patterns.{none_of_run, none_of_table, none_of_lattice, none_of_base, none_of_why, none_of_sure, none_of_same, none_of_edit, none_of_regen, none_of_make}
 use Rattle.kaba_words.proofs.words.read_named.Goals as goal
 
 pub returns-in-run-clause-usage : goal.returns-in-run-clause-usage
@@ -15,6 +15,9 @@ returns-in-base-clause-usage c = λ h. none_of_base c.in-base.is (c.read_base.en
 
 pub returns-in-why-clause-usage : goal.returns-in-why-clause-usage
 returns-in-why-clause-usage c = λ h. none_of_why c.in-why.is (c.read_why.ensures.usage h)
+
+pub returns-in-sure-clause-usage : goal.returns-in-sure-clause-usage
+returns-in-sure-clause-usage c = λ h. none_of_sure c.in-sure.is (c.read_sure.ensures.usage h)
 
 pub returns-in-same-clause-usage : goal.returns-in-same-clause-usage
 returns-in-same-clause-usage c = λ h. none_of_same c.in-same.is (c.read_same.ensures.usage h)
