@@ -23,7 +23,8 @@ trans A B C a b = ⊎_elim
     (λ ge. record {
       at = b.at;
       below = λ j l. a.below j (omega (arith, l, ge)) ∙ b.below j l;
-      lacks = ⊎_elim (λ lt. a.below b.at lt ∙ b.lacks) (λ le. let e : a.at ≡ b.at = omega (arith, ge, le) in subst (λ k. bit A k ≡ false) e a.lacks) (cases_lt b.at a.at);
+      lacks = ⊎_elim (λ lt. a.below b.at lt ∙ b.lacks) (λ le. let e : a.at ≡ b.at = omega (arith, ge, le) in subst (λ k. bit A k ≡ false) e a.lacks)
+          (cases_lt b.at a.at);
       has = b.has;
     })
     (cases_lt a.at b.at)
@@ -61,7 +62,8 @@ lectic_rank-before (x ∷ A) (y ∷ B) l b = by (λ c. lectic_rank-before A B (o
     by go (suc n) e =
         let h : x ≡ y = b.below 0 (omega (arith, e)) in
         let r = go (tail_before x y A B n b e) in
-        let p : lectic_rank (x ∷ A) ≡ cond y (power_of_two (length B)) 0 + lectic_rank A = ap (λ x. cond x (power_of_two (length A)) 0 + lectic_rank A) h ∙ ap (λ m. cond y (power_of_two m) 0 + lectic_rank A) same in
+        let p : lectic_rank (x ∷ A) ≡ cond y (power_of_two (length B)) 0 + lectic_rank A = ap (λ x. cond x (power_of_two (length A)) 0
+        + lectic_rank A) h ∙ ap (λ m. cond y (power_of_two m) 0 + lectic_rank A) same in
         omega (arith, p, r)
 
 module _ (T : List (List Bool)) (w : ℕ) where

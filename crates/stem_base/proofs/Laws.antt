@@ -44,7 +44,8 @@ module _ (T : List (List Bool)) (w : ℕ) where
       closed_under_is base b X len,
       λ is k d lt sub.
           let r = get_or base k d in
-          subst (λ (Q : List Bool). IsSubset Q X) (sym (b.stems.each k d lt).1) (subst (λ (Y : List Bool). IsSubset (common T w r.0) Y) (sym is) (grows r.0 X sub)),
+          subst (λ (Q : List Bool). IsSubset Q X) (sym (b.stems.each k d lt).1) (subst (λ (Y : List Bool). IsSubset (common T w r.0) Y) (sym is)
+          (grows r.0 X sub)),
     );
   }
 

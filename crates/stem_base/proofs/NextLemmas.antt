@@ -27,7 +27,8 @@ module _ (A : List Bool) (i : ℕ) (S : List Bool) where
 
   pub none_at : (k : ℕ) → IsLeastFrom (λ j. bit S j && not (bit A j)) 0 k → OnFalse (nat_lt k i) (AddsNoneBelow A i S)
   none_at k f = OnFalse_from (nat_lt k i) (AddsNoneBelow A i S) (λ e j lt h.
-      has_both (bit S j) (bit A j) h (f.least j (omega arith) (⊎_elim (λ l. absurd (false≢true (sym e ∙ lt-ltb k i l))) (λ ge. omega (arith, ge, lt)) (cases_lt k i))))
+      has_both (bit S j) (bit A j) h (f.least j (omega arith) (⊎_elim (λ l. absurd (false≢true (sym e ∙ lt-ltb k i l))) (λ ge. omega (arith, ge, lt))
+      (cases_lt k i))))
 
   pub none_there : IsNoneFrom (λ j. bit S j && not (bit A j)) 0 (length S) → AddsNoneBelow A i S
   none_there f j lt h = has_both (bit S j) (bit A j) h (f j (omega arith) (bit-below S j h))

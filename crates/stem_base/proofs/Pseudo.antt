@@ -61,6 +61,7 @@ module _ (w : ℕ) (cl : List Bool → List Bool)
       let closed : M ≡ cl M = closed_if M lenM (λ R s sub. in_both-most P Q (cl R)
       (inner P R p s (λ i h. in_both-left P Q i (sub i h)) (omega (arith, ltP, size-subset R M sub)))
       (inner Q R q s (λ i h. in_both-right P Q i (sub i h)) (omega (arith, ltQ, size-subset R M sub)))) in
-      notP (λ i h. in_both-left P Q i (subst (λ (X : List Bool). IsSubset (cl M) X) (sym closed) (λ i h. h) i (grows r.0 M (in_both-most P Q r.0 inP inQ) i (true_there i h)))))
+      notP (λ i h. in_both-left P Q i (subst (λ (X : List Bool). IsSubset (cl M) X) (sym closed) (λ i h. h) i
+      (grows r.0 M (in_both-most P Q r.0 inP inQ) i (true_there i h)))))
       (same_or_less M Q (lenM ∙ sym q.0) (in_both-right P Q)))
       (same_or_less M P (lenM ∙ sym p.0) (in_both-left P Q))

@@ -35,12 +35,14 @@ first_less k rest [] j lt some = absurd (omega (arith, some))
 first_less k rest (true ∷ b) j lt some = step_less k j rest (rising_from (j + 1) b) lt
 first_less k rest (false ∷ b) j lt some = first_less k rest b (j + 1) (omega (arith, lt)) (omega (arith, some, size-false b))
 
-pub rising_from_less : (k : ℕ) (a b : List Bool) → length a ≡ length b → size a ≡ size b → Precedes b a → slice_cmp nat_cmp (rising_from k a) (rising_from k b) ≡ Less
+pub rising_from_less : (k : ℕ) (a b : List Bool) → length a ≡ length b → size a ≡ size b → Precedes b a
+    → slice_cmp nat_cmp (rising_from k a) (rising_from k b) ≡ Less
 rising_from_less k [] b l s o = absurd (false≢true o.has)
 rising_from_less k (x ∷ a) [] l s o = absurd (omega (arith, l))
 rising_from_less k (true ∷ a) (false ∷ b) l s o = first_less k (rising_from (k + 1) a) b (k + 1) (omega arith) (omega (arith, s, size-true a, size-false b))
 rising_from_less k (true ∷ a) (true ∷ b) l s o =
-    step_same k (rising_from (k + 1) a) (rising_from (k + 1) b) (rising_from_less (k + 1) a b (omega (arith, l)) (omega (arith, s, size-true a, size-true b)) (inner true a b o))
+    step_same k (rising_from (k + 1) a) (rising_from (k + 1) b) (rising_from_less (k + 1) a b (omega (arith, l))
+    (omega (arith, s, size-true a, size-true b)) (inner true a b o))
 rising_from_less k (false ∷ a) (false ∷ b) l s o =
     rising_from_less (k + 1) a b (omega (arith, l)) (omega (arith, s, size-false a, size-false b)) (inner false a b o)
 rising_from_less k (false ∷ a) (true ∷ b) l s o = absurd (wrong o.at refl)

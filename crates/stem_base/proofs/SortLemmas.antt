@@ -106,7 +106,8 @@ module _ (w : ℕ) where
         ⊎_elim
         (λ same. absurd (differ k (k + 1) d (omega arith) lt same))
         (λ o. ⊎_elim
-        (λ before. absurd (let r = lectic_rank-before a.left b.left (la ∙ sym lb) before in let q = lectic_rank-lt b.left in let t = ap power_of_two lb in omega (arith, r, q, t, m)))
+        (λ before. absurd (let r = lectic_rank-before a.left b.left (la ∙ sym lb) before in let q = lectic_rank-lt b.left in
+        let t = ap power_of_two lb in omega (arith, r, q, t, m)))
         (λ before. by_rising (sides_of a) (sides_of b) e (rising_less a.left b.left (la ∙ sym lb) e before)) o)
         (three a.left b.left (la ∙ sym lb)))
         (cases_lt (size a.left) (size b.left))
@@ -126,7 +127,8 @@ module _ (w : ℕ) where
         (λ e. differ i j x ij jz (sym (same_left (sides_of b) (sides_of a) (wide j x jz ∙ sym (wide i x (omega (arith, ij, jz)))) e))) in
         let pa : get_or (all_sides zs) i d ≡ sides_of a = get_or-map sides_of zs i x d (omega (arith, ij, jz)) in
         let pb : get_or (all_sides zs) j d ≡ sides_of b = get_or-map sides_of zs j x d jz in
-        subst (λ (r : Sides). implication_cmp r (get_or (all_sides zs) j d) ≡ Less) (sym pa) (subst (λ (r : Sides). implication_cmp (sides_of a) r ≡ Less) (sym pb) less)
+        subst (λ (r : Sides). implication_cmp r (get_or (all_sides zs) j d) ≡ Less) (sym pa)
+        (subst (λ (r : Sides). implication_cmp (sides_of a) r ≡ Less) (sym pb) less)
 
 -- the same elements in another order have different left sides, if they had
 lectic_ranks : List Implication → List ℕ
@@ -144,7 +146,8 @@ differ_still w xs zs up wide p i j d ij jlt e =
     let a = get_or-map f xs k d m (omega (arith, kl, ll)) in
     let b = get_or-map f xs l d m ll in
     λ same. absurd (omega (arith, r, a, b, same)) in
-    let still = AllPairs-from_IsDistinct Decides-eqb (lectic_ranks zs) (IsDistinct-IsPermutation eqb flips (lectic_ranks xs) (lectic_ranks zs) (IsPermutation-map f xs zs p)
+    let still = AllPairs-from_IsDistinct Decides-eqb (lectic_ranks zs) (IsDistinct-IsPermutation eqb flips (lectic_ranks xs) (lectic_ranks zs)
+    (IsPermutation-map f xs zs p)
     (IsDistinct-from_AllPairs Decides-eqb (lectic_ranks xs) apart)) in
     let len = length-map zs f in
     still i j 0 ij (omega (arith, jlt, len)) (get_or-map f zs i d 0 (omega (arith, ij, jlt)) ∙ (ap lectic_rank e ∙ sym (get_or-map f zs j d 0 jlt)))

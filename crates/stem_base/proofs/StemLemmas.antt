@@ -18,12 +18,15 @@ narrowed_has R P C new s len bits =
     same_bits new (in_both C R) (len ∙ sym (length-in_both C R)) (λ i lt. bits i ∙ sym (bit-in_both C R i)) ∙ sym (rw (is_subset_from P R s, narrowed) refl)
 
 pub narrowed_lacks : (R P C : List Bool) → (IsSubset P R → ⊥) → C ≡ narrowed R P C
-narrowed_lacks R P C lacks = ⊎_elim (λ t. absurd (lacks (subset_is P R t))) (λ (f : is_subset P R ≡ false). sym (rw (f, narrowed) refl)) (cases_Bool (is_subset P R))
+narrowed_lacks R P C lacks = ⊎_elim (λ t. absurd (lacks (subset_is P R t))) (λ (f : is_subset P R ≡ false). sym (rw (f, narrowed) refl))
+    (cases_Bool (is_subset P R))
 
 pub all_below_is : (w : ℕ) (new : List Bool) → length new ≡ w → ((i : ℕ) → i < w → bit new i ≡ true) → new ≡ all_below w
-all_below_is w new len bits = same_bits new (all_below w) (len ∙ sym (length-all_below w)) (λ i lt. bits i (omega (arith, lt, len)) ∙ sym (bit-all_below w i (omega (arith, lt, len))))
+all_below_is w new len bits = same_bits new (all_below w) (len ∙ sym (length-all_below w)) (λ i lt. bits i (omega (arith, lt, len))
+    ∙ sym (bit-all_below w i (omega (arith, lt, len))))
 
-pub common_none : (T : List (List Bool)) (w : ℕ) (P new : List Bool) → length new ≡ w → ((i : ℕ) → i < w → bit new i ≡ true) → new ≡ common (drop (length T) T) w P
+pub common_none : (T : List (List Bool)) (w : ℕ) (P new : List Bool) → length new ≡ w → ((i : ℕ) → i < w → bit new i ≡ true)
+    → new ≡ common (drop (length T) T) w P
 common_none T w P new len bits = all_below_is w new len bits ∙ sym (ap (λ (U : List (List Bool)). common U w P) (drop_all (length T) T (omega arith)))
 
 -- each implication of the list has the width

@@ -44,5 +44,6 @@ stem_of P = (P, common table 5 P)
 -- - -> c1, c0 c1 -> c2, c1 c2 -> c0, c1 c3 -> c0 c2 c4, c1 c4 -> c0 c2 c3
 abbrev pub table_base : List Sides
 table_base =
-    stem_of (false ∷ false ∷ false ∷ false ∷ false ∷ []) ∷ stem_of (true ∷ true ∷ false ∷ false ∷ false ∷ []) ∷ stem_of (false ∷ true ∷ true ∷ false ∷ false ∷ [])
+    stem_of (false ∷ false ∷ false ∷ false ∷ false ∷ []) ∷ stem_of (true ∷ true ∷ false ∷ false ∷ false ∷ [])
+    ∷ stem_of (false ∷ true ∷ true ∷ false ∷ false ∷ [])
     ∷ stem_of (false ∷ true ∷ false ∷ true ∷ false ∷ []) ∷ stem_of (false ∷ true ∷ false ∷ false ∷ true ∷ []) ∷ []

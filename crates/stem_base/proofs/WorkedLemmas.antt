@@ -56,7 +56,8 @@ module _ (T : List (List Bool)) (w : ℕ) where
   test_of r base P h sub lt =
       let a = (and_parts (not (is_subset r.0 P && nat_lt (size r.0) (size P)) || is_subset r.1 P) (holds_lesser base P) h).0 in
       let b : (is_subset r.0 P && nat_lt (size r.0) (size P)) ≡ true = rw (is_subset_from r.0 P sub) (lt-ltb (size r.0) (size P) lt) in
-      ⊎_elim (λ n. absurd (false≢true (sym (ap not b) ∙ n))) (λ t. subset_is r.1 P t) (or_cases (not (is_subset r.0 P && nat_lt (size r.0) (size P))) (is_subset r.1 P) a)
+      ⊎_elim (λ n. absurd (false≢true (sym (ap not b) ∙ n))) (λ t. subset_is r.1 P t) (or_cases (not (is_subset r.0 P && nat_lt (size r.0) (size P)))
+      (is_subset r.1 P) a)
 
   -- a smaller set that is listed has its closure within P
   lesser_has : (base : List Sides) (P Q : List Bool) → AllByRecursion (Fits T w) base → length Q ≡ w → holds_lesser base P ≡ true → is_listed base Q ≡ true
@@ -89,10 +90,12 @@ module _ (T : List (List Bool)) (w : ℕ) where
 
     listed_of : (xs : List Sides) (r : Sides) → Contains xs r → is_listed xs r.0 ≡ true
     listed_of [] r c = absurd (omega (arith, c.1))
-    listed_of (x ∷ xs) r (zero, lt, e) = subst (λ (y : Sides). is_listed (x ∷ xs) y.0 ≡ true) e (or_left (same_set x.0 x.0) (is_listed xs x.0) (same_set_from x.0))
+    listed_of (x ∷ xs) r (zero, lt, e) = subst (λ (y : Sides). is_listed (x ∷ xs) y.0 ≡ true) e (or_left (same_set x.0 x.0) (is_listed xs x.0)
+        (same_set_from x.0))
     listed_of (x ∷ xs) r (suc k, lt, e) = or_right (same_set x.0 r.0) (is_listed xs r.0) (listed_of xs r (k, omega (arith, lt), e))
 
-    both : (n : ℕ) (P : List Bool) → size P < n → length P ≡ w → (is_listed base P ≡ true → IsPseudo w (common T w) P) × (IsPseudo w (common T w) P → is_listed base P ≡ true)
+    both : (n : ℕ) (P : List Bool) → size P < n → length P ≡ w → (is_listed base P ≡ true → IsPseudo w (common T w) P) × (IsPseudo w (common T w) P
+        → is_listed base P ≡ true)
     both zero P lt l = absurd (omega (arith, lt))
     both (suc n) P lt l = (
       λ h.
@@ -106,7 +109,8 @@ module _ (T : List (List Bool)) (w : ℕ) where
           let q = (both n r.0 (omega (arith, less, lt)) f.0).0 (listed_of base r c) in
           subst (λ (X : List Bool). IsSubset X P) (sym f.1)
           (inner w (common T w) (λ X len. common_wide T w X) (λ X len. common_holds T w X len) (λ X Y s. common_grows T w X Y s) P r.0 p q sub less)) in
-          let differs = ⊎_elim (λ t. absurd (p.1 (same_set_is P (common T w P) (l ∙ sym (common_wide T w P)) t))) (λ f. ap not f) (cases_Bool (same_set P (common T w P))) in
+          let differs = ⊎_elim (λ t. absurd (p.1 (same_set_is P (common T w P) (l ∙ sym (common_wide T w P)) t))) (λ f. ap not f)
+          (cases_Bool (same_set P (common T w P))) in
           said P l ∙ both_true (not (same_set P (common T w P))) (holds_lesser base P) differs holds,
     )
 

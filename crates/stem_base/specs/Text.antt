@@ -12,7 +12,8 @@ added r = filter (λ c. not (bit r.0 c)) (rising r.1)
 
 -- the line of an implication: its number, its left side, and what it adds
 abbrev pub implication_text : ℕ → Sides → List ℕ
-implication_text k r = codes "i" ++ (decimal k ++ (part_text (codes ":") (codes "c") (rising r.0) ++ (part_text (codes " ->") (codes "c") (added r) ++ codes "\n")))
+implication_text k r = codes "i"
+    ++ (decimal k ++ (part_text (codes ":") (codes "c") (rising r.0) ++ (part_text (codes " ->") (codes "c") (added r) ++ codes "\n")))
 
 -- the lines of implications, the first having the number k
 abbrev pub implications_text : ℕ → List Sides → List ℕ

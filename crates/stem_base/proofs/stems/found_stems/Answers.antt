@@ -32,7 +32,8 @@ returns-then-not-next_set c =
 
 pub scan-smaller : goal.scan-smaller
 scan-smaller c =
-    rw c.swap.ensures.x_after (step_falls c.args.table.now c.args.width c.scan.a c.note.new.base.items (record { kept = c.scan.invariant.kept; noted = c.in_ok-note.ensures })
+    rw c.swap.ensures.x_after (step_falls c.args.table.now c.args.width c.scan.a c.note.new.base.items
+    (record { kept = c.scan.invariant.kept; noted = c.in_ok-note.ensures })
     c.next_set.new.x c.if-not-next_set.ensures.next)
 
 pub scan-preserved : goal.scan-preserved

@@ -15,7 +15,8 @@ returns-in_ok-push c =
     let T = c.args.table.now in
     let w = c.args.width in
     let A = c.args.a.now in
-    noted_pushed T w A c.args.base.now.items c.push.new.self.items (record { left = c.in_ok-left.left; right = c.in_ok-closed.closed }) c.requires.kept c.requires.before
+    noted_pushed T w A c.args.base.now.items c.push.new.self.items (record { left = c.in_ok-left.left; right = c.in_ok-closed.closed })
+    c.requires.kept c.requires.before
     (λ s. false≢true (sym c.if-not-is_subset.true ∙ c.is_subset.ensures.1 (subst (λ (X : List Bool). IsSubset X A) (sym c.in_ok-closed.ensures) s)))
     c.in_ok-push.ensures.items c.in_ok-left.ensures c.in_ok-closed.ensures
 

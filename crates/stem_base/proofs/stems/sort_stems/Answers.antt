@@ -10,11 +10,13 @@ use Rattle.stem_base.proofs.stems.sort_stems.Goals as goal
 
 pub returns-in_err-sort_by_key-clause-same : goal.returns-in_err-sort_by_key-clause-same
 returns-in_err-sort_by_key-clause-same c = IsPermutation-map sides_of c.args.base.now.items c.sort_by_key.new.self.items
-    (IsPermutation-trans c.args.base.now.items c.reverse.new.self.items c.sort_by_key.new.self.items c.reverse.ensures.permutation c.in_err-sort_by_key.ensures.permutation)
+    (IsPermutation-trans c.args.base.now.items c.reverse.new.self.items c.sort_by_key.new.self.items c.reverse.ensures.permutation
+    c.in_err-sort_by_key.ensures.permutation)
 
 pub returns-clause-same : goal.returns-clause-same
 returns-clause-same c = IsPermutation-map sides_of c.args.base.now.items c.sort_by_key.new.self.items
-    (IsPermutation-trans c.args.base.now.items c.reverse.new.self.items c.sort_by_key.new.self.items c.reverse.ensures.permutation c.in_ok-sort_by_key.ensures.permutation)
+    (IsPermutation-trans c.args.base.now.items c.reverse.new.self.items c.sort_by_key.new.self.items c.reverse.ensures.permutation
+    c.in_ok-sort_by_key.ensures.permutation)
 
 pub returns-clause-ordered : goal.returns-clause-ordered
 returns-clause-ordered c =
