@@ -6,7 +6,7 @@ import subprocess
 from cases import TESTS, BadCase, read_case, read_cases
 from kaba_tools import HERE
 
-COMMANDS = {"run", "table", "lattice", "base", "why", "same", "edit", "regen", "make"}
+COMMANDS = {"run", "table", "lattice", "base", "why", "sure", "same", "edit", "regen", "make"}
 
 # A case with all that a case may have, and what it stands for.
 WHOLE = r"""A title

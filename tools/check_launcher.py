@@ -35,6 +35,7 @@ WORDS = [
     *("", "-h", "runn x", "run", "run x", "run x y", "run x 01", "run x 1000000001", "run x 5 a b", "table", "table a b"),
     *("base", "base f", "base -c 5 f", "base f g"),
     *("why", "why f", "why f r0", "why f 0 c0", "why f r0 c01", "why f r0 c0 c1", "why f r0 c4294967296", "same", "same f", "same f g h"),
+    *("sure", "sure f", "sure -c 5 f", "sure f g"),
     *("lattice", "lattice -j", "lattice -j -c 0 f", "lattice -c 5 -j f", "lattice -c", "lattice -c 5", "lattice f -j"),
     *("edit f", "edit f g h", "edit -c 20000 f g", "edit f g -c 5", "edit -c f g", "regen f", "make", "make 0", "make 101"),
     *("make -p", "make 5 -p", "make -p 2", "--help x", "--version x", "--help", "lattice -j -j", "lattice -j f -c 5"),

@@ -10,6 +10,7 @@ FORMS = {
     "lattice": "lattice [-j] [-c N] FILE",
     "base": "base FILE",
     "why": "why FILE ROW COLUMN",
+    "sure": "sure FILE",
     "same": "same FILE FILE",
     "edit": "edit [-c N] FILE SCRIPT",
     "regen": "regen [-c N] FILE SCRIPT",
@@ -17,11 +18,11 @@ FORMS = {
     "--help": "--help",
     "--version": "--version",
 }
-FILES = {"run": 1, "table": 1, "lattice": 1, "base": 1, "why": 1, "same": 2, "edit": 2, "regen": 2}
+FILES = {"run": 1, "table": 1, "lattice": 1, "base": 1, "why": 1, "sure": 1, "same": 2, "edit": 2, "regen": 2}
 WORDS_BEHIND = {"run": 1, "make": 1, "why": 2}
 MEANT = {"-h": "--help", "-help": "--help", "help": "--help", "-v": "--version", "-V": "--version"}
 MEANT |= {"version": "--version", "implications": "base", "write": "regen", "split": "edit", "analyse": "lattice", "analyze": "lattice"}
-MEANT |= {"explain": "why", "diff": "same", "equal": "same"}
+MEANT |= {"explain": "why", "diff": "same", "equal": "same", "dead": "sure", "safe": "sure"}
 
 
 def is_number(word, least, most):

@@ -6,6 +6,7 @@ import subprocess
 import sys
 
 from kaba_tools import HERE, fail
+from report_sure import words_by_place
 
 PAGE = """<!DOCTYPE html>
 <html lang="en">
@@ -28,6 +29,7 @@ pre, .mono { font: 13px/1.5 monospace; }
 .node text { pointer-events: none; }
 #text { border: 1px solid #bbb; overflow: auto; padding: .5rem 0; box-sizing: border-box; position: relative; }
 #text div { white-space: pre; padding: 0 .6rem; } #text div.lit { background: #ffe45c; }
+#text div.sure { border-left: 4px solid #3a9a4e; padding-left: calc(.6rem - 4px); }
 #text i { color: #777; font-style: normal; display: inline-block; width: 3rem; user-select: none; }
 .here-too { font-weight: bold; } .key span { white-space: nowrap; padding: 0 .35rem; border: 1px solid #bbb; margin-right: .25rem; }
 a { color: #0b50a8; cursor: pointer; }
@@ -39,6 +41,7 @@ a { color: #0b50a8; cursor: pointer; }
 <p class="key">A box is a concept: its members stand in the upper part, its variables and creations in the lower. What needs the
 concept's members stands in it or below, and it has what stands above. <span style="background:#ffe45c">the box</span>
 <span style="background:#dbe9fb">above: it has these members too</span> <span style="background:#fde8cf">below: these need its members</span>
+<span style="border-left:4px solid #3a9a4e">a line on which something is sure of every run: its tip says what</span>
 <a id="size">the whole picture</a></p>
 <div id="top">
 <div id="picture">@PICTURE@</div>
@@ -167,10 +170,16 @@ def data_of(analysis):
     return json.dumps({"columns": columns, "rows": rows, "concepts": concepts}).replace("</", "<\\/")
 
 
+def mark(said):
+    """The mark of a line on which something is sure of every run, or nothing."""
+    return f' class="sure" title="{html.escape(chr(10).join(said[1]))}"' if said else ""
+
+
 def page(analysis, title, sections, focus):
     """The whole page."""
     lines = analysis.given.shown_lines(analysis.source.data.decode(errors="replace"))
-    numbered = [f'<div id="line{n}"><i>{n}</i>{html.escape(line.rstrip())}</div>' for n, line in enumerate(lines, 1)]
+    sure = words_by_place(analysis)[0]
+    numbered = [f'<div id="line{n}"{mark(sure.get(n))}><i>{n}</i>{html.escape(line.rstrip())}</div>' for n, line in enumerate(lines, 1)]
     said = [f"<h2>{html.escape(heading)}</h2><pre>{html.escape(chr(10).join(lines))}</pre>" for heading, lines in sections]
     parts = {
         "TITLE": html.escape(title),

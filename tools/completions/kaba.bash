@@ -13,7 +13,7 @@ _kaba_words() {
 _kaba() {
     local cur=${COMP_WORDS[COMP_CWORD]} command=${COMP_WORDS[1]} at word
     if [ "$COMP_CWORD" = 1 ]; then
-        _kaba_words "run table lattice base why same edit regen make --help --version"
+        _kaba_words "run table lattice base why sure same edit regen make --help --version"
         return
     fi
     COMPREPLY=()
@@ -30,7 +30,7 @@ _kaba() {
         case $word in -j | -p) at=$((at - 1)) ;; -c) at=$((at - 2)) ;; esac
     done
     case $command.$at in
-        run.2 | table.2 | lattice.2 | base.2 | why.2 | same.2 | same.3 | edit.2 | regen.2) _kaba_files java ;;
+        run.2 | table.2 | lattice.2 | base.2 | why.2 | sure.2 | same.2 | same.3 | edit.2 | regen.2) _kaba_files java ;;
         edit.3 | regen.3) _kaba_files edits ;;
         run.*) _kaba_files "*" ;;
     esac
