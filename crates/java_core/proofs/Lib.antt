@@ -11,6 +11,7 @@ pub mod Words
 pub mod Locals
 pub mod OwnedLemmas
 pub mod Buckets
+pub mod MakerNames
 pub mod Meets
 pub mod Reached
 pub mod SquareLemmas

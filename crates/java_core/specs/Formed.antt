@@ -12,7 +12,8 @@ use Rattle.java_core.specs.declared.UnOp.{UnOp}
 use Rattle.java_core.specs.declared.BinOp.{BinOp}
 use Rattle.java_core.specs.Trees.{Tag, Ex, Exs, no_ex, ex_then, number, character, text, truth, null, this, local, static_field, own_field, field, index, call, static_call, super_call, create, create_array, cast, instance_of, unary, binary, Target, to_local, to_static, to_own, to_field, to_element, no_target, St, Sts, IfArms, declare, block, assign, act, print, choose, loop, return, break, continue, no_st, st_then, no_other, otherwise, arm}
 use Rattle.java_core.specs.Plain.{Plain, PlainClass, PlainField, PlainMethod, PlainLocal, PlainSlot}
-use Rattle.java_core.specs.Classes.{IsSubclass, IsProperSubclass, field_of}
+use Rattle.java_core.specs.Classes.{IsSubclass, IsProperSubclass, parent_of, field_of}
+use Rattle.java_core.specs.Makers.{maker_of, IsMakerOf, IsMakerAbove, IsFormedMaker}
 use Rattle.java_core.specs.Types.{types_of}
 
 -- a number literal: below 2 ^ 31, or the least int
@@ -113,6 +114,10 @@ is_call (super_call t x es) = true
 is_call (create t n c es) = true
 is_call _ = false
 
+-- what a call names: a method, or in a constructor that of the superclass
+abbrev pub IsCalled : Plain → PlainMethod → List ℕ → Type 0
+IsCalled P k x = IsName x ⊎ IsMakerAbove P k x
+
 -- the body of a method, with the locals in scope and whether a loop is around
 module _ (P : Plain) (k : PlainMethod) where
   mutual
@@ -129,7 +134,7 @@ module _ (P : Plain) (k : PlainMethod) where
       f_own_field : {t : Tag} {f : ℕ} → k.is_static ≡ false → IsOwnField P k.owner f → FormedEx scope (own_field t f)
       f_field : {t : Tag} {e : Ex} {x : List ℕ} → FormedEx scope e → IsName x → FormedEx scope (field t e x)
       f_index : {t : Tag} {e i : Ex} → FormedEx scope e → FormedEx scope i → FormedEx scope (index t e i)
-      f_call : {t : Tag} {e : Ex} {x : List ℕ} {es : Exs} → FormedEx scope e → IsName x → FormedExs scope es → FormedEx scope (call t e x es)
+      f_call : {t : Tag} {e : Ex} {x : List ℕ} {es : Exs} → FormedEx scope e → IsCalled P k x → FormedExs scope es → FormedEx scope (call t e x es)
       f_static_call : {t : Tag} {m : ℕ} {es : Exs} → IsStaticMethod P m → FormedExs scope es → FormedEx scope (static_call t m es)
       f_super_call : {t : Tag} {x : List ℕ} {es : Exs} → k.is_static ≡ false → IsName x → FormedExs scope es → FormedEx scope (super_call t x es)
       f_create : {t : Tag} {n c : ℕ} {es : Exs} → IsClass P c → FormedExs scope es → FormedEx scope (create t n c es)
@@ -340,7 +345,7 @@ numbers_below (suc n) = n ∷ numbers_below n
 
 -- a method is well formed: its name, its variables, its result, its class, its slot and its body
 pub record IsFormedMethod (P : Plain) (k : PlainMethod) : Type 0 where
-  pub name : IsName k.name
+  pub name : IsName k.name ⊎ IsMakerOf P k
   pub variables : (v : PlainLocal) → Contains (variables_of k) v → IsFormedLocal P v
   pub params : HasNoTwice (map (λ v. v.name) k.params)
   pub result : IsKnownResult P k.result
@@ -392,6 +397,9 @@ pub record IsFormed (P : Plain) : Type 0 where
       → IsSubclass P c k.owner
       → h.name ≡ k.name → (m ≡ n) ⊎ ((h.is_static ≡ false) × (h.slot ≡ k.slot))
   pub slots : (s : ℕ) (slot : PlainSlot) → slice_get P.slots s ≡ Some slot → IsFormedSlot P s slot
+  pub makers : (m : ℕ) (k : PlainMethod) → slice_get P.methods m ≡ Some k → (i : IsMakerOf P k) → IsFormedMaker P i.class k
+  -- a class has a constructor where its superclass has one
+  pub inherited : (c : ℕ) (b : ClassId) → parent_of P c ≡ Some b → is_some (maker_of P b.0) ≡ true → is_some (maker_of P c) ≡ true
   pub numbered : HasNoTwice (numbers_methods P.methods)
   pub main : PlainMethod
   pub main_stands : slice_get P.methods P.main ≡ Some main

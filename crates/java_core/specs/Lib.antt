@@ -6,6 +6,7 @@ pub mod Retagged
 pub mod MemberKeys
 pub mod Classes
 pub mod Found
+pub mod Makers
 pub mod Own
 pub mod Owned
 pub mod Nearest

@@ -10,6 +10,7 @@ use Rattle.java_core.specs.declared.BinOp.TheVariants as bin
 use Rattle.java_core.specs.Trees.{Tag, Ex, Exs, no_ex, ex_then, number, character, text, truth, null, this, local, static_field, own_field, field, index, call, static_call, super_call, create, create_array, cast, instance_of, unary, binary, Target, to_local, to_static, to_own, to_field, to_element, St, Sts, IfArms, declare, block, assign, act, print, choose, loop, return, break, continue, no_st, st_then, no_other, otherwise, arm}
 use Rattle.java_core.specs.Plain.{Plain, PlainClass, PlainMethod}
 use Rattle.java_core.specs.Classes.{below, is_interface, is_concrete, super_method, has_body, nearest_declaration}
+use Rattle.java_core.specs.Makers.{maker_of}
 use Rattle.java_core.specs.Types.{Static, a_value, Env, env_of, class_in, class_of, element_of, is_numeric, is_boolean, is_string, is_printable, fits, fits_in, are_comparable, Signature, call_signature, super_signature, signature_of_method, access_type, field_in, is_plus, static, target_type}
 
 -- what a prefix operator takes
@@ -66,7 +67,9 @@ module _ (P : Plain) (g : Env) where
       t_super_call : {t : Tag} {x : List ℕ} {es : Exs} {m : ℕ} {s : Signature} → super_method P g.self x ≡ Some m → has_body P m ≡ true
           → super_signature P g.self x ≡ Some s
           → TypedArgs es s.params → Typed (super_call t x es)
-      t_create : {t : Tag} {n c : ℕ} → is_concrete P c ≡ true → Typed (create t n c no_ex)
+      t_create : {t : Tag} {n c : ℕ} → is_concrete P c ≡ true → maker_of P c ≡ None → Typed (create t n c no_ex)
+      t_make : {t : Tag} {n c m : ℕ} {es : Exs} {s : Signature} → is_concrete P c ≡ true → maker_of P c ≡ Some m → signature_of_method P m ≡ Some s
+          → TypedArgs es s.params → Typed (create t n c es)
       t_create_array : {t : Tag} {n : ℕ} {u : Ty} {e : Ex} → Typed e → is_numeric (static P g e) ≡ true → Typed (create_array t n u e)
       t_cast : {t : Tag} {n : ℕ} {u : Ty} {e : Ex} → Typed e → can_cast P (static P g e) u ≡ true → Typed (cast t n u e)
       t_instance_of : {t : Tag} {n c : ℕ} {e : Ex} → Typed e → are_related P (class_of (static P g e)) (Some c) ≡ true → Typed (instance_of t n e c)

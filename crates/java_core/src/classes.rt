@@ -340,7 +340,7 @@ fn own_method(p: &Program, class: ClassId, name: &Name) -> Option<MemberId>
 }
 
 /// The member of a number.
-fn member(at: Option<usize>) -> Option<MemberId>
+pub fn member(at: Option<usize>) -> Option<MemberId>
     requires { IfSome at (λ i. i < 4294967295) }
     ensures { option_map (λ d. d.0) result ≡ at }
 {

@@ -12,6 +12,7 @@ mod classes;
 mod code;
 mod direct;
 mod made;
+mod makers;
 mod nearest;
 mod order;
 mod own;
@@ -28,6 +29,7 @@ pub use classes::{
 pub use code::Code;
 use java_lex::Units;
 use kaba_base::{ClassId, MemberId, Name, Place};
+pub use makers::{is_maker_name, maker_name, maker_of, maker_slot};
 pub use owned::{declared_fields, listed_under, note_under};
 pub use statics::{
     Static, StringMethod, access_type, binary_type, class_in, class_of, element_in, element_of,

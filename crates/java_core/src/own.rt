@@ -19,7 +19,7 @@ use crate::{Field, Method, Program};
 use kaba_base::{ClassId, Name};
 
 /// How many members of a class are looked through one by one; those of a class with more are looked up by name or slot.
-const FEW: usize = 32;
+pub const FEW: usize = 32;
 
 /// The members among which each of a name in a class is.
 fn named_in<'a, M: Member>(
