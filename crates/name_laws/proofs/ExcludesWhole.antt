@@ -1,15 +1,18 @@
 -- No condition holds of a tree that resolves.
-use Rattle.std.proofs.Common.{◌≡◌, ℕ, zero, suc, ◌<◌, ◌⊎◌, inl, inr, ⊎_elim, Bool, true, false, ◌||◌, ◌&&◌, List, [], ◌∷◌, map, length, Option, Some, None, refl, sym, ap, ◌∙◌, subst, arith}
+use Rattle.std.proofs.Common.{◌≡◌, ℕ, zero, suc, ◌<◌, ◌⊎◌, inl, inr, ⊎_elim, Bool, true, false, ◌||◌, ◌&&◌, List, [], ◌∷◌, map, length, Option, Some, None, drop, refl, sym, ap, ◌∙◌, subst, arith}
 use Rattle.std.specs.Prelude.{slice_get, if◌then◌else◌}
 use Rattle.std.specs.Option.{is_some}
 use Rattle.std.proofs.lemmas.Bool.{false≢true, or_left, or_right}
 use Rattle.std.specs.Str.{bytes_eq}
 use Rattle.std.proofs.lemmas.Slice.Eq.{bytes_eq-Decides}
 use Rattle.std.proofs.lemmas.Option.{slice_get_within}
-use Rattle.kaba_base.proofs.ListLemmas.{map_at, at_map, at_contains}
+use Rattle.kaba_base.proofs.ListLemmas.{map_at, at_map, at_contains, at_left}
 use Rattle.java_tree.specs.declared.Modifier.{Modifier}
+use Rattle.java_tree.specs.declared.Id.{Id}
 use Rattle.java_tree.specs.declared.Param.{Param}
-use Rattle.java_tree.specs.Syntax.{Statements, DeclTree}
+use Rattle.java_tree.specs.Syntax.{Expressions, Statements, DeclTree}
+use Rattle.java_core.specs.Trees.{Exs, Sts}
+use Rattle.java_core.specs.Makers.{maker_name}
 use Rattle.java_core.specs.Programs.{Plain, PlainClass, PlainMethod}
 use Rattle.java_core.specs.Classes.{IsSubclass}
 use Rattle.java_core.specs.Types.{types_of}
@@ -19,10 +22,10 @@ use Rattle.name_rules.specs.declared.Refusal.TheVariants.{PrivateReused}
 use Rattle.name_rules.specs.declared.parts.Kind.{Kind}
 use Rattle.name_laws.specs.declared.parts.Heading.{Heading}
 use Rattle.name_laws.specs.Tables.{is_above}
-use Rattle.name_rules.specs.Outline.{MethodAt, name_of, class_at, type_named, id_meant, faces_named, is_private, fields_in, methods_in, types_in, param_outline, method_outline, outline}
+use Rattle.name_rules.specs.Outline.{MethodAt, name_of, class_at, type_named, id_meant, faces_named, is_private, is_maker, fields_in, methods_from, implied_from, methods_in, types_in, param_outline, method_outline, outline}
 use Rattle.name_rules.specs.Meanings.{class_named, bound_names}
-use Rattle.name_rules.specs.Resolves.{HasSlot, no_slot, a_slot, StsResolve, params_from, here_of, heading_of, BodyResolves, r_no_body, r_body, Resolves}
-use Rattle.name_rules.specs.Conditions.{ConditionAt, unknown, type_twice, known_twice, super_twice, field_twice, method_twice, param_twice, loop, overload, type_as_field, type_as_param, face_as_parent, class_as_face, private_reused, no_main, modifiers_disagree, modifier_unfit, wrong_body, in_body, AreOneSlot, StsFault, HasModifiers, of_type, of_field, of_method}
+use Rattle.name_rules.specs.Resolves.{HasSlot, no_slot, a_slot, AllResolve, StsResolve, params_from, here_of, before_object, heading_of, UpResolves, r_no_up, r_up, BodyResolves, r_no_body, r_body, r_maker, Resolves}
+use Rattle.name_rules.specs.Conditions.{ConditionAt, unknown, type_twice, known_twice, super_twice, field_twice, method_twice, param_twice, loop, overload, type_as_field, type_as_param, face_as_parent, class_as_face, private_reused, no_main, modifiers_disagree, modifier_unfit, wrong_body, in_body, in_up, makers_written, maker_twice, maker_named, AreOneSlot, FaultInOne, StsFault, HasModifiers, of_type, of_field, of_method}
 use Rattle.name_laws.proofs.Sees.{same_some}
 use Rattle.name_laws.proofs.Runs.{stands-beside}
 use Rattle.name_laws.proofs.Modifiers.{AreFit}
@@ -32,7 +35,9 @@ use Rattle.name_laws.proofs.MethodClashes.{classes-count, owner-within, method_a
 use Rattle.name_laws.proofs.Bridge.{Steps, P, program-resolves, of-main}
 use Rattle.name_laws.proofs.FormedMembers.{body-at}
 use Rattle.name_laws.proofs.FormedWhole.{one-slot}
-use Rattle.name_laws.proofs.Excludes.{sts-holds}
+use Rattle.name_laws.proofs.MembersOf.{MethodIn, HasMaker, maker-from, makers-from}
+use Rattle.name_laws.proofs.MembersOf as members
+use Rattle.name_laws.proofs.Excludes.{none-holds as args-hold, sts-holds}
 
 params-names : (c : ℕ) (types : List (List ℕ)) (qs : List Param) → bound_names (params_from c (map (param_outline types) qs)) ≡ map (λ q. q.name) qs
 params-names c types [] = refl
@@ -138,11 +143,75 @@ module _ (tree : List DeclTree) (s : Steps tree) where
       names : map (λ q. q.name) x.head.params ≡ bound_names (params_from 0 k.0.params)
       names = sym (ap (λ z. bound_names (params_from 0 z.params)) k.2 ∙ params-names 0 (types_in tree) x.head.params)
 
-      go : BodyResolves (outline tree) x k.0 → ⊥
-      go (r_no_body none b l) = cc (sym none ∙ e)
-      go (r_body {xs = xs} some b h c) =
+      of-sts : {us : Statements} {xs : Sts} → x.body ≡ Some us
+          → StsResolve (outline tree) (here_of x) k.0 false (params_from 0 k.0.params) us xs → ⊥
+      of-sts {xs = xs} some h =
           sts-holds (outline tree) (here_of x) k.0 names f
           (subst (λ z. StsResolve (outline tree) (here_of x) k.0 false (params_from 0 k.0.params) z xs) (same_some (sym some ∙ e)) h)
+
+      go : BodyResolves (outline tree) x k.0 → ⊥
+      go (r_no_body none b l) = cc (sym none ∙ e)
+      go (r_body plain some b h c) = of-sts some h
+      go (r_maker maker some b u h c) = of-sts some h
+
+  -- no condition holds in the arguments of `super(..)`
+  up-holds : (i : ℕ) (x : MethodAt) (es : Expressions) (r : Refusal) → slice_get (methods_in tree) i ≡ Some x → x.up ≡ Some es
+      → FaultInOne (outline tree) (before_object x) (map (λ q. q.name) x.head.params) es r → ⊥
+  up-holds i x es r at e f = go (body-at res.bodies i x k.0 at k.1)
+    where
+      k : (k : PlainMethod) × (slice_get s.methods i ≡ Some k) × (heading_of k ≡ method_outline (types_in tree) x)
+      k = method-of i (method_outline (types_in tree) x) (method_at-outline tree i x at)
+
+      in-decl : MethodIn 1 tree x
+      in-decl = members.method-of tree s.formed i x at
+
+      names : map (λ q. q.name) x.head.params ≡ bound_names (params_from 0 k.0.params)
+      names = sym (ap (λ z. bound_names (params_from 0 z.params)) k.2 ∙ params-names 0 (types_in tree) x.head.params)
+
+      bodyless : x.body ≡ None → (b : Bool) → is_maker x ≡ b → is_maker x ≡ false
+      bodyless none false m = m
+      bodyless none true m = absurd (let c = (in-decl.is.maker m).1 in cc (sym c.1 ∙ none))
+
+      of-up : (up : Option Expressions) (us : Exs) → up ≡ Some es → UpResolves (outline tree) x (params_from 0 k.0.params) up us → ⊥
+      of-up None us g r_no_up = cc g
+      of-up (Some vs) us g (r_up h) =
+          args-hold (outline tree) (before_object x) (params_from 0 k.0.params) (subst (λ z. FaultInOne (outline tree) (before_object x) z es r) names f)
+          (subst (λ z. AllResolve (outline tree) (before_object x) (params_from 0 k.0.params) z us) (same_some g) h)
+
+      go : BodyResolves (outline tree) x k.0 → ⊥
+      go (r_no_body none b l) = cc (sym (in-decl.is.no_up (bodyless none (is_maker x) refl)) ∙ e)
+      go (r_body plain some b h c) = cc (sym (in-decl.is.no_up plain) ∙ e)
+      go (r_maker {es = us} maker some b u h c) = of-up x.up us e u
+
+  -- two constructors of one class
+  two-makers : (k : ℕ) (d : DeclTree) → slice_get tree k ≡ Some d → (i j : ℕ) (v w : Id) → slice_get (makers_written d) i ≡ Some v
+      → slice_get (makers_written d) j ≡ Some w → i < j → ⊥
+  two-makers k d at i j v w p q lt =
+      let m = makers-from 1 tree k (suc k) d at (omega arith) i j v w p q lt in
+      let a = in-tree m.0 in let b = in-tree m.1 in
+      let e = s.members.method_once m.0.number m.1.number m.0.method m.1.method a b (m.0.owner ∙ sym m.1.owner)
+      (named k d at v m.0 ∙ sym (named k d at w m.1)) in
+      let l = m.2 in omega (arith, e, l)
+    where
+      in-tree : {c : ℕ} {w : Id} (h : HasMaker c (methods_from 1 tree) w) → slice_get (methods_in tree) h.number ≡ Some h.method
+      in-tree h = at_left (methods_from 1 tree) (implied_from tree 1 tree) h.number h.method h.stands
+
+      named : (k : ℕ) (d : DeclTree) → slice_get tree k ≡ Some d → (w : Id) (h : HasMaker (suc k) (methods_from 1 tree) w)
+          → h.method.head.name ≡ maker_name (name_of d)
+      named k d at w h =
+          let c = (s.members.good h.number h.method (in-tree h)).maker h.maker in
+          let index : c.index ≡ k = let a = c.owned in let b = h.owner in omega (arith, a, b) in
+          c.name ∙ ap (λ z. maker_name (name_of z)) (same_some (sym c.stands ∙ ap (slice_get tree) index ∙ at))
+
+  -- a constructor of another name
+  other-name : (k : ℕ) (d : DeclTree) → slice_get tree k ≡ Some d → (i : ℕ) (w : Id) → slice_get (makers_written d) i ≡ Some w → w.name ≡ name_of d
+  other-name k d at i w p =
+      let h = maker-from 1 tree k (suc k) d at (omega arith) i w p in
+      let there = at_left (methods_from 1 tree) (implied_from tree 1 tree) h.number h.method h.stands in
+      let c = (s.members.good h.number h.method there).maker h.maker in
+      let index : c.index ≡ k = let a = c.owned in let b = h.owner in omega (arith, a, b) in
+      let same = sym h.name ∙ c.name ∙ ap (λ z. maker_name (name_of z)) (same_some (sym c.stands ∙ ap (slice_get tree) index ∙ at)) in
+      ap (drop 1) same
 
   pub none-holds : (r : Refusal) → ConditionAt tree r → ⊥
   unfolding HasNoTwice
@@ -160,7 +229,7 @@ module _ (tree : List DeclTree) (s : Steps tree) where
       (at_map (id_meant (types_in tree)) (faces_named d) j g q ∙ ap (λ z. Some (class_at (type_named (types_in tree) z))) (sym same)) in
       omega (arith, e, lt)
   none-holds r (field_twice {i = i} {j = j} {f = f} {g = g} p q lt own same) = let e = s.members.field_once i j f g p q own same in omega (arith, e, lt)
-  none-holds r (method_twice {i = i} {j = j} {h = h} {k = k} p q lt own same) = let e = s.members.method_once i j h k p q own same in omega (arith, e, lt)
+  none-holds r (method_twice {i = i} {j = j} {h = h} {k = k} p q lt own same plain) = let e = s.members.method_once i j h k p q own same in omega (arith, e, lt)
   none-holds r (param_twice {m = x} {i = i} {j = j} {a = f} {b = g} at p q lt same) =
       let a = at_contains (methods_in tree) x at in
       let e = (s.members.good a.0 x a.1).params.once i j f.name (at_map (λ q. q.name) x.head.params i f p)
@@ -186,3 +255,7 @@ module _ (tree : List DeclTree) (s : Steps tree) where
       let a = at_contains mods m at in false≢true (sym ((fits kind mods has).fit a.0 m a.1) ∙ u)
   none-holds r (wrong_body {m = x} at w) = let a = at_contains (methods_in tree) x at in (s.members.good a.0 x a.1).body w
   none-holds r (in_body {m = x} {ss = ss} at e f) = let a = at_contains (methods_in tree) x at in body-holds a.0 x ss r a.1 e f
+  none-holds r (in_up {m = x} {es = es} at e f) = let a = at_contains (methods_in tree) x at in up-holds a.0 x es r a.1 e f
+  none-holds r (maker_twice {d = d} {i = i} {j = j} {a = v} {b = w} at p q lt) = let a = at_contains tree d at in two-makers a.0 d a.1 i j v w p q lt
+  none-holds r (maker_named {d = d} {i = w} at has other) =
+      let a = at_contains tree d at in let b = at_contains (makers_written d) w has in other (other-name a.0 d a.1 b.0 w b.1)

@@ -11,7 +11,7 @@ use Rattle.java_tree.specs.declared.TypeBase.TheVariants as bases
 use Rattle.java_tree.specs.Syntax.{Expression, IntLit, CharLit, StrLit, BoolLit, NullLit, ThisRef, NameRef, FieldOf, IndexOf, CallOf, CallOn, SuperCallOf, NewOf, NewArrayOf, CastOf, InstanceOfClass, UnaryOf, BinaryOf, Expressions, no_more, and_more}
 use Rattle.java_core.specs.declared.Field.{Field}
 use Rattle.java_core.specs.Trees.{at_place, Ex, own_field, Exs, no_ex, ex_then}
-use Rattle.java_core.specs.Programs.{Plain, PlainField, PlainMethod}
+use Rattle.java_core.specs.Programs.{Plain, PlainField}
 use Rattle.java_core.specs.Classes.{field_of, own_field_of}
 use Rattle.java_core.specs.Formed.{numbers, numbers_all}
 use Rattle.name_rules.specs.declared.Form.TheVariants as forms
@@ -242,7 +242,7 @@ module _ (t : Table) (O : Plain) (sees : Sees t O) where
       pub to : AllResolve O here scope es (exs more)
       pub numbered : Counts k (numbers_all (exs more)) w.1
 
-    whole : {es : Expressions} {k : ℕ} {w : Exs × ℕ} (u : WalksAll no_ex es k w) → w.0 ≡ exs u.more
+    pub whole : {es : Expressions} {k : ℕ} {w : Exs × ℕ} (u : WalksAll no_ex es k w) → w.0 ≡ exs u.more
     whole u = u.joined ∙ exs-pushed u.more
 
     abbrev Fault : Expression → Refusal → Type 0

@@ -40,7 +40,7 @@ pub record Suits (O : Plain) (here : Here) (P : Plain) (k : PlainMethod) : Type 
   pub static_field : (f : ℕ) (x : PlainField) → slice_get O.fields f ≡ Some x → x.is_static ≡ true → IsStaticField P f
   pub own : (n : List ℕ) (f : ℕ) (x : PlainField) → IsNearestField O here.owner n f x → x.is_static ≡ false → IsOwnField P k.owner f
   pub static_method : (m : ℕ) (x : PlainMethod) → slice_get O.methods m ≡ Some x → x.is_static ≡ true → IsStaticMethod P m
-  pub static : k.is_static ≡ here.is_static
+  pub static : here.is_static ≡ false → k.is_static ≡ false
 
 -- the names in scope and their numbers
 pub record ScopeIs (k : PlainMethod) (scope : List Bound) (nums : List ℕ) : Type 0 where
@@ -113,18 +113,18 @@ module _ (O : Plain) (here : Here) (P : Plain) (k : PlainMethod) (suits : Suits 
       formed r_text g = f_text g
       formed r_truth g = f_truth
       formed r_null g = f_null
-      formed (r_this h) g = f_this (suits.static ∙ h)
+      formed (r_this h) g = f_this (suits.static h)
       formed (r_local {n = n} {i = i} h) g = let f = s.found n i h in f_local f.0 f.1
       formed (r_static_field {f = f} {k = x} h near st own) g = f_static_field (suits.static_field f x near.stands st)
-      formed (r_own_field {n = n} {f = f} {k = x} h near st own) g = f_own_field (suits.static ∙ own) (suits.own n f x near st)
+      formed (r_own_field {n = n} {f = f} {k = x} h near st own) g = f_own_field (suits.static own) (suits.own n f x near st)
       formed (r_class_field {f = f} h c st) g = f_static_field (suits.static_field f st.member st.stands st.static)
       formed (r_field h) g = f_field (formed h g.0) g.1
       formed (r_index h i) g = f_index (formed h g.0) (formed i g.1)
       formed (r_own_static_call {m = m} {k = x} met st own es) g = f_static_call (suits.static_method m x met.stands st) (formed-all es g.1)
-      formed (r_own_call met st own es) g = f_call (f_this (suits.static ∙ own)) g.0 (formed-all es g.1)
+      formed (r_own_call met st own es) g = f_call (f_this (suits.static own)) (inl g.0) (formed-all es g.1)
       formed (r_static_call {m = m} h c st es) g = f_static_call (suits.static_method m st.member st.stands st.static) (formed-all es g.2)
-      formed (r_call h es) g = f_call (formed h g.0) g.1 (formed-all es g.2)
-      formed (r_super_call h es) g = f_super_call (suits.static ∙ h) g.0 (formed-all es g.1)
+      formed (r_call h es) g = f_call (formed h g.0) (inl g.1) (formed-all es g.2)
+      formed (r_super_call h es) g = f_super_call (suits.static h) g.0 (formed-all es g.1)
       formed (r_create {c = c} {k = d} h es) g = f_create (suits.classes c.name d h) (formed-all es g.1)
       formed (r_create_array {u = u} {t = t} m h) g = f_create_array (known-type u t m) (let d = m.dim in let l = g.1 in omega (arith, d, l)) (formed h g.2)
       formed (r_cast {u = u} {t = t} m h) g = f_cast (cast-type u t g.0 g.1 m) (formed h g.2)
@@ -143,7 +143,7 @@ module _ (O : Plain) (here : Here) (P : Plain) (k : PlainMethod) (suits : Suits 
     formed-target : (e : Expression) (x : Ex) → is_target e ≡ true → ResolvesTo O here scope e x → IsFormedExpression e → FormedTarget P k nums (target x)
     formed-target (NameRef n p) x t (r_local {i = i} h) g = let f = s.found n i h in f_to_local f.0 f.1
     formed-target (NameRef n p) x t (r_static_field {f = f} {k = y} h near st own) g = f_to_static (suits.static_field f y near.stands st)
-    formed-target (NameRef n p) x t (r_own_field {f = f} {k = y} h near st own) g = f_to_own (suits.static ∙ own) (suits.own n f y near st)
+    formed-target (NameRef n p) x t (r_own_field {f = f} {k = y} h near st own) g = f_to_own (suits.static own) (suits.own n f y near st)
     formed-target (FieldOf e n p) x t (r_class_field {f = f} h c st) g = f_to_static (suits.static_field f st.member st.stands st.static)
     formed-target (FieldOf e n p) x t (r_field h) g = f_to_field (formed h g.0) g.1
     formed-target (IndexOf e i p) x t (r_index h j) g = f_to_element (formed h g.0) (formed j g.1)

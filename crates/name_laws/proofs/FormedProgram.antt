@@ -60,7 +60,7 @@ classes-subclass P O e {a} (through {c = c} direct rest) =
     through (subst (λ z. Contains (option_to_list (option_and_then (λ k. k.parent) (slice_get z a)) ++ option_map_or (λ k. k.faces) (slice_get z a)
     []) c) e direct) (classes-subclass P O e rest)
 
-classes-proper : (P O : Plain) → P.classes ≡ O.classes → {a b : ℕ} → IsProperSubclass P a b → IsProperSubclass O a b
+pub classes-proper : (P O : Plain) → P.classes ≡ O.classes → {a b : ℕ} → IsProperSubclass P a b → IsProperSubclass O a b
 classes-proper P O e {a} h =
     record {
       by = h.by;

@@ -1,20 +1,25 @@
 -- The program that a tree resolves to is formed, whole.
-use Rattle.std.proofs.Common.{◌≡◌, ℕ, zero, suc, ◌+◌, ◌<◌, ◌≤◌, ◌⊎◌, inl, inr, ⊎_elim, Bool, true, false, not, ◌&&◌, List, Option, Some, None, refl, sym, ap, ◌∙◌, subst, arith}
-use Rattle.std.specs.Prelude.{slice_get}
-use Rattle.std.proofs.lemmas.Bool.{false≢true, eqb-true, cases_lt}
+use Rattle.std.proofs.Common.{◌≡◌, ℕ, zero, suc, ◌+◌, ◌<◌, ◌≤◌, ◌⊎◌, inl, inr, ⊎_elim, true, false, List, Some, refl, sym, ap, ◌∙◌, subst, arith}
+use Rattle.std.specs.Prelude.{slice_get, codes}
+use Rattle.std.specs.Option.{is_some}
+use Rattle.std.proofs.lemmas.Bool.{cases_lt}
+use Rattle.kaba_base.specs.declared.ClassId.{ClassId}
+use Rattle.kaba_base.proofs.ListLemmas.{append_cases}
 use Rattle.java_tree.specs.Syntax.{DeclTree}
 use Rattle.java_core.specs.Programs.{PlainMethod, PlainSlot}
-use Rattle.java_core.specs.Classes.{IsSubclass}
+use Rattle.java_core.specs.Classes.{IsSubclass, parent_of}
+use Rattle.java_core.specs.Makers.{maker_name, maker_of, IsMakerOf, IsFormedMaker}
 use Rattle.java_core.specs.Formed.{HasNoTwice, IsFormedSlot, IsMain, HasSmallNumbers, IsFormed}
 use Rattle.name_laws.specs.declared.parts.Heading.{Heading}
-use Rattle.name_rules.specs.Outline.{MethodAt, fields_in, methods_in, types_in, method_outline, outline}
+use Rattle.name_rules.specs.Outline.{MethodAt, name_of, fields_in, methods_from, implied_from, methods_in, types_in, method_outline, outline}
 use Rattle.name_rules.specs.Resolves.{heading_of, Counts, no_number, next_number, Resolves}
 use Rattle.name_laws.proofs.MethodClashes.{meeting}
-use Rattle.name_laws.proofs.Bridge.{Steps, P, whole, program-resolves}
+use Rattle.name_laws.proofs.Bridge.{Steps, P, whole, program-resolves, of-main}
 use Rattle.name_laws.proofs.Sees.{same_some}
 use Rattle.name_laws.proofs.FormedProgram.{classes-subclass, formed-object, formed-class, formed-names, formed-acyclic}
-use Rattle.name_laws.proofs.FormedMembers.{formed-field, formed-field_names, method-seen, formed-method}
-use Rattle.name_laws.proofs.MembersOf.{owners-rise}
+use Rattle.name_laws.proofs.FormedMembers.{formed-field, formed-field_names, method-seen, maker-alike, formed-maker, formed-method}
+use Rattle.name_laws.proofs.Inherited.{maker-below}
+use Rattle.name_laws.proofs.MembersOf.{implied-at, owners-rise}
 
 counts-at : {a b : ℕ} {ns : List ℕ} → Counts a ns b → (i x : ℕ) → slice_get ns i ≡ Some x → x ≡ a + i
 counts-at no_number i x e = absurd (cc e)
@@ -80,13 +85,35 @@ module _ (tree : List DeclTree) (s : Steps tree) where
         least = λ i k. res.slots.least n i slot k e;
       }
 
+  -- a main method is written
+  main-written : (i : ℕ) (x : MethodAt) → slice_get (methods_in tree) i ≡ Some x → IsMain (method_outline (types_in tree) x)
+      → slice_get (methods_from 1 tree) i ≡ Some x
+  main-written i x e is =
+      ⊎_elim (λ h. h)
+      (λ h. let k = implied-at tree 1 tree h.0 x h.2 in absurd (no-main (name_of k.decl) (ap (λ z. z.head.name) k.is ∙ is.name)))
+      (append_cases (methods_from 1 tree) (implied_from tree 1 tree) i x e)
+    where
+      no-main : (n : List ℕ) → maker_name n ≡ codes "main" → ⊥
+      no-main n f = cc f
+
   main-first : (j : ℕ) (k : PlainMethod) → slice_get (P tree s).methods j ≡ Some k → IsMain k → res.main.owner ≤ k.owner
   main-first j k e h =
       let le = res.main_first j k e h in
       let x = method-seen tree s s.main res.main res.main_stands in
       let y = method-seen tree s j k e in
-      let r = owners-rise 1 tree s.formed s.main j x.0 y.0 x.1 y.1 le in
+      let r = owners-rise 1 tree s.formed s.main j x.0 y.0 (main-written s.main x.0 x.1 (of-main x.2 res.main_is))
+      (main-written j y.0 y.1 (of-main y.2 h)) le in
       let p = ap (λ z. z.owner) x.2 in let q = ap (λ z. z.owner) y.2 in omega (arith, r, p, q)
+
+  -- a constructor is one of those that the tree has
+  makers : (i : ℕ) (k : PlainMethod) → slice_get (P tree s).methods i ≡ Some k → (m : IsMakerOf (P tree s) k) → IsFormedMaker (P tree s) m.class k
+  makers i k e m =
+      let x = method-seen tree s i k e in
+      formed-maker tree s i k e x.0 x.1 x.2 ((s.members.good i x.0 x.1).marked m.class.name (ap (λ z. z.name) (sym x.2) ∙ m.name)) m.class m.stands
+
+  inherited : (c : ℕ) (b : ClassId) → parent_of (P tree s) c ≡ Some b → is_some (maker_of (P tree s) b.0) ≡ true → is_some (maker_of (P tree s) c) ≡ true
+  inherited c b up has =
+      ap is_some (maker-alike tree s c) ∙ maker-below tree s c b up (sym (ap is_some (maker-alike tree s b.0)) ∙ has)
 
   pub is-formed : HasSmallNumbers (P tree s) → IsFormed (P tree s)
   is-formed counted = record {
@@ -100,6 +127,8 @@ module _ (tree : List DeclTree) (s : Steps tree) where
     method_names = method-names;
     one_slot = all-one-slot;
     slots = formed-slot;
+    makers = makers;
+    inherited = inherited;
     numbered = counts-once res.numbers;
     main = res.main;
     main_stands = res.main_stands;

@@ -8,6 +8,7 @@ use Rattle.std.proofs.lemmas.List.{map-append, append_assoc, length-append}
 use Rattle.std.proofs.lemmas.Slice.Eq.{bytes_eq-Decides}
 use Rattle.std.proofs.lemmas.Option.{slice_get_within}
 use Rattle.kaba_base.proofs.ListLemmas.{map_at, at_map, contains_at}
+use Rattle.java_lex.specs.Writable.{IsName}
 use Rattle.java_tree.specs.declared.TypeName.{TypeName}
 use Rattle.java_tree.specs.Syntax.{DeclTree}
 use Rattle.java_core.specs.declared.Ty.{Ty}
@@ -16,6 +17,7 @@ use Rattle.java_core.specs.declared.Local.{Local}
 use Rattle.java_core.specs.Programs.{PlainSlot, field_seen, local_seen}
 use Rattle.java_core.specs.Types.{types_of}
 use Rattle.java_core.specs.Formed.{IsMain}
+use Rattle.java_core.specs.Makers.{maker_name}
 use Rattle.java_core.proofs.Positions.{position-passes}
 use Rattle.name_rules.specs.declared.Refusal.TheVariants.{Twice, TwoKinds}
 use Rattle.name_rules.specs.declared.parts.Kind.TheVariants as kinds
@@ -26,13 +28,14 @@ use Rattle.name_laws.specs.Answers.{with}
 use Rattle.name_laws.specs.Names.{names_type, type_of}
 use Rattle.name_laws.specs.Tables.{field_in, method_in}
 use Rattle.name_laws.specs.Members.{Members, params_of, result_of, slot_in, with_slot, slotted, heading, add_heading, head_step, field_step}
-use Rattle.name_rules.specs.Outline.{FieldAt, MethodAt, fields_declared, methods_declared, fields_from, methods_from, fields_in, methods_in, is_static, is_private, has_word, is_abstract_word, types_in, is_type_name, type_meant, field_outline, param_outline, method_outline, outline}
+use Rattle.name_rules.specs.Outline.{FieldAt, MethodAt, fields_declared, methods_declared, fields_from, methods_from, fields_in, methods_in, is_static, is_private, has_word, is_abstract_word, types_in, name_of, is_maker_kind, is_maker, is_type_name, type_meant, field_outline, param_outline, method_outline, outline}
 use Rattle.name_rules.specs.Meanings.{Means}
 use Rattle.name_rules.specs.Asked.{of_field}
 use Rattle.name_rules.specs.Resolves.{IsOfSlot}
-use Rattle.name_rules.specs.Conditions.{ConditionAt, type_as_field, field_twice, method_twice, HasWrongBody}
+use Rattle.name_rules.specs.Conditions.{ConditionAt, type_as_field, field_twice, method_twice, HasWrongBody, missing, superfluous, in_concrete}
 use Rattle.name_laws.proofs.Sees.{Tells, tell}
 use Rattle.name_laws.proofs.Runs.{stands-at, earlier-stands, push-cases, none-passes, stands-beside, once-more}
+use Rattle.name_laws.proofs.MembersOf.{no-mark}
 use Rattle.name_laws.proofs.KnownTypes.{AreKnown}
 use Rattle.name_laws.proofs.Modifiers.{FlagsAre, NoStatic, AreFit}
 use Rattle.name_laws.proofs.Params.{AreParams, declared-tells, type_name-known, params-tells, result-tells}
@@ -80,6 +83,14 @@ module _ (tree : List DeclTree) (known : List KnownClass) (are : AreKnown tree k
     pub main : h.is_main ≡ true → IsMain (method_outline (types_in tree) m)
     pub no_main : IsMain (method_outline (types_in tree) m) → h.is_main ≡ true
 
+  -- a constructor has the name of its class
+  pub record IsMakerIn (m : MethodAt) : Type 0 where
+    pub index : ℕ
+    pub decl : DeclTree
+    pub stands : slice_get tree index ≡ Some decl
+    pub owned : m.owner ≡ suc index
+    pub name : m.head.name ≡ maker_name (name_of decl)
+
   -- no condition holds at a method
   pub record GoodMethod (m : MethodAt) : Type 0 where
     pub locals : List Local
@@ -89,6 +100,8 @@ module _ (tree : List DeclTree) (known : List KnownClass) (are : AreKnown tree k
     pub head : m.kind ≡ kinds.Head → is_static m ≡ false
     pub no_static : has_word is_abstract_word m.head.mods ≡ true → is_static m ≡ false
     pub fit : AreFit m.kind m.head.mods
+    pub maker : is_maker m ≡ true → IsMakerIn m
+    pub marked : (x : List ℕ) → m.head.name ≡ maker_name x → is_maker m ≡ true
 
   pub record GoodField (f : FieldAt) : Type 0 where
     pub free : is_type_name (types_in tree) f.name ≡ false
@@ -200,17 +213,16 @@ module _ (tree : List DeclTree) (known : List KnownClass) (are : AreKnown tree k
     slots = slots;
   }
 
-  pub head-tells : (fs : List FieldAt) (ms rest : List MethodAt) (n : MethodAt) (m : Members) (f : Flags) → methods_in tree ≡ ms ++ n ∷ rest
-      → FlagsAre n.head.mods f → NoStatic n.kind f → AreFit n.kind n.head.mods → (HasWrongBody n → ⊥) → AreMembers fs ms m
-      → Tells (AreMembers fs (ms ++ n ∷ [])) (ConditionAt tree) (head_step known n.owner m n.head f)
-  head-tells fs ms rest n m f e hf static fit body h = go (method_in m.headings n.owner n.head.name) refl
+  -- a method of which no condition holds
+  pub added : (fs : List FieldAt) (ms : List MethodAt) (n : MethodAt) (m : Members) (f : Flags) → FlagsAre n.head.mods f → NoStatic n.kind f
+      → AreFit n.kind n.head.mods → (HasWrongBody n → ⊥) → (is_maker n ≡ true → IsMakerIn n)
+      → ((x : List ℕ) → n.head.name ≡ maker_name x → is_maker n ≡ true) → AreMembers fs ms m
+      → ((i : ℕ) (a : MethodAt) → slice_get ms i ≡ Some a → a.owner ≡ n.owner → a.head.name ≡ n.head.name → ⊥) → (ls : List Local)
+      → AreParams tree known are n.head.params ls → (r : Option Ty)
+      → (r ≡ option_map (type_meant (types_in tree)) n.head.type) × ((u : TypeName) → n.head.type ≡ Some u → (t : Ty) × Means (outline tree) u t)
+      → AreMembers fs (ms ++ n ∷ []) (add_heading m n.owner n.head f ls r)
+  added fs ms n m f hf static fit body maker marked h fresh ls p r q = by_static f.is_static refl
     where
-      here : slice_get (methods_in tree) (length ms) ≡ Some n
-      here = stands-at ms n rest e
-
-      has : Contains (methods_in tree) n
-      has = contains_at (methods_in tree) (length ms) n here
-
       heads_it : (ls : List Local) (r : Option Ty) (s : Option ℕ) → AreParams tree known are n.head.params ls
           → r ≡ option_map (type_meant (types_in tree)) n.head.type → HeadIs (heading n.owner n.head f ls r s) n
       heads_it ls r s p q = record {
@@ -238,63 +250,76 @@ module _ (tree : List DeclTree) (known : List KnownClass) (are : AreKnown tree k
               → map (λ l. l.ty) ls ≡ types_of (map (param_outline (types_in tree)) n.head.params)
           types ls p = sym (map-twice ls) ∙ ap types_of p.same
 
-      more : ((i : ℕ) (a : MethodAt) → slice_get ms i ≡ Some a → a.owner ≡ n.owner → a.head.name ≡ n.head.name → ⊥) → (ls : List Local)
-          → AreParams tree known are n.head.params ls → (r : Option Ty)
-          → (r ≡ option_map (type_meant (types_in tree)) n.head.type) × ((u : TypeName) → n.head.type ≡ Some u → (t : Ty) × Means (outline tree) u t)
-          → AreMembers fs (ms ++ n ∷ []) (add_heading m n.owner n.head f ls r)
-      more fresh ls p r q = by_static f.is_static refl
-        where
-          good : GoodMethod n
-          good = record {
-            locals = ls;
-            params = p;
-            result = q.1;
-            body = body;
-            head = λ k. sym hf.static ∙ static.head k;
-            no_static = λ a. sym hf.static ∙ static.abstract (hf.abstract ∙ a);
-            fit = fit;
+      good : GoodMethod n
+      good = record {
+        locals = ls;
+        params = p;
+        result = q.1;
+        body = body;
+        head = λ k. sym hf.static ∙ static.head k;
+        no_static = λ a. sym hf.static ∙ static.abstract (hf.abstract ∙ a);
+        fit = fit;
+        maker = maker;
+        marked = marked;
+      }
+
+      map-twice : (ls : List Local) → types_of (map local_seen ls) ≡ map (λ l. l.ty) ls
+      map-twice [] = refl
+      map-twice (l ∷ ls) = ap (λ z. l.ty ∷ z) (map-twice ls)
+
+      signed : (s : PlainSlot) → HasSignature n.head.name ls r s → IsOfSlot s (method_outline (types_in tree) n)
+      signed s g = record { name = sym g.name; params = ap types_of (sym p.same) ∙ map-twice ls ∙ sym g.params; result = sym q.0 ∙ sym g.result }
+
+      by_slot : f.is_static ≡ false → (o : Option ℕ) → slot_in n.head.name ls r m.slots ≡ o
+          → AreMembers fs (ms ++ n ∷ []) (let s = with_slot o n.head.name ls r (length m.headings) m.slots in record
+          { fields = m.fields; headings = m.headings ++ heading n.owner n.head f ls r (Some s.0) ∷ []; slots = s.1 })
+      by_slot st (Some k) at =
+          let g = slot-found n.head.name ls r m.slots k at in
+          add fs ms n m (heading n.owner n.head f ls r (Some k)) m.slots h (heads_it ls r (Some k) p q.0) good fresh
+          (slots-old (types_in tree) ms m.headings n (heading n.owner n.head f ls r (Some k)) h.count m.slots h.slots
+          (one_of (sym hf.static ∙ st) refl g.1 (signed g.0 g.2)))
+      by_slot st None at =
+          let new : PlainSlot = record { name = n.head.name; params = map (λ l. l.ty) ls; result = r; first = length m.headings } in
+          add fs ms n m (heading n.owner n.head f ls r (Some (length m.slots))) (m.slots ++ new ∷ []) h
+          (heads_it ls r (Some (length m.slots)) p q.0) good fresh
+          (slots-new (types_in tree) ms m.headings n (heading n.owner n.head f ls r (Some (length m.slots))) h.count m.slots new h.slots
+          (sym hf.static ∙ st) refl refl (signed new (record { name = refl; params = refl; result = refl }))
+          (λ i s u a b c. slot-none n.head.name ls r m.slots at i s u (record { name = a; params = b; result = c })))
+
+      by_static : (b : Bool) → f.is_static ≡ b
+          → AreMembers fs (ms ++ n ∷ []) (if b then record {
+            fields = m.fields;
+            headings = m.headings ++ heading n.owner n.head f ls r None
+                ∷ [];
+            slots = m.slots;
           }
+          else let s = slotted n.head.name ls r (length m.headings) m.slots in record {
+            fields = m.fields;
+            headings = m.headings
+                ++ heading n.owner n.head f ls r (Some s.0) ∷ [];
+            slots = s.1;
+          })
+      by_static true st =
+          add fs ms n m (heading n.owner n.head f ls r None) m.slots h (heads_it ls r None p q.0) good fresh
+          (slots-old (types_in tree) ms m.headings n (heading n.owner n.head f ls r None) h.count m.slots h.slots (none_of (sym hf.static ∙ st) refl))
+      by_static false st = by_slot st (slot_in n.head.name ls r m.slots) refl
 
-          map-twice : (ls : List Local) → types_of (map local_seen ls) ≡ map (λ l. l.ty) ls
-          map-twice [] = refl
-          map-twice (l ∷ ls) = ap (λ z. l.ty ∷ z) (map-twice ls)
+  -- the body of a constructor is as it must be
+  pub no-wrong : (n : MethodAt) → n.kind ≡ kinds.Maker → HasWrongBody n → ⊥
+  no-wrong n kind (missing k f g) = cc (sym k ∙ kind)
+  no-wrong n kind (superfluous k f g) = false≢true (sym k ∙ ap is_maker_kind kind)
+  no-wrong n kind (in_concrete k f g) = false≢true (sym k ∙ ap is_maker_kind kind)
 
-          signed : (s : PlainSlot) → HasSignature n.head.name ls r s → IsOfSlot s (method_outline (types_in tree) n)
-          signed s g = record { name = sym g.name; params = ap types_of (sym p.same) ∙ map-twice ls ∙ sym g.params; result = sym q.0 ∙ sym g.result }
+  pub head-tells : (fs : List FieldAt) (ms rest : List MethodAt) (n : MethodAt) (m : Members) (f : Flags) → methods_in tree ≡ ms ++ n ∷ rest
+      → is_maker n ≡ false → IsName n.head.name → FlagsAre n.head.mods f → NoStatic n.kind f → AreFit n.kind n.head.mods → (HasWrongBody n → ⊥)
+      → AreMembers fs ms m → Tells (AreMembers fs (ms ++ n ∷ [])) (ConditionAt tree) (head_step known n.owner m n.head f)
+  head-tells fs ms rest n m f e plain named hf static fit body h = go (method_in m.headings n.owner n.head.name) refl
+    where
+      here : slice_get (methods_in tree) (length ms) ≡ Some n
+      here = stands-at ms n rest e
 
-          by_slot : f.is_static ≡ false → (o : Option ℕ) → slot_in n.head.name ls r m.slots ≡ o
-              → AreMembers fs (ms ++ n ∷ []) (let s = with_slot o n.head.name ls r (length m.headings) m.slots in record
-              { fields = m.fields; headings = m.headings ++ heading n.owner n.head f ls r (Some s.0) ∷ []; slots = s.1 })
-          by_slot st (Some k) at =
-              let g = slot-found n.head.name ls r m.slots k at in
-              add fs ms n m (heading n.owner n.head f ls r (Some k)) m.slots h (heads_it ls r (Some k) p q.0) good fresh
-              (slots-old (types_in tree) ms m.headings n (heading n.owner n.head f ls r (Some k)) h.count m.slots h.slots
-              (one_of (sym hf.static ∙ st) refl g.1 (signed g.0 g.2)))
-          by_slot st None at =
-              let new : PlainSlot = record { name = n.head.name; params = map (λ l. l.ty) ls; result = r; first = length m.headings } in
-              add fs ms n m (heading n.owner n.head f ls r (Some (length m.slots))) (m.slots ++ new ∷ []) h
-              (heads_it ls r (Some (length m.slots)) p q.0) good fresh
-              (slots-new (types_in tree) ms m.headings n (heading n.owner n.head f ls r (Some (length m.slots))) h.count m.slots new h.slots
-              (sym hf.static ∙ st) refl refl (signed new (record { name = refl; params = refl; result = refl }))
-              (λ i s u a b c. slot-none n.head.name ls r m.slots at i s u (record { name = a; params = b; result = c })))
-
-          by_static : (b : Bool) → f.is_static ≡ b
-              → AreMembers fs (ms ++ n ∷ []) (if b then record {
-                fields = m.fields;
-                headings = m.headings ++ heading n.owner n.head f ls r None
-                    ∷ [];
-                slots = m.slots;
-              }
-              else let s = slotted n.head.name ls r (length m.headings) m.slots in record {
-                fields = m.fields;
-                headings = m.headings
-                    ++ heading n.owner n.head f ls r (Some s.0) ∷ [];
-                slots = s.1;
-              })
-          by_static true st =
-              add fs ms n m (heading n.owner n.head f ls r None) m.slots h (heads_it ls r None p q.0) good fresh
-              (slots-old (types_in tree) ms m.headings n (heading n.owner n.head f ls r None) h.count m.slots h.slots (none_of (sym hf.static ∙ st) refl))
-          by_static false st = by_slot st (slot_in n.head.name ls r m.slots) refl
+      has : Contains (methods_in tree) n
+      has = contains_at (methods_in tree) (length ms) n here
 
       go : (o : Option ℕ) → o ≡ position (λ x. (x.owner == n.owner) && bytes_eq x.name n.head.name) m.headings
           → Tells (AreMembers fs (ms ++ n ∷ [])) (ConditionAt tree) (if is_some o then Err (Twice n.head.name n.head.place) else with
@@ -305,10 +330,12 @@ module _ (tree : List DeclTree) (known : List KnownClass) (are : AreKnown tree k
           let c = stands-beside m.headings ms h.count i a.0 a.1 in
           let d = h.heads i a.0 c.0 a.1 c.1 in
           method_twice (earlier-stands ms (n ∷ rest) e i c.0 c.1) here (slice_get_within ms i c.0 c.1) (sym d.owner ∙ b.0) (sym d.name ∙ b.1)
+          plain
       go None z =
           tell (AreMembers fs (ms ++ n ∷ [])) (ConditionAt tree) (params_of known n.head.params) _ (params-tells tree known are n has)
           (λ ls p. tell (AreMembers fs (ms ++ n ∷ [])) (ConditionAt tree) (result_of known n.head.type) _ (result-tells tree known are n has)
-          (λ r q. more fresh ls p r q) (λ r q. q))
+          (λ r q. added fs ms n m f hf static fit body (λ k. absurd (false≢true (sym plain ∙ k)))
+          (λ x k. absurd (no-mark x (subst IsName k named))) h fresh ls p r q) (λ r q. q))
           (λ r q. q)
         where
           fresh : (i : ℕ) (a : MethodAt) → slice_get ms i ≡ Some a → a.owner ≡ n.owner → a.head.name ≡ n.head.name → ⊥
@@ -317,3 +344,18 @@ module _ (tree : List DeclTree) (known : List KnownClass) (are : AreKnown tree k
               let d = h.heads i c.0 a c.1 at in
               none-passes (λ x. (x.owner == n.owner) && bytes_eq x.name n.head.name) m.headings (sym z) i c.0 c.1
               (true-both c.0.owner n.owner c.0.name n.head.name (d.owner ∙ u) (d.name ∙ v))
+
+  -- a constructor that is written
+  pub maker-tells : (fs : List FieldAt) (ms rest : List MethodAt) (n : MethodAt) (m : Members) (f : Flags) → methods_in tree ≡ ms ++ n ∷ rest
+      → n.kind ≡ kinds.Maker → n.head.type ≡ None → IsMakerIn n → FlagsAre n.head.mods f → NoStatic n.kind f → AreFit n.kind n.head.mods
+      → AreMembers fs ms m
+      → ((i : ℕ) (a : MethodAt) → slice_get ms i ≡ Some a → a.owner ≡ n.owner → a.head.name ≡ n.head.name → ⊥)
+      → Tells (AreMembers fs (ms ++ n ∷ [])) (ConditionAt tree)
+      (with (params_of known n.head.params) (λ ls. Ok (add_heading m n.owner n.head f ls None)))
+  maker-tells fs ms rest n m f e kind void in_class hf static fit h fresh =
+      tell (AreMembers fs (ms ++ n ∷ [])) (ConditionAt tree) (params_of known n.head.params) _ (params-tells tree known are n has)
+      (λ ls p. added fs ms n m f hf static fit (no-wrong n kind) (λ k. in_class) (λ x k. ap is_maker_kind kind) h fresh ls p None
+      (ap (option_map (type_meant (types_in tree))) (sym void), λ u k. absurd (cc (sym void ∙ k)))) (λ r q. q)
+    where
+      has : Contains (methods_in tree) n
+      has = contains_at (methods_in tree) (length ms) n (stands-at ms n rest e)

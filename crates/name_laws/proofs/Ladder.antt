@@ -1,13 +1,14 @@
 -- The types above those of an outline: nothing above Object, and Object alone as the parent of an interface.
 use Rattle.std.proofs.Common.{◌≡◌, ℕ, zero, suc, true, List, map, Option, Some, None, Contains, refl, sym, ap, ◌∙◌, subst, arith}
-use Rattle.std.specs.Prelude.{slice_get}
+use Rattle.std.specs.Prelude.{slice_get, option_and_then}
 use Rattle.std.proofs.lemmas.Bool.{false≢true}
 use Rattle.kaba_base.specs.declared.ClassId.{ClassId}
 use Rattle.kaba_base.proofs.ListLemmas.{at_contains, map_at, no-member}
 use Rattle.java_tree.specs.Syntax.{DeclTree, ClassTree, InterfaceTree}
 use Rattle.java_core.specs.Programs.{PlainClass}
 use Rattle.java_core.specs.Classes.{parent_of, faces_of, supers_of}
-use Rattle.name_rules.specs.Outline.{is_interface_of, parent_named, faces_named, types_in, id_meant, parent_meant, class_outline, outline}
+use Rattle.java_tree.specs.declared.Id.{Id}
+use Rattle.name_rules.specs.Outline.{is_interface_of, parent_named, faces_named, types_in, id_meant, parent_meant, object, outline}
 use Rattle.name_laws.specs.Known.{KnownClass}
 use Rattle.name_laws.proofs.Sees.{same_some}
 use Rattle.name_laws.proofs.KnownTypes.{AreKnown}
@@ -58,3 +59,24 @@ module _ (tree : List DeclTree) where
             let y = map_at (id_meant (types_in tree)) (faces_named d.0) x.0 f x.1 in
             let a = (supers c d.0 d.1).faces x.0 y.0 y.1 in
             (a.class, ap (λ z. slice_get (outline tree).classes z.0) (sym y.2 ∙ id-meant tree known are y.0 a.number a.named) ∙ a.stands, a.kind)
+
+    -- what a class extends is there
+    pub parent-stands : (c : ℕ) (b : ClassId) → parent_of (outline tree) c ≡ Some b → (k : PlainClass) × (slice_get (outline tree).classes b.0 ≡ Some k)
+    unfolding outline
+    parent-stands zero b up = absurd (cc up)
+    parent-stands (suc c) b up = go (slice_get (outline tree).classes (suc c)) refl
+      where
+        of-decl : (d : DeclTree) → slice_get tree c ≡ Some d → (o : Option Id) → parent_named d ≡ o
+            → (k : PlainClass) × (slice_get (outline tree).classes (parent_meant (types_in tree) o).0 ≡ Some k)
+        of-decl d at None e = (object, refl)
+        of-decl d at (Some i) e =
+            let a = (supers c d at).parent i e in
+            (a.class, ap (λ z. slice_get (outline tree).classes z.0) (id-meant tree known are i a.number a.named) ∙ a.stands)
+
+        go : (o : Option PlainClass) → slice_get (outline tree).classes (suc c) ≡ o → (k : PlainClass) × (slice_get (outline tree).classes b.0 ≡ Some k)
+        go None e = absurd (cc (sym (ap (option_and_then (λ k. k.parent)) e) ∙ up))
+        go (Some k) e =
+            let d = class_stands tree c k e in
+            let parent : parent_meant (types_in tree) (parent_named d.0) ≡ b =
+            same_some (ap (λ z. z.parent) d.2 ∙ sym (ap (option_and_then (λ k. k.parent)) e) ∙ up) in
+            subst (λ z. (k : PlainClass) × (slice_get (outline tree).classes z.0 ≡ Some k)) parent (of-decl d.0 d.1 (parent_named d.0) refl)

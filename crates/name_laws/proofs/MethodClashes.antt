@@ -1,12 +1,12 @@
 -- Methods of one name that meet in a type: of one slot, or a condition holds. And the main method.
-use Rattle.std.proofs.Common.{◌≡◌, ◌≢◌, ℕ, zero, suc, ◌+◌, ◌<◌, ◌≤◌, ◌⊎◌, inl, inr, ⊎_elim, Bool, true, false, not, ◌||◌, ◌&&◌, List, [], ◌∷◌, ◌++◌, length, Option, Some, None, Ok, refl, sym, ap, ◌∙◌, subst, arith}
+use Rattle.std.proofs.Common.{◌≡◌, ◌≢◌, ℕ, suc, ◌+◌, ◌<◌, ◌≤◌, ◌⊎◌, inl, inr, ⊎_elim, Bool, true, false, not, ◌||◌, ◌&&◌, List, [], ◌∷◌, ◌++◌, length, Option, Some, None, Ok, refl, sym, ap, ◌∙◌, subst, arith}
 use Rattle.std.specs.Prelude.{slice_get, if◌then◌else◌, ◌==◌, position}
 use Rattle.std.specs.Str.{bytes_eq}
 use Rattle.std.proofs.lemmas.Bool.{false≢true, and_parts, not-true, eqb-true, eq-eqb, eqb-false, or_cases}
 use Rattle.std.proofs.lemmas.List.{length-append, length-map}
 use Rattle.std.proofs.lemmas.Slice.Eq.{bytes_eq-Decides}
 use Rattle.kaba_base.proofs.ListLemmas.{map_at, at_map, append_cases}
-use Rattle.java_tree.specs.Syntax.{DeclTree, HeadTree, MemberTree, FieldTree, MethodTree, MakerTree, ClassTree, InterfaceTree}
+use Rattle.java_tree.specs.Syntax.{DeclTree}
 use Rattle.java_core.specs.Programs.{PlainMethod}
 use Rattle.java_core.specs.Classes.{IsSubclass}
 use Rattle.java_core.specs.Formed.{IsMain}
@@ -18,7 +18,7 @@ use Rattle.name_laws.specs.declared.parts.Heading.{Heading}
 use Rattle.name_laws.specs.Answers.{unless, run}
 use Rattle.name_laws.specs.Tables.{is_above}
 use Rattle.name_laws.specs.Members.{Members, meet, same_slot, clash_of, clash_with, earlier_step, clash_step, clashes_of, or_no_main, main_of}
-use Rattle.name_rules.specs.Outline.{MethodAt, is_static, is_private, methods_of, heads_of, methods_declared, methods_from, methods_in, types_in, method_outline, outline}
+use Rattle.name_rules.specs.Outline.{MethodAt, is_static, is_private, methods_from, implied_from, methods_in, types_in, method_outline, outline}
 use Rattle.name_rules.specs.Conditions.{ConditionAt, overload, private_reused, no_main, AreOneSlot}
 use Rattle.name_laws.proofs.Sees.{Tells, tell, same_some}
 use Rattle.name_laws.proofs.Runs.{run-tells, stands-at, push-cases, none-passes, stands-beside}
@@ -26,49 +26,27 @@ use Rattle.name_laws.proofs.KnownTypes.{AreKnown}
 use Rattle.name_laws.proofs.Reached.{AreAbove}
 use Rattle.java_core.proofs.Meets.{meet-stands, meets}
 use Rattle.name_laws.proofs.SlotsOf.{SlotOf, none_of, one_of}
+use Rattle.name_laws.proofs.MembersOf.{owner-from, owner-least, owner-implied, least-implied}
 use Rattle.name_laws.proofs.KnownMembers.{AreMembers, HeadIs}
 use Rattle.name_laws.proofs.FoundFirst.{OneMet, MeetAsInstances, one-met-of}
 
 -- ---- owners are types of the tree
-
-owner-member : (c : ℕ) (a : Bool) (xs : List MemberTree) (i : ℕ) (m : MethodAt) → slice_get (methods_of c a xs) i ≡ Some m → m.owner ≡ c
-owner-member c a [] i m e = absurd (cc e)
-owner-member c a (FieldTree mods u n p ∷ xs) i m e = owner-member c a xs i m e
-owner-member c a (MakerTree mods n ps up ss p ∷ xs) i m e = owner-member c a xs i m e
-owner-member c a (MethodTree h b p ∷ xs) zero m e = ap (λ z. z.owner) (sym (same_some e))
-owner-member c a (MethodTree h b p ∷ xs) (suc i) m e = owner-member c a xs i m e
-
-owner-head : (c : ℕ) (hs : List HeadTree) (i : ℕ) (m : MethodAt) → slice_get (heads_of c hs) i ≡ Some m → m.owner ≡ c
-owner-head c [] i m e = absurd (cc e)
-owner-head c (h ∷ hs) zero m e = ap (λ z. z.owner) (sym (same_some e))
-owner-head c (h ∷ hs) (suc i) m e = owner-head c hs i m e
-
-pub owner-declared : (c : ℕ) (d : DeclTree) (i : ℕ) (m : MethodAt) → slice_get (methods_declared c d) i ≡ Some m → m.owner ≡ c
-owner-declared c (ClassTree mods n parent faces xs p) i m e = owner-member c _ xs i m e
-owner-declared c (InterfaceTree mods n parents hs p) i m e = owner-head c hs i m e
-
-owner-from : (c : ℕ) (ds : List DeclTree) (i : ℕ) (m : MethodAt) → slice_get (methods_from c ds) i ≡ Some m → m.owner < c + length ds
-owner-from c [] i m e = absurd (cc e)
-owner-from c (d ∷ ds) i m e =
-    ⊎_elim (λ h. let a = owner-declared c d i m h in omega (arith, a)) (λ h. let a = owner-from (suc c) ds h.0 m h.2 in omega (arith, a))
-    (append_cases (methods_declared c d) (methods_from (suc c) ds) i m e)
-
-owner-least : (c : ℕ) (ds : List DeclTree) (i : ℕ) (m : MethodAt) → slice_get (methods_from c ds) i ≡ Some m → c ≤ m.owner
-owner-least c [] i m e = absurd (cc e)
-owner-least c (d ∷ ds) i m e =
-    ⊎_elim (λ h. let a = owner-declared c d i m h in omega (arith, a)) (λ h. let a = owner-least (suc c) ds h.0 m h.2 in omega (arith, a))
-    (append_cases (methods_declared c d) (methods_from (suc c) ds) i m e)
 
 pub classes-count : (tree : List DeclTree) → length (outline tree).classes ≡ suc (length tree)
 unfolding outline
 classes-count tree = ap suc (length-map tree _)
 
 pub owner-within : (tree : List DeclTree) (i : ℕ) (m : MethodAt) → slice_get (methods_in tree) i ≡ Some m → m.owner < length (outline tree).classes
-owner-within tree i m e = let a = owner-from 1 tree i m e in let b = classes-count tree in omega (arith, a, b)
+owner-within tree i m e =
+    let b = classes-count tree in
+    ⊎_elim (λ h. let a = owner-from 1 tree i m h in omega (arith, a, b)) (λ h. let a = owner-implied tree 1 tree h.0 m h.2 in omega (arith, a, b))
+    (append_cases (methods_from 1 tree) (implied_from tree 1 tree) i m e)
 
 -- Object declares none
 pub not-object : (tree : List DeclTree) (i : ℕ) (m : MethodAt) → slice_get (methods_in tree) i ≡ Some m → m.owner ≢ 0
-not-object tree i m e z = let a = owner-least 1 tree i m e in omega (arith, a, z)
+not-object tree i m e z =
+    ⊎_elim (λ h. let a = owner-least 1 tree i m h in omega (arith, a, z)) (λ h. let a = least-implied tree 1 tree h.0 m h.2 in omega (arith, a, z))
+    (append_cases (methods_from 1 tree) (implied_from tree 1 tree) i m e)
 
 pub method_at-outline : (tree : List DeclTree) (i : ℕ) (m : MethodAt) → slice_get (methods_in tree) i ≡ Some m → slice_get (outline tree).methods i
     ≡ Some (method_outline (types_in tree) m)

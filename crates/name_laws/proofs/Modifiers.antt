@@ -1,7 +1,7 @@
 -- Modifiers: which stand there, or one that cannot stand.
 use Rattle.std.proofs.Common.{◌≡◌, ℕ, zero, suc, ◌<◌, ⊎_elim, Bool, true, false, ◌||◌, List, [], ◌∷◌, ◌++◌, length, Some, Ok, Err, refl, sym, ap, ◌∙◌, subst, arith}
 use Rattle.std.specs.Prelude.{slice_get, if◌then◌else◌}
-use Rattle.std.proofs.lemmas.Bool.{or_cases, or_parts, false≢true}
+use Rattle.std.proofs.lemmas.Bool.{or_cases, or_left, or_right, or_parts, false≢true}
 use Rattle.std.proofs.lemmas.List.{length-append}
 use Rattle.std.proofs.Math.Bool.{or-true}
 use Rattle.std.proofs.lemmas.Option.{slice_get_within}
@@ -16,7 +16,7 @@ use Rattle.name_rules.specs.declared.parts.Kind.{Kind}
 use Rattle.name_rules.specs.declared.parts.Kind.TheVariants as kinds
 use Rattle.name_laws.specs.declared.parts.Flags.{Flags}
 use Rattle.name_laws.specs.Classes.{no_flags, is_taken, noted, flag, flags_of}
-use Rattle.name_rules.specs.Outline.{has_word, is_public_word, is_protected_word, is_private_word, is_abstract_word, is_static_word, is_final_word}
+use Rattle.name_rules.specs.Outline.{is_maker_kind, has_word, is_public_word, is_protected_word, is_private_word, is_abstract_word, is_static_word, is_final_word}
 use Rattle.name_rules.specs.Conditions.{ConditionAt, HasModifiers, disagree, is_unfit, modifiers_disagree, modifier_unfit}
 use Rattle.name_laws.proofs.Sees.{Tells, turn, same_some}
 use Rattle.name_laws.proofs.Runs.{run-tells, stands-at, earlier-stands, push-cases}
@@ -125,6 +125,34 @@ fit-push kind done m e u g = record {
       (push-cases done m i a at);
 }
 
+-- no modifier at all
+pub none-stand : (kind : Kind) → FlagsAre [] no_flags × NoStatic kind no_flags × AreFit kind []
+none-stand kind = (
+  record { public = refl; protected = refl; private = refl; abstract = refl; static = refl; final = refl; taken = none },
+  record { head = λ h. refl; abstract = λ h. refl },
+  record { fit = λ i m e. absurd (cc e); agree = λ i j a b e f lt. absurd (cc e) },
+)
+  where
+    none : (w : Keyword) → is_taken no_flags w ≡ false
+    none keys.Public = refl
+    none _ = refl
+
+pub maker-kind : (k : Kind) → is_maker_kind k ≡ true → k ≡ kinds.Maker
+maker-kind kinds.Maker e = refl
+maker-kind _ e = absurd (false≢true e)
+
+-- a constructor is not static
+pub no-static-maker : (mods : List Modifier) → AreFit kinds.Maker mods → has_word is_static_word mods ≡ false
+no-static-maker mods h = go (has_word is_static_word mods) refl
+  where
+    go : (b : Bool) → has_word is_static_word mods ≡ b → b ≡ false
+    go false e = refl
+    go true e =
+        let w = word-stands is_static_word mods e in
+        absurd (false≢true (sym (h.fit w.0 w.1 w.2)
+        ∙ or_right (is_abstract_word w.1.word) (is_static_word w.1.word || is_final_word w.1.word)
+        (or_left (is_static_word w.1.word) (is_final_word w.1.word) w.3)))
+
 module _ (tree : List DeclTree) (kind : Kind) (mods : List Modifier) (has : HasModifiers tree kind mods) where
   abbrev AreGood : List Modifier → Flags → Type 0
   AreGood done f = FlagsAre done f × NoStatic kind f × AreFit kind done
@@ -140,16 +168,8 @@ module _ (tree : List DeclTree) (kind : Kind) (mods : List Modifier) (has : HasM
       (or_cases (is_taken f m.word) (is_unfit kind m.word) e)
 
   pub flags-fit : Tells (λ f. FlagsAre mods f × NoStatic kind f × AreFit kind mods) (ConditionAt tree) (flags_of kind mods)
-  flags-fit = run-tells (ConditionAt tree) mods (flag kind) AreGood step [] mods no_flags refl (
-    record { public = refl; protected = refl; private = refl; abstract = refl; static = refl; final = refl; taken = none },
-    record { head = λ h. refl; abstract = λ h. refl },
-    record { fit = λ i m e. absurd (cc e); agree = λ i j a b e f lt. absurd (cc e) },
-  )
+  flags-fit = run-tells (ConditionAt tree) mods (flag kind) AreGood step [] mods no_flags refl (none-stand kind)
     where
-      none : (w : Keyword) → is_taken no_flags w ≡ false
-      none keys.Public = refl
-      none _ = refl
-
       step : (done rest : List Modifier) (m : Modifier) (f : Flags) → mods ≡ done ++ m ∷ rest → AreGood done f
           → Tells (AreGood (done ++ m ∷ [])) (ConditionAt tree) (flag kind f m)
       step done rest m f at h = go (is_taken f m.word || is_unfit kind m.word) refl

@@ -147,7 +147,7 @@ module _ (O : Plain) (one : OneMet O) where
           let s = counts-split (numbers x) (numbers y) c in let t = counts-split (numbers u) (numbers v) d in
           let a = ex-only h q s.1 t.1 in let b = ex-only g r s.2 (from a.1 t.2) in (rw (a.0, b.0) refl, b.1)
 
-      exs-only : {es : Expressions} {xs ys : Exs} {k i j : ℕ} → AllResolve O here scope es xs → AllResolve O here scope es ys
+      pub exs-only : {es : Expressions} {xs ys : Exs} {k i j : ℕ} → AllResolve O here scope es xs → AllResolve O here scope es ys
           → Counts k (numbers_all xs) i → Counts k (numbers_all ys) j → (xs ≡ ys) × (i ≡ j)
       exs-only r_no_more r_no_more c d = (refl, none-only c d)
       exs-only (r_and_more {x = x} {xs = xs} h hs) (r_and_more {x = u} {xs = us} g gs) c d =

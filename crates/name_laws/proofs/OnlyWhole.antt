@@ -1,25 +1,28 @@
 -- A tree of which no condition holds resolves to one program.
-use Rattle.std.proofs.Common.{◌≡◌, ℕ, zero, suc, ◌+◌, ◌<◌, ◌≤◌, ◌⊎◌, inl, inr, false, List, [], ◌∷◌, map, length, Option, Some, refl, sym, ap, ◌∙◌, subst, arith}
+use Rattle.std.proofs.Common.{◌≡◌, ℕ, zero, suc, ◌+◌, ◌<◌, ◌≤◌, ◌⊎◌, inl, inr, false, List, [], ◌∷◌, map, length, Option, Some, None, refl, sym, ap, ◌∙◌, subst, arith}
 use Rattle.std.specs.Prelude.{slice_get}
 use Rattle.std.proofs.lemmas.Bool.{false≢true, cases_lt}
 use Rattle.std.proofs.lemmas.List.{length-append}
 use Rattle.std.proofs.lemmas.Option.{slice_get_past}
 use Rattle.kaba_base.proofs.ListLemmas.{map_at, at_map, behind as back-stands}
-use Rattle.java_tree.specs.Syntax.{DeclTree}
-use Rattle.java_core.specs.Trees.{Sts}
+use Rattle.java_tree.specs.Syntax.{Expressions, Statements, DeclTree}
+use Rattle.java_core.specs.Trees.{at_place, Exs, Sts, st_then}
+use Rattle.java_core.specs.Makers.{call_above}
+use Rattle.name_rules.specs.declared.parts.Bound.{Bound}
 use Rattle.java_core.specs.Programs.{Plain, PlainMethod, PlainLocal, PlainSlot}
 use Rattle.java_core.specs.Types.{types_of}
-use Rattle.java_core.specs.Formed.{variables_of, numbers_body, numbers_methods}
+use Rattle.java_core.specs.Formed.{variables_of, numbers_all, numbers_sts, numbers_body, numbers_methods}
 use Rattle.java_tree.specs.Formed.{IsFormedBody, IsFormedTree}
 use Rattle.name_rules.specs.Outline.{MethodAt, outline}
-use Rattle.name_rules.specs.Resolves.{Counts, StsResolve, declares_all, params_from, here_of, BodyResolves, r_no_body, r_body, BodiesResolve, r_no_methods, r_method, heading_of, IsOfSlot, HasSlot, no_slot, a_slot, AreSlots, Resolves}
+use Rattle.name_rules.specs.Resolves.{Counts, StsResolve, declares_all, params_from, here_of, before_object, has_arguments, maker_code, UpResolves, r_no_up, r_up, BodyResolves, r_no_body, r_body, r_maker, BodiesResolve, r_no_methods, r_method, heading_of, IsOfSlot, HasSlot, no_slot, a_slot, AreSlots, Resolves}
 use Rattle.name_rules.specs.Conditions.{overload}
 use Rattle.name_rules.specs.Causes.{HasNoCondition}
 use Rattle.name_laws.proofs.Sees.{same_some}
 use Rattle.name_laws.proofs.Bridge.{main-of, of-main}
-use Rattle.name_laws.proofs.MembersOf.{method-in}
+use Rattle.name_laws.proofs.MembersOf.{method-of}
 use Rattle.name_laws.proofs.FoundFirst.{OneMet, one-met}
-use Rattle.name_laws.proofs.Only.{none-only, counts-split, from, Agree, agree-at, sts-only}
+use Rattle.name_laws.proofs.Beginnings.{args-alike, BeginsBare, BeginsAbove, begins}
+use Rattle.name_laws.proofs.Only.{none-only, counts-split, from, exs-only, Agree, agree-at, sts-only}
 
 -- ---- lists
 
@@ -141,35 +144,101 @@ method-is k l h s b ls = ap (λ z. rebuilt z k.slot k.locals k.body) h ∙ ap (�
     ∙ ap (λ z. rebuilt (heading_of l) l.slot z k.body) ls ∙ ap (rebuilt (heading_of l) l.slot l.locals) b
 
 module _ (O : Plain) (one : OneMet O) where
+  -- the locals of two methods that agree
+  locals-only : (k l : PlainMethod) (xs : Sts) → length k.params ≡ length l.params → length (variables_of k) ≡ length (variables_of l)
+      → Counts (length k.params) (declares_all xs) (length (variables_of k)) → Agree k l (declares_all xs) → k.locals ≡ l.locals
+  locals-only k l xs params size w g = same-places k.locals l.locals (λ i. at i (cases_lt i (length k.locals)))
+    where
+      sizes : length k.locals ≡ length l.locals
+      sizes = let x = length-append k.params k.locals in let y = length-append l.params l.locals in omega (arith, params, x, y, size)
+
+      at : (i : ℕ) → (i < length k.locals) ⊎ (length k.locals ≤ i) → slice_get k.locals i ≡ slice_get l.locals i
+      at i (inl lt) =
+          sym (back-stands k.params k.locals i)
+          ∙ agree-at k l w g (length k.params + i) (omega arith) (let x = length-append k.params k.locals in omega (arith, x, lt))
+          ∙ ap (λ z. slice_get (variables_of l) (z + i)) params ∙ back-stands l.params l.locals i
+      at i (inr le) = slice_get_past k.locals i le ∙ sym (slice_get_past l.locals i (omega (arith, le, sizes)))
+
+  -- the statements of a method and their numbers
+  record AreOnly (k l : PlainMethod) (xs ys : Sts) (i j : ℕ) : Type 0 where
+    statements : xs ≡ ys
+    numbers : i ≡ j
+    locals : k.locals ≡ l.locals
+
+  statements-only : (m : MethodAt) (k l : PlainMethod) (a b i j : ℕ) (ss us : Statements) (xs ys : Sts) → IsFormedBody m.body → heading_of k ≡ heading_of l
+      → m.body ≡ Some ss → m.body ≡ Some us → StsResolve O (here_of m) k false (params_from 0 k.params) ss xs
+      → StsResolve O (here_of m) l false (params_from 0 l.params) us ys → a ≡ b → Counts a (numbers_sts xs) i → Counts b (numbers_sts ys) j
+      → Counts (length k.params) (declares_all xs) (length (variables_of k)) → Counts (length l.params) (declares_all ys) (length (variables_of l))
+      → AreOnly k l xs ys i j
+  statements-only m k l a b i j ss us xs ys f h some also r q same c e w v =
+      let params = ap (λ z. z.params) h in
+      let g = sts-only O one (here_of m) k l (subst IsFormedBody some f) r
+      (subst (λ z. StsResolve O (here_of m) l false (params_from 0 z) ss ys) (sym params)
+      (subst (λ z. StsResolve O (here_of m) l false (params_from 0 l.params) z ys) (same_some (sym also ∙ some)) q))
+      c (from same e) w (from (ap length params) v) in
+      record { statements = g.0; numbers = g.1; locals = locals-only k l xs (ap length params) g.2 w g.3 }
+
+  -- the arguments of `super(..)` and their numbers
+  up-only : (m : MethodAt) (scope : List Bound) (a i j : ℕ) (up : Option Expressions) (es us : Exs) → UpResolves O m scope up es → UpResolves O m scope up us
+      → Counts a (numbers_all es) i → Counts a (numbers_all us) j → (es ≡ us) × (i ≡ j)
+  up-only m scope a i j None es us r_no_up r_no_up c d = (refl, none-only c d)
+  up-only m scope a i j (Some ts) es us (r_up r) (r_up q) c d = exs-only O one (before_object m) scope r q c d
+
+  -- the code of a constructor
+  code-only : (m : MethodAt) (k l : PlainMethod) (a i j : ℕ) (ss ts : Statements) (es us : Exs) (xs ys : Sts) → IsFormedBody m.body
+      → heading_of k ≡ heading_of l → m.body ≡ Some ss → m.body ≡ Some ts → UpResolves O m (params_from 0 k.params) m.up es
+      → UpResolves O m (params_from 0 l.params) m.up us → StsResolve O (here_of m) k false (params_from 0 k.params) ss xs
+      → StsResolve O (here_of m) l false (params_from 0 l.params) ts ys → Counts a (numbers_sts (maker_code O m es xs)) i
+      → Counts a (numbers_sts (maker_code O m us ys)) j → Counts (length k.params) (declares_all xs) (length (variables_of k))
+      → Counts (length l.params) (declares_all ys) (length (variables_of l))
+      → (maker_code O m es xs ≡ maker_code O m us ys) × (k.locals ≡ l.locals) × (i ≡ j)
+  code-only m k l a i j ss ts es us xs ys f h some also up above r q c d w v = go (begins O m (has_arguments es))
+    where
+      params : params_from 0 k.params ≡ params_from 0 l.params
+      params = ap (λ z. params_from 0 z.params) h
+
+      other : UpResolves O m (params_from 0 k.params) m.up us
+      other = subst (λ z. UpResolves O m z m.up us) (sym params) above
+
+      alike : has_arguments us ≡ has_arguments es
+      alike = args-alike O m other up
+
+      go : BeginsBare O m (has_arguments es) ⊎ BeginsAbove O m (has_arguments es)
+          → (maker_code O m es xs ≡ maker_code O m us ys) × (k.locals ≡ l.locals) × (i ≡ j)
+      go (inl b) =
+          let g = statements-only m k l a a i j ss ts xs ys f h some also r q refl
+          (subst (λ z. Counts a (numbers_sts z) i) (b.is es xs refl) c) (subst (λ z. Counts a (numbers_sts z) j) (b.is us ys alike) d) w v in
+          (b.is es xs refl ∙ g.statements ∙ sym (b.is us ys alike), g.locals, g.numbers)
+      go (inr b) =
+          let c1 = counts-split (numbers_all es) (numbers_sts xs) (subst (λ z. Counts a (numbers_sts z) i) (b.is es xs refl) c) in
+          let d1 = counts-split (numbers_all us) (numbers_sts ys) (subst (λ z. Counts a (numbers_sts z) j) (b.is us ys alike) d) in
+          let u = up-only m (params_from 0 k.params) a c1.0 d1.0 m.up es us up other c1.1 d1.1 in
+          let g = statements-only m k l c1.0 d1.0 i j ss ts xs ys f h some also r q u.1 c1.2 d1.2 w v in (
+            b.is es xs refl ∙ ap (λ z. st_then (call_above (at_place m.head.place) b.class.name z) xs) u.0
+                ∙ ap (λ z. st_then (call_above (at_place m.head.place) b.class.name us) z) g.statements ∙ sym (b.is us ys alike),
+            g.locals,
+            g.numbers,
+          )
+
   body-only : (m : MethodAt) (k l : PlainMethod) (a i j : ℕ) → IsFormedBody m.body → heading_of k ≡ heading_of l → BodyResolves O m k
       → BodyResolves O m l → Counts a (numbers_body k.body) i → Counts a (numbers_body l.body) j
       → (k.body ≡ l.body) × (k.locals ≡ l.locals) × (i ≡ j)
   body-only m k l a i j f h (r_no_body none b ls) (r_no_body also d ms) c e =
       (b ∙ sym d, ls ∙ sym ms, none-only (subst (λ z. Counts a (numbers_body z) i) b c) (subst (λ z. Counts a (numbers_body z) j) d e))
-  body-only m k l a i j f h (r_no_body none b ls) (r_body some d r w) c e = absurd (cc (sym none ∙ some))
-  body-only m k l a i j f h (r_body some d r w) (r_no_body none b ls) c e = absurd (cc (sym none ∙ some))
-  body-only m k l a i j f h (r_body {ss = ss} {xs = xs} some b r w) (r_body {ss = us} {xs = ys} also d q v) c e =
-      let params = ap (λ z. z.params) h in
-      let g = sts-only O one (here_of m) k l (subst IsFormedBody some f) r
-      (subst (λ z. StsResolve O (here_of m) l false (params_from 0 z) ss ys) (sym params)
-      (subst (λ z. StsResolve O (here_of m) l false (params_from 0 l.params) z ys) (same_some (sym also ∙ some)) q))
-      (subst (λ z. Counts a (numbers_body z) i) b c) (subst (λ z. Counts a (numbers_body z) j) d e) w (from (ap length params) v) in
-      (b ∙ ap Some g.0 ∙ sym d, locals g.2 w g.3, g.1)
-    where
-      locals : length (variables_of k) ≡ length (variables_of l) → Counts (length k.params) (declares_all xs) (length (variables_of k))
-          → Agree k l (declares_all xs) → k.locals ≡ l.locals
-      locals size w g = same-places k.locals l.locals (λ i. at i (cases_lt i (length k.locals)))
-        where
-          sizes : (length k.params ≡ length l.params) × (length k.locals ≡ length l.locals)
-          sizes = let p = ap (λ z. length z.params) h in let x = length-append k.params k.locals in let y = length-append l.params l.locals in
-              (p, omega (arith, p, x, y, size))
-
-          at : (i : ℕ) → (i < length k.locals) ⊎ (length k.locals ≤ i) → slice_get k.locals i ≡ slice_get l.locals i
-          at i (inl lt) =
-              sym (back-stands k.params k.locals i)
-              ∙ agree-at k l w g (length k.params + i) (omega arith) (let x = length-append k.params k.locals in omega (arith, x, lt))
-              ∙ ap (λ z. slice_get (variables_of l) (z + i)) sizes.0 ∙ back-stands l.params l.locals i
-          at i (inr le) = slice_get_past k.locals i le ∙ sym (slice_get_past l.locals i (let n = sizes.1 in omega (arith, le, n)))
+  body-only m k l a i j f h (r_no_body none b ls) (r_body p some d r w) c e = absurd (cc (sym none ∙ some))
+  body-only m k l a i j f h (r_no_body none b ls) (r_maker p some d u r w) c e = absurd (cc (sym none ∙ some))
+  body-only m k l a i j f h (r_body p some d r w) (r_no_body none b ls) c e = absurd (cc (sym none ∙ some))
+  body-only m k l a i j f h (r_maker p some d u r w) (r_no_body none b ls) c e = absurd (cc (sym none ∙ some))
+  body-only m k l a i j f h (r_body p some d r w) (r_maker q also g u t v) c e = absurd (false≢true (sym p ∙ q))
+  body-only m k l a i j f h (r_maker q also g u t v) (r_body p some d r w) c e = absurd (false≢true (sym p ∙ q))
+  body-only m k l a i j f h (r_body {ss = ss} {xs = xs} p some b r w) (r_body {ss = us} {xs = ys} o also d q v) c e =
+      let g = statements-only m k l a a i j ss us xs ys f h some also r q refl (subst (λ z. Counts a (numbers_body z) i) b c)
+      (subst (λ z. Counts a (numbers_body z) j) d e) w v in
+      (b ∙ ap Some g.statements ∙ sym d, g.locals, g.numbers)
+  body-only m k l a i j f h (r_maker {ss = ss} {es = es} {xs = xs} p some b u r w) (r_maker {ss = ts} {es = us} {xs = ys} o also d y q v) c e =
+      let g = code-only m k l a i j ss ts es us xs ys f h some also u y r q (subst (λ z. Counts a (numbers_body z) i) b c)
+      (subst (λ z. Counts a (numbers_body z) j) d e) w v in
+      (b ∙ ap Some g.0 ∙ sym d, g.1, g.2)
 
   -- each method with its slot, its body and its locals
   methods-only : {ms : List MethodAt} {ks ls : List PlainMethod} (a i j : ℕ) → ((n : ℕ) (m : MethodAt) → slice_get ms n ≡ Some m
@@ -203,7 +272,7 @@ module _ (tree : List DeclTree) (formed : IsFormedTree tree) (none : HasNoCondit
       methods : P.methods ≡ Q.methods
       methods =
           methods-only (outline tree) (one-met (outline tree) (λ c i j h k p q lt same u v other. none _ (overload p q lt same u v other))) 0 p.last
-          q.last (λ n m e. (method-in 1 tree formed n m e).is.body) p.bodies q.bodies same
+          q.last (λ n m e. (method-of tree formed n m e).is.body) p.bodies q.bodies same
           (λ n k l e f. slot-only P Q slots p.slots k l (same_some (sym (at_map heading_of P.methods n k e) ∙ ap (λ z. slice_get z n) same
           ∙ at_map heading_of Q.methods n l f)) (p.slots.each n k e) (q.slots.each n l f))
           p.numbers q.numbers

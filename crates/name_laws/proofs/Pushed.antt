@@ -13,7 +13,7 @@ pushed last done (x ∷ xs) = pushed last (last done x) xs
 
 module _ {X L : Type 0} (nil : L) (then : X → L → L) (last : L → X → L)
     (one : (x : X) → last nil x ≡ then x nil) (more : (x : X) (xs : L) (y : X) → last (then x xs) y ≡ then x (last xs y)) where
-  pushed-then : (x : X) (done : L) (xs : List X) → pushed last (then x done) xs ≡ then x (pushed last done xs)
+  pub pushed-then : (x : X) (done : L) (xs : List X) → pushed last (then x done) xs ≡ then x (pushed last done xs)
   pushed-then x done [] = refl
   pushed-then x done (y ∷ xs) = ap (λ z. pushed last z xs) (more x done y) ∙ pushed-then x (last done y) xs
 

@@ -1,15 +1,20 @@
 -- What the tables of the declarations have to say of an outline, so that what a body sees in them is what its names mean.
 use Rattle.std.proofs.Common.{◌≡◌, ℕ, Bool, true, false, List, [], ◌∷◌, Option, Some, None, Result, Ok, Err, refl, ap}
 use Rattle.std.specs.Prelude.{slice_get}
+use Rattle.std.specs.Option.{is_some}
 use Rattle.std.specs.Str.{bytes_eq}
+use Rattle.kaba_base.specs.declared.ClassId.{ClassId}
 use Rattle.java_core.specs.declared.Field.{Field}
-use Rattle.java_core.specs.Programs.{Plain, PlainField, PlainMethod}
-use Rattle.java_core.specs.Classes.{own_field_of, field_of}
+use Rattle.java_core.specs.Programs.{Plain, PlainClass, PlainField, PlainMethod}
+use Rattle.java_core.specs.Classes.{parent_of, own_field_of, field_of}
+use Rattle.java_core.specs.Makers.{maker_of}
 use Rattle.name_rules.specs.declared.Refusal.{Refusal}
 use Rattle.name_laws.specs.declared.parts.Heading.{Heading}
 use Rattle.name_rules.specs.declared.parts.Bound.{Bound}
 use Rattle.name_laws.specs.Answers.{with}
 use Rattle.name_laws.specs.Names.{number_of}
+use Rattle.name_laws.specs.Tables as table
+use Rattle.name_laws.specs.Resolved.{class_name_in, has_maker_in}
 use Rattle.name_laws.specs.Tables.{Table, nearest_field, own_field, own_method, method_met}
 use Rattle.name_rules.specs.Meanings.{local_of}
 use Rattle.name_rules.specs.Meanings.{class_named, is_bound, bound_names, IsStaticMethodOf, IsMet, IsFirstMethod}
@@ -60,6 +65,10 @@ pub record Sees (t : Table) (O : Plain) : Type 0 where
   pub own_only : (c : ℕ) (n : List ℕ) (m : ℕ) → IsStaticMethodOf O c n m → own_method t c n ≡ Some m
   pub met : (c : ℕ) (n : List ℕ) (m : ℕ) → method_met t c n ≡ Some m → MetMethod t O c n m
   pub met_none : (c : ℕ) (n : List ℕ) → method_met t c n ≡ None → (m : ℕ) (k : PlainMethod) → IsMet O c n m k → ⊥
+  pub parents : (c : ℕ) → table.parent_of t.parents c ≡ parent_of O c
+  pub above : (c : ℕ) (b : ClassId) → parent_of O c ≡ Some b → (k : PlainClass) × (slice_get O.classes b.0 ≡ Some k)
+  pub class_name : (c : ℕ) (k : PlainClass) → slice_get O.classes c ≡ Some k → class_name_in t c ≡ k.name
+  pub maker : (c : ℕ) (k : PlainClass) → slice_get O.classes c ≡ Some k → has_maker_in t c ≡ is_some (maker_of O c)
 
 -- a result tells the one of what it gives, the other of its refusal
 abbrev pub Tells : {A : Type 0} → (A → Type 0) → (Refusal → Type 0) → Result A Refusal → Type 0

@@ -1,16 +1,18 @@
 -- The tables of the declarations see what the outline has.
-use Rattle.std.proofs.Common.{◌≡◌, ℕ, ◌<◌, ⊎_elim, Bool, ◌&&◌, List, [], ◌∷◌, map, length, Option, Some, None, Contains, refl, sym, ap, ◌∙◌, subst, arith}
-use Rattle.std.specs.Prelude.{slice_get, ◌==◌, position}
-use Rattle.std.specs.Option.{option_map, option_and_then}
+use Rattle.std.proofs.Common.{◌≡◌, ℕ, ◌<◌, ⊎_elim, Bool, true, false, ◌&&◌, List, [], ◌∷◌, map, length, Option, Some, None, Contains, refl, sym, ap, ◌∙◌, subst, arith}
+use Rattle.std.specs.Prelude.{slice_get, ◌==◌, not, position}
+use Rattle.std.specs.Option.{is_some, option_map, option_map_or, option_and_then}
 use Rattle.std.specs.Str.{bytes_eq}
-use Rattle.std.proofs.lemmas.Bool.{and_parts, false≢true}
+use Rattle.std.proofs.lemmas.Bool.{and_parts, false≢true, eqb-true, eq-eqb}
 use Rattle.std.proofs.lemmas.List.{length-map}
 use Rattle.std.proofs.lemmas.Option.{slice_get-map}
 use Rattle.std.proofs.lemmas.Slice.Eq.{bytes_eq-Decides}
 use Rattle.kaba_base.specs.declared.ClassId.{ClassId}
-use Rattle.kaba_base.proofs.ListLemmas.{map_at}
+use Rattle.kaba_base.proofs.ListLemmas.{map_at, at_map}
 use Rattle.java_tree.specs.Syntax.{DeclTree}
 use Rattle.java_core.specs.Programs.{Plain, PlainClass, PlainMethod, field_seen}
+use Rattle.java_core.specs.Classes as core
+use Rattle.java_core.specs.Makers.{maker_name, maker_of}
 use Rattle.java_core.specs.Classes.{IsSubclass, parent_of, faces_of, first_or, nearest, own_field_of, field_of, is_field_of}
 use Rattle.java_core.proofs.Positions.{position-map, position-passes, passes-position}
 use Rattle.java_core.proofs.Subclasses.{nearest_of-nearest, supers-within}
@@ -21,18 +23,35 @@ use Rattle.name_laws.specs.Tables as table
 use Rattle.name_laws.specs.Tables.{Table, parent_in, or_above, nearest_in, nearest_field, own_field, own_method, method_met, is_above}
 use Rattle.name_laws.specs.Members.{Members}
 use Rattle.name_laws.specs.Resolved as resolved
-use Rattle.name_rules.specs.Outline.{MethodAt, fields_in, methods_in, types_in, method_outline, outline}
+use Rattle.name_rules.specs.Outline.{MethodAt, is_maker, is_static, fields_in, methods_in, types_in, method_outline, outline}
 use Rattle.name_rules.specs.Meanings.{IsStaticMethodOf, IsMet, first_method}
 use Rattle.name_rules.proofs.FirstMethods.{first-met}
 use Rattle.name_laws.proofs.Sees.{Sees, StandsField, StandsMethod, OwnMethod, MetMethod, same_some}
 use Rattle.name_laws.proofs.Runs.{none-passes, stands-beside}
 use Rattle.name_laws.proofs.KnownTypes.{AreKnown}
-use Rattle.name_laws.proofs.KnownClasses.{HasSupers, known-named}
+use Rattle.name_laws.proofs.Modifiers.{AreFit, no-static-maker, maker-kind}
+use Rattle.name_laws.proofs.KnownClasses.{HasSupers, known-named, type_names-outline}
 use Rattle.name_laws.proofs.Reached.{AreAbove, NoLoops}
 use Rattle.name_laws.proofs.FoundFirst.{IsLadder, met-first, OneMet}
-use Rattle.name_laws.proofs.Ladder.{nothing-above, face-stands, interface-object}
+use Rattle.name_laws.proofs.Ladder.{nothing-above, face-stands, parent-stands, interface-object}
 use Rattle.name_laws.proofs.KnownMembers.{AreMembers, both-true, true-both}
 use Rattle.name_laws.proofs.MethodClashes.{owner-within, not-object, method_at-outline, outline-method}
+
+-- two that are there together
+both-some : (a b : Option ℕ) → ((i : ℕ) → a ≡ Some i → (j : ℕ) × (b ≡ Some j)) → ((i : ℕ) → b ≡ Some i → (j : ℕ) × (a ≡ Some j)) → is_some a ≡ is_some b
+both-some None None to back = refl
+both-some (Some i) (Some j) to back = refl
+both-some None (Some j) to back = absurd (cc (back j refl).1)
+both-some (Some i) None to back = absurd (cc (to i refl).1)
+
+-- the test of an own method
+pub is-own : (c : ℕ) (x : List ℕ) (k : PlainMethod) → k.owner ≡ c → k.is_static ≡ false → k.name ≡ x → core.is_method_of c x k ≡ true
+is-own c x k owner static name = rw (eq-eqb k.owner c owner, static) ((bytes_eq-Decides k.name x).1 name)
+
+pub own-is : (c : ℕ) (x : List ℕ) (k : PlainMethod) → core.is_method_of c x k ≡ true → (k.owner ≡ c) × (k.name ≡ x)
+own-is c x k e =
+    let a = and_parts (k.owner == c) (not k.is_static && bytes_eq k.name x) e in
+    (eqb-true k.owner c a.0, (bytes_eq-Decides k.name x).0 (and_parts (not k.is_static) (bytes_eq k.name x) a.1).1)
 
 module _ (tree : List DeclTree) (known : List KnownClass) (are : AreKnown tree known) (rows : List (List Bool)) (above : AreAbove (outline tree) rows)
     (m : Members) (members : AreMembers tree known are (fields_in tree) (methods_in tree) m) where
@@ -145,6 +164,53 @@ module _ (tree : List DeclTree) (known : List KnownClass) (are : AreKnown tree k
       let a = stands-beside m.headings (methods_in tree) members.count i h e in
       let d = (members.heads i h a.0 e a.1).owner in let w = owner-within tree i a.0 a.1 in omega (arith, d, w)
 
+  -- what has the name of a constructor is one, and no static method
+  marked-static : (i : ℕ) (h : Heading) (x : List ℕ) → slice_get m.headings i ≡ Some h → h.name ≡ maker_name x → h.is_static ≡ false
+  marked-static i h x e same =
+      let a = stands-beside m.headings (methods_in tree) members.count i h e in
+      let d = members.heads i h a.0 e a.1 in
+      let g = members.good i a.0 a.1 in
+      d.static ∙ static-of a.0 (g.marked x (sym d.name ∙ same)) g.fit
+    where
+      static-of : (n : MethodAt) → is_maker n ≡ true → AreFit n.kind n.head.mods → is_static n ≡ false
+      static-of n k f = no-static-maker n.head.mods (subst (λ z. AreFit z n.head.mods) (maker-kind n.kind k) f)
+
+  -- a class has a constructor in the tables where it has one in the outline
+  maker-same : (c : ℕ) (x : List ℕ) → is_some (own_method T c (maker_name x)) ≡ is_some (core.own_method O c (maker_name x))
+  unfolding own_method
+  maker-same c x = both-some (own_method T c (maker_name x)) (core.own_method O c (maker_name x)) to back
+    where
+      to : (i : ℕ) → own_method T c (maker_name x) ≡ Some i → (j : ℕ) × (core.own_method O c (maker_name x) ≡ Some j)
+      to i e =
+          let a = position-passes (λ h. (h.owner == c) && bytes_eq h.name (maker_name x)) m.headings i e in
+          let b = both-true a.0.owner c a.0.name (maker_name x) a.2 in
+          let s = method-stands i a.0 a.1 in
+          let r = passes-position (λ k. core.is_method_of c (maker_name x) k) O.methods i s.0.member s.0.stands
+          (is-own c (maker_name x) s.0.member (s.1 ∙ b.0) (s.0.same.static ∙ marked-static i s.0.seen x s.0.seen_stands (sym s.0.same.name ∙ s.2 ∙ b.1))
+          (s.2 ∙ b.1)) in
+          (r.0, r.1)
+
+      back : (i : ℕ) → core.own_method O c (maker_name x) ≡ Some i → (j : ℕ) × (own_method T c (maker_name x) ≡ Some j)
+      back i e =
+          let a = position-passes (λ k. core.is_method_of c (maker_name x) k) O.methods i e in
+          let o = own-is c (maker_name x) a.0 a.2 in
+          let h = heading-stands i a.0 a.1 in
+          let r = passes-position (λ h. (h.owner == c) && bytes_eq h.name (maker_name x)) m.headings i h.0 h.2
+          (true-both h.0.owner c h.0.name (maker_name x) (sym h.4 ∙ o.0) (sym h.5 ∙ o.1)) in
+          (r.0, r.1)
+
+  name-of : (c : ℕ) (k : PlainClass) → slice_get O.classes c ≡ Some k → resolved.class_name_in T c ≡ k.name
+  name-of c k e =
+      let a = map_at (λ z. z.name) known c k.name (ap (λ z. slice_get z c) (are.names ∙ sym (type_names-outline tree))
+      ∙ at_map (λ z. z.name) O.classes c k e) in
+      ap (λ o. option_map_or (λ z. z.name) o []) a.1 ∙ a.2
+
+  has-maker : (c : ℕ) (k : PlainClass) → slice_get O.classes c ≡ Some k → resolved.has_maker_in T c ≡ is_some (maker_of O c)
+  unfolding own_method
+  has-maker c k e =
+      ap (λ z. is_some (own_method T c (maker_name z))) (name-of c k e) ∙ maker-same c k.name
+      ∙ ap (λ o. is_some (option_and_then (λ k. core.own_method O c (maker_name k.name)) o)) (sym e)
+
   met-none : (c : ℕ) (n : List ℕ) → method_met T c n ≡ None → (i : ℕ) (k : PlainMethod) → IsMet O c n i k → ⊥
   unfolding method_met
   met-none c n e i k h =
@@ -193,6 +259,10 @@ module _ (tree : List DeclTree) (known : List KnownClass) (are : AreKnown tree k
           );
         }
 
+    -- the superclass of a class is there
+    parent-there : (c : ℕ) (b : ClassId) → parent_of O c ≡ Some b → (k : PlainClass) × (slice_get O.classes b.0 ≡ Some k)
+    parent-there c b up = parent-stands tree known are supers c b up
+
     pub sees-outline : Sees T O
     sees-outline = record {
       types = known-named tree known are;
@@ -204,4 +274,8 @@ module _ (tree : List DeclTree) (known : List KnownClass) (are : AreKnown tree k
       own_only = own-only;
       met = met-found;
       met_none = met-none;
+      parents = parent-same;
+      above = parent-there;
+      class_name = name-of;
+      maker = has-maker;
     }

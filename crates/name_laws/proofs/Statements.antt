@@ -30,7 +30,7 @@ use Rattle.name_rules.specs.Resolves.{Counts, no_number, next_number, ResolvesTo
 use Rattle.name_rules.specs.Conditions.{FaultIn, FaultInValue, in_value, names_after, names_after_part, StFault, no_type_of_local, type_as_local, local_twice, in_first_value, in_block, in_target, in_assigned, in_call, in_printed, in_choice, in_else, in_while_test, in_while, in_first_part, in_for_test, in_last_part, in_for, in_returned, break_outside, continue_outside, StsFault, in_statement, in_rest, ArmsFault, in_test, in_arm, in_more_arms, PartFault, in_part}
 use Rattle.name_laws.proofs.TypeNames.{type-tells}
 use Rattle.name_laws.proofs.Sees.{Sees, Tells, tell, turn, bound-local, unbound-local}
-use Rattle.name_laws.proofs.Pushed.{listed, pushed, pushed-all}
+use Rattle.name_laws.proofs.Pushed.{listed, pushed, pushed-then, pushed-all}
 use Rattle.name_laws.proofs.Expressions.{counts_append, walk-tells}
 
 -- ---- states
@@ -73,8 +73,12 @@ within-before {k} {a} {b} g w = record {
 abbrev pub sts : List St → Sts
 sts xs = listed no_st st_then xs
 
-sts-pushed : (xs : List St) → pushed st_last no_st xs ≡ sts xs
+pub sts-pushed : (xs : List St) → pushed st_last no_st xs ≡ sts xs
 sts-pushed = pushed-all no_st st_then st_last (λ x. refl) (λ x xs y. refl)
+
+-- statements behind one that stands already
+pub sts-behind : (x : St) (xs : List St) → pushed st_last (st_then x no_st) xs ≡ st_then x (sts xs)
+sts-behind x xs = pushed-then no_st st_then st_last (λ x. refl) (λ x xs y. refl) x no_st xs ∙ ap (st_then x) (sts-pushed xs)
 
 pub arms_append-last : (xs : IfArms) (e : Ex) (ss : Sts) (ys : IfArms) → ending (arm_last xs e ss) ys ≡ ending xs (arm e ss ys)
 arms_append-last no_other e ss ys = refl

@@ -53,12 +53,14 @@ resolved-formed tree formed =
     from-classes known are supers =
         tell (ResolvesFormed tree) (ConditionAt tree) (above_of (outline tree).classes) _ (above-tells (outline tree))
         (λ rows above. tell (ResolvesFormed tree) (ConditionAt tree) (loops_of rows (outline tree).classes) _ (loops-tells tree rows above)
-        (λ number loops. tell (ResolvesFormed tree) (ConditionAt tree) (members_of known tree) _ (members-tells tree known are)
+        (λ number loops. tell (ResolvesFormed tree) (ConditionAt tree) (members_of known tree) _ (members-tells tree known are formed)
         (λ m members. tell (ResolvesFormed tree) (ConditionAt tree) (clashes_of rows m.headings) _ (clashes-tells tree known are rows above
         (fields_in tree) m members)
         (λ count clash. tell (ResolvesFormed tree) (ConditionAt tree) (main_of m.headings) _ (main-tells tree known are rows above (fields_in tree) m members)
         (λ i main. tell (ResolvesFormed tree) (ConditionAt tree) (resolved_by.methods_of (resolved_by.table known (outline tree).classes rows m) tree) _
-        (bodies-tells tree known are (resolved_by.table known (outline tree).classes rows m) refl (sees-outline tree known are rows above m members supers loops (outline-met tree known are rows above (fields_in tree) m members clash)) formed)
+        (bodies-tells tree known are (resolved_by.table known (outline tree).classes rows m) refl
+        (sees-outline tree known are rows above m members supers loops (outline-met tree known are rows above (fields_in tree) m members clash)) formed members.count
+        (λ i h x e f. let d = members.heads i h x e f in (d.owner, d.place)))
         (λ ks w. goes-through tree (record {
           formed = formed;
           known = known;

@@ -1,5 +1,5 @@
 -- Small trees, each with the program or the refusal that the rules give it.
-use Rattle.std.specs.Prelude.{◌≡◌, ℕ, pos, true, false, List, [], ◌∷◌, Some, None, Err, codes}
+use Rattle.std.specs.Prelude.{◌≡◌, ℕ, pos, true, false, List, [], ◌∷◌, map, Option, Some, None, Result, Ok, Err, codes}
 use Rattle.std.proofs.Common.{refl}
 use Rattle.std.specs.Str.{chars}
 use Rattle.kaba_base.specs.declared.Place.{Place}
@@ -8,7 +8,10 @@ use Rattle.java_tree.specs.declared.Id.{Id}
 use Rattle.java_tree.specs.declared.Modifier.{Modifier}
 use Rattle.java_tree.specs.declared.TypeName.{TypeName}
 use Rattle.java_tree.specs.declared.TypeBase.TheVariants as bases
-use Rattle.java_tree.specs.Syntax.{IntLit, ThisRef, NameRef, Statement, LocalOf, BlockOf, AssignOf, PrintOf, BreakOf, Statements, no_statements, and_then, HeadTree, MemberTree, FieldTree, MethodTree, DeclTree, ClassTree}
+use Rattle.java_tree.specs.Syntax.{IntLit, ThisRef, NameRef, Expressions, no_more, and_more, Statement, LocalOf, BlockOf, AssignOf, PrintOf, BreakOf, Statements, no_statements, and_then, HeadTree, MemberTree, FieldTree, MethodTree, MakerTree, DeclTree, ClassTree}
+use Rattle.java_core.specs.Programs.{Plain}
+use Rattle.java_core.specs.Trees.{at_place, no_ex, Sts, no_st, st_then}
+use Rattle.java_core.specs.Makers.{call_above}
 use Rattle.name_rules.specs.declared.Form.TheVariants as forms
 use Rattle.name_rules.specs.declared.Refusal.{Refusal}
 use Rattle.name_rules.specs.declared.Refusal.TheVariants.{Unknown, Twice, Loop, Overload, TwoKinds, PrivateReused, NoMain, NotInProfile}
@@ -159,3 +162,35 @@ static_of_ancestor : refused (ClassTree [] c None [] (FieldTree static int x (at
     (MethodTree main (Some (one (PrintOf true (Some (NameRef x (at 9))) (at 4)))) (at 2) ∷ []) (at 7) ∷ []) (Unknown x (at 9))
 unfolding resolved chars above_of square name_meaning nearest_field
 static_of_ancestor = refl
+
+-- ---- constructors
+
+abbrev maker : List ℕ → Option Expressions → ℕ → MemberTree
+maker n up p = MakerTree [] n [] up no_statements (at p)
+
+-- a constructor that has not its class's name
+maker_named : refused (ClassTree [] c None [] (maker d None 8 ∷ []) (at 7) ∷ main_class no_statements ∷ []) (Unknown d (at 8))
+unfolding resolved chars above_of square
+maker_named = refl
+
+-- a second constructor
+maker_twice : refused (ClassTree [] c None [] (maker c None 8 ∷ maker c None 9 ∷ []) (at 7) ∷ main_class no_statements ∷ []) (Overload c (at 9))
+unfolding resolved chars above_of square
+maker_twice = refl
+
+-- this in the arguments for the superclass's constructor
+this_too_early : refused (ClassTree [] c None [] (maker c (Some (and_more (ThisRef (at 9)) no_more)) 8 ∷ []) (at 7) ∷ main_class no_statements ∷ [])
+    (NotInProfile forms.ThisInStatic (at 9))
+unfolding resolved chars above_of square
+this_too_early = refl
+
+abbrev bodies : Result Plain Refusal → List (Option Sts)
+bodies (Ok P) = map (λ k. k.body) P.methods
+bodies (Err r) = []
+
+-- a class below one with a constructor has one behind all methods, at its own name, and begins with the call of the one above
+begins_above : bodies (resolved (ClassTree [] c None [] (maker c None 8 ∷ []) (at 7) ∷ ClassTree [] d (Some (id c 10)) [] [] (at 9)
+    ∷ main_class no_statements ∷ []))
+    ≡ Some no_st ∷ Some no_st ∷ Some (st_then (call_above (at_place (at 9)) c no_ex) no_st) ∷ []
+unfolding resolved chars above_of square
+begins_above = refl

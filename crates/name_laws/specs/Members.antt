@@ -1,19 +1,23 @@
 -- Mirror. The fields, methods and slots of a tree, and where methods of one name meet.
-use Rattle.std.specs.Prelude.{ℕ, ◌+◌, ◌||◌, ◌&&◌, ◌==◌, not, Bool, true, false, List, [], ◌∷◌, ◌++◌, length, Option, Some, None, is_some, is_none, position, Result, Ok, Err, codes, if◌then◌else◌, map}
+use Rattle.std.specs.Prelude.{ℕ, ◌+◌, ◌||◌, ◌&&◌, ◌==◌, slice_get, not, Bool, true, false, List, [], ◌∷◌, ◌++◌, length, Option, Some, None, is_some, is_none, position, Result, Ok, Err, codes, if◌then◌else◌, map}
+use Rattle.std.specs.Option.{option_map_or}
 use Rattle.std.specs.Str.{bytes_eq, chars}
 use Rattle.kaba_base.specs.declared.Place.{Place}
 use Rattle.java_tree.specs.declared.TypeName.{TypeName}
+use Rattle.java_tree.specs.declared.Modifier.{Modifier}
 use Rattle.java_tree.specs.declared.Param.{Param}
+use Rattle.java_tree.specs.Makers.{declares_maker}
 use Rattle.java_tree.specs.Syntax.{HeadTree, MemberTree, FieldTree, MethodTree, MakerTree, DeclTree, ClassTree, InterfaceTree}
 use Rattle.java_core.specs.declared.Ty.{Ty}
 use Rattle.java_core.specs.declared.TyBase.TheVariants as ty
 use Rattle.java_core.specs.declared.Field.{Field}
 use Rattle.java_core.specs.declared.Local.{Local}
 use Rattle.java_core.specs.Types.{is_base}
+use Rattle.java_core.specs.Makers.{maker_name}
 use Rattle.java_core.specs.Programs.{PlainSlot}
 use Rattle.name_rules.specs.declared.Form.TheVariants as forms
 use Rattle.name_rules.specs.declared.Refusal.{Refusal}
-use Rattle.name_rules.specs.declared.Refusal.TheVariants.{Twice, TwoKinds, Overload, PrivateReused, NoMain, NotInProfile}
+use Rattle.name_rules.specs.declared.Refusal.TheVariants.{Unknown, Twice, TwoKinds, Overload, PrivateReused, NoMain, NotInProfile}
 use Rattle.name_laws.specs.Known.{KnownClass}
 use Rattle.name_rules.specs.declared.parts.Kind.TheVariants as kinds
 use Rattle.name_laws.specs.declared.parts.Flags.{Flags}
@@ -21,7 +25,8 @@ use Rattle.name_laws.specs.declared.parts.Heading.{Heading}
 use Rattle.name_laws.specs.Answers.{with, unless, run}
 use Rattle.name_laws.specs.Names.{type_of, names_type}
 use Rattle.name_laws.specs.Tables.{is_above, field_in, method_in}
-use Rattle.name_laws.specs.Classes.{flags_of}
+use Rattle.name_laws.specs.Classes.{no_flags, flags_of}
+use Rattle.name_rules.specs.Outline.{maker_head, name_of, place_of, writer_of}
 pub use Rattle.java_core.specs.Squares.{meet}
 
 -- the members so far
@@ -150,13 +155,24 @@ field_step known owner m f u n p =
       slots = m.slots;
     }))
 
--- the members so far, and one more of a class; a constructor declares none
+-- whether a class of this number has this name
+abbrev pub is_class_of : List KnownClass → ℕ → List ℕ → Bool
+is_class_of known c n = option_map_or (λ k. bytes_eq k.name n) (slice_get known c) false
+
+-- the members so far, and one constructor more: under its class's name, and the only one of the class
+abbrev pub maker_step : List KnownClass → ℕ → Members → List Modifier → List ℕ → List Param → Place → Result Members Refusal
+maker_step known owner m mods n ps p =
+    with (flags_of kinds.Maker mods) (λ f. if not (is_class_of known owner n) then Err (Unknown n p)
+    else if is_some (method_in m.headings owner (maker_name n)) then Err (Overload n p)
+    else with (params_of known ps) (λ ls. Ok (add_heading m owner (maker_head n mods ps p) f ls None)))
+
+-- the members so far, and one more of a class
 abbrev pub member_step : List KnownClass → ℕ → Bool → Members → MemberTree → Result Members Refusal
 member_step known owner in_abstract m (FieldTree mods u n p) = with (flags_of kinds.Field mods) (λ f. field_step known owner m f u n p)
 member_step known owner in_abstract m (MethodTree h body p) =
     with (flags_of kinds.Method h.mods) (λ f. if is_wrong_body in_abstract f.is_abstract (is_some body) then Err (NotInProfile forms.Body h.place)
     else head_step known owner m h f)
-member_step known owner in_abstract m (MakerTree mods n ps up ss p) = Ok m
+member_step known owner in_abstract m (MakerTree mods n ps up ss p) = maker_step known owner m mods n ps p
 
 -- the members so far, and one more method of an interface
 abbrev pub interface_step : List KnownClass → ℕ → Members → HeadTree → Result Members Refusal
@@ -175,9 +191,22 @@ decl_step known s (InterfaceTree mods n parents hs p) = numbered s.0 (run (inter
 abbrev pub no_members : Members
 no_members = record { fields = []; headings = []; slots = [] }
 
--- the members of all declarations, the first of which has the number 1 behind Object
+-- the members with the constructor that a class has without writing one: where an ancestor writes one
+abbrev pub implied_step : List DeclTree → ℕ × Members → DeclTree → ℕ × Members
+implied_step tree s d = (
+  s.0 + 1,
+  if declares_maker d then s.1 else if is_some (writer_of tree s.0) then add_heading s.1 s.0 (maker_head (name_of d) [] [] (place_of d)) no_flags [] None
+      else s.1,
+)
+
+-- the members with those of all declarations
+abbrev pub with_implied : List DeclTree → ℕ × Members → List DeclTree → ℕ × Members
+with_implied tree s [] = s
+with_implied tree s (d ∷ ds) = with_implied tree (implied_step tree s d) ds
+
+-- the members of all declarations, the first of which has the number 1 behind Object; and behind them the constructors that are not written
 abbrev pub members_of : List KnownClass → List DeclTree → Result Members Refusal
-members_of known tree = with (run (decl_step known) (1, no_members) tree) (λ s. Ok s.1)
+members_of known tree = with (run (decl_step known) (1, no_members) tree) (λ s. Ok (with_implied tree (1, s.1) tree).1)
 
 -- ---- where methods of one name meet
 

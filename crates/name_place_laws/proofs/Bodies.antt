@@ -1,24 +1,29 @@
 -- What a body resolves to without its places is what it resolves to, its tags taken off.
-use Rattle.std.proofs.Common.{◌≡◌, ℕ, suc, Bool, true, false, List, [], ◌∷◌, ◌++◌, map, length, Option, refl, sym, ap, ◌∙◌, subst, ap₂}
-use Rattle.std.specs.Prelude.{slice_get}
+use Rattle.std.proofs.Common.{◌≡◌, ℕ, suc, ◌||◌, Bool, true, false, Some, None, List, [], ◌∷◌, ◌++◌, map, length, Option, refl, sym, ap, ◌∙◌, subst, ap₂}
+use Rattle.std.specs.Prelude.{slice_get, if◌then◌else◌}
+use Rattle.std.specs.Option.{is_some, option_map, option_map_or}
+use Rattle.std.proofs.lemmas.Option.{slice_get-map}
 use Rattle.std.proofs.lemmas.List.{length-map}
 use Rattle.kaba_base.specs.declared.Place.{Place}
+use Rattle.kaba_base.specs.declared.ClassId.{ClassId}
 use Rattle.kaba_base.proofs.ListLemmas.{at_map}
 use Rattle.java_tree.specs.declared.TypeName.{TypeName}
 use Rattle.java_tree.specs.Syntax.{Expression, Expressions, Statement, Statements, Else, OptionalStatement}
 use Rattle.java_tree.specs.Syntax as tree
 use Rattle.java_tree.specs.Places.{nowhere, type_unplaced, expr_unplaced, exprs_unplaced, value_unplaced, stmt_unplaced, stmts_unplaced, arms_unplaced, else_unplaced, step_unplaced, may_unplaced}
-use Rattle.java_core.specs.Trees.{Ex, Exs, local, St, block, assign, choose, loop, Sts, no_st, st_then, IfArms, no_other, otherwise, arm}
-use Rattle.java_core.specs.Programs.{Plain, PlainLocal, PlainMethod}
+use Rattle.java_core.specs.Trees.{at_place, Ex, Exs, no_ex, ex_then, local, St, block, assign, choose, loop, Sts, no_st, st_then, IfArms, no_other, otherwise, arm}
+use Rattle.java_core.specs.Programs.{Plain, PlainClass, PlainLocal, PlainMethod}
+use Rattle.java_core.specs.Classes.{parent_of}
+use Rattle.java_core.specs.Makers.{maker_of, call_above}
 use Rattle.java_core.specs.Formed.{variables_of}
 use Rattle.name_rules.specs.declared.parts.Bound.{Bound}
 use Rattle.name_rules.specs.declared.parts.Here.{Here}
 use Rattle.name_rules.specs.Outline.{MethodAt, is_static_word, is_type_name}
 use Rattle.name_rules.specs.Meanings.{bound_names}
-use Rattle.name_rules.specs.Resolves.{target, bound, Counts, ResolvesTo, r_number, r_character, r_text, r_truth, r_null, r_this, r_local, r_static_field, r_own_field, r_class_field, r_field, r_index, r_own_static_call, r_own_call, r_static_call, r_call, r_super_call, r_create, r_create_array, r_cast, r_instance_of, r_unary, r_binary, AllResolve, r_no_more, r_and_more, ResolvesIf, r_none, r_some, scope_after, scope_after_part, IsDeclaredLocal, StResolves, r_declare, r_block, r_assign, r_act, r_print, r_choose, r_while, r_for, r_return, r_break, r_continue, StsResolve, r_no_statements, r_and_then, ArmsResolve, r_no_else, r_else, r_arm, PartResolves, r_absent, r_present, declares, declares_all, declares_arms, params_from, here_of, BodyResolves, r_no_body, r_body, BodiesResolve, r_no_methods, r_method}
-use Rattle.java_core.specs.Untagged.{bare_tag, bare, bare_all, bare_if, bare_target, bare_st, bare_sts, bare_arms, untag_local, untag_method, untagged, untag_body}
+use Rattle.name_rules.specs.Resolves.{target, bound, Counts, ResolvesTo, r_number, r_character, r_text, r_truth, r_null, r_this, r_local, r_static_field, r_own_field, r_class_field, r_field, r_index, r_own_static_call, r_own_call, r_static_call, r_call, r_super_call, r_create, r_create_array, r_cast, r_instance_of, r_unary, r_binary, AllResolve, r_no_more, r_and_more, ResolvesIf, r_none, r_some, scope_after, scope_after_part, IsDeclaredLocal, StResolves, r_declare, r_block, r_assign, r_act, r_print, r_choose, r_while, r_for, r_return, r_break, r_continue, StsResolve, r_no_statements, r_and_then, ArmsResolve, r_no_else, r_else, r_arm, PartResolves, r_absent, r_present, declares, declares_all, declares_arms, params_from, here_of, before_object, UpResolves, r_no_up, r_up, has_arguments, after_call, maker_code, BodyResolves, r_no_body, r_body, r_maker, BodiesResolve, r_no_methods, r_method}
+use Rattle.java_core.specs.Untagged.{bare_tag, bare, bare_all, bare_if, bare_target, bare_st, bare_sts, bare_arms, untag_local, untag_class, untag_method, untagged, untag_body}
 use Rattle.name_place_laws.proofs.Outlines.{word-same, method_at_unplaced}
-use Rattle.name_place_laws.proofs.Meanings.{names-same, named-same, means, means-cast, class-name-same, static-field, static-method, nearest-field}
+use Rattle.name_place_laws.proofs.Meanings.{parent-same, maker-same, names-same, named-same, means, means-cast, class-name-same, static-field, static-method, nearest-field}
 use Rattle.name_place_laws.proofs.FirstMethods.{first-method}
 use Rattle.name_place_laws.proofs.Untagged.{variables-same}
 
@@ -82,7 +87,7 @@ module _ (O : Plain) (here : Here) where
       ex (r_unary h) = r_unary (ex h)
       ex (r_binary h g) = r_binary (ex h) (ex g)
 
-      exs : {es : Expressions} {xs : Exs} → AllResolve O here scope es xs → AllResolve bare-outline here scope (exprs_unplaced es) (bare_all xs)
+      pub exs : {es : Expressions} {xs : Exs} → AllResolve O here scope es xs → AllResolve bare-outline here scope (exprs_unplaced es) (bare_all xs)
       exs r_no_more = r_no_more
       exs (r_and_more h hs) = r_and_more (ex h) (exs hs)
 
@@ -153,19 +158,76 @@ module _ (O : Plain) (here : Here) where
 -- ---- methods
 
 module _ (O : Plain) where
-  body : {m : MethodAt} {k : PlainMethod} → BodyResolves O m k → BodyResolves (untagged O) (method_at_unplaced m) (untag_method k)
-  body (r_no_body none b ls) = r_no_body (ap (may_unplaced stmts_unplaced) none) (ap untag_body b) (ap (map untag_local) ls)
-  body {m} {k} (r_body {ss = ss} {xs = xs} some b h c) =
+  -- the code of a constructor
+  code-same : (m : MethodAt) (es : Exs) (xs : Sts) → bare_sts (maker_code O m es xs)
+      ≡ maker_code (untagged O) (method_at_unplaced m) (bare_all es) (bare_sts xs)
+  code-same m es xs =
+      go (parent_of O m.owner)
+      ∙ ap (λ z. option_map_or (λ b. after_call (untagged O) b nowhere (bare_all es) (bare_sts xs)) z (bare_sts xs)) (sym (parent-same O m.owner))
+    where
+      args : has_arguments (bare_all es) ≡ has_arguments es
+      args = of es
+        where
+          of : (es : Exs) → has_arguments (bare_all es) ≡ has_arguments es
+          of no_ex = refl
+          of (ex_then e es) = refl
+
+      at : (p : Place) (o : Option PlainClass) → bare_sts (option_map_or (λ k. st_then (call_above (at_place p) k.name es) xs) o xs)
+          ≡ option_map_or (λ k. st_then (call_above bare_tag k.name (bare_all es)) (bare_sts xs)) (option_map untag_class o) (bare_sts xs)
+      at p None = refl
+      at p (Some k) = refl
+
+      under : (p : Place) (b : ClassId) (u : Bool)
+          → bare_sts (if u then option_map_or (λ k. st_then (call_above (at_place p) k.name es) xs) (slice_get O.classes b.0) xs else xs)
+          ≡ (if u then option_map_or (λ k. st_then (call_above bare_tag k.name (bare_all es)) (bare_sts xs)) (slice_get (untagged O).classes b.0)
+          (bare_sts xs) else bare_sts xs)
+      under p b true =
+          at p (slice_get O.classes b.0)
+          ∙ ap (λ z. option_map_or (λ k. st_then (call_above bare_tag k.name (bare_all es)) (bare_sts xs)) z (bare_sts xs))
+          (sym (slice_get-map untag_class O.classes b.0))
+      under p b false = refl
+
+      go : (o : Option ClassId) → bare_sts (option_map_or (λ b. after_call O b m.head.place es xs) o xs)
+          ≡ option_map_or (λ b. after_call (untagged O) b nowhere (bare_all es) (bare_sts xs)) o (bare_sts xs)
+      go None = refl
+      go (Some b) =
+          under m.head.place b (is_some (maker_of O b.0) || has_arguments es)
+          ∙ ap (λ u. if u then option_map_or (λ k. st_then (call_above bare_tag k.name (bare_all es)) (bare_sts xs)) (slice_get (untagged O).classes b.0)
+          (bare_sts xs) else bare_sts xs) (ap₂ (λ o v. is_some o || v) (sym (maker-same O b.0)) (sym args))
+
+  up-same : {m : MethodAt} {scope : List Bound} {up : Option Expressions} {es : Exs} → UpResolves O m scope up es
+      → UpResolves (untagged O) (method_at_unplaced m) scope (may_unplaced exprs_unplaced up) (bare_all es)
+  up-same r_no_up = r_no_up
+  up-same {m} {scope} (r_up h) = r_up (exs O (before_object m) scope h)
+
+  -- the statements of a body
+  statements : (m : MethodAt) (k : PlainMethod) {ss : Statements} {xs : Sts} → StsResolve O (here_of m) k false (params_from 0 k.params) ss xs
+      → StsResolve (untagged O) (here_of (method_at_unplaced m)) (untag_method k) false (params_from 0 (map untag_local k.params)) (stmts_unplaced ss)
+      (bare_sts xs)
+  statements m k {ss} {xs} h =
       let scope = sym (params-same 0 k.params) in
       let where_it_stands : here_of m ≡ here_of (method_at_unplaced m) = ap (λ z. record { owner = m.owner; is_static = z })
       (sym (word-same is_static_word m.head.mods)) in
-      r_body (ap (may_unplaced stmts_unplaced) some) (ap untag_body b)
-      (subst (λ z. StsResolve (untagged O) z (untag_method k) false (params_from 0 (map untag_local k.params)) (stmts_unplaced ss)
+      subst (λ z. StsResolve (untagged O) z (untag_method k) false (params_from 0 (map untag_local k.params)) (stmts_unplaced ss)
       (bare_sts xs)) where_it_stands
-      (subst (λ z. StsResolve (untagged O) (here_of m) (untag_method k) false z (stmts_unplaced ss) (bare_sts xs)) scope (sts O (here_of m) k h)))
-      (subst (λ z. Counts (length (map untag_local k.params)) z (length (variables_of (untag_method k)))) (sym (all-declare-same xs))
+      (subst (λ z. StsResolve (untagged O) (here_of m) (untag_method k) false z (stmts_unplaced ss) (bare_sts xs)) scope (sts O (here_of m) k h))
+
+  counted : (k : PlainMethod) (xs : Sts) → Counts (length k.params) (declares_all xs) (length (variables_of k))
+      → Counts (length (map untag_local k.params)) (declares_all (bare_sts xs)) (length (variables_of (untag_method k)))
+  counted k xs c =
+      subst (λ z. Counts (length (map untag_local k.params)) z (length (variables_of (untag_method k)))) (sym (all-declare-same xs))
       (subst (λ z. Counts z (declares_all xs) (length (variables_of (untag_method k)))) (sym (length-map k.params untag_local))
-      (subst (Counts (length k.params) (declares_all xs)) (sym (ap length (variables-same k) ∙ length-map (variables_of k) untag_local)) c)))
+      (subst (Counts (length k.params) (declares_all xs)) (sym (ap length (variables-same k) ∙ length-map (variables_of k) untag_local)) c))
+
+  body : {m : MethodAt} {k : PlainMethod} → BodyResolves O m k → BodyResolves (untagged O) (method_at_unplaced m) (untag_method k)
+  body (r_no_body none b ls) = r_no_body (ap (may_unplaced stmts_unplaced) none) (ap untag_body b) (ap (map untag_local) ls)
+  body {m} {k} (r_body {ss = ss} {xs = xs} plain some b h c) =
+      r_body plain (ap (may_unplaced stmts_unplaced) some) (ap untag_body b) (statements m k h) (counted k xs c)
+  body {m} {k} (r_maker {ss = ss} {es = es} {xs = xs} maker some b up h c) =
+      r_maker maker (ap (may_unplaced stmts_unplaced) some) (ap untag_body b ∙ ap Some (code-same m es xs))
+      (subst (λ z. UpResolves (untagged O) (method_at_unplaced m) z (may_unplaced exprs_unplaced m.up) (bare_all es)) (sym (params-same 0 k.params))
+      (up-same {m = m} up))
+      (statements m k h) (counted k xs c)
 
   pub bodies : {ms : List MethodAt} {ks : List PlainMethod} → BodiesResolve O ms ks
       → BodiesResolve (untagged O) (map method_at_unplaced ms) (map untag_method ks)

@@ -1,25 +1,25 @@
 -- No condition that refuses names holds of a tree without its places where none holds of it.
-use Rattle.std.proofs.Common.{◌≡◌, ◌⊎◌, inl, inr, ⊎_elim, ℕ, ◌||◌, true, false, List, map, Option, Some, None, Contains, is_some, refl, sym, ap, ◌∙◌, subst, ap₂}
+use Rattle.std.proofs.Common.{◌≡◌, ◌⊎◌, inl, inr, ⊎_elim, ℕ, ◌||◌, true, false, List, [], ◌∷◌, map, Option, Some, None, Contains, is_some, refl, sym, ap, ◌∙◌, subst, ap₂}
 use Rattle.std.specs.Prelude.{slice_get, codes}
 use Rattle.kaba_base.proofs.ListLemmas.{map_at, at_map}
 use Rattle.java_tree.specs.declared.Modifier.{Modifier}
-use Rattle.java_tree.specs.Syntax.{Statements, DeclTree, ClassTree, InterfaceTree}
-use Rattle.java_tree.specs.Places.{all_unplaced, may_unplaced, id_unplaced, modifier_unplaced, param_unplaced, stmts_unplaced, decl_unplaced, unplaced}
+use Rattle.java_tree.specs.Syntax.{Expressions, Statements, MemberTree, FieldTree, MethodTree, MakerTree, DeclTree, ClassTree, InterfaceTree}
+use Rattle.java_tree.specs.Places.{nowhere, all_unplaced, may_unplaced, id_unplaced, modifier_unplaced, param_unplaced, exprs_unplaced, stmts_unplaced, member_unplaced, decl_unplaced, unplaced}
 use Rattle.java_core.specs.Programs.{Plain, PlainClass, PlainMethod}
 use Rattle.java_core.specs.Classes.{IsSubclass, IsProperSubclass}
 use Rattle.name_rules.specs.declared.Refusal.{Refusal}
 use Rattle.name_rules.specs.declared.parts.Kind.{Kind}
-use Rattle.name_rules.specs.Outline.{FieldAt, MethodAt, is_private, is_private_word, is_abstract_word, is_static_word, outline, fields_in, methods_in, is_type_name, is_known, name_of, mods_of, parent_named, faces_named}
+use Rattle.name_rules.specs.Outline.{FieldAt, MethodAt, is_maker, is_private, is_private_word, is_abstract_word, is_static_word, outline, fields_in, methods_in, is_type_name, is_known, name_of, mods_of, parent_named, faces_named}
 use Rattle.name_rules.specs.Meanings.{class_named}
-use Rattle.name_rules.specs.Resolves.{here_of}
-use Rattle.name_rules.specs.Conditions.{StsFault, disagree, is_unfit, kind_of, HasModifiers, of_type, of_field, of_method, HasWrongBody, missing, superfluous, in_concrete, AreOneSlot, unknown, type_twice, known_twice, super_twice, field_twice, method_twice, param_twice, loop, overload, type_as_field, type_as_param, face_as_parent, class_as_face, private_reused, no_main, modifiers_disagree, modifier_unfit, wrong_body, in_body}
+use Rattle.name_rules.specs.Resolves.{here_of, before_object}
+use Rattle.name_rules.specs.Conditions.{written_makers, makers_written, maker_twice, maker_named, in_up, FaultInOne, StsFault, disagree, is_unfit, kind_of, HasModifiers, of_type, of_field, of_method, HasWrongBody, missing, superfluous, in_concrete, AreOneSlot, unknown, type_twice, known_twice, super_twice, field_twice, method_twice, param_twice, loop, overload, type_as_field, type_as_param, face_as_parent, class_as_face, private_reused, no_main, modifiers_disagree, modifier_unfit, wrong_body, in_body}
 use Rattle.name_rules.specs.Causes.{HasNoCondition}
 use Rattle.java_core.specs.Untagged.{untag_class, untag_method, untagged}
-use Rattle.name_place_laws.proofs.Outlines.{word-same, name-same, types-same, same-all, field_at_unplaced, method_at_unplaced, fields-same, methods-same, outline-same}
+use Rattle.name_place_laws.proofs.Outlines.{all-mapped, word-same, name-same, types-same, same-all, field_at_unplaced, method_at_unplaced, fields-same, methods-same, outline-same}
 use Rattle.name_place_laws.proofs.Meanings.{named-same, supers-same, below-back}
-use Rattle.name_place_laws.proofs.Resolved.{all-mapped, from-map, from-all, from-maybe, parent-unplaced, faces-unplaced, method-back, asked-back, main-bare}
+use Rattle.name_place_laws.proofs.Resolved.{from-map, from-all, from-maybe, parent-unplaced, faces-unplaced, method-back, asked-back, main-bare}
 use Rattle.name_place_laws.proofs.Untagged.{param-types-same}
-use Rattle.name_place_laws.proofs.Faults.{sts}
+use Rattle.name_place_laws.proofs.Faults.{faults, sts}
 
 -- an item of a list without places stands where it stood
 stands-back : {A : Type 0} (u : A → A) (xs : List A) (i : ℕ) (y : A) → slice_get (all_unplaced u xs) i ≡ Some y
@@ -37,6 +37,16 @@ mods-same (InterfaceTree ms n fs hs p) = refl
 pub some-body : (b : Option Statements) → is_some (may_unplaced stmts_unplaced b) ≡ is_some b
 some-body None = refl
 some-body (Some ss) = refl
+
+written-members : (ms : List MemberTree) → written_makers (all_unplaced member_unplaced ms) ≡ all_unplaced id_unplaced (written_makers ms)
+written-members [] = refl
+written-members (FieldTree ks t n p ∷ ms) = written-members ms
+written-members (MethodTree h b p ∷ ms) = written-members ms
+written-members (MakerTree ks n ps up ss p ∷ ms) = ap (λ z. record { name = n; place = nowhere } ∷ z) (written-members ms)
+
+pub written-same : (d : DeclTree) → makers_written (decl_unplaced d) ≡ all_unplaced id_unplaced (makers_written d)
+written-same (ClassTree ms n c fs bs p) = written-members bs
+written-same (InterfaceTree ms n fs hs p) = refl
 
 no-body : (b : Option Statements) → may_unplaced stmts_unplaced b ≡ None → b ≡ None
 no-body None e = refl
@@ -91,8 +101,8 @@ module _ (tree : List DeclTree) where
 
   wrong-back : (m : MethodAt) → HasWrongBody (method_at_unplaced m) → HasWrongBody m
   wrong-back m (missing k a b) = missing k (sym (word-same is_abstract_word m.head.mods) ∙ a) (no-body m.body b)
-  wrong-back m (superfluous a b) = superfluous (sym (word-same is_abstract_word m.head.mods) ∙ a) (sym (some-body m.body) ∙ b)
-  wrong-back m (in_concrete a b) = in_concrete (sym (word-same is_abstract_word m.head.mods) ∙ a) b
+  wrong-back m (superfluous k a b) = superfluous k (sym (word-same is_abstract_word m.head.mods) ∙ a) (sym (some-body m.body) ∙ b)
+  wrong-back m (in_concrete k a b) = in_concrete k (sym (word-same is_abstract_word m.head.mods) ∙ a) b
 
   pub here-same : (m : MethodAt) → here_of (method_at_unplaced m) ≡ here_of m
   here-same m = ap (λ z. record { owner = m.owner; is_static = z }) (word-same is_static_word m.head.mods)
@@ -112,6 +122,15 @@ module _ (tree : List DeclTree) where
         (subst (λ z. StsFault (outline (unplaced tree)) (here_of (method_at_unplaced m)) false
         (map (λ q. q.name) (all_unplaced param_unplaced m.head.params)) z r) (sym e) h))))
 
+    up-back : (m : MethodAt) (es us : Expressions) {r : Refusal} → Contains (methods_in tree) m → m.up ≡ Some es → exprs_unplaced es ≡ us
+        → FaultInOne (outline (unplaced tree)) (before_object (method_at_unplaced m)) (map (λ q. q.name) (method_at_unplaced m).head.params) us r → ⊥
+    up-back m es us {r} c b e h =
+        faults O (before_object m) (map (λ q. q.name) m.head.params) es (λ t g. none t (in_up c b g))
+        (subst (λ z. FaultInOne (untagged O) (before_object m) z (exprs_unplaced es) r) (names-same m)
+        (subst (λ z. FaultInOne z (before_object m) (map (λ q. q.name) (all_unplaced param_unplaced m.head.params)) (exprs_unplaced es) r) same
+        (subst (λ z. FaultInOne (outline (unplaced tree)) (before_object m) (map (λ q. q.name) (all_unplaced param_unplaced m.head.params)) z r)
+        (sym e) h)))
+
     pub no_condition : HasNoCondition (unplaced tree)
     no_condition r (unknown {n = n} {p = p} a e) = let b = asked-back tree n p a in none _ (unknown b.1 (named-in n e))
     no_condition r (type_twice {i = i} {j = j} {c = c} {d = d} x y lt e) =
@@ -129,10 +148,10 @@ module _ (tree : List DeclTree) where
     no_condition r (field_twice {i = i} {j = j} {f = f} {g = g} x y lt o n) =
         let a = field-at i f x in let b = field-at j g y in
         none _ (field_twice a.1 b.1 lt (ap (λ z. z.owner) a.2 ∙ o ∙ ap (λ z. z.owner) (sym b.2)) (ap (λ z. z.name) a.2 ∙ n ∙ ap (λ z. z.name) (sym b.2)))
-    no_condition r (method_twice {i = i} {j = j} {h = h} {k = k} x y lt o n) =
+    no_condition r (method_twice {i = i} {j = j} {h = h} {k = k} x y lt o n plain) =
         let a = method-at i h x in let b = method-at j k y in
         none _ (method_twice a.1 b.1 lt (ap (λ z. z.owner) a.2 ∙ o ∙ ap (λ z. z.owner) (sym b.2))
-        (ap (λ z. z.head.name) a.2 ∙ n ∙ ap (λ z. z.head.name) (sym b.2)))
+        (ap (λ z. z.head.name) a.2 ∙ n ∙ ap (λ z. z.head.name) (sym b.2)) (ap (λ z. is_maker z) b.2 ∙ plain))
     no_condition r (param_twice {m = m} {i = i} {j = j} {a = x} {b = y} c e f lt n) =
         let a = method-back tree m c in
         let params = ap (λ (z : MethodAt). z.head.params) a.2 in
@@ -193,3 +212,18 @@ module _ (tree : List DeclTree) where
         let a = method-back tree m c in
         let g = from-maybe stmts_unplaced a.0.body ss (ap (λ z. z.body) a.2 ∙ b) in
         body-back a.0 g.0 ss a.1 g.1 g.2 (subst (λ z. StsFault (outline (unplaced tree)) (here_of z) false (map (λ q. q.name) z.head.params) ss r) (sym a.2) h)
+    no_condition r (in_up {m = m} {es = es} c b h) =
+        let a = method-back tree m c in
+        let g = from-maybe exprs_unplaced a.0.up es (ap (λ z. z.up) a.2 ∙ b) in
+        up-back a.0 g.0 es a.1 g.1 g.2
+        (subst (λ z. FaultInOne (outline (unplaced tree)) (before_object z) (map (λ q. q.name) z.head.params) es r) (sym a.2) h)
+    no_condition r (maker_twice {d = d} {i = i} {j = j} {a = x} {b = y} c e f lt) =
+        let a = from-all decl_unplaced tree d c in
+        let words = ap makers_written (sym a.2) ∙ written-same a.0 in
+        let u = stands-back id_unplaced (makers_written a.0) i x (ap (λ z. slice_get z i) (sym words) ∙ e) in
+        let v = stands-back id_unplaced (makers_written a.0) j y (ap (λ z. slice_get z j) (sym words) ∙ f) in
+        none _ (maker_twice a.1 u.1 v.1 lt)
+    no_condition r (maker_named {d = d} {i = i} c e other) =
+        let a = from-all decl_unplaced tree d c in
+        let b = from-all id_unplaced (makers_written a.0) i (subst (λ z. Contains z i) (ap makers_written (sym a.2) ∙ written-same a.0) e) in
+        none _ (maker_named a.1 b.1 (λ s. other (ap (λ z. z.name) (sym b.2) ∙ s ∙ sym (name-same a.0) ∙ ap name_of a.2)))

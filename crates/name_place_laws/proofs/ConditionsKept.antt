@@ -6,8 +6,8 @@ use Rattle.kaba_base.proofs.ListLemmas.{at_map, map_has}
 use Rattle.java_tree.specs.declared.Id.{Id}
 use Rattle.java_tree.specs.declared.Modifier.{Modifier}
 use Rattle.java_tree.specs.declared.TypeName.{TypeName}
-use Rattle.java_tree.specs.Syntax.{Statements, DeclTree}
-use Rattle.java_tree.specs.Places.{all_unplaced, may_unplaced, id_unplaced, modifier_unplaced, type_unplaced, param_unplaced, stmts_unplaced, decl_unplaced, unplaced}
+use Rattle.java_tree.specs.Syntax.{Expressions, Statements, DeclTree}
+use Rattle.java_tree.specs.Places.{all_unplaced, may_unplaced, id_unplaced, modifier_unplaced, type_unplaced, param_unplaced, exprs_unplaced, stmts_unplaced, decl_unplaced, unplaced}
 use Rattle.java_core.specs.Programs.{Plain, PlainClass, PlainMethod}
 use Rattle.java_core.specs.Classes.{IsSubclass, IsProperSubclass}
 use Rattle.java_core.specs.Formed.{IsMain}
@@ -16,17 +16,17 @@ use Rattle.name_rules.specs.declared.parts.Kind.{Kind}
 use Rattle.name_rules.specs.Outline.{FieldAt, MethodAt, is_private_word, is_abstract_word, outline, fields_in, methods_in, is_type_name, is_known, mods_of, parent_named, faces_named}
 use Rattle.name_rules.specs.Meanings.{class_named}
 use Rattle.name_rules.specs.Asked.{IsSuper, a_parent, a_face, IsDeclared, of_field, of_param, of_result, Asks, by_super, by_type}
-use Rattle.name_rules.specs.Resolves.{here_of}
-use Rattle.name_rules.specs.Conditions.{StsFault, kind_of, HasModifiers, HasWrongBody, missing, superfluous, in_concrete, ConditionAt, unknown, type_twice, known_twice, super_twice, field_twice, method_twice, param_twice, loop, overload, type_as_field, type_as_param, face_as_parent, class_as_face, private_reused, no_main, modifiers_disagree, modifier_unfit, wrong_body, in_body}
+use Rattle.name_rules.specs.Resolves.{here_of, before_object}
+use Rattle.name_rules.specs.Conditions.{makers_written, maker_twice, maker_named, in_up, FaultInOne, StsFault, kind_of, HasModifiers, HasWrongBody, missing, superfluous, in_concrete, ConditionAt, unknown, type_twice, known_twice, super_twice, field_twice, method_twice, param_twice, loop, overload, type_as_field, type_as_param, face_as_parent, class_as_face, private_reused, no_main, modifiers_disagree, modifier_unfit, wrong_body, in_body}
 use Rattle.name_rules.specs.Conditions as conditions
 use Rattle.name_rules.specs.Causes.{HasNoCondition}
 use Rattle.java_core.specs.Untagged.{untag_class, untag_method, untagged}
-use Rattle.name_place_laws.proofs.Outlines.{word-same, name-same, types-same, field_at_unplaced, method_at_unplaced, fields-same, methods-same, outline-same}
+use Rattle.name_place_laws.proofs.Outlines.{all-mapped, word-same, name-same, types-same, field_at_unplaced, method_at_unplaced, fields-same, methods-same, outline-same}
 use Rattle.name_place_laws.proofs.Meanings.{named-same, supers-same, below}
-use Rattle.name_place_laws.proofs.Resolved.{all-mapped, parent-unplaced, faces-unplaced, main-back}
+use Rattle.name_place_laws.proofs.Resolved.{parent-unplaced, faces-unplaced, main-back}
 use Rattle.name_place_laws.proofs.Untagged.{param-types-same}
-use Rattle.name_place_laws.proofs.Conditions.{kind-same, mods-same, some-body, method-in, here-same, names-same}
-use Rattle.name_place_laws.proofs.FaultsKept.{sts}
+use Rattle.name_place_laws.proofs.Conditions.{written-same, kind-same, mods-same, some-body, method-in, here-same, names-same}
+use Rattle.name_place_laws.proofs.FaultsKept.{faults, sts}
 
 -- an item stands without its place where it stands, and is an item
 stands-on : {A : Type 0} (u : A → A) (xs : List A) (i : ℕ) (x : A) → slice_get xs i ≡ Some x → slice_get (all_unplaced u xs) i ≡ Some (u x)
@@ -104,8 +104,8 @@ module _ (tree : List DeclTree) where
 
   wrong-on : (m : MethodAt) → HasWrongBody m → HasWrongBody (method_at_unplaced m)
   wrong-on m (missing k a b) = missing k (word-same is_abstract_word m.head.mods ∙ a) (ap (may_unplaced stmts_unplaced) b)
-  wrong-on m (superfluous a b) = superfluous (word-same is_abstract_word m.head.mods ∙ a) (some-body m.body ∙ b)
-  wrong-on m (in_concrete a b) = in_concrete (word-same is_abstract_word m.head.mods ∙ a) b
+  wrong-on m (superfluous k a b) = superfluous k (word-same is_abstract_word m.head.mods ∙ a) (some-body m.body ∙ b)
+  wrong-on m (in_concrete k a b) = in_concrete k (word-same is_abstract_word m.head.mods ∙ a) b
 
   module _ (none : HasNoCondition (unplaced tree)) where
     body-on : (m : MethodAt) (ss : Statements) {r : Refusal} → Contains (methods_in tree) m → m.body ≡ Some ss
@@ -118,6 +118,17 @@ module _ (tree : List DeclTree) where
         (sym (here-same tree m))
         (subst (λ z. StsFault (untagged O) (here_of m) false z (stmts_unplaced ss) t) (sym (names-same tree m)) g))))) h
 
+    up-on : (m : MethodAt) (es : Expressions) {r : Refusal} → Contains (methods_in tree) m → m.up ≡ Some es
+        → FaultInOne O (before_object m) (map (λ q. q.name) m.head.params) es r → ⊥
+    up-on m es c b h =
+        faults O (before_object m) (map (λ q. q.name) m.head.params) (λ t g. none t (in_up (has-method m c) (ap (may_unplaced exprs_unplaced) b)
+        (subst (λ z. FaultInOne z (before_object m) (map (λ q. q.name) (all_unplaced param_unplaced m.head.params)) (exprs_unplaced es) t) (sym same)
+        (subst (λ z. FaultInOne (untagged O) (before_object m) z (exprs_unplaced es) t) (sym (names-same tree m)) g)))) h
+
+    word-on : (d : DeclTree) (n : ℕ) (i : Id) → slice_get (makers_written d) n ≡ Some i
+        → slice_get (makers_written (decl_unplaced d)) n ≡ Some (id_unplaced i)
+    word-on d n i e = ap (λ z. slice_get z n) (written-same d) ∙ stands-on id_unplaced (makers_written d) n i e
+
     at-none : (r : Refusal) → ConditionAt tree r → ⊥
     at-none r (unknown {n = n} {p = p} a e) = none _ (unknown (asked-on n p a).1 (named-on n ∙ e))
     at-none r (type_twice {i = i} {j = j} {c = c} {d = d} x y lt e) =
@@ -127,7 +138,8 @@ module _ (tree : List DeclTree) where
     at-none r (super_twice {d = d} {i = i} {j = j} {a = x} {b = y} c e f lt n) =
         none _ (super_twice (has-on decl_unplaced tree d c) (face-on d i x e) (face-on d j y f) lt n)
     at-none r (field_twice {i = i} {j = j} {f = f} {g = g} x y lt o n) = none _ (field_twice (field-at-on i f x) (field-at-on j g y) lt o n)
-    at-none r (method_twice {i = i} {j = j} {h = h} {k = k} x y lt o n) = none _ (method_twice (method-at-on i h x) (method-at-on j k y) lt o n)
+    at-none r (method_twice {i = i} {j = j} {h = h} {k = k} x y lt o n plain) =
+        none _ (method_twice (method-at-on i h x) (method-at-on j k y) lt o n plain)
     at-none r (param_twice {m = m} {i = i} {j = j} {a = x} {b = y} c e f lt n) =
         none _ (param_twice (has-method m c) (stands-on param_unplaced m.head.params i x e) (stands-on param_unplaced m.head.params j y f) lt n)
     at-none r (loop {c = c} {d = d} x h) = none _ (loop (stands-on decl_unplaced tree c d x) (above-on h))
@@ -156,6 +168,12 @@ module _ (tree : List DeclTree) where
     at-none r (modifier_unfit {mods = ms} {a = x} c e d) = none _ (modifier_unfit (mods-on c) (has-on modifier_unplaced ms x e) d)
     at-none r (wrong_body {m = m} c h) = none _ (wrong_body (has-method m c) (wrong-on m h))
     at-none r (in_body {m = m} {ss = ss} c b h) = body-on m ss c b h
+    at-none r (in_up {m = m} {es = es} c b h) = up-on m es c b h
+    at-none r (maker_twice {d = d} {i = i} {j = j} {a = x} {b = y} c e f lt) =
+        none _ (maker_twice (has-on decl_unplaced tree d c) (word-on d i x e) (word-on d j y f) lt)
+    at-none r (maker_named {d = d} {i = i} c e other) =
+        none _ (maker_named (has-on decl_unplaced tree d c)
+        (subst (λ z. Contains z (id_unplaced i)) (sym (written-same d)) (has-on id_unplaced (makers_written d) i e)) (λ s. other (s ∙ name-same d)))
 
     pub no_condition_placed : HasNoCondition tree
     no_condition_placed = at-none

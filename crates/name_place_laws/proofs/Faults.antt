@@ -124,7 +124,7 @@ module _ (O : Plain) (here : Here) where
       fault (BinaryOf m e d p) free (in_left h) = fault e (λ r g. free r (in_left g)) h
       fault (BinaryOf m e d p) free (in_right h) = fault d (λ r g. free r (in_right g)) h
 
-      faults : (es : Expressions) {r : Refusal} → None-of (FaultInOne O here scope es) → FaultInOne bare-one here scope (exprs_unplaced es) r → ⊥
+      pub faults : (es : Expressions) {r : Refusal} → None-of (FaultInOne O here scope es) → FaultInOne bare-one here scope (exprs_unplaced es) r → ⊥
       faults no_more _ h = elim h [ ]
       faults (and_more e es) free (in_first h) = fault e (λ r g. free r (in_first g)) h
       faults (and_more e es) free (in_later h) = faults es (λ r g. free r (in_later g)) h

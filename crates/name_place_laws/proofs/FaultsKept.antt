@@ -71,7 +71,7 @@ module _ (O : Plain) (here : Here) where
       fault free (in_left h) = fault (λ r g. free r (in_left g)) h
       fault free (in_right h) = fault (λ r g. free r (in_right g)) h
 
-      faults : {es : Expressions} {r : Refusal} → None-of (FaultInOne bare-one here scope (exprs_unplaced es)) → FaultInOne O here scope es r → ⊥
+      pub faults : {es : Expressions} {r : Refusal} → None-of (FaultInOne bare-one here scope (exprs_unplaced es)) → FaultInOne O here scope es r → ⊥
       faults free (in_first h) = fault (λ r g. free r (in_first g)) h
       faults free (in_later h) = faults (λ r g. free r (in_later g)) h
 

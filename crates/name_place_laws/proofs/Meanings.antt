@@ -14,7 +14,8 @@ use Rattle.java_tree.specs.Places.{type_unplaced}
 use Rattle.java_core.specs.declared.Ty.{Ty}
 use Rattle.java_core.specs.declared.TyBase.{TyBase}
 use Rattle.java_core.specs.Programs.{Plain, PlainClass, PlainField, PlainMethod}
-use Rattle.java_core.specs.Classes.{parent_of, faces_of, supers_of, IsSubclass, same_class, through, first_or, nearest, is_field_of, own_field_of, field_of}
+use Rattle.java_core.specs.Classes.{parent_of, faces_of, supers_of, IsSubclass, same_class, through, first_or, nearest, is_field_of, own_field_of, field_of, is_method_of, own_method}
+use Rattle.java_core.specs.Makers.{maker_name, maker_of}
 use Rattle.java_core.proofs.Positions.{position-map}
 use Rattle.name_rules.specs.Outline.{type_named}
 use Rattle.name_rules.specs.Meanings.{type_names, class_named, MeansBase, an_int, a_boolean, a_char, a_text, a_class, Means, MeansCastBase, to_int, to_boolean, to_char, to_class, MeansCast, is_bound, is_class_name, IsStaticFieldOf, IsStaticMethodOf, IsNearestField, IsMet}
@@ -153,3 +154,16 @@ module _ (O : Plain) where
         },
         a.2,
       )
+
+  -- ---- constructors
+
+  own-method-same : (c : ℕ) (n : List ℕ) → own_method bare-outline c n ≡ own_method O c n
+  own-method-same c n = position-map untag_method (λ k. is_method_of c n k) O.methods
+
+  pub maker-same : (c : ℕ) → maker_of bare-outline c ≡ maker_of O c
+  maker-same c = ap (option_and_then (λ k. own_method bare-outline c (maker_name k.name))) (slice_get-map untag_class O.classes c) ∙ go (slice_get O.classes c)
+    where
+      go : (o : Option PlainClass) → option_and_then (λ k. own_method bare-outline c (maker_name k.name)) (option_map untag_class o)
+          ≡ option_and_then (λ k. own_method O c (maker_name k.name)) o
+      go None = refl
+      go (Some k) = own-method-same c (maker_name k.name)

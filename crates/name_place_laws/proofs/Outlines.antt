@@ -1,21 +1,31 @@
 -- The outline of a tree without places is that of the tree, its tags taken off.
-use Rattle.std.proofs.Common.{◌≡◌, ℕ, suc, ◌||◌, Bool, false, true, List, [], ◌∷◌, ◌++◌, map, Option, Some, None, refl, sym, ap, ◌∙◌, ap₂}
-use Rattle.std.specs.Prelude.{codes}
-use Rattle.std.specs.Option.{option_map}
-use Rattle.std.proofs.lemmas.List.{map-append}
+use Rattle.std.proofs.Common.{◌≡◌, ℕ, zero, suc, length, ◌||◌, Bool, false, true, List, [], ◌∷◌, ◌++◌, map, Option, Some, None, refl, sym, ap, ◌∙◌, ap₂}
+use Rattle.std.specs.Prelude.{codes, slice_get, option_and_then, if◌then◌else◌}
+use Rattle.std.specs.Option.{is_some, option_map}
+use Rattle.std.specs.List.{list_any}
+use Rattle.std.proofs.lemmas.List.{map-append, length-map}
+use Rattle.std.proofs.lemmas.Option.{slice_get-map}
 use Rattle.kaba_base.specs.declared.words.Keyword.{Keyword}
 use Rattle.java_tree.specs.declared.Id.{Id}
 use Rattle.java_tree.specs.declared.Modifier.{Modifier}
 use Rattle.java_tree.specs.declared.TypeName.{TypeName}
 use Rattle.java_tree.specs.Syntax.{MemberTree, FieldTree, MethodTree, MakerTree, DeclTree, ClassTree, InterfaceTree}
-use Rattle.java_tree.specs.Places.{nowhere, all_unplaced, may_unplaced, id_unplaced, modifier_unplaced, type_unplaced, param_unplaced, stmts_unplaced, head_unplaced, member_unplaced, decl_unplaced, unplaced}
+use Rattle.java_tree.specs.Places.{nowhere, all_unplaced, may_unplaced, id_unplaced, modifier_unplaced, type_unplaced, param_unplaced, exprs_unplaced, stmts_unplaced, head_unplaced, member_unplaced, decl_unplaced, unplaced}
+use Rattle.java_tree.specs.Makers.{declares_maker}
+use Rattle.java_tree.specs.Makers as tree_makers
 use Rattle.name_rules.specs.declared.parts.Kind.TheVariants as kinds
-use Rattle.name_rules.specs.Outline.{FieldAt, MethodAt, name_of, has_word, is_abstract_word, is_static_word, is_public_word, types_in, type_meant, id_meant, fields_of, methods_of, fields_declared, methods_declared, fields_from, methods_from, fields_in, methods_in, object, parent_meant, class_outline, field_outline, param_outline, method_outline, outline}
+use Rattle.name_rules.specs.Outline.{FieldAt, MethodAt, maker_head, name_of, place_of, classes_alone, writes_at, writer_of, implied_maker, implied_in, implied_from, is_maker, is_public, has_word, is_abstract_word, is_static_word, is_public_word, types_in, type_meant, id_meant, fields_of, methods_of, fields_declared, methods_declared, fields_from, methods_from, fields_in, methods_in, object, parent_meant, class_outline, field_outline, param_outline, method_outline, outline}
 use Rattle.kaba_base.specs.declared.ClassId.{ClassId}
 use Rattle.java_core.specs.Programs.{PlainClass}
+use Rattle.java_core.specs.Classes.{nearest, nearest_of}
+use Rattle.name_place_laws.proofs.Meanings.{nearest-same}
 use Rattle.java_core.specs.Untagged.{bare_tag, untag_local, untag_class, untag_field, untag_method, untagged}
 
 -- ---- lists
+
+pub all-mapped : {A : Type 0} (u : A → A) (xs : List A) → all_unplaced u xs ≡ map u xs
+all-mapped u [] = refl
+all-mapped u (x ∷ xs) = ap (λ z. u x ∷ z) (all-mapped u xs)
 
 -- items that are seen the same without their places
 pub same-all : {A B : Type 0} (u : A → A) (f : A → B) → ((x : A) → f (u x) ≡ f x) → (xs : List A) → map f (all_unplaced u xs) ≡ map f xs
@@ -71,7 +81,14 @@ field_at_unplaced f = record { owner = f.owner; mods = all_unplaced modifier_unp
 
 abbrev pub method_at_unplaced : MethodAt → MethodAt
 method_at_unplaced m =
-    record { owner = m.owner; kind = m.kind; in_abstract = m.in_abstract; head = head_unplaced m.head; body = may_unplaced stmts_unplaced m.body }
+    record {
+      owner = m.owner;
+      kind = m.kind;
+      in_abstract = m.in_abstract;
+      head = head_unplaced m.head;
+      up = may_unplaced exprs_unplaced m.up;
+      body = may_unplaced stmts_unplaced m.body;
+    }
 
 field-members : (c : ℕ) (ms : List MemberTree) → fields_of c (all_unplaced member_unplaced ms) ≡ map field_at_unplaced (fields_of c ms)
 field-members c [] = refl
@@ -85,8 +102,17 @@ method-members : (c : ℕ) (abstract : Bool) (ms : List MemberTree)
 method-members c abstract [] = refl
 method-members c abstract (FieldTree ks t n p ∷ ms) = method-members c abstract ms
 method-members c abstract (MethodTree h b p ∷ ms) =
-    ap (λ z. method_at_unplaced (record { owner = c; kind = kinds.Method; in_abstract = abstract; head = h; body = b }) ∷ z) (method-members c abstract ms)
-method-members c abstract (MakerTree ks n ps up ss p ∷ ms) = method-members c abstract ms
+    ap (λ z. method_at_unplaced (record { owner = c; kind = kinds.Method; in_abstract = abstract; head = h; up = None; body = b }) ∷ z)
+    (method-members c abstract ms)
+method-members c abstract (MakerTree ks n ps up ss p ∷ ms) =
+    ap (λ z. method_at_unplaced (record {
+      owner = c;
+      kind = kinds.Maker;
+      in_abstract = abstract;
+      head = maker_head n ks ps p;
+      up = up;
+      body = Some ss;
+    }) ∷ z) (method-members c abstract ms)
 
 field-decl : (c : ℕ) (d : DeclTree) → fields_declared c (decl_unplaced d) ≡ map field_at_unplaced (fields_declared c d)
 field-decl c (ClassTree ms n e fs bs p) = field-members c bs
@@ -110,8 +136,71 @@ methods-from c (d ∷ ds) =
 pub fields-same : (tree : List DeclTree) → fields_in (unplaced tree) ≡ map field_at_unplaced (fields_in tree)
 fields-same tree = fields-from 1 tree
 
+-- ---- constructors that are not written
+
+makers-same : (ms : List MemberTree) → list_any tree_makers.is_maker (all_unplaced member_unplaced ms) ≡ list_any tree_makers.is_maker ms
+makers-same [] = refl
+makers-same (FieldTree ks t n p ∷ ms) = makers-same ms
+makers-same (MethodTree h b p ∷ ms) = makers-same ms
+makers-same (MakerTree ks n ps up ss p ∷ ms) = refl
+
+declares-same : (d : DeclTree) → declares_maker (decl_unplaced d) ≡ declares_maker d
+declares-same (ClassTree ms n c fs bs p) = makers-same bs
+declares-same (InterfaceTree ms n fs hs p) = refl
+
+-- the types alone
+alone-same : (tree : List DeclTree) → classes_alone (unplaced tree) ≡ untagged (classes_alone tree)
+alone-same tree =
+    ap (λ t. record { classes = object ∷ map (class_outline t) (unplaced tree); fields = []; methods = []; slots = []; main = 0 }) (types-same tree)
+    ∙ ap (λ cs. record { classes = object ∷ cs; fields = []; methods = []; slots = []; main = 0 })
+    (seen-all decl_unplaced (class_outline (types_in tree)) (class_outline (types_in tree)) untag_class (class-same (types_in tree)) tree)
+
+writes-same : (tree : List DeclTree) (c : ℕ) → writes_at (unplaced tree) c ≡ writes_at tree c
+writes-same tree zero = refl
+writes-same tree (suc k) =
+    ap (λ z. option_and_then (λ d. if declares_maker d then Some (suc k) else None) (slice_get z k)) (all-mapped decl_unplaced tree)
+    ∙ ap (option_and_then (λ d. if declares_maker d then Some (suc k) else None)) (slice_get-map decl_unplaced tree k) ∙ go (slice_get tree k)
+  where
+    go : (o : Option DeclTree) → option_and_then (λ d. if declares_maker d then Some (suc k) else None) (option_map decl_unplaced o)
+        ≡ option_and_then (λ d. if declares_maker d then Some (suc k) else None) o
+    go None = refl
+    go (Some d) = ap (λ b. if b then Some (suc k) else None) (declares-same d)
+
+writer-same : (tree : List DeclTree) (c : ℕ) → writer_of (unplaced tree) c ≡ writer_of tree c
+writer-same tree c =
+    ap (λ z. nearest_of z (writes_at (unplaced tree)) c) (alone-same tree)
+    ∙ ap (λ n. nearest (untagged (classes_alone tree)) (writes_at (unplaced tree)) n c) (length-map (classes_alone tree).classes untag_class)
+    ∙ nearest-same (classes_alone tree) (writes_at (unplaced tree)) (writes_at tree) (writes-same tree) (length (classes_alone tree).classes) c
+
+implied-same : (c : ℕ) (d : DeclTree) → implied_maker c (name_of (decl_unplaced d)) (place_of (decl_unplaced d))
+    ≡ method_at_unplaced (implied_maker c (name_of d) (place_of d))
+implied-same c (ClassTree ms n e fs bs p) = refl
+implied-same c (InterfaceTree ms n fs hs p) = refl
+
+implied-decl : (tree : List DeclTree) (c : ℕ) (d : DeclTree) → implied_in (unplaced tree) c (decl_unplaced d) ≡ map method_at_unplaced (implied_in tree c d)
+implied-decl tree c d =
+    ap₂ (λ b w. if b then [] else if is_some w then implied_maker c (name_of (decl_unplaced d)) (place_of (decl_unplaced d)) ∷ [] else [])
+    (declares-same d) (writer-same tree c)
+    ∙ ap (λ z. if declares_maker d then [] else if is_some (writer_of tree c) then z ∷ [] else []) (implied-same c d)
+    ∙ go (declares_maker d) (is_some (writer_of tree c))
+  where
+    go : (b w : Bool) → (if b then [] else if w then method_at_unplaced (implied_maker c (name_of d) (place_of d)) ∷ [] else [])
+        ≡ map method_at_unplaced (if b then [] else if w then implied_maker c (name_of d) (place_of d) ∷ [] else [])
+    go true w = refl
+    go false true = refl
+    go false false = refl
+
+implied-all : (tree : List DeclTree) (c : ℕ) (ds : List DeclTree) → implied_from (unplaced tree) c (unplaced ds)
+    ≡ map method_at_unplaced (implied_from tree c ds)
+implied-all tree c [] = refl
+implied-all tree c (d ∷ ds) =
+    ap₂ (λ x y. x ++ y) (implied-decl tree c d) (implied-all tree (suc c) ds)
+    ∙ sym (map-append method_at_unplaced (implied_in tree c d) (implied_from tree (suc c) ds))
+
 pub methods-same : (tree : List DeclTree) → methods_in (unplaced tree) ≡ map method_at_unplaced (methods_in tree)
-methods-same tree = methods-from 1 tree
+methods-same tree =
+    ap₂ (λ x y. x ++ y) (methods-from 1 tree) (implied-all tree 1 tree)
+    ∙ sym (map-append method_at_unplaced (methods_from 1 tree) (implied_from tree 1 tree))
 
 -- ---- the whole
 
@@ -137,12 +226,12 @@ method-seen types m =
       body = None;
       tag = bare_tag;
     })
-    (word-same is_static_word m.head.mods) (word-same is_public_word m.head.mods)
+    (word-same is_static_word m.head.mods) (ap (λ z. is_maker m || z) (word-same is_public_word m.head.mods))
     ∙ ap₂ (λ ps r. record {
       owner = m.owner;
       name = m.head.name;
       is_static = has_word is_static_word m.head.mods;
-      is_public = has_word is_public_word m.head.mods;
+      is_public = is_public m;
       slot = None;
       params = ps;
       locals = [];

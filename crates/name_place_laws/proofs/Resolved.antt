@@ -15,16 +15,12 @@ use Rattle.name_rules.specs.Asked.{IsSuper, a_parent, a_face, IsDeclared, of_fie
 use Rattle.name_rules.specs.Resolves.{Counts, BodiesResolve, heading_of, HasSlot, no_slot, a_slot, AreSlots, Resolves}
 use Rattle.java_core.specs.Untagged.{untag_class, untag_field, untag_method, untagged}
 use Rattle.name_laws.proofs.Sees.{same_some}
-use Rattle.name_place_laws.proofs.Outlines.{field_at_unplaced, method_at_unplaced, fields-same, methods-same, outline-same}
+use Rattle.name_place_laws.proofs.Outlines.{all-mapped, field_at_unplaced, method_at_unplaced, fields-same, methods-same, outline-same}
 use Rattle.name_place_laws.proofs.Meanings.{named-same}
 use Rattle.name_place_laws.proofs.Bodies.{bodies}
 use Rattle.name_place_laws.proofs.Untagged.{numbers-same, param-types-same}
 
 -- ---- the types that are asked for
-
-pub all-mapped : {A : Type 0} (u : A → A) (xs : List A) → all_unplaced u xs ≡ map u xs
-all-mapped u [] = refl
-all-mapped u (x ∷ xs) = ap (λ z. u x ∷ z) (all-mapped u xs)
 
 -- an item of a mapped list is the image of one
 pub from-map : {A : Type 0} (u : A → A) (xs : List A) (y : A) → Contains (map u xs) y → (x : A) × Contains xs x × (u x ≡ y)

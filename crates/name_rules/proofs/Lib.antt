@@ -1,1 +1,3 @@
 pub mod FirstMethods
+mod Makers
+pub mod NoMakers

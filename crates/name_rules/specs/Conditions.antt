@@ -22,10 +22,10 @@ use Rattle.name_rules.specs.declared.Refusal.TheVariants.{Unknown, Twice, Loop, 
 use Rattle.name_rules.specs.declared.parts.Here.{Here}
 use Rattle.name_rules.specs.declared.parts.Kind.{Kind}
 use Rattle.name_rules.specs.declared.parts.Kind.TheVariants as kinds
-use Rattle.name_rules.specs.Outline.{FieldAt, MethodAt, is_private, has_word, is_public_word, is_protected_word, is_private_word, is_abstract_word, is_static_word, is_final_word, outline, fields_in, methods_in, types_in, is_text_type, is_type_name, is_known, name_of, place_of, mods_of, parent_named, faces_named}
+use Rattle.name_rules.specs.Outline.{FieldAt, MethodAt, is_maker, is_private, has_word, is_public_word, is_protected_word, is_private_word, is_abstract_word, is_static_word, is_final_word, outline, fields_in, methods_in, types_in, is_text_type, is_type_name, is_known, name_of, place_of, mods_of, parent_named, faces_named}
 use Rattle.name_rules.specs.Meanings.{type_names, class_named, is_bound, is_class_name, IsStaticFieldOf, IsStaticMethodOf, IsNearestField, IsMet, IsFirstMethod}
 use Rattle.name_rules.specs.Asked.{Asks}
-use Rattle.name_rules.specs.Resolves.{here_of}
+use Rattle.name_rules.specs.Resolves.{here_of, before_object}
 
 -- a type's name that no class has
 pub data IsUnknownType (O : Plain) (u : TypeName) : Refusal → Type 0 where
@@ -193,13 +193,15 @@ disagree keys.Static w = is_static_word w || is_abstract_word w
 disagree keys.Final w = is_final_word w
 disagree _ w = false
 
--- a modifier that cannot stand there: `static` on a class or interface, `abstract` on a field, any but `public` and `abstract` in an interface
+-- a modifier that cannot stand there: `static` on a class or interface, `abstract` on a field, any but `public` and `abstract` in an interface, any but
+-- `public`, `protected` and `private` on a constructor
 abbrev pub is_unfit : Kind → Keyword → Bool
 is_unfit kinds.Class w = is_static_word w
 is_unfit kinds.Interface w = is_static_word w
 is_unfit kinds.Field w = is_abstract_word w
 is_unfit kinds.Head w = (is_protected_word w || is_private_word w) || (is_static_word w || is_final_word w)
 is_unfit kinds.Method w = false
+is_unfit kinds.Maker w = is_abstract_word w || (is_static_word w || is_final_word w)
 
 -- where modifiers stand, and before what
 abbrev pub kind_of : DeclTree → Kind
@@ -215,8 +217,20 @@ pub data HasModifiers (declarations : List DeclTree) : Kind → List Modifier �
 -- a method without body that is not abstract, an abstract method with one, and an abstract method in a class that is not abstract
 pub data HasWrongBody (m : MethodAt) : Type 0 where
   missing : m.kind ≡ kinds.Method → has_word is_abstract_word m.head.mods ≡ false → m.body ≡ None → HasWrongBody m
-  superfluous : has_word is_abstract_word m.head.mods ≡ true → is_some m.body ≡ true → HasWrongBody m
-  in_concrete : has_word is_abstract_word m.head.mods ≡ true → m.in_abstract ≡ false → HasWrongBody m
+  superfluous : is_maker m ≡ false → has_word is_abstract_word m.head.mods ≡ true → is_some m.body ≡ true → HasWrongBody m
+  in_concrete : is_maker m ≡ false → has_word is_abstract_word m.head.mods ≡ true → m.in_abstract ≡ false → HasWrongBody m
+
+-- the constructors that a class writes, each under its own name
+abbrev pub written_makers : List tree.MemberTree → List Id
+written_makers [] = []
+written_makers (tree.FieldTree mods u n p ∷ ms) = written_makers ms
+written_makers (tree.MethodTree h body p ∷ ms) = written_makers ms
+written_makers (tree.MakerTree mods n ps up ss p ∷ ms) = record { name = n; place = p } ∷ written_makers ms
+
+-- and those that a declaration writes; an interface has none
+abbrev pub makers_written : DeclTree → List Id
+makers_written (tree.ClassTree mods n parent faces ms p) = written_makers ms
+makers_written (tree.InterfaceTree mods n parents hs p) = []
 
 -- two methods are of one slot: instance methods whose parameter types and results agree
 pub record AreOneSlot (h k : PlainMethod) : Type 0 where
@@ -243,7 +257,7 @@ pub data ConditionAt (declarations : List DeclTree) : Refusal → Type 0 where
       → f.owner ≡ g.owner → f.name ≡ g.name
       → ConditionAt declarations (Twice g.name g.place)
   method_twice : {i j : ℕ} {h k : MethodAt} → slice_get (methods_in declarations) i ≡ Some h → slice_get (methods_in declarations) j ≡ Some k → i < j
-      → h.owner ≡ k.owner → h.head.name ≡ k.head.name
+      → h.owner ≡ k.owner → h.head.name ≡ k.head.name → is_maker k ≡ false
       → ConditionAt declarations (Twice k.head.name k.head.place)
   param_twice : {m : MethodAt} {i j : ℕ} {a b : _} → Contains (methods_in declarations) m → slice_get m.head.params i ≡ Some a
       → slice_get m.head.params j ≡ Some b → i < j → a.name ≡ b.name
@@ -256,6 +270,11 @@ pub data ConditionAt (declarations : List DeclTree) : Refusal → Type 0 where
       ≡ Some k → i < j → h.name ≡ k.name
       → IsSubclass (outline declarations) c h.owner → IsSubclass (outline declarations) c k.owner → (AreOneSlot h k → ⊥)
       → ConditionAt declarations (Overload k.name k.tag.place)
+  -- a second constructor of a class, and one that has not its class's name
+  maker_twice : {d : DeclTree} {i j : ℕ} {a b : Id} → Contains declarations d → slice_get (makers_written d) i ≡ Some a
+      → slice_get (makers_written d) j ≡ Some b → i < j → ConditionAt declarations (Overload b.name b.place)
+  maker_named : {d : DeclTree} {i : Id} → Contains declarations d → Contains (makers_written d) i → i.name ≢ name_of d
+      → ConditionAt declarations (Unknown i.name i.place)
   -- a field or a parameter of the name of a type
   type_as_field : {f : FieldAt} → Contains (fields_in declarations) f → is_type_name (types_in declarations) f.name ≡ true
       → ConditionAt declarations (TwoKinds f.name f.place)
@@ -284,3 +303,6 @@ pub data ConditionAt (declarations : List DeclTree) : Refusal → Type 0 where
   -- a condition in a body
   in_body : {m : MethodAt} {ss : Statements} {r : Refusal} → Contains (methods_in declarations) m → m.body ≡ Some ss
       → StsFault (outline declarations) (here_of m) false (map (λ q. q.name) m.head.params) ss r → ConditionAt declarations r
+  -- and in the arguments of a constructor's `super(..)`, where the parameters are in scope
+  in_up : {m : MethodAt} {es : Expressions} {r : Refusal} → Contains (methods_in declarations) m → m.up ≡ Some es
+      → FaultInOne (outline declarations) (before_object m) (map (λ q. q.name) m.head.params) es r → ConditionAt declarations r

@@ -1,7 +1,7 @@
 -- Believed. What the declarations of a tree say: the types by number, who names whom as a supertype, and the fields and
 -- methods in the order of the text with
--- their owners.
-use Rattle.std.specs.Prelude.{ℕ, suc, ◌||◌, Bool, true, false, List, [], ◌∷◌, ◌++◌, map, Option, Some, None, codes, if◌then◌else◌, position}
+-- their owners; a constructor is one of the methods, and one that a class has without writing it stands behind all others.
+use Rattle.std.specs.Prelude.{ℕ, zero, suc, slice_get, option_and_then, ◌||◌, Bool, true, false, List, [], ◌∷◌, ◌++◌, map, Option, Some, None, codes, if◌then◌else◌, position}
 use Rattle.std.specs.Option.{option_map, is_some}
 use Rattle.std.specs.List.{list_any}
 use Rattle.std.specs.Str.{bytes_eq}
@@ -15,7 +15,10 @@ use Rattle.java_tree.specs.declared.TypeName.{TypeName}
 use Rattle.java_tree.specs.declared.TypeBase.{TypeBase}
 use Rattle.java_tree.specs.declared.TypeBase.TheVariants as bases
 use Rattle.java_tree.specs.declared.Param.{Param}
-use Rattle.java_tree.specs.Syntax.{Statements, HeadTree, MemberTree, FieldTree, MethodTree, MakerTree, DeclTree, ClassTree, InterfaceTree}
+use Rattle.java_tree.specs.Syntax.{Expressions, Statements, no_statements, HeadTree, MemberTree, FieldTree, MethodTree, MakerTree, DeclTree, ClassTree, InterfaceTree}
+use Rattle.java_tree.specs.Makers.{declares_maker}
+use Rattle.java_core.specs.Classes.{nearest_of}
+use Rattle.java_core.specs.Makers.{maker_name}
 use Rattle.java_core.specs.declared.Ty.{Ty}
 use Rattle.java_core.specs.declared.TyBase.{TyBase}
 use Rattle.java_core.specs.declared.TyBase.TheVariants as ty
@@ -145,13 +148,19 @@ pub record FieldAt : Type 0 where
   pub name : List ℕ
   pub place : Place
 
--- a method, with the number of its class or interface and what its modifiers stand before
+-- a method or a constructor, with the number of its class or interface and what its modifiers stand before; up has the arguments of the `super(..)`
+-- with which a constructor begins
 pub record MethodAt : Type 0 where
   pub owner : ℕ
   pub kind : Kind
   pub in_abstract : Bool
   pub head : HeadTree
+  pub up : Option Expressions
   pub body : Option Statements
+
+-- the head of the constructor of a class of this name
+abbrev pub maker_head : List ℕ → List Modifier → List Param → Place → HeadTree
+maker_head n mods ps p = record { mods = mods; type = None; name = maker_name n; params = ps; place = p }
 
 -- the field that a member of the class c is, in a list; none where it is a method or a constructor
 abbrev pub field_member : ℕ → MemberTree → List FieldAt
@@ -159,11 +168,12 @@ field_member c (FieldTree mods u n p) = record { owner = c; mods = mods; type = 
 field_member c (MethodTree h body p) = []
 field_member c (MakerTree mods n ps up ss p) = []
 
--- the method that a member of the class c is, in a list; none where it is a field or a constructor
+-- the method or constructor that a member of the class c is, in a list; none where it is a field
 abbrev pub method_member : ℕ → Bool → MemberTree → List MethodAt
 method_member c abstract (FieldTree mods u n p) = []
-method_member c abstract (MethodTree h body p) = record { owner = c; kind = kinds.Method; in_abstract = abstract; head = h; body = body } ∷ []
-method_member c abstract (MakerTree mods n ps up ss p) = []
+method_member c abstract (MethodTree h body p) = record { owner = c; kind = kinds.Method; in_abstract = abstract; head = h; up = None; body = body } ∷ []
+method_member c abstract (MakerTree mods n ps up ss p) =
+    record { owner = c; kind = kinds.Maker; in_abstract = abstract; head = maker_head n mods ps p; up = up; body = Some ss } ∷ []
 
 -- the fields among the members of the class c, in the order of the text
 abbrev pub fields_of : ℕ → List MemberTree → List FieldAt
@@ -177,7 +187,7 @@ methods_of c abstract (m ∷ ms) = method_member c abstract m ++ methods_of c ab
 
 -- the methods of the interface c, which have no body
 abbrev pub heads_of : ℕ → List HeadTree → List MethodAt
-heads_of c hs = map (λ h. record { owner = c; kind = kinds.Head; in_abstract = true; head = h; body = None }) hs
+heads_of c hs = map (λ h. record { owner = c; kind = kinds.Head; in_abstract = true; head = h; up = None; body = None }) hs
 
 -- the fields that a declaration of the number c declares; an interface declares none
 abbrev pub fields_declared : ℕ → DeclTree → List FieldAt
@@ -202,14 +212,6 @@ methods_from c (d ∷ ds) = methods_declared c d ++ methods_from (suc c) ds
 -- the fields of all declarations; the first declaration has the number 1, behind Object
 abbrev pub fields_in : List DeclTree → List FieldAt
 fields_in tree = fields_from 1 tree
-
--- the methods of all declarations; the first declaration has the number 1, behind Object
-abbrev pub methods_in : List DeclTree → List MethodAt
-methods_in tree = methods_from 1 tree
-
--- whether a method is declared `static`
-abbrev pub is_static : MethodAt → Bool
-is_static m = has_word is_static_word m.head.mods
 
 -- whether a method is declared `private`
 abbrev pub is_private : MethodAt → Bool
@@ -238,6 +240,64 @@ class_outline types d =
       tag = at_place (place_of d);
     }
 
+-- ---- constructors that classes have without writing one
+
+-- the class of a number, where it writes a constructor; number 0 is Object, which is not declared
+abbrev pub writes_at : List DeclTree → ℕ → Option ℕ
+writes_at tree zero = None
+writes_at tree (suc k) = option_and_then (λ d. if declares_maker d then Some (suc k) else None) (slice_get tree k)
+
+-- the types that a tree declares, without their members
+abbrev pub classes_alone : List DeclTree → Plain
+classes_alone tree = record { classes = object ∷ map (class_outline (types_in tree)) tree; fields = []; methods = []; slots = []; main = 0 }
+
+-- the nearest class that writes a constructor, from a class upwards, the class itself first
+abbrev pub writer_of : List DeclTree → ℕ → Option ℕ
+writer_of tree c = nearest_of (classes_alone tree) (writes_at tree) c
+
+-- the constructor of a class that writes none, where an ancestor writes one: without parameters, with nothing in it, at the class's name (Java Language
+-- Specification, 8.8.9)
+abbrev pub implied_maker : ℕ → List ℕ → Place → MethodAt
+implied_maker c n p = record { owner = c; kind = kinds.Maker; in_abstract = false; head = maker_head n [] [] p; up = None; body = Some no_statements }
+
+-- the constructor that the declaration of the number c has without writing one, in a list
+abbrev pub implied_in : List DeclTree → ℕ → DeclTree → List MethodAt
+implied_in tree c d =
+    if declares_maker d then [] else if is_some (writer_of tree c) then implied_maker c (name_of d) (place_of d) ∷ [] else []
+
+-- those of declarations of which the first has the number c
+abbrev pub implied_from : List DeclTree → ℕ → List DeclTree → List MethodAt
+implied_from tree c [] = []
+implied_from tree c (d ∷ ds) = implied_in tree c d ++ implied_from tree (suc c) ds
+
+-- the methods and constructors of all declarations, and behind them the constructors that are not written; the first declaration has the number 1,
+-- behind Object
+abbrev pub methods_in : List DeclTree → List MethodAt
+methods_in tree = methods_from 1 tree ++ implied_from tree 1 tree
+
+-- ---- what modifiers say of a method
+
+-- whether something of this kind is a constructor
+abbrev pub is_maker_kind : Kind → Bool
+is_maker_kind kinds.Class = false
+is_maker_kind kinds.Interface = false
+is_maker_kind kinds.Field = false
+is_maker_kind kinds.Method = false
+is_maker_kind kinds.Head = false
+is_maker_kind kinds.Maker = true
+
+-- whether it is a constructor
+abbrev pub is_maker : MethodAt → Bool
+is_maker m = is_maker_kind m.kind
+
+-- whether a method is declared `static`
+abbrev pub is_static : MethodAt → Bool
+is_static m = has_word is_static_word m.head.mods
+
+-- whether a method is public: one that is declared so, and each constructor, whatever stands before it
+abbrev pub is_public : MethodAt → Bool
+is_public m = is_maker m || has_word is_public_word m.head.mods
+
 -- the field of the program that a declared field is
 abbrev pub field_outline : List (List ℕ) → FieldAt → PlainField
 field_outline types f = record {
@@ -260,7 +320,7 @@ method_outline types m =
       owner = m.owner;
       name = m.head.name;
       is_static = is_static m;
-      is_public = has_word is_public_word m.head.mods;
+      is_public = is_public m;
       slot = None;
       params = map (param_outline types) m.head.params;
       locals = [];

@@ -1,8 +1,9 @@
 -- Believed. Which program a tree is once its names are resolved: the meaning of each name as a relation, one
 -- constructor a meaning.
-use Rattle.std.specs.Prelude.{◌≡◌, ℕ, ℤ, suc, ◌<◌, ◌≤◌, Bool, true, false, List, [], ◌∷◌, ◌++◌, length, map, Option, Some, None, slice_get}
-use Rattle.std.specs.Option.{is_some}
+use Rattle.std.specs.Prelude.{◌≡◌, ℕ, ℤ, suc, ◌<◌, ◌≤◌, ◌||◌, if◌then◌else◌, Bool, true, false, List, [], ◌∷◌, ◌++◌, length, map, Option, Some, None, slice_get}
+use Rattle.std.specs.Option.{is_some, option_map_or}
 use Rattle.kaba_base.specs.declared.Place.{Place}
+use Rattle.kaba_base.specs.declared.ClassId.{ClassId}
 use Rattle.java_lex.specs.declared.Mark.{Mark}
 use Rattle.java_lex.specs.declared.Mark.TheVariants as marks
 use Rattle.java_tree.specs.declared.Id.{Id}
@@ -18,10 +19,12 @@ use Rattle.java_core.specs.declared.Op.TheVariants as op
 use Rattle.java_core.specs.Trees.{at_place, Ex, number, character, text, truth, null, this, local, static_field, own_field, field, index, call, static_call, super_call, create, create_array, cast, instance_of, unary, binary, Exs, no_ex, ex_then, Target, to_local, to_static, to_own, to_field, to_element, no_target, St, declare, block, assign, act, print, choose, loop, return, break, continue, Sts, no_st, st_then, IfArms, no_other, otherwise, arm}
 use Rattle.java_core.specs.Programs.{Plain, PlainLocal, PlainField, PlainMethod, PlainSlot}
 use Rattle.java_core.specs.Types.{types_of}
+use Rattle.java_core.specs.Classes.{parent_of}
+use Rattle.java_core.specs.Makers.{maker_of, call_above}
 use Rattle.java_core.specs.Formed.{variables_of, numbers_methods, IsMain}
 use Rattle.name_rules.specs.declared.parts.Bound.{Bound}
 use Rattle.name_rules.specs.declared.parts.Here.{Here}
-use Rattle.name_rules.specs.Outline.{MethodAt, is_static, outline, methods_in, is_type_name}
+use Rattle.name_rules.specs.Outline.{MethodAt, is_maker, is_static, outline, methods_in, is_type_name}
 use Rattle.name_rules.specs.Meanings.{type_names, class_named, Means, MeansCast, in_scope, is_bound, bound_names, is_class_name, IsStaticFieldOf, IsStaticMethodOf, IsNearestField, IsFirstMethod}
 use Rattle.name_rules.specs.Asked.{Asks}
 
@@ -297,10 +300,40 @@ params_from i (v ∷ vs) = record { name = v.name; number = i } ∷ params_from 
 abbrev pub here_of : MethodAt → Here
 here_of m = record { owner = m.owner; is_static = is_static m }
 
--- the body of a method, with its locals numbered behind the parameters in the order of the text
+-- where the arguments of a constructor's `super(..)` stand: nothing of the object may be named, as in a static method
+abbrev pub before_object : MethodAt → Here
+before_object m = record { owner = m.owner; is_static = true }
+
+-- the arguments of a constructor's `super(..)`; without it there are none
+pub data UpResolves (O : Plain) (m : MethodAt) (scope : List Bound) : Option Expressions → Exs → Type 0 where
+  r_no_up : UpResolves O m scope None no_ex
+  r_up : {es : Expressions} {xs : Exs} → AllResolve O (before_object m) scope es xs → UpResolves O m scope (Some es) xs
+
+-- whether there are arguments
+abbrev pub has_arguments : Exs → Bool
+has_arguments no_ex = false
+has_arguments (ex_then e es) = true
+
+-- the call of the constructor of a class b on the object that is being made, before the statements; there is none where b has none and nothing is
+-- passed to it
+abbrev pub after_call : Plain → ClassId → Place → Exs → Sts → Sts
+after_call O b p es xs =
+    if is_some (maker_of O b.0) || has_arguments es
+    then option_map_or (λ k. st_then (call_above (at_place p) k.name es) xs) (slice_get O.classes b.0) xs
+    else xs
+
+-- the code of a constructor: the call of the superclass's constructor, and then its statements (Java Language Specification, 8.8.7)
+abbrev pub maker_code : Plain → MethodAt → Exs → Sts → Sts
+maker_code O m es xs = option_map_or (λ b. after_call O b m.head.place es xs) (parent_of O m.owner) xs
+
+-- the body of a method or a constructor, with its locals numbered behind the parameters in the order of the text
 pub data BodyResolves (O : Plain) (m : MethodAt) (k : PlainMethod) : Type 0 where
   r_no_body : m.body ≡ None → k.body ≡ None → k.locals ≡ [] → BodyResolves O m k
-  r_body : {ss : Statements} {xs : Sts} → m.body ≡ Some ss → k.body ≡ Some xs → StsResolve O (here_of m) k false (params_from 0 k.params) ss xs
+  r_body : {ss : Statements} {xs : Sts} → is_maker m ≡ false → m.body ≡ Some ss → k.body ≡ Some xs
+      → StsResolve O (here_of m) k false (params_from 0 k.params) ss xs
+      → Counts (length k.params) (declares_all xs) (length (variables_of k)) → BodyResolves O m k
+  r_maker : {ss : Statements} {es : Exs} {xs : Sts} → is_maker m ≡ true → m.body ≡ Some ss → k.body ≡ Some (maker_code O m es xs)
+      → UpResolves O m (params_from 0 k.params) m.up es → StsResolve O (here_of m) k false (params_from 0 k.params) ss xs
       → Counts (length k.params) (declares_all xs) (length (variables_of k)) → BodyResolves O m k
 
 -- the bodies of methods, each in its turn

@@ -11,6 +11,8 @@ pub enum Kind {
     Method,
     /// A method of an interface.
     Head,
+    /// A constructor.
+    Maker,
 }
 
 /// Where a body stands: its class, and whether its method is static.
