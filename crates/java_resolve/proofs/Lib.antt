@@ -1,2 +1,3 @@
 pub mod Final
 pub mod Made
+pub mod TreeClasses

@@ -144,7 +144,7 @@ fn with_bodies(
 }
 
 /// The program that the rules make of a tree, or the first refusal that they meet.
-#[tactic(auto, unfolding(name_laws::specs::Resolved::resolved))]
+#[tactic(auto, unfolding(name_laws::specs::Resolved::resolved), using(crate::proofs::TreeClasses::classes_are))]
 fn resolve_tree(alloc: Global, tree: &Tree) -> Result<Program, Refusal>
     ensures program { GivesValue {A = Program} {B = Plain} program_of result (resolved (tree_of tree.now)) }
 {
@@ -153,7 +153,7 @@ fn resolve_tree(alloc: Global, tree: &Tree) -> Result<Program, Refusal>
     let classes = made!(classes_of(alloc, &known, list); known);
     let above = made!(above_of(alloc, &classes); known, classes);
     let _count = made!(loops_of(alloc, &above, &classes); known, classes, above);
-    let draft = made!(members_of(alloc, &known, list); known, classes, above);
+    let draft = made!(members_of(alloc, &known, &classes, list); known, classes, above);
     with_bodies(alloc, list, known, classes, above, draft)
 }
 
@@ -173,7 +173,7 @@ fn is_counted(program: &Program) -> bool
 /// 6.3 to 6.5). A program comes exactly where no condition of a refusal holds of the tree, `Memory`
 /// aside. A refusal comes only where its condition holds, at the place that it holds; where several
 /// hold, any of them may come. `Memory` comes where memory is short, or where a number of the
-/// program is none of 32 bits. Constructors are passed over: they declare nothing, and no name in them is looked at.
+/// program is none of 32 bits. Constructors are methods of the program, those that are not written behind all others.
 pub fn resolve(alloc: Global, tree: &Tree) -> Result<Program, Refusal>
     requires given { IsFormedTree (tree_of tree.now) }
     ensures resolves { IfOk result (λ p. Resolves (tree_of tree.now) (program_of p)) }

@@ -6,3 +6,4 @@ pub mod Steps
 pub mod MetLemmas
 pub mod Nearest
 pub mod StatementSteps
+pub mod MakerLemmas

@@ -344,7 +344,12 @@ fn new_object(
 /// Arguments with their names resolved.
 #[cycle(exprs)]
 #[tactic(auto, using(crate::proofs::Rows::exprs_push))]
-fn all(within: &Enclosing, scope: &Scope, number: &mut u32, list: &Vec<Expr>) -> Named<Vec<RExpr>>
+pub fn all(
+    within: &Enclosing,
+    scope: &Scope,
+    number: &mut u32,
+    list: &Vec<Expr>,
+) -> Named<Vec<RExpr>>
     ensures given { GivesValue {A = Vec RExpr Global} {B = Exs × ℕ} (λ v. (core.exprs v.items, number.new)) result
         (walk_all (table_at within.now) within.now.here scope.now no_ex number.old (exprs list.now.items)) }
 {

@@ -6,6 +6,7 @@ mod declarations;
 mod exprs;
 mod locals;
 mod make;
+mod makers;
 mod meanings;
 mod met;
 mod stmts;

@@ -1,7 +1,8 @@
 //! Resolved trees from their parts.
 #![tactic(auto, using(java_core::proofs::Rows::exprs_vec, java_core::proofs::Rows::stmts_vec, java_core::proofs::Rows::arms_vec))]
 
-ghost use Rattle.std.specs.Prelude.{◌≡◌, Some, true, false};
+ghost use Rattle.std.specs.Prelude.{◌≡◌, ℕ, List, Some, true, false};
+ghost use Rattle.java_core.specs.Makers.{maker_name, call_above};
 ghost use Rattle.java_core.specs.Trees.{at_place, expr_of, exprs, stmt_of, stmts, arms_seen, else_seen, step_seen, value_of, no_st, block, choose, loop, create};
 ghost use Rattle.name_laws.specs.Expressions.{called_on};
 ghost use Rattle.name_bodies.specs.Views.{receiver_of};
@@ -44,6 +45,21 @@ pub fn create(number: u32, class: u32, args: Vec<RExpr>, place: Place) -> RExpr
         number,
         class: ClassId(class),
         args,
+        place,
+    }
+}
+
+/// The call of the constructor of this name on the object that is being made: what `super(args);` is.
+pub fn call_above(name: Name, args: Vec<RExpr>, place: Place) -> RStmt
+    ensures { (x : List ℕ) → name ≡ maker_name x → stmt_of result ≡ call_above (at_place place) x (exprs args.items) }
+{
+    RStmt::Do {
+        call: RExpr::Call {
+            base: None,
+            name,
+            args,
+            place,
+        },
         place,
     }
 }

@@ -315,8 +315,25 @@ pub fn statements(
         (walk_sts (table_at within.now) within.now.here within.now.inside no_st scope.now (state_of body.old)
         (stmts list.now.items)) }
 {
+    behind(within, scope, body, Vec::new(within.alloc), list)
+}
+
+/// The same, behind others.
+#[cycle(stmts)]
+pub fn behind(
+    within: &Enclosing,
+    scope: &Scope,
+    body: &mut Body,
+    before: Vec<RStmt>,
+    list: &Vec<Stmt>,
+) -> Named<Vec<RStmt>>
+    ensures given { GivesValue {A = Vec RStmt Global} {B = Sts × LocalsState}
+        (λ v. (core.stmts v.items, state_of body.new)) result
+        (walk_sts (table_at within.now) within.now.here within.now.inside (core.stmts before.items) scope.now (state_of body.old)
+        (stmts list.now.items)) }
+{
     let mut inner = Scope::within(within.alloc, &*scope);
-    let mut done = Vec::new(within.alloc);
+    let mut done = before;
     for one in list {
         done.push(stmt(within, &mut inner, body, one)?)?;
     }

@@ -42,10 +42,6 @@ put_back false false k old own mid more new e f g h = h ∙ f
 
 -- ---- one member more
 
-not-there : (o : Option ℕ) → is_some o ≡ false → o ≡ None
-not-there None e = refl
-not-there (Some k) e = absurd (cc e)
-
 -- what is found with one member more
 position-push : {A : Type 0} (p : A → Bool) (k : ℕ) (xs : List A) (x : A) → position_from p k (xs ++ x ∷ [])
     ≡ first_or (position_from p k xs) (cond (p x) (Some (k + length xs)) None)
@@ -59,35 +55,37 @@ position-push p k (y ∷ xs) x =
     go true o q r h = refl
     go false o q r h = h
 
--- a table that was right is right with one member more, which its class did not have
+-- the class and the name are those of the entry
+same_entry : (find : ℕ → List ℕ → Option ℕ) (class : ℕ) (name : List ℕ) (c : ℕ) (n : List ℕ) → (class == c) && bytes_eq name n ≡ true
+    → find class name ≡ find c n
+same_entry find class name c n e =
+    let h = and_parts (class == c) (bytes_eq name n) e in
+    ap (λ z. find z name) ((Decides-eqb class c).0 h.0) ∙ ap (find c) ((bytes_eq-Decides name n).0 h.1)
+
+-- an entry that is there already stays as it is
+pub first_kept : (find : ℕ → List ℕ → Option ℕ) (class : ℕ) (name : List ℕ) (k : ℕ) → is_some (find class name) ≡ true → (c : ℕ) (n : List ℕ)
+    → find c n ≡ first_or (find c n) (cond ((class == c) && bytes_eq name n) (Some k) None)
+first_kept find class name k there c n = go ((class == c) && bytes_eq name n) refl (find c n) refl
+  where
+    go : (b : Bool) → (class == c) && bytes_eq name n ≡ b → (o : Option ℕ) → find c n ≡ o → o ≡ first_or o (cond b (Some k) None)
+    go b e (Some j) f = refl
+    go false e None f = refl
+    go true e None f = absurd (cc (sym there ∙ ap is_some (same_entry find class name c n e ∙ f)))
+
+-- a table that was right is right with one member more
 module _ {A : Type 0} (owner : A → ℕ) (name : A → List ℕ) where
+  -- the first of a name
   abbrev pub find : List A → ℕ → List ℕ → Option ℕ
   find xs c n = position (λ x. (owner x == c) && bytes_eq (name x) n) xs
 
-  pub noted_more : (xs ys : List A) (x : A) (k : ℕ) (old new : Owned) → ys ≡ xs ++ x ∷ [] → AreNamesOwned (find xs) old
-      → k ≡ length xs → is_some (find xs (owner x) (name x)) ≡ false
-      → ((c : ℕ) (n : List ℕ) → owned_in new c n ≡ cond ((owner x == c) && bytes_eq (name x) n) (Some k) (owned_in old c n)) → AreNamesOwned (find ys) new
-  noted_more xs ys x k old new push are long fresh put = record {
-    exact = λ c n. put c n ∙ ap (cond ((owner x == c) && bytes_eq (name x) n) (Some k)) (are.exact c n)
-        ∙ go ((owner x == c) && bytes_eq (name x) n) c n refl
+  pub noted_more : (xs ys : List A) (x : A) (k : ℕ) (old new : Owned) → ys ≡ xs ++ x ∷ [] → AreNamesOwned (find xs) old → k ≡ length xs
+      → ((c : ℕ) (n : List ℕ) → owned_in new c n ≡ first_or (owned_in old c n) (cond ((owner x == c) && bytes_eq (name x) n) (Some k) None))
+      → AreNamesOwned (find ys) new
+  noted_more xs ys x k old new push are long put = record {
+    exact = λ c n. put c n ∙ ap (λ o. first_or o (cond ((owner x == c) && bytes_eq (name x) n) (Some k) None)) (are.exact c n)
+        ∙ ap (λ j. first_or (find xs c n) (cond ((owner x == c) && bytes_eq (name x) n) (Some j) None)) (long ∙ omega arith)
         ∙ sym (ap (λ z. find z c n) push ∙ position_from-zero (λ y. (owner y == c) && bytes_eq (name y) n) (xs ++ x ∷ [])
         ∙ position-push (λ y. (owner y == c) && bytes_eq (name y) n) 0 xs x
         ∙ ap (λ o. first_or o (cond ((owner x == c) && bytes_eq (name x) n) (Some (0 + length xs)) None))
         (sym (position_from-zero (λ y. (owner y == c) && bytes_eq (name y) n) xs)));
   }
-    where
-      none : find xs (owner x) (name x) ≡ None
-      none = not-there (find xs (owner x) (name x)) fresh
-
-      end : (o : Option ℕ) → o ≡ first_or o None
-      end None = refl
-      end (Some j) = refl
-
-      go : (b : Bool) (c : ℕ) (n : List ℕ) → (owner x == c) && bytes_eq (name x) n ≡ b
-          → cond b (Some k) (find xs c n) ≡ first_or (find xs c n) (cond b (Some (0 + length xs)) None)
-      go true c n e =
-          let h = and_parts (owner x == c) (bytes_eq (name x) n) e in
-          ap Some (long ∙ omega arith)
-          ∙ ap (λ o. first_or o (Some (0 + length xs))) (sym none ∙ ap (λ z. find xs z (name x)) ((Decides-eqb (owner x) c).0 h.0)
-          ∙ ap (find xs c) ((bytes_eq-Decides (name x) n).0 h.1))
-      go false c n e = end (find xs c n)

@@ -24,6 +24,7 @@ fn is_unfit(kind: Kind, word: Keyword) -> bool
             Keyword::Protected | Keyword::Private | Keyword::Static | Keyword::Final
         ),
         Kind::Method => false,
+        Kind::Maker => matches!(word, Keyword::Abstract | Keyword::Static | Keyword::Final),
     }
 }
 

@@ -1,12 +1,14 @@
 //! The names of types, and what they mean.
 #![tactic(auto)]
 
-ghost use Rattle.std.specs.Prelude.{◌≡◌, ◌||◌, ◌∷◌, [], IfOk, Ok};
+ghost use Rattle.std.specs.Prelude.{◌≡◌, ◌||◌, ◌∷◌, [], IfOk, Ok, slice_get};
+ghost use Rattle.std.specs.Option.{option_map_or};
 ghost use Rattle.std.specs.Str.{bytes_eq, chars};
 ghost use Rattle.name_laws.specs.Answers.{GivesValue};
 ghost use Rattle.name_laws.specs.Names.{is_apart, number_of, names_type, asked, type_of};
 ghost use Rattle.name_laws.specs.Names as spec;
 ghost use Rattle.name_laws.specs.Classes.{object_known, know_named, is_face};
+ghost use Rattle.name_laws.specs.Members.{is_class_of};
 
 use indexmap::IndexMap;
 use java_core::{Ty, TyBase};
@@ -76,6 +78,26 @@ impl Types {
         match self.kinds.get_index(class as usize) {
             Some((_, is_interface)) => *is_interface,
             None => false,
+        }
+    }
+
+    /// Whether the type of this number has this name.
+    pub fn is_named(&self, alloc: Global, class: u32, name: &Name) -> Result<bool, AllocError>
+        ensures value { IfOk result (λ told. told ≡ is_class_of self.now class name.now) }
+    {
+        match self.kinds.get_index(class as usize) {
+            Some((text, _)) => is_text(alloc, name, text.as_str()),
+            None => Ok(false),
+        }
+    }
+
+    /// The name of the type of this number; of no type it is empty.
+    pub fn name_of(&self, alloc: Global, class: u32) -> Result<Name, AllocError>
+        ensures value { IfOk result (λ name. name ≡ option_map_or (λ k. k.name) (slice_get self.now class) []) }
+    {
+        match self.kinds.get_index(class as usize) {
+            Some((text, _)) => Name::new(alloc, text.as_str()),
+            None => Name::new(alloc, ""),
         }
     }
 }

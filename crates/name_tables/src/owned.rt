@@ -5,6 +5,7 @@ ghost use Rattle.std.specs.Prelude.{◌≡◌, ◌&&◌, ◌==◌, ℕ, List, []
 ghost use Rattle.std.specs.Option.{option_map_or};
 ghost use Rattle.std.specs.Str.{bytes_eq};
 ghost use Rattle.indexmap.specs.IndexMap.{get};
+ghost use Rattle.java_core.specs.Classes.{first_or};
 ghost use Rattle.name_tables.specs.Owned.{AreNamesOwned, owned_in};
 
 use indexmap::IndexMap;
@@ -55,14 +56,8 @@ impl Owned {
         }
     }
 
-    /// One member more, of this class, this name and this number; `AllocError` where memory is short.
-    pub fn note(
-        &mut self,
-        alloc: Global,
-        class: u32,
-        name: &Name,
-        number: u32,
-    ) -> Result<(), AllocError>
+    /// One number more, under this class and this name; `AllocError` where memory is short.
+    fn put(&mut self, alloc: Global, class: u32, name: &Name, number: u32) -> Result<(), AllocError>
         ensures { OnOk result ((c : ℕ) (n : List ℕ) → owned_in self.new c n
             ≡ cond ((class == c) && bytes_eq name.now n) (Some number) (owned_in self.old c n)) }
     {
@@ -71,5 +66,22 @@ impl Owned {
         let text = String::from_str(alloc, name.as_str())?;
         self.numbers.insert(text, numbers)?;
         Ok(())
+    }
+    /// One member more, of this class, this name and this number: of those of one class and name the first is found.
+    /// `AllocError` where memory is short.
+    pub fn note(
+        &mut self,
+        alloc: Global,
+        class: u32,
+        name: &Name,
+        number: u32,
+    ) -> Result<(), AllocError>
+        ensures { OnOk result ((c : ℕ) (n : List ℕ) → owned_in self.new c n
+            ≡ first_or (owned_in self.old c n) (cond ((class == c) && bytes_eq name.now n) (Some number) None)) }
+    {
+        if self.at(class, name).is_some() {
+            return Ok(());
+        }
+        self.put(alloc, class, name, number)
     }
 }

@@ -1,3 +1,4 @@
 pub mod ClashSpots
 pub mod MarkLemmas
 pub mod SlotPlaces
+pub mod WriterLemmas

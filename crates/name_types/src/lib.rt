@@ -7,6 +7,7 @@ mod keys;
 mod marks;
 mod members;
 mod slots;
+mod writers;
 
 pub use clashes::{clashes_of, main_of};
 pub use classes::{above_of, classes_of, known_of, loops_of};

@@ -1,7 +1,7 @@
 //! Fields, methods and slots.
 #![tactic(auto)]
 
-ghost use Rattle.std.specs.Prelude.{◌≡◌, ℕ, ◌+◌, Option, IfOk, OnOk, Ok, false, is_some, length};
+ghost use Rattle.std.specs.Prelude.{◌≡◌, ℕ, Option, None, [], IfOk, OnOk, Ok, is_some, length, map};
 ghost use Rattle.std.specs.declared.vec.Vec.{Vec};
 ghost use Rattle.std.specs.declared.alloc.Global.{Global};
 ghost use Rattle.java_tree.specs.Syntax.{head_of, member_of, members, heads, decl_of, decls};
@@ -11,12 +11,19 @@ ghost use Rattle.name_types.specs.declared.members.Draft.{Draft};
 ghost use Rattle.name_laws.specs.Answers.{GivesValue, run};
 ghost use Rattle.name_types.specs.Found.{AreDeclarationsFound, members_seen, with_method, with_field, slot_of};
 ghost use Rattle.name_laws.specs.Tables.{field_in, method_in};
-ghost use Rattle.name_laws.specs.Members.{Members, is_texts, takes_texts, is_main, add_heading, head_step, is_wrong_body, field_step, member_step, interface_step, decl_step, members_of, no_members};
+ghost use Rattle.java_core.specs.declared.Local.{Local};
+ghost use Rattle.java_core.specs.Makers.{maker_name};
+ghost use Rattle.java_core.specs.Programs.{class_seen};
+ghost use Rattle.name_rules.specs.Outline.{maker_head, classes_alone};
+ghost use Rattle.name_laws.specs.Classes.{no_flags};
+ghost use Rattle.name_types.specs.Writers.{bare_head, with_maker};
+ghost use Rattle.name_laws.specs.Members.{Members, is_texts, takes_texts, is_main, add_heading, head_step, is_wrong_body, field_step, maker_step, member_step, interface_step, decl_step, implied_step, with_implied, members_of, no_members};
 
 use crate::slots::{is_base, slotted};
-use java_core::{Field, Local, Slot, Ty, TyBase};
-use java_tree::{Decl, Head, Member, Stmt, TypeName};
-use kaba_base::{ClassId, Name, Place};
+use crate::writers::{declares_maker, has_writer, writers};
+use java_core::{Class, Field, Local, Slot, Ty, TyBase, maker_name};
+use java_tree::{Decl, Head, Member, Modifier, Param, Stmt, TypeName};
+use kaba_base::{ClassId, Name, Place, made};
 use name_laws::{Flags, Heading};
 use name_rules::{Form, Kind, Refusal};
 use name_tables::{
@@ -82,10 +89,9 @@ fn next_method(draft: &Draft) -> Result<u32, Refusal>
     number_at(draft.declared.headings.len())
 }
 
-/// One method more, which its class does not have yet.
+/// One method more.
 fn add_method(alloc: Global, draft: &mut Draft, heading: Heading) -> Result<(), Refusal>
     requires found { AreDeclarationsFound draft.old }
-    requires fresh { is_some (method_in draft.old.declared.headings.items heading.owner heading.name) ≡ false }
     ensures given { GivesValue (λ _. members_seen draft.new) result (Ok (with_method (members_seen draft.old) heading)) }
     ensures found { OnOk result (AreDeclarationsFound draft.new) }
 {
@@ -102,10 +108,9 @@ fn add_method(alloc: Global, draft: &mut Draft, heading: Heading) -> Result<(), 
     Ok(())
 }
 
-/// One field more, which its class does not have yet.
+/// One field more.
 fn add_field(alloc: Global, draft: &mut Draft, field: Field) -> Result<(), Refusal>
     requires found { AreDeclarationsFound draft.old }
-    requires fresh { is_some (field_in draft.old.declared.fields.items field.owner.0 field.name) ≡ false }
     ensures given { GivesValue (λ _. members_seen draft.new) result (Ok (with_field (members_seen draft.old) field)) }
     ensures found { OnOk result (AreDeclarationsFound draft.new) }
 {
@@ -148,6 +153,36 @@ fn slot_of(
     Ok(Some(slot))
 }
 
+/// A method of a name, these parameters and this result, which has such modifiers.
+fn add_heading(
+    alloc: Global,
+    owner: u32,
+    draft: &mut Draft,
+    flags: Flags,
+    name: Name,
+    locals: &[Local],
+    outcome: Option<Ty>,
+    place: Place,
+) -> Result<(), Refusal>
+    requires found { AreDeclarationsFound draft.old }
+    ensures given { GivesValue (λ _. members_seen draft.new) result (Ok (add_heading (members_seen draft.old) owner
+        (bare_head name place) flags locals.now outcome)) }
+    ensures found { OnOk result (AreDeclarationsFound draft.new) }
+{
+    let is_main = made!(is_main(alloc, flags.is_static, &name, locals, outcome) => Refusal; name);
+    let slot = made!(slot_of(alloc, draft, flags.is_static, &name, locals, outcome); name);
+    let heading = Heading {
+        owner,
+        name,
+        is_static: flags.is_static,
+        is_private: flags.is_private,
+        is_main,
+        slot,
+        place,
+    };
+    add_method(alloc, draft, heading)
+}
+
 /// One method more of a class or interface.
 fn head_step(
     alloc: Global,
@@ -167,20 +202,17 @@ fn head_step(
     }
     let params = params_of(alloc, known, head.params.as_slice())?;
     let outcome = result_of(alloc, known, &head.result)?;
-    let locals = params.as_slice();
-    let is_main = is_main(alloc, flags.is_static, &head.name, locals, outcome)?;
-    let slot = slot_of(alloc, draft, flags.is_static, &head.name, locals, outcome)?;
-    drop(params);
-    let heading = Heading {
+    let name = head.name.copy(alloc)?;
+    add_heading(
+        alloc,
         owner,
-        name: head.name.copy(alloc)?,
-        is_static: flags.is_static,
-        is_private: flags.is_private,
-        is_main,
-        slot,
-        place: head.place,
-    };
-    add_method(alloc, draft, heading)
+        draft,
+        flags,
+        name,
+        params.as_slice(),
+        outcome,
+        head.place,
+    )
 }
 
 /// Whether the body of a method is missing or not allowed.
@@ -227,7 +259,44 @@ fn field_step(
     add_field(alloc, draft, field)
 }
 
-/// One member more of a class; a constructor is passed over.
+/// One constructor more, under the name of its class, which has none yet.
+fn maker_step(
+    alloc: Global,
+    known: &Types,
+    owner: u32,
+    draft: &mut Draft,
+    mods: &[Modifier],
+    name: &Name,
+    params: &[Param],
+    place: Place,
+) -> Result<(), Refusal>
+    requires found { AreDeclarationsFound draft.old }
+    ensures given { GivesValue (λ _. members_seen draft.new) result (maker_step known.now owner (members_seen draft.old)
+        mods.now name.now params.now place) }
+    ensures found { OnOk result (AreDeclarationsFound draft.new) }
+{
+    let flags = flags_of(Kind::Maker, mods)?;
+    if !known.is_named(alloc, owner, name)? {
+        return Err(Refusal::Unknown(name.copy(alloc)?, place));
+    }
+    let own = maker_name(alloc, name)?;
+    if has_method(draft, owner, &own) {
+        return Err(Refusal::Overload(name.copy(alloc)?, place));
+    }
+    let params = params_of(alloc, known, params)?;
+    add_heading(
+        alloc,
+        owner,
+        draft,
+        flags,
+        own,
+        params.as_slice(),
+        None,
+        place,
+    )
+}
+
+/// One member more of a class.
 fn member_step(
     alloc: Global,
     known: &Types,
@@ -258,7 +327,22 @@ fn member_step(
             }
             head_step(alloc, known, owner, draft, head, flags)
         }
-        Member::Maker { .. } => Ok(()),
+        Member::Maker {
+            mods,
+            name,
+            params,
+            place,
+            ..
+        } => maker_step(
+            alloc,
+            known,
+            owner,
+            draft,
+            mods.as_slice(),
+            name,
+            params.as_slice(),
+            *place,
+        ),
     }
 }
 
@@ -360,8 +444,89 @@ fn all_members(
     Ok(owner)
 }
 
-/// All members of a tree.
-pub fn members_of(alloc: Global, known: &Types, list: &[Decl]) -> Result<Draft, Refusal>
+/// No modifiers.
+fn no_flags() -> Flags
+    ensures { result ≡ no_flags }
+{
+    Flags {
+        is_public: false,
+        is_protected: false,
+        is_private: false,
+        is_abstract: false,
+        is_static: false,
+        is_final: false,
+    }
+}
+
+/// The constructor of a class of this name that writes none: without parameters.
+fn add_implied(
+    alloc: Global,
+    owner: u32,
+    draft: &mut Draft,
+    name: &Name,
+    place: Place,
+) -> Result<(), Refusal>
+    requires found { AreDeclarationsFound draft.old }
+    ensures given { GivesValue (λ _. members_seen draft.new) result (Ok (add_heading (members_seen draft.old) owner
+        (maker_head name.now [] [] place) no_flags [] None)) }
+    ensures found { OnOk result (AreDeclarationsFound draft.new) }
+{
+    let own = maker_name(alloc, name)?;
+    add_heading(alloc, owner, draft, no_flags(), own, &[], None, place)
+}
+
+/// The constructor that a class has without writing one, where `above` says that an ancestor writes one.
+fn implied_step(
+    alloc: Global,
+    above: bool,
+    owner: u32,
+    draft: &mut Draft,
+    decl: &Decl,
+) -> Result<(), Refusal>
+    requires found { AreDeclarationsFound draft.old }
+    ensures given { GivesValue (λ _. members_seen draft.new) result (Ok (with_maker above owner (members_seen draft.old) (decl_of decl.now))) }
+    ensures found { OnOk result (AreDeclarationsFound draft.new) }
+{
+    if declares_maker(decl) || !above {
+        return Ok(());
+    }
+    match decl {
+        Decl::Class { name, place, .. } => add_implied(alloc, owner, draft, name, *place),
+        Decl::Interface { name, place, .. } => add_implied(alloc, owner, draft, name, *place),
+    }
+}
+
+/// The constructors that classes have without writing them, behind all other members.
+fn all_implied(
+    alloc: Global,
+    classes: &Vec<Class>,
+    draft: &mut Draft,
+    list: &[Decl],
+) -> Result<(), Refusal>
+    requires found { AreDeclarationsFound draft.old }
+    requires classes { map class_seen classes.now.items ≡ (classes_alone (decls list.now)).classes }
+    ensures given { GivesValue (λ _. members_seen draft.new) result
+        (Ok (with_implied (decls list.now) (1, members_seen draft.old) (decls list.now)).1) }
+    ensures found { OnOk result (AreDeclarationsFound draft.new) }
+{
+    let writers = writers(alloc, list)?;
+    let mut owner = 1;
+    for decl in list {
+        let above = has_writer(classes, &writers, owner);
+        implied_step(alloc, above, owner, draft, decl)?;
+        owner = after(owner)?;
+    }
+    Ok(())
+}
+
+/// All members of a tree, whose classes these are.
+pub fn members_of(
+    alloc: Global,
+    known: &Types,
+    classes: &Vec<Class>,
+    list: &[Decl],
+) -> Result<Draft, Refusal>
+    requires { map class_seen classes.now.items ≡ (classes_alone (decls list.now)).classes }
     ensures given { GivesValue {A = Draft} {B = Members} members_seen result (members_of known.now (decls list.now)) }
     ensures found { IfOk result AreDeclarationsFound }
 {
@@ -376,11 +541,7 @@ pub fn members_of(alloc: Global, known: &Types, list: &[Decl]) -> Result<Draft, 
         slots: Vec::new(alloc),
         keyed_slots: Vec::new(alloc),
     };
-    match all_members(alloc, known, &mut draft, list) {
-        Ok(_) => Ok(draft),
-        Err(refusal) => {
-            drop(draft);
-            Err(refusal)
-        }
-    }
+    made!(all_members(alloc, known, &mut draft, list); draft);
+    made!(all_implied(alloc, classes, &mut draft, list); draft);
+    Ok(draft)
 }

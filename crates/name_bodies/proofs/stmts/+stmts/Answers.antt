@@ -10,8 +10,8 @@ use Rattle.name_bodies.proofs.StatementRows.{block_shown, while_shown, if_shown,
 use Rattle.name_bodies.proofs.StatementSteps.{sts_next, arms_next, arms_fault, if_fault, if_given, for_given, for_fault, carry_st, stmt_within, arm_within}
 use Rattle.name_bodies.proofs.stmts.+stmts.Goals as goal
 
-pub statements-loop-one-preserved : goal.statements-loop-one-preserved
-statements-loop-one-preserved t c =
+pub behind-loop-one-preserved : goal.behind-loop-one-preserved
+behind-loop-one-preserved t c =
     sts_next (table_at c.args.within.now) c.args.within.now.here c.args.within.now.inside c.loop-one.inner c.stmt.new.scope (state_of c.loop-one.body)
     (state_of c.stmt.new.body) c.loop-one.done.items c.push.new.self.items c.deref-one-items.result.now c.loop-one.one-index c.one-item.result
     c.in_ok-stmt.field-0 _ c.loop-one-test.true c.one-item.is c.in_ok-stmt.ensures.given c.in_ok-push.ensures.items c.loop-one.invariant
@@ -95,8 +95,8 @@ arms-arm-requires t c =
 pub arm-statements-requires : goal.arm-statements-requires
 arm-statements-requires t c = let p = test_positive c.args.tree.now.test in (omega (arith, p), tt)
 
-pub statements-stmt-requires : goal.statements-stmt-requires
-statements-stmt-requires t c =
+pub behind-stmt-requires : goal.behind-stmt-requires
+behind-stmt-requires t c =
     let p = stmt_within c.deref-one-items.result.now c.loop-one.one-index c.one-item.result c.loop-one-test.true c.one-item.is in
     let q = ap (λ xs. stmts_size (stmts xs)) c.deref-one-items.ensures.value in (omega (arith, p, q), tt)
 

@@ -13,8 +13,7 @@ returns-clause-found c =
       listed = record {
         fields = noted_more {A = Field} (λ f. f.owner.0) (λ f. f.name) c.args.draft.now.declared.fields.items c.push.new.self.items c.args.field
             c.in_ok-number.number c.args.draft.now.declared.own_fields c.note.new.self c.in_ok-push.ensures.items c.requires.found.listed.fields
-            count
-            c.requires.fresh c.in_ok-note.ensures;
+            count c.in_ok-note.ensures;
         owned = c.requires.found.listed.owned;
         methods = c.requires.found.listed.methods;
       };

@@ -12,7 +12,7 @@ returns-clause-found c =
         fields = c.requires.found.listed.fields;
         owned = noted_more {A = Heading} (λ h. h.owner) (λ h. h.name) c.args.draft.now.declared.headings.items c.push.new.self.items c.args.heading
             c.in_ok-number.number c.args.draft.now.declared.own_methods c.note.new.self c.in_ok-push.ensures.items c.requires.found.listed.owned count
-            c.requires.fresh c.in_ok-note.ensures;
+            c.in_ok-note.ensures;
         methods = spots_noted {A = Heading} (λ h. h.name) c.args.draft.now.declared.headings.items c.push.new.self.items c.args.heading c.in_ok-number.number
             c.args.draft.now.declared.method_spots c.note-2.new.self c.in_ok-push.ensures.items c.requires.found.listed.methods count c.in_ok-note-2.ensures;
       };
