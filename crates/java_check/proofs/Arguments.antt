@@ -1,5 +1,6 @@
 -- Steps through arguments, parameters and locals.
-use Rattle.std.proofs.Common.{◌≡◌, ℕ, suc, zero, ◌+◌, ◌<◌, ◌≤◌, Bool, true, false, List, [], ◌∷◌, length, drop, get_or, Option, Some, None, Result, Ok, Err, slice_get, refl, sym, ap, ◌∙◌, add-one, drop-cons, arith}
+use Rattle.std.proofs.Common.{◌≡◌, ℕ, suc, zero, ◌+◌, ◌<◌, ◌≤◌, ◌==◌, List, [], ◌∷◌, length, drop, get_or, Option, Some, None, Result, Ok, Err, slice_get, refl, sym, ap, ◌∙◌, add-one, drop-cons, arith}
+use Rattle.std.proofs.lemmas.Bool.{ne_eqb}
 use Rattle.java_core.specs.declared.Ty.{Ty}
 use Rattle.std.specs.declared.vec.Vec.{Vec}
 use Rattle.std.specs.declared.boxed.Box.{Box}
@@ -11,14 +12,14 @@ use Rattle.java_core.specs.declared.RExpr.{RExpr, Call, StaticCall, SuperCall, N
 use Rattle.java_core.specs.Trees.{Tag, at_place, expr_of, exprs, base_seen}
 use Rattle.java_core.specs.Programs.{Plain}
 use Rattle.java_core.specs.Classes.{super_method, is_concrete}
+use Rattle.java_core.specs.Makers.{maker_of}
 use Rattle.java_core.specs.Types.{Env, fits, call_signature, signature_of_method}
 use Rattle.java_core.proofs.Rows.{exprs_vec, call_as}
 use Rattle.java_core.specs.declared.statics.Static as declared
-use Rattle.java_check.specs.declared.Kind.{Kind}
-use Rattle.java_check.specs.declared.Kind.TheVariants.{Arguments}
+use Rattle.java_check.specs.declared.Kind.TheVariants.{Arguments, NoMember}
 use Rattle.java_check.specs.declared.CheckFault.{CheckFault}
 use Rattle.java_core.specs.Statics.{static_seen as seen}
-use Rattle.java_check.specs.Outcome.{Answer, answer, args_answer, and_then, asked, refused, call_answer, super_answer, create_answer}
+use Rattle.java_check.specs.Outcome.{Answer, answer, args_answer, and_then, asked, refused, none_called, call_answer, super_answer, made_params, create_answer}
 
 pub drop-some : {A : Type 0} (xs : List A) (i : ℕ) (x : A) → Some x ≡ slice_get xs i → drop i xs ≡ x ∷ drop (i + 1) xs
 drop-some [] i x e = absurd (cc e)
@@ -36,14 +37,6 @@ drop-all [] zero h = refl
 drop-all [] (suc i) h = refl
 drop-all (y ∷ ys) zero h = absurd (omega (arith, h))
 drop-all (y ∷ ys) (suc i) h = drop-all ys i (omega (arith, h))
-
-pub asked-holds : {A : Type 0} (b : Bool) (k : Kind) (t : Tag) (x y : A) → asked b k t x ≡ Ok y → b ≡ true
-asked-holds true k t x y e = refl
-asked-holds false k t x y e = absurd (cc e)
-
-pub create-arguments : (b : Bool) (xs : List RExpr) (c : ℕ) (t : Tag) → b ≡ true → 1 ≤ length xs → create_answer b (exprs xs) c t ≡ refused Arguments t
-create-arguments b [] c t e h = absurd (omega (arith, h))
-create-arguments b (x ∷ xs) c t e h = rw e refl
 
 pub and_then-ok : {A B : Type 0} {r : Result A CheckFault} (f : A → Result B CheckFault) {x : A} → r ≡ Ok x → and_then r f ≡ f x
 and_then-ok f e = ap (λ r. and_then r f) e
@@ -70,6 +63,11 @@ module _ (P : Plain) (g : Env) (t : Tag) (xs : List RExpr) (us : List Ty) (i : �
   pub more_wanted : (u : Ty) → length xs ≤ i → slice_get us i ≡ Some u → args_answer P g (exprs (drop i xs)) t (drop i us) ≡ refused Arguments t
   more_wanted u h e = rw (drop-some us i u (sym e), drop-all xs i h) refl
 
+-- where there are no parameters, there are no arguments
+pub none_given : (P : Plain) (g : Env) (t : Tag) (xs : List RExpr) → asked (length xs == 0) Arguments t (tt {0}) ≡ args_answer P g (exprs xs) t []
+none_given P g t [] = refl
+none_given P g t (x ∷ xs) = ap (λ b. asked b Arguments t (tt {0})) (ne_eqb (length (x ∷ xs)) 0 (λ e. absurd (cc e)))
+
 -- forms of expressions with arguments
 module _ (P : Plain) (g : Env) where
   seen_as : {e d : RExpr} → e ≡ d → answer P g (expr_of e) ≡ answer P g (expr_of d)
@@ -78,7 +76,7 @@ module _ (P : Plain) (g : Env) where
   -- a call of an instance method by its name, where its receiver gives s, or a fault
   pub named_answer : {e : RExpr} (b : Option (Box RExpr Global)) (x : List ℕ) (v : Vec RExpr Global) (p : Place) {s : declared.Static} {r : Answer}
       → e ≡ Call b x v p → r ≡ answer P g (base_seen b p) → r ≡ Ok s
-      → call_answer (call_signature P (seen s) x) (args_answer P g (exprs v.items) (at_place p)) (at_place p) ≡ answer P g (expr_of e)
+      → call_answer (none_called x) (call_signature P (seen s) x) (args_answer P g (exprs v.items) (at_place p)) (at_place p) ≡ answer P g (expr_of e)
   named_answer b x v p h k o = sym (seen_as h ∙ ap (answer P g) (call_as b x v p) ∙ and_then-ok _ (sym k ∙ o))
 
   pub named_fault : {e : RExpr} (b : Option (Box RExpr Global)) (x : List ℕ) (v : Vec RExpr Global) (p : Place) {f : CheckFault} {r : Answer}
@@ -86,13 +84,15 @@ module _ (P : Plain) (g : Env) where
   named_fault b x v p h k o = sym (seen_as h ∙ ap (answer P g) (call_as b x v p) ∙ and_then-err _ (sym k ∙ o))
 
   pub static_answer : {e : RExpr} (m : MemberId) (v : Vec RExpr Global) (p : Place) → e ≡ StaticCall m v p
-      → call_answer (signature_of_method P m.0) (args_answer P g (exprs v.items) (at_place p)) (at_place p) ≡ answer P g (expr_of e)
-  static_answer m v p h = sym (seen_as h ∙ ap (λ es. call_answer (signature_of_method P m.0) (args_answer P g es (at_place p)) (at_place p)) (exprs_vec v))
+      → call_answer NoMember (signature_of_method P m.0) (args_answer P g (exprs v.items) (at_place p)) (at_place p) ≡ answer P g (expr_of e)
+  static_answer m v p h = sym (seen_as h ∙ ap (λ es. call_answer NoMember (signature_of_method P m.0) (args_answer P g es (at_place p)) (at_place p)) (exprs_vec v))
 
   pub super_call_answer : {e : RExpr} (x : List ℕ) (v : Vec RExpr Global) (p : Place) → e ≡ SuperCall x v p
       → super_answer P (super_method P g.self x) (args_answer P g (exprs v.items) (at_place p)) (at_place p) ≡ answer P g (expr_of e)
   super_call_answer x v p h = sym (seen_as h ∙ ap (λ es. super_answer P (super_method P g.self x) (args_answer P g es (at_place p)) (at_place p)) (exprs_vec v))
 
   pub new_answer : {e : RExpr} (k : ℕ) (c : ClassId) (v : Vec RExpr Global) (p : Place) → e ≡ New k c v p
-      → create_answer (is_concrete P c.0) (exprs v.items) c.0 (at_place p) ≡ answer P g (expr_of e)
-  new_answer k c v p h = sym (seen_as h ∙ ap (λ es. create_answer (is_concrete P c.0) es c.0 (at_place p)) (exprs_vec v))
+      → create_answer (is_concrete P c.0) (args_answer P g (exprs v.items) (at_place p) (made_params P (maker_of P c.0))) c.0 (at_place p)
+      ≡ answer P g (expr_of e)
+  new_answer k c v p h = sym (seen_as h ∙ ap (λ es. create_answer (is_concrete P c.0) (args_answer P g es (at_place p) (made_params P (maker_of P c.0)))
+      c.0 (at_place p)) (exprs_vec v))

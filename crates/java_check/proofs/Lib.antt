@@ -1,4 +1,5 @@
 pub mod Arguments
+pub mod MarkedNames
 pub mod Judged
 pub mod Refuted
 pub mod JudgedStatements

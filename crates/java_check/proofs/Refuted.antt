@@ -1,5 +1,5 @@
 -- Where a rule fails, the expression is not typed.
-use Rattle.std.proofs.Common.{◌≡◌, ℕ, Bool, true, false, List, Some, None, sym, ap, ◌∙◌, subst}
+use Rattle.std.proofs.Common.{◌≡◌, ℕ, Bool, true, false, List, Option, Some, None, option_and_then, sym, ap, ◌∙◌, subst}
 use Rattle.std.specs.Option.{is_some}
 use Rattle.kaba_base.specs.declared.Place.{Place}
 use Rattle.java_core.specs.declared.Ty.{Ty}
@@ -7,9 +7,9 @@ use Rattle.java_core.specs.Trees.{Ex, Exs}
 use Rattle.java_core.specs.Programs.{Plain}
 use Rattle.java_core.specs.Classes.{super_method, has_body}
 use Rattle.java_core.specs.Types.{Env, Signature, signature_of_method, super_signature}
-use Rattle.java_core.specs.Typing.{Typed, TypedArgs, t_field, t_index, t_call, t_static_call, t_super_call, t_create, t_create_array, t_cast, t_instance_of, t_unary, t_binary, t_ex_then}
+use Rattle.java_core.specs.Typing.{Typed, TypedArgs, t_field, t_index, t_call, t_static_call, t_super_call, t_create, t_make, t_create_array, t_cast, t_instance_of, t_unary, t_binary, t_ex_then}
 use Rattle.java_check.specs.declared.Kind.{Kind}
-use Rattle.java_check.specs.Fails.{IsOne, first_one, later_one, IsPart, field_base, index_base, index_at, call_base, call_argument, static_argument, super_argument, array_size, cast_value, tested_value, unary_value, binary_left, binary_right, BadArguments, too_many, too_few, unfit, after, Breaks, no_field, bad_index, no_method, call_arguments, no_static_method, static_arguments, no_super_method, no_super_body, super_arguments, not_concrete, create_arguments, bad_size, bad_cast, bad_instance_of, bad_unary, bad_binary, Fails, itself, within}
+use Rattle.java_check.specs.Fails.{IsOne, first_one, later_one, IsPart, field_base, index_base, index_at, call_base, call_argument, static_argument, super_argument, create_argument, array_size, cast_value, tested_value, unary_value, binary_left, binary_right, BadArguments, too_many, too_few, unfit, after, Breaks, no_field, bad_index, no_method, no_maker, call_arguments, no_static_method, static_arguments, no_super_method, no_super_body, super_arguments, not_concrete, unwanted_arguments, create_arguments, bad_size, bad_cast, bad_instance_of, bad_unary, bad_binary, Fails, itself, within}
 
 -- true and false are not equal
 pub clash : {b : Bool} → b ≡ true → b ≡ false → ⊥
@@ -28,6 +28,8 @@ module _ (P : Plain) (g : Env) where
   part_typed (call_argument is) (t_call h a all) = one_typed is all
   part_typed (static_argument is) (t_static_call a all) = one_typed is all
   part_typed (super_argument is) (t_super_call a b c all) = one_typed is all
+  part_typed (create_argument is) (t_create a b) = elim is [ ]
+  part_typed (create_argument is) (t_make a b c all) = one_typed is all
   part_typed array_size (t_create_array h a) = h
   part_typed cast_value (t_cast h a) = h
   part_typed tested_value (t_instance_of h a) = h
@@ -52,18 +54,25 @@ module _ (P : Plain) (g : Env) where
   unfolding super_signature
   super_signed x a s = rw a s
 
+  signed_by : {o : Option ℕ} {m : ℕ} {s : Signature} → o ≡ Some m → signature_of_method P m ≡ Some s → option_and_then (signature_of_method P) o ≡ Some s
+  signed_by a s = rw a s
+
   breaks_untyped : {e : Ex} {k : Kind} → Breaks P g e k → Typed P g e → ⊥
   breaks_untyped (no_field h a) (t_field k b) = let f : is_some {T = Ty} None ≡ true = sym (ap is_some a) ∙ b in cc f
   breaks_untyped (bad_index h k f) (t_index i a j b) = clash (rw (a, b)) f
-  breaks_untyped (no_method h a) (t_call k b all) = cc (a, b)
+  breaks_untyped (no_method h n a) (t_call k b all) = cc (a, b)
+  breaks_untyped (no_maker h n a) (t_call k b all) = cc (a, b)
   breaks_untyped (call_arguments h a bad) (t_call k b all) = at_signature (sym a ∙ b) bad all
   breaks_untyped (no_static_method a) (t_static_call b all) = cc (a, b)
   breaks_untyped (static_arguments a bad) (t_static_call b all) = at_signature (sym a ∙ b) bad all
   breaks_untyped (no_super_method a) (t_super_call b c d all) = cc (a, b)
   breaks_untyped (no_super_body a f) (t_super_call b c d all) = same_body _ a f b c
   breaks_untyped (super_arguments a s bad) (t_super_call b c d all) = at_signature (sym (super_signed _ a s) ∙ d) bad all
-  breaks_untyped (not_concrete f) (t_create h) = clash h f
-  breaks_untyped create_arguments h = elim h [ ]
+  breaks_untyped (not_concrete f) (t_create h a) = clash h f
+  breaks_untyped (not_concrete f) (t_make h a b all) = clash h f
+  breaks_untyped (unwanted_arguments a) (t_make h b c all) = cc (a, b)
+  breaks_untyped (create_arguments a s bad) (t_create h b) = cc (a, b)
+  breaks_untyped (create_arguments a s bad) (t_make h b c all) = at_signature (sym (signed_by a s) ∙ signed_by b c) bad all
   breaks_untyped (bad_size h f) (t_create_array k b) = clash b f
   breaks_untyped (bad_cast h f) (t_cast k b) = clash b f
   breaks_untyped (bad_instance_of h f) (t_instance_of k b) = clash b f

@@ -1,5 +1,5 @@
 -- Believed. Which rule of types fails in a program, and where: one constructor a rule.
-use Rattle.std.specs.Prelude.{◌≡◌, ◌&&◌, ℕ, Bool, true, false, List, [], ◌∷◌, Option, Some, None, slice_get}
+use Rattle.std.specs.Prelude.{◌≡◌, ◌&&◌, ◌==◌, ℕ, Bool, true, false, List, [], ◌∷◌, Option, Some, None, slice_get, slice_index_or}
 use Rattle.std.specs.Option.{is_some, option_map_or}
 use Rattle.kaba_base.specs.declared.Place.{Place}
 use Rattle.java_core.specs.declared.Ty.{Ty}
@@ -8,6 +8,7 @@ use Rattle.java_core.specs.declared.BinOp.{BinOp}
 use Rattle.java_core.specs.Trees.{Tag, Ex, Exs, no_ex, ex_then, number, character, text, truth, null, this, local, static_field, own_field, field, index, call, static_call, super_call, create, create_array, cast, instance_of, unary, binary, Target, to_local, to_field, to_element, no_target, St, Sts, IfArms, declare, block, assign, act, print, choose, loop, return, st_then, otherwise, arm}
 use Rattle.java_core.specs.Programs.{Plain, PlainClass, PlainMethod}
 use Rattle.java_core.specs.Classes.{super_method, has_body, is_concrete, is_interface, nearest_declaration}
+use Rattle.java_core.specs.Makers.{maker_of}
 use Rattle.java_core.specs.Types.{Env, env_of, class_of, element_of, is_numeric, is_boolean, is_printable, fits, fits_in, Signature, call_signature, signature_of_method, access_type, field_in, static, target_type}
 use Rattle.java_core.specs.Typing.{takes_one, takes_two, are_related, can_cast, Typed, TypedTarget, Offers, is_public_method}
 use Rattle.java_check.specs.declared.Kind.{Kind}
@@ -38,6 +39,10 @@ tag_of (instance_of t n e c) = t
 tag_of (unary t o e) = t
 tag_of (binary t o e d) = t
 
+-- whether a name is that of a constructor: it begins with `<`, as no identifier does
+abbrev pub names_maker : List ℕ → Bool
+names_maker x = slice_index_or x 0 0 == 60
+
 -- e is one of the list
 pub data IsOne (e : Ex) : Exs → Type 0 where
   first_one : {es : Exs} → IsOne e (ex_then e es)
@@ -52,6 +57,7 @@ pub data IsPart : Ex → Ex → Type 0 where
   call_argument : {t : Tag} {e d : Ex} {x : List ℕ} {es : Exs} → IsOne d es → IsPart d (call t e x es)
   static_argument : {t : Tag} {m : ℕ} {d : Ex} {es : Exs} → IsOne d es → IsPart d (static_call t m es)
   super_argument : {t : Tag} {x : List ℕ} {d : Ex} {es : Exs} → IsOne d es → IsPart d (super_call t x es)
+  create_argument : {t : Tag} {n c : ℕ} {d : Ex} {es : Exs} → IsOne d es → IsPart d (create t n c es)
   array_size : {t : Tag} {n : ℕ} {u : Ty} {e : Ex} → IsPart e (create_array t n u e)
   cast_value : {t : Tag} {n : ℕ} {u : Ty} {e : Ex} → IsPart e (cast t n u e)
   tested_value : {t : Tag} {n c : ℕ} {e : Ex} → IsPart e (instance_of t n e c)
@@ -72,7 +78,10 @@ module _ (P : Plain) (g : Env) where
     no_field : {t : Tag} {e : Ex} {x : List ℕ} → Typed P g e → access_type P (static P g e) x ≡ None → Breaks (field t e x) NoMember
     bad_index : {t : Tag} {e i : Ex} → Typed P g e → Typed P g i → (is_some (element_of (static P g e)) && is_numeric (static P g i)) ≡ false
         → Breaks (index t e i) Operand
-    no_method : {t : Tag} {e : Ex} {x : List ℕ} {es : Exs} → Typed P g e → call_signature P (static P g e) x ≡ None → Breaks (call t e x es) NoMember
+    no_method : {t : Tag} {e : Ex} {x : List ℕ} {es : Exs} → Typed P g e → names_maker x ≡ false → call_signature P (static P g e) x ≡ None
+        → Breaks (call t e x es) NoMember
+    no_maker : {t : Tag} {e : Ex} {x : List ℕ} {es : Exs} → Typed P g e → names_maker x ≡ true → call_signature P (static P g e) x ≡ None
+        → Breaks (call t e x es) Arguments
     call_arguments : {t : Tag} {e : Ex} {x : List ℕ} {es : Exs} {s : Signature} → Typed P g e → call_signature P (static P g e) x ≡ Some s
         → BadArguments es s.params → Breaks (call t e x es) Arguments
     no_static_method : {t : Tag} {m : ℕ} {es : Exs} → signature_of_method P m ≡ None → Breaks (static_call t m es) NoMember
@@ -83,7 +92,9 @@ module _ (P : Plain) (g : Env) where
     super_arguments : {t : Tag} {x : List ℕ} {es : Exs} {m : ℕ} {s : Signature} → super_method P g.self x ≡ Some m → signature_of_method P m ≡ Some s
         → BadArguments es s.params → Breaks (super_call t x es) Arguments
     not_concrete : {t : Tag} {n c : ℕ} {es : Exs} → is_concrete P c ≡ false → Breaks (create t n c es) AbstractNew
-    create_arguments : {t : Tag} {n c : ℕ} {e : Ex} {es : Exs} → Breaks (create t n c (ex_then e es)) Arguments
+    unwanted_arguments : {t : Tag} {n c : ℕ} {e : Ex} {es : Exs} → maker_of P c ≡ None → Breaks (create t n c (ex_then e es)) Arguments
+    create_arguments : {t : Tag} {n c m : ℕ} {es : Exs} {s : Signature} → maker_of P c ≡ Some m → signature_of_method P m ≡ Some s
+        → BadArguments es s.params → Breaks (create t n c es) Arguments
     bad_size : {t : Tag} {n : ℕ} {u : Ty} {e : Ex} → Typed P g e → is_numeric (static P g e) ≡ false → Breaks (create_array t n u e) Operand
     bad_cast : {t : Tag} {n : ℕ} {u : Ty} {e : Ex} → Typed P g e → can_cast P (static P g e) u ≡ false → Breaks (cast t n u e) Cast
     bad_instance_of : {t : Tag} {n c : ℕ} {e : Ex} → Typed P g e → are_related P (class_of (static P g e)) (Some c) ≡ false → Breaks (instance_of t n e c) Cast

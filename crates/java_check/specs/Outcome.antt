@@ -1,12 +1,13 @@
 -- Mirror. What is answered of each form of a body: what it gives, or the first rule of types that fails, from the left
 -- and parts before the whole.
-use Rattle.std.specs.Prelude.{ℕ, ◌&&◌, Bool, true, false, List, [], ◌∷◌, Option, Some, None, Result, Ok, Err, slice_get}
-use Rattle.std.specs.Option.{option_map_or, is_some}
+use Rattle.std.specs.Prelude.{ℕ, ◌&&◌, Bool, true, false, List, [], ◌∷◌, Option, Some, None, Result, Ok, Err, slice_get, if◌then◌else◌}
+use Rattle.std.specs.Option.{option_map_or, is_some, unwrap_or}
 use Rattle.java_core.specs.declared.Ty.{Ty}
 use Rattle.java_core.specs.declared.TyBase.TheVariants.{Int, Boolean, Char, Str}
 use Rattle.java_core.specs.Trees.{Tag, Ex, Exs, no_ex, ex_then, number, character, text, truth, null, this, local, static_field, own_field, field, index, call, static_call, super_call, create, create_array, cast, instance_of, unary, binary}
 use Rattle.java_core.specs.Programs.{Plain}
 use Rattle.java_core.specs.Classes.{super_method, has_body, is_concrete}
+use Rattle.java_core.specs.Makers.{maker_of}
 use Rattle.java_core.specs.Types.{Env, env_of, plain_type, class_type, class_of, element_of, is_numeric, fits, Signature, call_signature, signature_of_method, field_type, access_type, unary_type, binary_type}
 use Rattle.java_core.specs.Typing.{takes_one, takes_two, are_related, can_cast}
 use Rattle.java_core.specs.declared.statics.Static as declared
@@ -16,6 +17,7 @@ use Rattle.java_check.specs.declared.Kind.TheVariants.{Operand, Arguments, Cast,
 use Rattle.java_check.specs.declared.CheckFault.{CheckFault}
 use Rattle.java_check.specs.declared.CheckFault.TheVariants.{IllTyped}
 use Rattle.java_core.specs.Statics.{static_seen as seen, given_of}
+use Rattle.java_check.specs.Fails.{names_maker}
 
 -- the body of a method: what it sees, by the method's number
 abbrev pub env_in : Plain → ℕ → Env
@@ -44,21 +46,29 @@ abbrev pub member_answer : Option Ty → Tag → Answer
 member_answer None t = refused NoMember t
 member_answer (Some u) t = Ok (Value u)
 
--- the answer for a creation: the class must be one of which objects can be made, and there are no arguments
-abbrev pub create_answer : Bool → Exs → ℕ → Tag → Answer
-create_answer false es c t = refused AbstractNew t
-create_answer true no_ex c t = Ok (Value (class_type c))
-create_answer true (ex_then e es) c t = refused Arguments t
+-- the types of the parameters of the constructor of a class; where it has none, there are none
+abbrev pub made_params : Plain → Option ℕ → List Ty
+made_params P None = []
+made_params P (Some m) = (unwrap_or (signature_of_method P m) (record { params = []; result = None })).params
 
--- a call of a method with this signature
-abbrev pub call_answer : Option Signature → (List Ty → Result (Unit {0}) CheckFault) → Tag → Answer
-call_answer None args t = refused NoMember t
-call_answer (Some s) args t = and_then (args s.params) (λ _. Ok (given_of s.result))
+-- the answer for a creation with this answer for its arguments: the class must be one of which objects can be made
+abbrev pub create_answer : Bool → Result (Unit {0}) CheckFault → ℕ → Tag → Answer
+create_answer false args c t = refused AbstractNew t
+create_answer true args c t = and_then args (λ _. Ok (Value (class_type c)))
+
+-- the rule that a call of a name breaks where it calls nothing
+abbrev pub none_called : List ℕ → Kind
+none_called x = if names_maker x then Arguments else NoMember
+
+-- a call of a method with this signature; the rule that is broken where there is no method
+abbrev pub call_answer : Kind → Option Signature → (List Ty → Result (Unit {0}) CheckFault) → Tag → Answer
+call_answer k None args t = refused k t
+call_answer k (Some s) args t = and_then (args s.params) (λ _. Ok (given_of s.result))
 
 -- the answer for a call on `super` of a method that was found: it must have a body
 abbrev pub super_body : Plain → Bool → ℕ → (List Ty → Result (Unit {0}) CheckFault) → Tag → Answer
 super_body P false m args t = refused MissingBody t
-super_body P true m args t = call_answer (signature_of_method P m) args t
+super_body P true m args t = call_answer NoMember (signature_of_method P m) args t
 
 -- the answer for a call on `super`: the method must be there and have a body
 abbrev pub super_answer : Plain → Option ℕ → (List Ty → Result (Unit {0}) CheckFault) → Tag → Answer
@@ -81,10 +91,10 @@ module _ (P : Plain) (g : Env) where
     answer (field t e x) = and_then (answer e) (λ s. member_answer (access_type P (seen s) x) t)
     answer (index t e i) = and_then (answer e) (λ s. and_then (answer i) (λ j. asked (is_some (element_of (seen s)) && is_numeric (seen j)) Operand t
         (given_of (element_of (seen s)))))
-    answer (call t e x es) = and_then (answer e) (λ s. call_answer (call_signature P (seen s) x) (args_answer es t) t)
-    answer (static_call t m es) = call_answer (signature_of_method P m) (args_answer es t) t
+    answer (call t e x es) = and_then (answer e) (λ s. call_answer (none_called x) (call_signature P (seen s) x) (args_answer es t) t)
+    answer (static_call t m es) = call_answer NoMember (signature_of_method P m) (args_answer es t) t
     answer (super_call t x es) = super_answer P (super_method P g.self x) (args_answer es t) t
-    answer (create t n c es) = create_answer (is_concrete P c) es c t
+    answer (create t n c es) = create_answer (is_concrete P c) (args_answer es t (made_params P (maker_of P c))) c t
     answer (create_array t n u e) = and_then (answer e) (λ s. asked (is_numeric (seen s)) Operand t (Value u))
     answer (cast t n u e) = and_then (answer e) (λ s. asked (can_cast P (seen s) u) Cast t (Value u))
     answer (instance_of t n e c) = and_then (answer e) (λ s. asked (are_related P (class_of (seen s)) (Some c)) Cast t (Value (plain_type Boolean)))

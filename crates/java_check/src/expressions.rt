@@ -7,11 +7,12 @@ ghost use Rattle.java_core.specs.Trees.{at_place, expr_of, exprs, base_seen};
 ghost use Rattle.java_core.specs.Programs.{program_of, local_seen};
 ghost use Rattle.java_core.specs.Classes as classes;
 ghost use Rattle.java_core.specs.Formed.{IsFormed};
+ghost use Rattle.java_core.specs.Makers.{maker_of};
 ghost use Rattle.java_core.specs.Types as types;
 ghost use Rattle.java_core.specs.Typing as typing;
 ghost use Rattle.java_core.specs.Statics.{static_seen as seen, given_of};
 ghost use Rattle.java_check.specs.Callees.{signature_of};
-ghost use Rattle.java_check.specs.Outcome.{env_in, answer, args_answer, call_answer, super_answer, create_answer, member_answer, and_then, asked};
+ghost use Rattle.java_check.specs.Outcome.{env_in, answer, args_answer, none_called, call_answer, super_answer, made_params, create_answer, member_answer, and_then, asked};
 
 use crate::by_number::{class_by_number, code_by_number, method_by_number};
 use crate::callees::{Callee, called, method_called, param_at, result_of};
@@ -19,7 +20,7 @@ use crate::types::{are_related, can_cast, fits, is_numeric, takes_one, takes_two
 use crate::{Answered, CheckFault, Kind};
 use java_core::{
     BinOp, Program, RExpr, Static, Ty, TyBase, UnOp, access_type, binary_type, class_of,
-    element_of, field_type, given_of, plain_type, super_method, unary_type,
+    element_of, field_type, given_of, maker_of, plain_type, super_method, unary_type,
 };
 use kaba_base::{ClassId, MemberId, Name, Place};
 
@@ -107,21 +108,35 @@ pub(crate) fn type_of(p: &Program, body: MemberId, e: &RExpr) -> Answered<Static
             args,
             place,
         } => match type_of_base(p, body, base) {
-            Ok(given) => type_of_call(p, body, called(p, given, name), args, *place),
+            Ok(given) => type_of_call(
+                p,
+                body,
+                called(p, given, name),
+                none_called(name),
+                args,
+                *place,
+            ),
             Err(fault) => Err(fault),
         },
         RExpr::StaticCall {
             method,
             args,
             place,
-        } => { type_of_call(p, body, method_called(p, *method), args, *place) }
+        } => type_of_call(
+            p,
+            body,
+            method_called(p, *method),
+            Kind::NoMember,
+            args,
+            *place,
+        ),
         RExpr::SuperCall { name, args, place } => type_of_super(p, body, name, args, *place),
         RExpr::New {
             class,
             args,
             place,
             ..
-        } => creation(p, *class, args, *place),
+        } => creation(p, body, *class, args, *place),
         RExpr::NewArray {
             ty,
             size,
@@ -170,17 +185,18 @@ fn type_of_base(p: &Program, body: MemberId, base: &Option<Box<RExpr>>) -> Answe
     }
 }
 
-/// What a call gives, where it calls something.
+/// What a call gives, where it calls something; else a rule fails.
 #[cycle(expressions)]
 fn type_of_call(
     p: &Program,
     body: MemberId,
     callee: Option<Callee>,
+    none: Kind,
     args: &Vec<RExpr>,
     place: Place,
 ) -> Answered<Static>
     requires { IsFormed (program_of p.now) }
-    ensures { result ≡ call_answer (option_map (signature_of (program_of p.now)) callee)
+    ensures { result ≡ call_answer none (option_map (signature_of (program_of p.now)) callee)
         (args_answer (program_of p.now) (env_in (program_of p.now) body.0) (exprs args.now.items) (at_place place)) (at_place place) }
 {
     match callee {
@@ -188,7 +204,18 @@ fn type_of_call(
             check_args(p, body, callee, args, place)?;
             Ok(result_of(p, callee))
         }
-        None => Err(CheckFault::IllTyped(Kind::NoMember, place)),
+        None => Err(CheckFault::IllTyped(none, place)),
+    }
+}
+
+/// The rule that a call of a name breaks where it calls nothing.
+fn none_called(name: &Name) -> Kind
+    ensures { result ≡ none_called name.now }
+{
+    if name.as_str().starts_with('<') {
+        Kind::Arguments
+    } else {
+        Kind::NoMember
     }
 }
 
@@ -207,7 +234,14 @@ fn type_of_super(
 {
     match super_method(p, self_class(p, body), name) {
         Some(method) if has_body(p, method) => {
-            type_of_call(p, body, method_called(p, method), args, place)
+            type_of_call(
+                p,
+                body,
+                method_called(p, method),
+                Kind::NoMember,
+                args,
+                place,
+            )
         }
         _ => Err(CheckFault::IllTyped(Kind::MissingBody, place)),
     }
@@ -250,6 +284,44 @@ fn check_arg(p: &Program, body: MemberId, arg: &RExpr, ty: Ty, place: Place) -> 
     ask(fits(p, type_of(p, body, arg)?, ty), Kind::Arguments, place)
 }
 
+/// What a creation gives.
+#[cycle(expressions)]
+fn creation(
+    p: &Program,
+    body: MemberId,
+    class: ClassId,
+    args: &Vec<RExpr>,
+    place: Place,
+) -> Answered<Static>
+    requires { IsFormed (program_of p.now) }
+    ensures { result ≡ create_answer (classes.is_concrete (program_of p.now) class.0)
+        (args_answer (program_of p.now) (env_in (program_of p.now) body.0) (exprs args.now.items) (at_place place)
+        (made_params (program_of p.now) (maker_of (program_of p.now) class.0))) class.0 (at_place place) }
+{
+    ask(is_concrete(p, class), Kind::AbstractNew, place)?;
+    check_made(p, body, maker_of(p, class), args, place)?;
+    Ok(Static::Value(plain_type(TyBase::Class(class))))
+}
+
+/// Whether the arguments of a creation fit the constructor; where there is none, there are no arguments.
+#[cycle(expressions)]
+fn check_made(
+    p: &Program,
+    body: MemberId,
+    maker: Option<MemberId>,
+    args: &[RExpr],
+    place: Place,
+) -> Answered<()>
+    requires { IsFormed (program_of p.now) }
+    ensures { result ≡ args_answer (program_of p.now) (env_in (program_of p.now) body.0)
+        (exprs args.now) (at_place place) (made_params (program_of p.now) (option_map (λ m. m.0) maker)) }
+{
+    match maker {
+        Some(maker) => check_args(p, body, Callee::Method(maker), args, place),
+        None => ask(args.is_empty(), Kind::Arguments, place),
+    }
+}
+
 /// What a field access gives.
 fn access(p: &Program, given: Static, name: &Name, place: Place) -> Answered<Static>
     requires { IsFormed (program_of p.now) }
@@ -269,17 +341,6 @@ pub(crate) fn element(base: Static, index: Static, place: Place) -> Answered<Sta
     let element = element_of(base);
     ask(element.is_some() && is_numeric(index), Kind::Operand, place)?;
     Ok(given_of(element))
-}
-
-/// What a creation gives.
-fn creation(p: &Program, class: ClassId, args: &Vec<RExpr>, place: Place) -> Answered<Static>
-    ensures { result ≡ create_answer (classes.is_concrete (program_of p.now) class.0) (exprs args.now.items) class.0 (at_place place) }
-{
-    ask(is_concrete(p, class), Kind::AbstractNew, place)?;
-    match args.as_slice() {
-        [] => Ok(Static::Value(plain_type(TyBase::Class(class)))),
-        [_, ..] => Err(CheckFault::IllTyped(Kind::Arguments, place)),
-    }
 }
 
 /// What the creation of an array gives.

@@ -26,7 +26,7 @@ pub enum Kind {
     Condition,
     /// What is assigned, or an initial value, fits the variable.
     Assign,
-    /// The arguments are as many as the parameters, and each fits its own.
+    /// The arguments are as many as the parameters, and each fits its own; where there is no constructor, there are none.
     Arguments,
     /// What is returned fits the result.
     Return,
