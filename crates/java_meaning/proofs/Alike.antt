@@ -14,7 +14,7 @@ use Rattle.java_core.specs.Trees.{Ex, Exs, no_ex, ex_then, number, character, te
 use Rattle.java_core.specs.Types.{Env, element_in, StringMethod, LengthOf, CharAt, Equals, is_plus}
 use Rattle.java_meaning.specs.Moment.{End, Ended, Going, Value, Number, Truth, CodeUnit, Nothing, Text, Object, Kind, an_object, an_array, Cell, own_type, own_class, Spot, held, State, Frame, Faulted, Wrong, Escaped, Outcome, stop, Body, Lang, step, step_of, with_some, or_fault, with_result, on_bool, look, look_all}
 use Rattle.java_meaning.specs.Values.{arguments, number_of, truth_of, natural_of, text_of, arith as op_arith, unary_value, same_value, compared, join, is_text, equals_value}
-use Rattle.java_meaning.specs.Meaning.{Flow, Next, Broke, Continued, Gave, ToValue, ToFlow, Later, on_test, with_cell, read_static, write_static, read_field, write_field, names_length, read_member, element_type, place_in, read_element, on_fitting, write_element, enter, call_object, string_call, text_method, call_on, call_static, call_super, make_cell, make_object, make_array, is_number_type, cast_object, cast_to, test_class, after_left, join_values, compute, operate, write_local, after_one, after_turn, value, values, run_test, run_print, run_initial, run_return, run_assign, run_one, run_all, run_arms, meaning, start, run_in}
+use Rattle.java_meaning.specs.Meaning.{Flow, Next, Broke, Continued, Gave, ToValue, ToFlow, Later, on_test, with_cell, read_static, write_static, read_field, write_field, names_length, read_member, element_type, place_in, read_element, on_fitting, write_element, enter, call_object, string_call, text_method, call_on, call_static, call_super, make_cell, construct, made_by, make_object, make_array, is_number_type, cast_object, cast_to, test_class, after_left, join_values, compute, operate, write_local, after_one, after_turn, value, values, run_test, run_print, run_initial, run_return, run_assign, run_one, run_all, run_arms, meaning, start, run_in}
 
 -- an end that is no Going
 abbrev pub IsEnd : End → Type 0
@@ -151,11 +151,6 @@ module _ (R : Outcome → Outcome → Type 0) (ends : (e : End) (s : State) → 
         → R (make_cell L b d c s k) (make_cell L b d c s k')
     make_cell_like L b d c s k k' le h = look_like L _ _ _ _ _ le (λ s1 l1. h _ s1 l1)
 
-    make_object_like : (L : Lang) (g : Env) (d : Ex) (n c : ℕ) (vs : List Value) (s : State) (k k' : ToValue) → s.left ≤ m → AlikeV k k'
-        → R (make_object L g d n c vs s k) (make_object L g d n c vs s k')
-    make_object_like L g d n c [] s k k' le h = step_like s _ _ le (λ s1 l1. make_cell_like L g.body d _ s1 k k' (omega arith) h)
-    make_object_like L g d n c (v ∷ vs) s k k' le h = ends Wrong s tt
-
     make_array_like : (L : Lang) (g : Env) (d : Ex) (n : ℕ) (t : Ty) (size : ℤ) (s : State) (k k' : ToValue) → s.left ≤ m → AlikeV k k'
         → R (make_array L g d n t size s k) (make_array L g d n t size s k')
     make_array_like L g d n t size s k k' le h =
@@ -273,6 +268,25 @@ module _ (R : Outcome → Outcome → Type 0) (ends : (e : End) (s : State) → 
         step_like m s _ _ le (λ s1 l1. with_some_like (L.super_body g.self x) s1 _ _ (λ y. look_like s1.left L _ _ s1 _ _ (omega arith) (λ s2 l2.
         enter_like m s1.left l1 l y v vs s2 _ _ l2 (λ u s4 l4. look_like m L (held g.body d) u s4 _ _ (omega arith) (λ s5 l5. h u s5 l5)))))
 
+    construct_like : (m n : ℕ) → n < m → LaterAlike m b c → (g : Env) (d : Ex) (y j : ℕ) (v : Value) (vs : List Value) (s : State) (k k' : ToValue)
+        → s.left ≤ n → AlikeV n k k' → R (construct L b g d y j v vs s k) (construct L c g d y j v vs s k')
+    construct_like m n lt l g d y j v vs s k k' le h =
+        with_some_like (L.body y j) s _ _ (λ o. look_like n L _ _ s _ _ le (λ s1 l1. look_like n L _ _ s1 _ _ l1 (λ s2 l2.
+        enter_like m n lt l o v vs s2 _ _ l2 (λ u s3 l3. h v s3 l3))))
+
+    made_by_like : (o : Option ℕ) (m : ℕ) → LaterAlike m b c → (g : Env) (d : Ex) (x y : ℕ) (vs : List Value) (s : State) (k k' : ToValue)
+        → s.left ≤ m → AlikeV m k k' → R (made_by L b g d x y o vs s k) (made_by L c g d x y o vs s k')
+    made_by_like None m l g d x y [] s k k' le h = step_like m s _ _ le (λ s1 l1. make_cell_like m L g.body d _ s1 k k' (omega arith) h)
+    made_by_like None m l g d x y (v ∷ vs) s k k' le h = ends Wrong s tt
+    made_by_like (Some j) m l g d x y vs s k k' le h =
+        step_like m s _ _ le (λ s1 l1. step_like m s1 _ _ (omega arith) (λ s2 l2. step_like m s2 _ _ (omega arith) (λ s3 l3.
+        make_cell_like s3.left L g.body d _ s3 _ _ (omega arith) (λ v s4 l4.
+        construct_like m s3.left l3 l g d y j v vs s4 k k' l4 (λ u s5 l5. h u s5 (omega arith))))))
+
+    make_object_like : (m : ℕ) → LaterAlike m b c → (g : Env) (d : Ex) (x y : ℕ) (vs : List Value) (s : State) (k k' : ToValue) → s.left ≤ m
+        → AlikeV m k k' → R (make_object L b g d x y vs s k) (make_object L c g d x y vs s k')
+    make_object_like m l g d x y vs s k k' le h = made_by_like (L.maker y) m l g d x y vs s k k' le h
+
     mutual
       pub value_like : (e : Ex) (m : ℕ) → LaterAlike m b c → (f : Frame) (s : State) (k k' : ToValue) → s.left ≤ m → AlikeV m k k'
           → R (value L b e f s k) (value L c e f s k')
@@ -298,7 +312,7 @@ module _ (R : Outcome → Outcome → Type 0) (ends : (e : End) (s : State) → 
       value_like (super_call t x es) m l f s k k' le h =
           values_like es m l f s _ _ le (λ vs s2 l2. call_super_like m l f.env (super_call t x es) x f.self vs s2 k k' l2 h)
       value_like (create t n x es) m l f s k k' le h =
-          values_like es m l f s _ _ le (λ vs s1 l1. make_object_like m L f.env (create t n x es) n x vs s1 k k' l1 h)
+          values_like es m l f s _ _ le (λ vs s1 l1. make_object_like m l f.env (create t n x es) n x vs s1 k k' l1 h)
       value_like (create_array t n u e) m l f s k k' le h =
           value_like e m l f s _ _ le (λ v s1 l1. with_some_like (number_of v) s1 _ _ (λ size. make_array_like m L f.env (create_array t n u e) n u
           size s1 k k' l1 h))

@@ -8,11 +8,12 @@ use Rattle.std.proofs.lemmas.Option.{same_Some}
 use Rattle.java_core.specs.declared.Ty.{Ty}
 use Rattle.java_core.specs.Trees.{Sts}
 use Rattle.java_core.specs.Programs.{Plain, PlainClass, PlainLocal, PlainMethod, PlainSlot}
-use Rattle.java_core.specs.Classes.{parent_of, IsSubclass, through, below, nearest_of, own_method, own_declaration, own_body, has_slot, is_slot, nearest_declaration, lookup, slot_of, super_method, has_body, is_concrete}
+use Rattle.java_core.specs.Classes.{parent_of, IsSubclass, same_class, through, below, nearest_of, own_method, own_declaration, own_body, has_slot, is_slot, nearest_declaration, lookup, slot_of, super_method, has_body, is_concrete}
+use Rattle.java_core.specs.Makers.{maker_name, maker_of, maker_slot}
 use Rattle.java_core.specs.Types.{types_of, Signature, signature_of_slot, signature_of_method}
-use Rattle.java_core.specs.Typing.{HasBodies, IsTypedMethod, IsTyped}
+use Rattle.java_core.specs.Typing.{Offers, HasBodies, IsTypedMethod, IsTyped}
 use Rattle.java_core.specs.Found.{IsNearest, at_class, above_class}
-use Rattle.java_core.specs.Formed.{IsFormed}
+use Rattle.java_core.specs.Formed.{IsInSlot, IsFormed}
 use Rattle.java_core.proofs.Subclasses.{subclass-then, below-subclass, subclass-below, parent-super, nearest_of-nearest, nearest-nearest_of}
 use Rattle.java_core.proofs.Positions.{position-passes, passes-position}
 use Rattle.java_core.proofs.Upwards.{chain-above}
@@ -100,6 +101,10 @@ module _ (P : Plain) (formed : IsFormed P) (typed : IsTyped P) where
       let b = body_there P m h in
       has_body_of (super_method P c x) c m b.0 b.2.0 sig e b.1 b.2.1 (method_signature m b.0 sig b.1 s) (super_above c m x b.0 e b.1)
 
+  pair : (ps : List PlainLocal) (r : Option Ty) (z : PlainSlot) → types_of ps ≡ z.params → r ≡ z.result → signature_at (types_of ps) r
+      ≡ signature_at z.params z.result
+  pair ps r z a b = subst (λ y. signature_at (types_of ps) r ≡ signature_at z.params y) b (ap (λ y. signature_at y r) a)
+
   -- the signature of a slot is that of each of its methods
   slot_signature : (m j : ℕ) (k : PlainMethod) (sig : Signature) → slice_get P.methods m ≡ Some k → k.slot ≡ Some j → signature_of_slot P j ≡ Some sig
       → signature_of k ≡ sig
@@ -108,10 +113,6 @@ module _ (P : Plain) (formed : IsFormed P) (typed : IsTyped P) where
       let q = mapped_some (λ z. record { params = z.params; result = z.result }) (slice_get P.slots j) sig e in
       let same : q.0 ≡ i.slot = same_Some _ _ (sym q.1 ∙ i.stands) in
       pair k.params k.result i.slot i.params i.result ∙ ap (λ z. record { params = z.params; result = z.result }) (sym same) ∙ q.2
-    where
-      pair : (ps : List PlainLocal) (r : Option Ty) (z : PlainSlot) → types_of ps ≡ z.params → r ≡ z.result → signature_at (types_of ps) r
-          ≡ signature_at z.params z.result
-      pair ps r z a b = subst (λ y. signature_at (types_of ps) r ≡ signature_at z.params y) b (ap (λ y. signature_at y r) a)
 
   -- where the nearest declaration of a slot has a body, a body is found
   nearest_body : (s : ℕ) {c d : ℕ} → IsNearest P (λ k. own_declaration P k s) c d → has_body P d ≡ true → (b : ℕ) × IsNearest P (λ k. own_body P k s) c b
@@ -139,20 +140,13 @@ module _ (P : Plain) (formed : IsFormed P) (typed : IsTyped P) where
   slot_some None s e = absurd (false≢true e)
   slot_some (Some r) s e = ap Some (eqb-true r s e)
 
-  pub bodies : (c d j : ℕ) (x : List ℕ) (sig : Signature) → is_concrete P c ≡ true → below P c d ≡ true → slot_of P d x ≡ Some j
-      → signature_of_slot P j ≡ Some sig → HasBody P (option_and_then (body_of P) (lookup P c j)) c sig
+  -- the body that an object of a class runs for a slot that the class offers
+  offered_body : (c j m : ℕ) (sig : Signature) → is_concrete P c ≡ true → Offers P c j m → signature_of_slot P j ≡ Some sig
+      → HasBody P (option_and_then (body_of P) (lookup P c j)) c sig
   unfolding HasBodies nearest_declaration lookup
-  bodies c d j x sig made bel found s =
-      let o = slot_of-offered P formed d x j found in
+  offered_body c j m sig made o s =
       let k = class_there c made in
-      let declared = (typed.classes c k.0 k.1).bodies made j o.number
-      (record {
-        method = o.method;
-        stands = o.stands;
-        slot = o.slot;
-        above = subclass-below P formed.acyclic
-            (subclass-then P (below-subclass P c d bel) o.above);
-      }) in
+      let declared = (typed.classes c k.0 k.1).bodies made j m o in
       let near = nearest_body j (nearest_of-nearest P (λ z. own_declaration P z j) declared.1) declared.2 in
       let up = chain-above P (λ z. own_body P z j) near.1 in
       let p = position-passes (λ m. has_slot up.holder j m && is_some m.body) P.methods near.0 up.found in
@@ -161,3 +155,40 @@ module _ (P : Plain) (formed : IsFormed P) (typed : IsTyped P) where
       let xs = some_there p.0.body parts.1 in
       has_body_of (lookup P c j) c near.0 p.0 xs.0 sig (nearest-nearest_of P (λ z. own_body P z j) formed.acyclic near.1) p.1 xs.1
       (slot_signature near.0 j p.0 sig p.1 (slot_some p.0.slot j outer.1) s) (subst (λ z. IsSubclass P c z) (sym (eqb-true p.0.owner up.holder outer.0)) up.above)
+
+  pub bodies : (c d j : ℕ) (x : List ℕ) (sig : Signature) → is_concrete P c ≡ true → below P c d ≡ true → slot_of P d x ≡ Some j
+      → signature_of_slot P j ≡ Some sig → HasBody P (option_and_then (body_of P) (lookup P c j)) c sig
+  bodies c d j x sig made bel found s =
+      let o = slot_of-offered P formed d x j found in
+      offered_body c j o.number sig made
+      (record {
+        method = o.method;
+        stands = o.stands;
+        slot = o.slot;
+        above = subclass-below P formed.acyclic
+            (subclass-then P (below-subclass P c d bel) o.above);
+      }) s
+
+  -- the body for the slot of a method that the class itself declares
+  declared_body : (c j m : ℕ) (k : PlainMethod) (sig : Signature) → is_concrete P c ≡ true → slice_get P.methods m ≡ Some k → k.slot ≡ Some j
+      → k.owner ≡ c → IsInSlot P j k → signature_of k ≡ sig → HasBody P (option_and_then (body_of P) (lookup P c j)) c sig
+  declared_body c j m k sig made at slot owner i s = offered_body c j m sig made
+      (record {
+        method = k;
+        stands = at;
+        slot = slot;
+        above = subclass-below P formed.acyclic (subst (λ z. IsSubclass P c z) (sym owner) same_class);
+      }) (rw i.stands (ap Some (sym (pair k.params k.result i.slot i.params i.result) ∙ s)))
+
+  -- the constructor of a class: its slot, and the body that an object of the class runs for it
+  pub makers : (c m : ℕ) (sig : Signature) → is_concrete P c ≡ true → maker_of P c ≡ Some m → signature_of_method P m ≡ Some sig
+      → (j : ℕ) × (maker_slot P c ≡ Some j) × HasBody P (option_and_then (body_of P) (lookup P c j)) c sig
+  makers c m sig made there s =
+      let k = then_some (λ k. own_method P c (maker_name k.name)) (slice_get P.classes c) m there in
+      let o = own_method-own P c (maker_name k.0.name) m k.2 in
+      let j = (formed.methods m o.method o.stands).slotted o.instance in (
+        j.0,
+        rw (there, o.stands) j.1,
+        declared_body c j.0 m o.method sig made o.stands j.1 o.owner (((formed.methods m o.method o.stands).slots j.0).0 j.1)
+            (method_signature m o.method sig o.stands s),
+      )

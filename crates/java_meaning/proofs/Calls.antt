@@ -9,17 +9,18 @@ use Rattle.java_core.specs.declared.TyBase.TheVariants.{Int, Str}
 use Rattle.java_core.specs.declared.Fault.TheVariants as fault
 use Rattle.java_core.specs.Trees.{Ex, Sts}
 use Rattle.java_core.specs.Programs.{Plain}
-use Rattle.java_core.specs.Classes.{below, slot_of, super_method, has_body}
+use Rattle.java_core.specs.Classes.{below, slot_of, super_method, has_body, is_concrete}
+use Rattle.java_core.specs.Makers.{maker_of}
 use Rattle.java_core.specs.Types.{Env, Static, a_value, or_nothing, plain_type, class_type, class_of, is_string, is_subtype, fits, StringMethod, LengthOf, CharAt, Equals, string_method, string_params, string_result, Signature, signature_of_slot, signature_of_method, signature_of_string, object_signature, call_signature, super_signature, static}
 use Rattle.java_core.specs.Typing.{TypedSts}
 use Rattle.java_meaning.specs.Moment.{Value, Number, Truth, CodeUnit, Nothing, Text, Object, an_object, Cell, own_type, own_class, held, self_of, ran, State, Frame, Faulted, Body, Lang, look}
 use Rattle.java_meaning.specs.Values.{int_of, default_of, convert, arguments, and_argument, number_of, natural_of, equals_value}
-use Rattle.java_meaning.specs.Meaning.{Flow, Next, Broke, Continued, Gave, ToValue, ToFlow, Later, with_cell, given, enter, call_object, string_call, text_method, call_on, call_static, call_super}
+use Rattle.java_meaning.specs.Meaning.{Flow, Next, Broke, Continued, Gave, ToValue, ToFlow, Later, with_cell, given, enter, call_object, string_call, text_method, call_on, call_static, call_super, construct, made_by, make_object}
 use Rattle.java_meaning.specs.TypedLang.{TypedBody, HasBody, TypedLang, standing}
 use Rattle.java_meaning.specs.EachStatement.{InSts}
 use Rattle.java_meaning.proofs.Holds.{Heap, heap_of, Holds, holds_number, holds_truth, holds_unit, holds_text, holds_null, holds_object, holds_nothing, holds_any, Grows, grown, number_held, IsText, text_null, text_there, text_held, default_held, flows, sub_held, of_parts}
 use Rattle.java_meaning.proofs.Sound.{Sound, sound_stop, some_sound, fault_sound, Good, From, from_on, KV, step_sound, look_sound, look_all_sound, class_sound}
-use Rattle.java_meaning.proofs.Moves.{then_some, here, string_class}
+use Rattle.java_meaning.proofs.Moves.{then_some, here, string_class, new_object_sound}
 
 pub mapped_some : {A B : Type 0} (f : A → B) (o : Option A) (y : B) → option_map f o ≡ Some y → (x : A) × (o ≡ Some x) × (f x ≡ y)
 mapped_some f None y e = absurd (cc)
@@ -248,3 +249,28 @@ module _ (P : Plain) where
           (grown P all.grows (sub_held P tl.below_all (class_type b.body.env.self) hv (of_parts P (class_type g.self) (class_type b.body.env.self)
           refl b.above))) (fit_grown all.grows fit)
           (after_call g.body d s2 k (earlier s s2 k all h)))))
+
+      -- a constructor runs on a new object, and the creation gives the object
+      construct_sound : (g : Env) (d : Ex) (c j : ℕ) (v : Value) (vs : List Value) (sig : Signature) (s : State) (k : ToValue) → Good P L tl s
+          → HasBody P (L.body c j) c sig → Holds P (heap_of s) v (a_value (class_type c)) → FitAll (heap_of s) vs sig.params
+          → V (heap_of s) (a_value (class_type c)) k → Sound (construct L later g d c j v vs s k)
+      construct_sound g d c j v vs sig s k ok b hv fit h =
+          some_sound (L.body c j) b.body s _ b.found_body (look_sound P L tl (ran g.body d b.body.env.body) v s _ ok (λ s1 r1.
+          look_sound P L tl (self_of b.body.env.body) v s1 _ r1.ok (λ s2 r2.
+          let all = from_on P L tl (heap_of s) s1 s2 r1 r2 in
+          enter_sound b.body sig v vs s2 _ r2.ok b.typed
+          (grown P all.grows (sub_held P tl.below_all (class_type b.body.env.self) hv (of_parts P (class_type c) (class_type b.body.env.self)
+          refl b.above))) (fit_grown all.grows fit)
+          (λ u s3 r3 hu. let whole = from_on P L tl (heap_of s) s2 s3 all r3 in h v s3 whole (grown P whole.grows hv)))))
+
+      -- a creation of a class with a constructor
+      pub make_sound : (g : Env) (d : Ex) (n c m : ℕ) (vs : List Value) (sig : Signature) (s : State) (k : ToValue) → Good P L tl s
+          → is_concrete P c ≡ true → maker_of P c ≡ Some m → signature_of_method P m ≡ Some sig → FitAll (heap_of s) vs sig.params
+          → V (heap_of s) (a_value (class_type c)) k → Sound (make_object L later g d n c vs s k)
+      make_sound g d n c m vs sig s k ok made there p fit h =
+          let b = tl.makers c m sig made there p in
+          subst (λ z. Sound (made_by L later g d n c z vs s k)) (sym b.1)
+          (step_sound P L tl s _ ok (λ s1 r1. step_sound P L tl s1 _ r1.ok (λ s2 r2. step_sound P L tl s2 _ r2.ok (λ s3 r3.
+          new_object_sound P L tl g.body d n c s3 _ r3.ok made (λ v s4 r4 hv.
+          let all = from_on P L tl (heap_of s) s3 s4 (from_on P L tl (heap_of s) s2 s3 (from_on P L tl (heap_of s) s1 s2 r1 r2) r3) r4 in
+          construct_sound g d c b.0 v vs sig s4 k r4.ok b.2 hv (fit_grown all.grows fit) (earlier s s4 k all h))))))

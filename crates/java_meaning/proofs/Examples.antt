@@ -3,7 +3,7 @@ use lib.Utf8.{encode}
 use Rattle.std.specs.Char.Utf16.{utf16_chars}
 use Rattle.std.specs.Fmt.{digits}
 use Rattle.std.proofs.Common.{◌≡◌, refl}
-use Rattle.std.specs.Prelude.{ℕ, ℤ, pos, negsuc, true, false, List, [], ◌∷◌, ◌++◌, Option, Some, None, slice_get, codes}
+use Rattle.std.specs.Prelude.{ℕ, ℤ, pos, negsuc, true, false, List, [], ◌∷◌, ◌++◌, Option, Some, None, map, slice_get, codes}
 use Rattle.kaba_base.specs.declared.ClassId.{ClassId}
 use Rattle.java_core.specs.declared.Ty.{Ty}
 use Rattle.java_core.specs.declared.TyBase.TheVariants.{Int, Str, Class}
@@ -11,9 +11,10 @@ use Rattle.java_core.specs.declared.BinOp.TheVariants as bin
 use Rattle.java_core.specs.declared.BinOp.{BinOp}
 use Rattle.java_core.specs.declared.Op.TheVariants as op
 use Rattle.java_core.specs.declared.Fault.TheVariants as fault
-use Rattle.java_core.specs.Trees.{Tag, Ex, no_ex, ex_then, number, character, text, truth, null, this, local, field, call, super_call, create, create_array, cast, instance_of, binary, to_local, to_element, St, Sts, declare, assign, act, break, continue, print, choose, loop, return, no_st, st_then, no_other, arm}
+use Rattle.java_core.specs.Trees.{Tag, Ex, no_ex, ex_then, number, character, text, truth, null, this, local, own_field, field, call, super_call, create, create_array, cast, instance_of, binary, to_local, to_own, to_element, St, Sts, declare, assign, act, break, continue, print, choose, loop, return, no_st, st_then, no_other, arm}
 use Rattle.java_core.specs.Programs.{Plain, PlainClass, PlainMethod, PlainLocal}
 use Rattle.java_core.specs.Classes.{below, field_of, member_field, search_order, declaration_of, lookup, super_method}
+use Rattle.java_core.specs.Makers.{maker_name, call_above}
 use Rattle.java_core.specs.Types.{plain_type, class_type, field_in}
 use Rattle.std.specs.Option.{option_and_then}
 use Rattle.java_meaning.specs.Watched.{Eyes, watched_run}
@@ -135,6 +136,41 @@ casts_not = refl
 casts : run casting (codes "w" ∷ []) 10 ≡ record { end = Ended; out = codes "true\n0\n"; left = 8; met = [] }
 unfolding run_in layout utf16_chars digits encode field_in member_field field_of below
 casts = refl
+
+-- a constructor of the class c, which has this name; its slot is s
+abbrev pub maker : ℕ → List ℕ → List PlainLocal → ℕ → Sts → PlainMethod
+maker c x ps s xs = method c (maker_name x) ps [] None (Some s) xs
+
+-- class A { int f; A(int x) { f = x; System.out.println(f); } } class B extends A { B(int y) { super(y + 1); System.out.println(f + y); } }:
+-- A x = new A(5); System.out.println("A"); x = new B(6); System.out.println(x.f);
+abbrev making : Plain
+making =
+    record {
+      classes = object ∷ class (codes "A") (under 0) ∷ class (codes "B") (under 1) ∷ class (codes "Main") (under 0) ∷ [];
+      fields = record { owner = 1; name = codes "f"; is_static = false; ty = plain_type Int; tag = tag } ∷ [];
+      slots = record { name = maker_name (codes "A"); params = plain_type Int ∷ []; result = None; first = 1 }
+          ∷ record { name = maker_name (codes "B"); params = plain_type Int ∷ []; result = None; first = 2 } ∷ [];
+      main = 0;
+      methods = main_of 3 (variable (codes "x") (class_type 1) ∷ [])
+          (st_then (declare tag 1 (Some (create tag 0 1 (ex_then (number tag (pos 5)) no_ex))))
+          (st_then (print_line (text tag (codes "A")))
+          (two (assign tag (to_local tag 1) (create tag 1 2 (ex_then (number tag (pos 6)) no_ex)))
+          (print_line (field tag (local tag 1) (codes "f"))))))
+          ∷ maker 1 (codes "A") (variable (codes "x") (plain_type Int) ∷ []) 0 (two (assign tag (to_own tag 0) (local tag 0)) (print_line (own_field tag 0)))
+          ∷ maker 2 (codes "B") (variable (codes "y") (plain_type Int) ∷ []) 1
+          (two (call_above tag (codes "A") (ex_then (plus (local tag 0) (number tag (pos 1))) no_ex)) (print_line (plus (own_field tag 0) (local tag 0))))
+          ∷ [];
+    }
+
+-- with fewer than three steps left a creation takes them all, and nothing is made; the call of the superclass's constructor takes one
+makes : map (λ n. run making [] n) (0 ∷ 1 ∷ 2 ∷ 3 ∷ 4 ∷ 5 ∷ 6 ∷ 7 ∷ 8 ∷ [])
+    ≡ record { end = Going; out = []; left = 0; met = [] } ∷ record { end = Going; out = []; left = 0; met = [] }
+    ∷ record { end = Going; out = []; left = 0; met = [] } ∷ record { end = Going; out = codes "5\nA\n"; left = 0; met = [] }
+    ∷ record { end = Going; out = codes "5\nA\n"; left = 0; met = [] } ∷ record { end = Going; out = codes "5\nA\n"; left = 0; met = [] }
+    ∷ record { end = Going; out = codes "5\nA\n"; left = 0; met = [] } ∷ record { end = Ended; out = codes "5\nA\n7\n13\n7\n"; left = 0; met = [] }
+    ∷ record { end = Ended; out = codes "5\nA\n7\n13\n7\n"; left = 1; met = [] } ∷ []
+unfolding run_in layout utf16_chars digits encode field_in member_field field_of search_order declaration_of lookup super_method
+makes = refl
 
 abbrev pub many : ℕ → Ty
 many c = record { base = Class (record { 0 = c }); dim = 1 }

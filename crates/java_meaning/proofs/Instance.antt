@@ -2,6 +2,7 @@
 use Rattle.std.proofs.Common.{◌≡◌, ◌≢◌, ℕ, zero, suc, ◌<◌, ◌≤◌, List, [], ◌∷◌, Some, None, refl, sym, ◌∙◌, subst, inl, arith}
 use Rattle.std.specs.Prelude.{false, codes, slice_get}
 use Rattle.std.specs.List.{list_any}
+use Rattle.std.specs.Option.{is_some}
 use Rattle.std.specs.Str.{bytes_eq}
 use Rattle.std.proofs.lemmas.Bool.{false≢true}
 use Rattle.std.proofs.lemmas.Option.{same_Some}
@@ -10,6 +11,7 @@ use Rattle.java_lex.specs.Writable.{IsName}
 use Rattle.java_core.specs.Trees.{Sts}
 use Rattle.java_core.specs.Programs.{Plain, PlainClass, PlainMethod}
 use Rattle.java_core.specs.Classes.{supers_of}
+use Rattle.java_core.specs.Makers.{maker_name, maker_of, IsMakerOf}
 use Rattle.java_core.specs.declared.TyBase.TheVariants.{Int, Str}
 use Rattle.java_core.specs.declared.Ty.{Ty}
 use Rattle.java_core.specs.Types.{env_of, plain_type}
@@ -19,7 +21,7 @@ use Rattle.java_meaning.specs.Moment.{Wrong}
 use Rattle.java_meaning.specs.Languages.{run}
 use Rattle.java_meaning.proofs.Examples.{object, class, under, variable, counting_code, counting_main, counting}
 use Rattle.java_meaning.proofs.TypedPrograms.{never_wrong}
-use Rattle.java_meaning.proofs.Small.{Each, each_at, each_in, no_item, no_twice, one_once, once_each, named, variable_name, other_name, formed_class, acyclic}
+use Rattle.java_meaning.proofs.Small.{differ, Each, each_at, each_in, no_item, no_twice, one_once, once_each, named, variable_name, other_name, formed_class, acyclic}
 
 abbrev P : Plain
 P = counting
@@ -56,7 +58,7 @@ formed_local x t n a b c k = record { name = variable_name P x n a b c; type = k
 
 formed_method : IsFormedMethod P counting_main
 formed_method = record {
-  name = named (codes "main") refl;
+  name = inl (named (codes "main") refl);
   variables = λ v h. each_in (λ v. IsFormedLocal P v) (variables_of counting_main) v (
     formed_local (codes "args") (record { base = Str; dim = 1 }) (named (codes "args") refl) refl refl refl tt,
     (formed_local (codes "i") (plain_type Int) (named (codes "i") refl) refl refl refl tt, tt),
@@ -76,6 +78,15 @@ formed_method = record {
 nothing_there : {A : Type 0} (i : ℕ) (x : A) → slice_get [] i ≡ Some x → ⊥
 nothing_there i x e = cc
 
+-- no method is a constructor
+no_maker : IsMakerOf P counting_main → ⊥
+no_maker i = differ (codes "main") (maker_name i.class.name) refl i.name
+
+none_made : (c : ℕ) → is_some (maker_of P c) ≡ false
+none_made zero = refl
+none_made (suc zero) = refl
+none_made (suc (suc c)) = refl
+
 formed : IsFormed P
 formed = record {
   object = record { object = object; first = refl; name = refl; class = refl; concrete = refl; parent = refl; faces = refl };
@@ -88,6 +99,8 @@ formed = record {
   method_names = λ m n h k e d o x. only m n h k e d;
   one_slot = λ c m n h k e d p q x. inl (only m n h k e d);
   slots = λ s k e. absurd (nothing_there s k e);
+  makers = λ m k e i. absurd (each_at (λ k. IsMakerOf P k → ⊥) P.methods m k (no_maker, tt) e i);
+  inherited = λ c b p h. absurd (false≢true (sym (none_made b.0) ∙ h));
   numbered = no_twice ℕ;
   main = counting_main;
   main_stands = refl;

@@ -13,11 +13,12 @@ use Rattle.java_core.specs.declared.Fault.TheVariants as fault
 use Rattle.java_core.specs.Trees.{Ex}
 use Rattle.java_core.specs.Programs.{Plain}
 use Rattle.java_core.specs.Classes.{is_concrete, member_field}
+use Rattle.java_core.specs.Makers.{maker_of}
 use Rattle.java_core.specs.Types.{Env, Static, a_value, null_value, no_value, or_nothing, plain_type, class_type, class_in, class_of, element_in, element_of, is_object, is_string, is_sub_base, is_subtype, fits, field_type, field_in, is_length, length_or, access_type, unary_type, static}
 use Rattle.java_core.specs.Typing.{takes_one}
 use Rattle.java_meaning.specs.Moment.{Value, Number, Truth, Object, Kind, an_object, an_array, Cell, own_type, held, State, Faulted, Wrong, Outcome, stop, Lang, with_some, on_bool}
 use Rattle.java_meaning.specs.Values.{int_of, default_of, convert, natural_of, negated, unary_value, defaults}
-use Rattle.java_meaning.specs.Meaning.{ToValue, with_cell, add_cell, set_value, names_length, read_member, element_type, place_in, read_element, on_fitting, write_element, make_cell, make_object, make_array}
+use Rattle.java_meaning.specs.Meaning.{ToValue, Later, with_cell, add_cell, set_value, names_length, read_member, element_type, place_in, read_element, on_fitting, write_element, make_cell, new_object, made_by, make_object, make_array}
 use Rattle.java_meaning.specs.TypedLang.{TypedLang}
 use Rattle.java_meaning.proofs.Holds.{Heap, heap_of, some_there, Holds, holds_number, holds_truth, holds_unit, holds_text, holds_null, holds_object, holds_nothing, holds_any, grown, number_held, truth_held, default_held, sub_held, sub_object, stored, of_parts, only_type}
 use Rattle.java_meaning.proofs.Sound.{get_last, Sound, sound_stop, some_sound, fault_sound, ObjectOk, ArrayOk, KindOk, Good, From, from_same, from_on, KV, KS, put_from, array_put, add_from, step_sound, look_exact, look_sound, class_sound, array_sound, read_field_sound}
@@ -178,11 +179,9 @@ module _ (P : Plain) (L : Lang) (tl : TypedLang P L) where
       go Char = refl
       go Str = refl
 
-  pub make_object_sound : (g : Env) (d : Ex) (n c : ℕ) (s : State) (k : ToValue) → Ok s → is_concrete P c ≡ true
-      → V (heap_of s) (a_value (class_type c)) k → Sound (make_object L g d n c [] s k)
-  make_object_sound g d n c s k ok made h =
-      step_sound P L tl s _ ok (λ s1 r. make_cell_sound g.body d _ (class_type c) s1 k r.ok (new (heap_of s1)) refl (sub_self (class_type c))
-      (λ v s2 r2 hv. h v s2 (from_on P L tl (heap_of s) s1 s2 r r2) hv))
+  pub new_object_sound : (b : ℕ) (d : Ex) (n c : ℕ) (s : State) (k : ToValue) → Ok s → is_concrete P c ≡ true
+      → V (heap_of s) (a_value (class_type c)) k → Sound (new_object L b d n c s k)
+  new_object_sound b d n c s k ok made h = make_cell_sound b d _ (class_type c) s k ok (new (heap_of s)) refl (sub_self (class_type c)) h
     where
       new : (h : Heap) → ObjectOk P L tl h c (L.fresh c)
       new h = record {
@@ -190,6 +189,14 @@ module _ (P : Plain) (L : Lang) (tl : TypedLang P L) where
         values = λ f i t e ty. let d = tl.fresh c f i e in
             (default_of t, d.2 ∙ ap (λ z. Some (default_of z)) (same_Some _ _ (sym d.1 ∙ ty)), default_held P h t);
       }
+
+  -- a creation of a class without a constructor
+  pub make_object_sound : (later : Later) (g : Env) (d : Ex) (n c : ℕ) (s : State) (k : ToValue) → Ok s → is_concrete P c ≡ true
+      → maker_of P c ≡ None → V (heap_of s) (a_value (class_type c)) k → Sound (make_object L later g d n c [] s k)
+  make_object_sound later g d n c s k ok made none h =
+      subst (λ z. Sound (made_by L later g d n c z [] s k)) (sym (tl.no_maker c none))
+      (step_sound P L tl s _ ok (λ s1 r. new_object_sound g.body d n c s1 k r.ok made
+      (λ v s2 r2 hv. h v s2 (from_on P L tl (heap_of s) s1 s2 r r2) hv)))
 
   pub make_array_sound : (g : Env) (d : Ex) (n : ℕ) (t u : Ty) (size : ℤ) (s : State) (k : ToValue) → Ok s → element_in t.base t.dim ≡ Some u
       → V (heap_of s) (a_value t) k → Sound (make_array L g d n t size s k)

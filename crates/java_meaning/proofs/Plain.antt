@@ -1,15 +1,15 @@
 -- A run with a watch, a record and labels is the plain run, unless it escapes.
 use Rattle.std.proofs.Common.{◌≡◌, ℕ, zero, suc, List, [], ◌∷◌, ◌++◌, Option, Some, None, length, refl, sym, ap, ◌∙◌, subst, inl, inr}
 use Rattle.std.specs.Prelude.{ℤ, ◌⊎◌, Bool, true, false, slice_get, slice_set}
-use Rattle.std.specs.Option.{option_map, option_and_then}
+use Rattle.std.specs.Option.{option_and_then}
 use Rattle.std.proofs.lemmas.Bool.{false≢true}
 use Rattle.java_core.specs.declared.Ty.{Ty}
 use Rattle.java_core.specs.declared.Fault.TheVariants as fault
-use Rattle.java_core.specs.Trees.{Ex, Exs, no_ex, ex_then, number, character, text, truth, null, this, local, static_field, own_field, field, index, call, static_call, super_call, create, create_array, cast, instance_of, unary, binary, Target, to_local, to_static, to_own, to_field, to_element, no_target, St, Sts, IfArms, declare, block, assign, act, print, choose, loop, return, break, continue, no_st, st_then, otherwise, arm, no_other}
+use Rattle.java_core.specs.Trees.{Ex, Exs, Target, St, Sts, IfArms, loop, no_st, st_then}
 use Rattle.java_core.specs.Types.{Env, class_type, element_in}
 use Rattle.java_meaning.specs.Moment.{Value, Number, Truth, CodeUnit, Nothing, Text, Object, Kind, an_object, an_array, Cell, own_type, own_class, Spot, held, bound, self_of, result_of, set_static, kept, put_in, touched, tested, ran, Met, State, Frame, Ended, Faulted, Going, Wrong, Escaped, Outcome, unnoted, stop, Body, Lang, with_some, on_bool, look, look_all}
 use Rattle.java_meaning.specs.Values.{int_of, default_of, convert, arguments, number_of, natural_of, text_of, unary_value, cast_number, defaults}
-use Rattle.java_meaning.specs.Meaning.{Next, Broke, Continued, Gave, ToValue, ToFlow, Later, add_cell, set_value, set_local, write_static, read_field, write_field, names_length, read_member, element_type, place_in, read_element, on_fitting, write_element, given, enter, call_object, text_method, call_on, call_static, call_super, make_cell, make_object, make_array, is_number_type, cast_object, cast_to, test_class, write_local, value, values, run_test, run_print, run_initial, run_return, run_assign, run_one, run_all, run_arms, meaning, words_cell, start, run_in}
+use Rattle.java_meaning.specs.Meaning.{Next, Broke, Continued, Gave, ToValue, ToFlow, Later, add_cell, set_value, set_local, write_static, read_field, write_field, names_length, read_member, element_type, place_in, read_element, on_fitting, write_element, given, enter, call_object, text_method, call_on, call_static, call_super, make_cell, new_object, construct, made_by, make_object, make_array, is_number_type, cast_object, cast_to, test_class, write_local, value, values, run_test, run_print, run_initial, run_return, run_assign, run_one, run_all, run_arms, meaning, words_cell, start, run_in}
 use Rattle.java_core.specs.Retagged.{Retagged, s_number, s_character, s_text, s_truth, s_null, s_this, s_local, s_static_field, s_own_field, s_field, s_index, s_call, s_static_call, s_super_call, s_create, s_create_array, s_cast, s_instance_of, s_unary, s_binary, RetaggedAll, s_no_ex, s_ex_then, RetaggedTarget, s_to_local, s_to_static, s_to_own, s_to_field, s_to_element, s_no_target}
 use Rattle.java_meaning.specs.Paired.{PairedIf, PairedSt, PairedArms, pair_none, pair_some, pair_declare, pair_block, pair_assign, pair_act, pair_print, pair_choose, pair_loop, pair_return, pair_break, pair_continue, pair_no_st, pair_st_then, pair_no_other, pair_otherwise, pair_arm}
 use Rattle.java_meaning.specs.Watched.{SameTarget, RetaggedSts, recoded, RetaggedBody, s_no_body, s_body, IsUnwatched, EscapesOrIs}
@@ -109,13 +109,11 @@ module _ (E : Type 0) (L M : Lang) (like : IsUnwatched L M) (escape : (p : Spot)
   make_cell_r b d d2 c s m k j r = look_r (held b d) (held b d2) (Object (length s.cells)) (add_cell c s) m (λ s1. k (Object (length s.cells)) s1)
       (λ s1. j (Object (length s.cells)) s1) (r (Object (length s.cells)))
 
-  make_object_r : (g : Env) (d d2 : Ex) (n c : ℕ) (vs : List Value) (s : State) (m : List Met) (k j : ToValue) → KV E k j
-      → OrIs E m (make_object L g d n c vs s k) (make_object M g d2 n c vs (re s m) j)
-  make_object_r g d d2 n c [] s m k j r =
-      step_r s m _ _ (λ s1 m1. subst (λ z. OrIs E m1 (make_cell L g.body d (record { site = Some n; kind = an_object c; values = L.fresh c }) s1 k)
-      (make_cell M g.body d2 (record { site = Some n; kind = an_object c; values = z }) (re s1 m1) j)) (sym (like.fresh c))
-      (make_cell_r g.body d d2 (record { site = Some n; kind = an_object c; values = L.fresh c }) s1 m1 k j r))
-  make_object_r g d d2 n c (v ∷ vs) s m k j r = is_stop Wrong s m
+  new_object_r : (b : ℕ) (d d2 : Ex) (n c : ℕ) (s : State) (m : List Met) (k j : ToValue) → KV E k j
+      → OrIs E m (new_object L b d n c s k) (new_object M b d2 n c (re s m) j)
+  new_object_r b d d2 n c s m k j r =
+      subst (λ z. OrIs E m (new_object L b d n c s k) (make_cell M b d2 (record { site = Some n; kind = an_object c; values = z }) (re s m) j))
+      (sym (like.fresh c)) (make_cell_r b d d2 (record { site = Some n; kind = an_object c; values = L.fresh c }) s m k j r)
 
   make_array_r : (g : Env) (d d2 : Ex) (n : ℕ) (t : Ty) (size : ℤ) (s : State) (m : List Met) (k j : ToValue) → KV E k j
       → OrIs E m (make_array L g d n t size s k) (make_array M g d2 n t size (re s m) j)
@@ -236,6 +234,29 @@ module _ (E : Type 0) (L M : Lang) (like : IsUnwatched L M) (escape : (p : Spot)
           step_r s m _ _ (λ s1 m1. found_r (L.super_body g.self x) (M.super_body g.self x) s1 m1 _ _ (like.super_body g.self x)
           (λ b ys q. look_r (self_of b.env.body) (self_of b.env.body) v s1 m1 _ _ (λ s2 m2.
           enter_r b ys q v vs s2 m2 (looked L g.body d k) (looked M g.body d2 j) (after_r g.body d d2 k j r))))
+
+      construct_r : (g : Env) (d d2 : Ex) (c y : ℕ) (v : Value) (vs : List Value) (s : State) (m : List Met) (k j : ToValue) → KV E k j
+          → OrIs E m (construct L later g d c y v vs s k) (construct M later2 g d2 c y v vs (re s m) j)
+      construct_r g d d2 c y v vs s m k j r =
+          found_r (L.body c y) (M.body c y) s m _ _ (like.body c y) (λ b ys q.
+          look_r (ran g.body d b.env.body) (ran g.body d2 b.env.body) v s m _ _ (λ s1 m1.
+          look_r (self_of b.env.body) (self_of b.env.body) v s1 m1 _ _ (λ s2 m2.
+          enter_r b ys q v vs s2 m2 (λ u s3. k v s3) (λ u s3. j v s3) (λ u. r v))))
+
+      made_by_r : (o : Option ℕ) (g : Env) (d d2 : Ex) (n c : ℕ) (vs : List Value) (s : State) (m : List Met) (k j : ToValue) → KV E k j
+          → OrIs E m (made_by L later g d n c o vs s k) (made_by M later2 g d2 n c o vs (re s m) j)
+      made_by_r None g d d2 n c [] s m k j r = step_r s m _ _ (λ s1 m1. new_object_r g.body d d2 n c s1 m1 k j r)
+      made_by_r None g d d2 n c (v ∷ vs) s m k j r = is_stop Wrong s m
+      made_by_r (Some y) g d d2 n c vs s m k j r =
+          step_r s m _ _ (λ s1 m1. step_r s1 m1 _ _ (λ s2 m2. step_r s2 m2 _ _ (λ s3 m3. new_object_r g.body d d2 n c s3 m3
+          (λ v s4. construct L later g d c y v vs s4 k) (λ v s4. construct M later2 g d2 c y v vs s4 j)
+          (λ v s4 m4. construct_r g d d2 c y v vs s4 m4 k j r))))
+
+      make_object_r : (g : Env) (d d2 : Ex) (n c : ℕ) (vs : List Value) (s : State) (m : List Met) (k j : ToValue) → KV E k j
+          → OrIs E m (make_object L later g d n c vs s k) (make_object M later2 g d2 n c vs (re s m) j)
+      make_object_r g d d2 n c vs s m k j r =
+          subst (λ z. OrIs E m (make_object L later g d n c vs s k) (made_by M later2 g d2 n c z vs (re s m) j)) (sym (like.maker c))
+          (made_by_r (L.maker c) g d d2 n c vs s m k j r)
 
       mutual
         value_r : {e e2 : Ex} → Retagged e e2 → (f : Frame) (s : State) (m : List Met) (k j : ToValue) → KV E k j

@@ -11,7 +11,7 @@ use Rattle.std.proofs.lemmas.Option.{same_Some}
 use Rattle.java_core.specs.Classes.{below, member_field}
 use Rattle.java_core.specs.Types.{Env, Static, a_value, or_nothing, class_of, element_in, element_of, is_printable, fits, fits_in, field_in, field_type, result_of, static, target_type}
 use Rattle.java_core.specs.Typing.{Typed, TypedArgs, TypedTarget, TypedTest, TypedSt, TypedSts, TypedArms}
-use Rattle.java_core.specs.Typing.{t_number, t_character, t_text, t_truth, t_null, t_this, t_local, t_static_field, t_own_field, t_field, t_index, t_call, t_static_call, t_super_call, t_create, t_create_array, t_cast, t_instance_of, t_unary, t_binary, t_no_ex, t_ex_then, t_to_local, t_to_static, t_to_own, t_to_field, t_to_element, t_always, t_test, t_declare, t_declare_as, t_block, t_assign, t_act, t_print_line, t_print, t_choose, t_loop, t_return_nothing, t_return, t_break, t_continue, t_no_st, t_st_then, t_no_other, t_otherwise, t_arm}
+use Rattle.java_core.specs.Typing.{t_number, t_character, t_text, t_truth, t_null, t_this, t_local, t_static_field, t_own_field, t_field, t_index, t_call, t_static_call, t_super_call, t_create, t_make, t_create_array, t_cast, t_instance_of, t_unary, t_binary, t_no_ex, t_ex_then, t_to_local, t_to_static, t_to_own, t_to_field, t_to_element, t_always, t_test, t_declare, t_declare_as, t_block, t_assign, t_act, t_print_line, t_print, t_choose, t_loop, t_return_nothing, t_return, t_break, t_continue, t_no_st, t_st_then, t_no_other, t_otherwise, t_arm}
 use Rattle.java_meaning.specs.Moment.{Value, Number, Truth, CodeUnit, Nothing, bound, result_of as result_spot, State, Frame, Outcome, Lang}
 use Rattle.java_meaning.specs.Values.{default_of, convert, number_of, text_of}
 use Rattle.java_meaning.specs.Meaning.{Flow, Next, Broke, Continued, Gave, ToValue, ToFlow, Later, set_local, write_local, after_one, after_turn, value, values, run_test, run_print, run_initial, run_declare, run_return, run_assign, run_one, run_all, run_arms}
@@ -21,7 +21,7 @@ use Rattle.java_meaning.proofs.Holds.{Heap, heap_of, some_there, Holds, holds_nu
 use Rattle.java_meaning.proofs.Sound.{Sound, some_sound, Good, From, from_same, from_on, KV, KS, give_string_sound, test_sound, step_sound, look_sound, class_sound, read_static_sound, write_static_sound, read_field_sound, write_field_sound}
 use Rattle.java_meaning.proofs.Moves.{then_some, here, member_sound, element_sound, write_element_sound, make_object_sound, make_array_sound, unary_sound}
 use Rattle.java_meaning.proofs.Operators.{after_left_sound, operate_sound, cast_sound, test_class_sound, related_class}
-use Rattle.java_meaning.proofs.Calls.{FitAll, fit_none, fit_more, all_get, all_set, FrameIn, frame_grown, FlowOk, KF, LaterOk, call_sound, call_static_sound, call_super_sound}
+use Rattle.java_meaning.proofs.Calls.{FitAll, fit_none, fit_more, all_get, all_set, FrameIn, frame_grown, FlowOk, KF, LaterOk, call_sound, call_static_sound, call_super_sound, make_sound}
 
 module _ (P : Plain) (g : Env) where
   -- the value of a print, of a declaration and of a return, where there is one
@@ -104,7 +104,10 @@ module _ (P : Plain) (L : Lang) (tl : TypedLang P L) (later : Later) (next : Lat
           values_sound qs p s _ ok fi (λ vs s1 r hvs. call_super_sound P L tl later next f.env (super_call t x es) m x f.self vs sig s1 k r.ok
           (grown P r.grows fi.self) there body q hvs
           (later_v s s1 k r (subst (λ z. V (heap_of s) (result_of z) k) q h)))
-      value_sound (t_create {t = t} {n = n} {c = c} q) p s k ok fi h = make_object_sound P L tl f.env (create t n c _) n c s k ok q h
+      value_sound (t_create {t = t} {n = n} {c = c} q none) p s k ok fi h = make_object_sound P L tl later f.env (create t n c _) n c s k ok q none h
+      value_sound (t_make {t = t} {n = n} {c = c} {m = m} {es = es} {s = sig} q there y qs) p s k ok fi h =
+          values_sound qs p s _ ok fi (λ vs s1 r hvs. make_sound P L tl later next f.env (create t n c es) n c m vs sig s1 k r.ok q there y hvs
+          (later_v s s1 k r h))
       value_sound (t_create_array {t = t} {n = n} {u = u} {e = e} q m) p s k ok fi h =
           value_sound q p.1 s _ ok fi (λ v s1 r hv. let z = number_held P hv m in let y = some_there (element_in u.base u.dim) p.0 in
           some_sound (number_of v) z.0 s1 _ z.1 (make_array_sound P L tl f.env (create_array t n u e) n u y.0 z.0 s1 k r.ok y.1 (later_v s s1 k r h)))

@@ -3,7 +3,7 @@ use Rattle.std.proofs.Common.{ℕ, List, refl, ap, ◌∙◌}
 use Rattle.std.specs.Prelude.{◌≢◌}
 use Rattle.std.specs.Option.{option_map, option_and_then}
 use Rattle.java_core.specs.Programs.{Plain}
-use Rattle.java_core.specs.Classes.{same_class, slot_of}
+use Rattle.java_core.specs.Classes.{same_class, slot_of_method, slot_of}
 use Rattle.java_core.specs.Types.{types_of}
 use Rattle.java_core.specs.Typing.{IsTyped}
 use Rattle.java_core.specs.Formed.{IsFormed}
@@ -14,7 +14,7 @@ use Rattle.java_meaning.specs.TypedLang.{TypedLang}
 use Rattle.java_meaning.proofs.NeverWrong.{run_sound}
 use Rattle.java_meaning.proofs.FormedBodies.{static_body}
 use Rattle.java_meaning.proofs.Layouts.{members, places, fresh, statics}
-use Rattle.java_meaning.proofs.Bodies.{bodies, static_bodies, super_bodies}
+use Rattle.java_meaning.proofs.Bodies.{bodies, makers, static_bodies, super_bodies}
 
 -- what a run asks of a formed and typed program
 pub typed_language : (P : Plain) → IsFormed P → IsTyped P → TypedLang P (language_of P)
@@ -31,6 +31,8 @@ typed_language P formed typed = record {
   fresh = fresh P;
   statics = statics P;
   bodies = bodies P formed typed;
+  no_maker = λ c e. ap (option_and_then (slot_of_method P)) e;
+  makers = makers P formed typed;
   static_bodies = static_bodies P formed typed;
   super_bodies = super_bodies P formed typed;
 }

@@ -1,18 +1,18 @@
 -- What is found in a program without its tags is what is found in the program.
-use Rattle.std.proofs.Common.{◌≡◌, ℕ, zero, suc, Bool, true, false, List, [], ◌∷◌, ◌++◌, length, map, Option, Some, None, refl, ap, ap₂, ◌∙◌}
+use Rattle.std.proofs.Common.{◌≡◌, ℕ, zero, suc, false, List, [], ◌∷◌, ◌++◌, length, map, Option, Some, None, refl, ap, ap₂, ◌∙◌}
 use Rattle.std.specs.Prelude.{◌==◌, ◌&&◌, ◌||◌, if◌then◌else◌, slice_get, position}
 use Rattle.std.specs.Option.{option_map, option_map_or, option_and_then, option_to_list, is_some}
 use Rattle.std.specs.List.{flat_map, list_any}
 use Rattle.std.proofs.lemmas.List.{length-map}
 use Rattle.std.proofs.lemmas.Option.{slice_get-map}
-use Rattle.kaba_base.specs.declared.ClassId.{ClassId}
 use Rattle.java_core.specs.declared.Ty.{Ty}
 use Rattle.java_core.specs.declared.TyBase.{TyBase}
 use Rattle.java_core.specs.declared.TyBase.TheVariants.{Int, Boolean, Char, Str, Class}
-use Rattle.java_core.specs.Trees.{Ex, number, character, text, truth, null, this, local, static_field, own_field, field, index, call, static_call, super_call, create, create_array, cast, instance_of, unary, binary, Sts}
-use Rattle.java_core.specs.Programs.{Plain, PlainClass, PlainField, PlainMethod, PlainLocal}
-use Rattle.java_core.specs.Classes.{parent_of, faces_of, supers_of, reaches, below, first_or, nearest, nearest_of, is_field_of, own_field_of, field_of, is_static_field, if_instance, when_instance, member_field, is_method_of, own_method, faces_above, chain, search_order, first_found, declaration_of, slot_of_method, slot_of, has_slot, own_body, lookup, super_method}
-use Rattle.java_core.specs.Types.{Static, Env, Signature, types_of, class_of, is_string, is_sub_base, is_subtype, signature_of_slot, signature_of_method, signature_of_string, string_method, object_signature, call_signature, super_signature, result_of, field_type, field_in, value_type, length_or, element_of, access_type, or_nothing, a_value, binary_type, static}
+use Rattle.java_core.specs.Trees.{Ex, static_field, own_field, field, index, call, static_call, super_call, binary, Sts}
+use Rattle.java_core.specs.Programs.{Plain, PlainMethod, PlainLocal}
+use Rattle.java_core.specs.Classes.{parent_of, faces_of, supers_of, reaches, below, first_or, nearest, nearest_of, is_field_of, own_field_of, field_of, is_static_field, if_instance, when_instance, member_field, is_method_of, own_method, faces_above, chain, search_order, first_found, declaration_of, slot_of, has_slot, own_body, lookup, super_method}
+use Rattle.java_core.specs.Makers.{maker_name, maker_of, maker_slot}
+use Rattle.java_core.specs.Types.{Static, Env, types_of, class_of, is_string, is_sub_base, is_subtype, signature_of_slot, signature_of_method, signature_of_string, string_method, object_signature, call_signature, super_signature, result_of, field_type, field_in, length_or, element_of, access_type, or_nothing, a_value, binary_type, static}
 use Rattle.java_core.specs.Untagged.{untag_body, untag_local, untag_class, untag_field, untag_method, untagged}
 use Rattle.java_core.proofs.Positions.{position-map}
 
@@ -139,6 +139,14 @@ module _ (P : Plain) where
 
   pub same_slot : (c : ℕ) (x : List ℕ) → slot_of U c x ≡ slot_of P c x
   same_slot c x = λ i. option_and_then (λ m. and_then_kept untag_method (λ k. k.slot) (λ k. refl) P.methods m i) (same_declaration c x i)
+
+  -- constructors
+  own_makers_are : (c : ℕ) → maker_of U c ≡ maker_of P c
+  own_makers_are c = (λ i. option_and_then (λ k. own_methods_are c (maker_name k.name) i) (slice_get U.classes c))
+      ∙ and_then_kept untag_class (λ k. own_method P c (maker_name k.name)) (λ k. refl) P.classes c
+
+  pub same_maker : (c : ℕ) → maker_slot U c ≡ maker_slot P c
+  same_maker c = λ i. option_and_then (λ m. and_then_kept untag_method (λ k. k.slot) (λ k. refl) P.methods m i) (own_makers_are c i)
 
   -- types
   pub same_subtype : (s t : Ty) → is_subtype U s t ≡ is_subtype P s t

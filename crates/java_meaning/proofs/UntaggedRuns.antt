@@ -1,24 +1,22 @@
 -- A run does not look at tags: a program without its tags has the run of the program.
-use Rattle.std.proofs.Common.{◌≡◌, ℕ, zero, suc, Bool, List, [], ◌∷◌, ◌++◌, length, map, Option, Some, None, refl, sym, ap, ◌∙◌, subst}
+use Rattle.std.proofs.Common.{◌≡◌, ℕ, zero, suc, List, [], ◌∷◌, ◌++◌, length, map, Option, Some, None, refl, sym, ap, ◌∙◌, subst}
 use Rattle.std.specs.Prelude.{◌==◌, ◌&&◌, not, if◌then◌else◌, slice_get, position}
 use Rattle.std.specs.Option.{option_map, option_map_or, option_and_then}
-use Rattle.std.proofs.lemmas.List.{length-map}
 use Rattle.std.proofs.lemmas.Option.{slice_get-map}
-use Rattle.kaba_base.specs.declared.ClassId.{ClassId}
 use Rattle.java_core.specs.Trees.{Ex, Exs, no_ex, ex_then, number, character, text, truth, null, this, local, static_field, own_field, field, index, call, static_call, super_call, create, create_array, cast, instance_of, unary, binary, Target, to_local, to_static, to_own, to_field, to_element, no_target, St, Sts, IfArms, declare, block, assign, act, print, choose, loop, return, break, continue, no_st, st_then, no_other, otherwise, arm}
 use Rattle.java_core.specs.Programs.{Plain, PlainField, PlainMethod, PlainLocal}
-use Rattle.java_core.specs.Classes.{parent_of, slot_of, lookup, super_method}
-use Rattle.java_core.specs.Types.{Env, env_of, types_of, class_of, field_in, static}
+use Rattle.java_core.specs.Classes.{lookup, super_method}
+use Rattle.java_core.specs.Types.{types_of, class_of, field_in, static}
 use Rattle.java_core.specs.Untagged.{bare, bare_all, bare_if, bare_target, bare_st, bare_sts, bare_arms, untag_body, untag_local, untag_field, untag_method, untagged}
 use Rattle.java_core.specs.Retagged.{Retagged, s_number, s_character, s_text, s_truth, s_null, s_this, s_local, s_static_field, s_own_field, s_field, s_index, s_call, s_static_call, s_super_call, s_create, s_create_array, s_cast, s_instance_of, s_unary, s_binary, RetaggedAll, s_no_ex, s_ex_then, RetaggedTarget, s_to_local, s_to_static, s_to_own, s_to_field, s_to_element, s_no_target}
 use Rattle.java_meaning.specs.Paired.{PairedIf, PairedSt, PairedArms, pair_none, pair_some, pair_declare, pair_block, pair_assign, pair_act, pair_print, pair_choose, pair_loop, pair_return, pair_break, pair_continue, pair_no_st, pair_st_then, pair_no_other, pair_otherwise, pair_arm}
 use Rattle.java_core.proofs.Retagging.{static_same}
-use Rattle.java_meaning.specs.Moment.{Value, Nothing, Outcome, unnoted, Body}
+use Rattle.java_meaning.specs.Moment.{Nothing, unnoted, Body}
 use Rattle.java_meaning.specs.Values.{default_of}
-use Rattle.java_meaning.specs.Languages.{own_fields_from, own_fields, layout_in, layout, default_at, index_of, fresh_of, body_with, body_of, statics_of, language_of, run}
-use Rattle.java_meaning.specs.Watched.{SameTarget, RetaggedSts, recoded, RetaggedBody, s_no_body, s_body, IsUnwatched}
+use Rattle.java_meaning.specs.Languages.{own_fields_from, layout_in, layout, default_at, body_with, body_of, language_of, run}
+use Rattle.java_meaning.specs.Watched.{SameTarget, RetaggedSts, RetaggedBody, s_no_body, s_body, IsUnwatched}
 use Rattle.java_meaning.proofs.Plain.{run_same}
-use Rattle.java_meaning.proofs.UntaggedLooks.{untyped, same_parent, many, same_field_type, same_lookup, same_super, same_slot, same_subtype, same_field_in, same_static}
+use Rattle.java_meaning.proofs.UntaggedLooks.{untyped, same_parent, many, same_field_type, same_lookup, same_super, same_slot, same_maker, same_subtype, same_field_in, same_static}
 
 -- a tree without its tags and the tree
 mutual
@@ -144,6 +142,7 @@ module _ (P : Plain) where
     typed_field = λ f. sym (same_field_type P f);
     index = λ c f. sym (λ i. position (λ g. g == f) (same_layout c i));
     fresh = λ c. sym (λ i. map (λ f. default_is f i) (same_layout c i));
+    maker = λ c. sym (same_maker P c);
     body = λ c s. subst (λ z. RetaggedBody (option_and_then (body_of U) z) (option_and_then (body_of P) (lookup P c s))) (sym (same_lookup P c s))
         (found (lookup P c s));
     static_body = same_body;

@@ -1,5 +1,5 @@
 -- A run of a program with labels, a watch and a record is the run of the program, unless it escapes.
-use Rattle.std.proofs.Common.{◌≡◌, ℕ, List, Option, Some, None, refl, sym, ap}
+use Rattle.std.proofs.Common.{ℕ, List, Option, Some, None, refl, sym, ap}
 use Rattle.std.specs.Option.{option_and_then}
 use Rattle.java_core.specs.Trees.{Sts}
 use Rattle.java_core.specs.Programs.{Plain}
@@ -26,6 +26,7 @@ unwatched P body eyes h = record {
   typed_field = λ f. refl;
   index = λ c f. refl;
   fresh = λ c. refl;
+  maker = λ c. refl;
   body = λ c s. found h (lookup P c s);
   static_body = h;
   super_body = λ c x. found h (super_method P c x);

@@ -4,6 +4,7 @@ use Rattle.std.specs.Option.{option_map, option_map_or, option_and_then}
 use Rattle.java_core.specs.Trees.{Ex, Sts}
 use Rattle.java_core.specs.Programs.{Plain, PlainField, PlainMethod}
 use Rattle.java_core.specs.Classes.{parent_of, lookup, slot_of, super_method}
+use Rattle.java_core.specs.Makers.{maker_slot}
 use Rattle.java_core.specs.Types.{Env, env_of, types_of, class_of, field_type, field_in, is_subtype, static}
 use Rattle.java_meaning.specs.Moment.{Value, Nothing, Outcome, Body, Lang}
 use Rattle.java_meaning.specs.Values.{default_of}
@@ -72,6 +73,7 @@ language_of P =
       field_type = field_type P;
       index = index_of P;
       fresh = fresh_of P;
+      maker = maker_slot P;
       body = λ c s. option_and_then (body_of P) (lookup P c s);
       static_body = body_of P;
       super_body = λ c x. option_and_then (body_of P) (super_method P c x);

@@ -193,10 +193,27 @@ call_super L later g d x v vs s k =
 abbrev pub make_cell : Lang → ℕ → Ex → Cell → State → ToValue → Outcome
 make_cell L b d c s k = look L (held b d) (Object (length s.cells)) (add_cell c s) (λ s1. k (Object (length s.cells)) s1)
 
--- a new object of a class, with the defaults of its fields; a creation takes no arguments
-abbrev pub make_object : Lang → Env → Ex → ℕ → ℕ → List Value → State → ToValue → Outcome
-make_object L g d n c [] s k = step s (λ s1. make_cell L g.body d (record { site = Some n; kind = an_object c; values = L.fresh c }) s1 k)
-make_object L g d n c (v ∷ vs) s k = stop Wrong s
+-- a new object of a class, with the defaults of its fields
+abbrev pub new_object : Lang → ℕ → Ex → ℕ → ℕ → State → ToValue → Outcome
+new_object L b d n c s k = make_cell L b d (record { site = Some n; kind = an_object c; values = L.fresh c }) s k
+
+-- a constructor runs on a new object: the body that the object's class has for its slot. The creation gives the object
+abbrev pub construct : Lang → Later → Env → Ex → ℕ → ℕ → Value → List Value → State → ToValue → Outcome
+construct L later g d c j v vs s k =
+    with_some (L.body c j) s (λ b. look L (ran g.body d b.env.body) v s (λ s1. look L (self_of b.env.body) v s1 (λ s2.
+    enter L later b v vs s2 (λ u s3. k v s3))))
+
+-- a creation of a class without a constructor takes one step and no arguments; one with a constructor takes three steps, together, and runs it on
+-- the arguments
+abbrev pub made_by : Lang → Later → Env → Ex → ℕ → ℕ → Option ℕ → List Value → State → ToValue → Outcome
+made_by L later g d n c None [] s k = step s (λ s1. new_object L g.body d n c s1 k)
+made_by L later g d n c None (v ∷ vs) s k = stop Wrong s
+made_by L later g d n c (Some j) vs s k =
+    step s (λ s1. step s1 (λ s2. step s2 (λ s3. new_object L g.body d n c s3 (λ v s4. construct L later g d c j v vs s4 k))))
+
+-- a creation, once its arguments are there (Java Language Specification, 15.9.4, the subset's part)
+abbrev pub make_object : Lang → Later → Env → Ex → ℕ → ℕ → List Value → State → ToValue → Outcome
+make_object L later g d n c vs s k = made_by L later g d n c (L.maker c) vs s k
 
 -- a new array of so many elements, each at its type's default; a negative size is a fault
 abbrev pub make_array : Lang → Env → Ex → ℕ → Ty → ℤ → State → ToValue → Outcome
@@ -318,7 +335,7 @@ module _ (L : Lang) (later : Later) where
     value (call t e x es) f s k = value e f s (λ v s1. values es f s1 (λ vs s2. call_on L later f.env e (call t e x es) x v vs s2 k))
     value (static_call t m es) f s k = values es f s (λ vs s1. call_static L later f.env (static_call t m es) m vs s1 k)
     value (super_call t x es) f s k = values es f s (λ vs s1. call_super L later f.env (super_call t x es) x f.self vs s1 k)
-    value (create t n c es) f s k = values es f s (λ vs s1. make_object L f.env (create t n c es) n c vs s1 k)
+    value (create t n c es) f s k = values es f s (λ vs s1. make_object L later f.env (create t n c es) n c vs s1 k)
     value (create_array t n u e) f s k = value e f s (λ v s1. with_some (number_of v) s1 (λ size. make_array L f.env (create_array t n u e) n u size s1 k))
     value (cast t n u e) f s k = value e f s (λ v s1. cast_to L f.env.body (cast t n u e) u v s1 k)
     value (instance_of t n e c) f s k = value e f s (λ v s1. test_class L f.env.body (instance_of t n e c) c v s1 k)

@@ -120,6 +120,8 @@ pub record Lang : Type 0 where
   -- the place of a field in the objects of a class, and the values of a new one
   pub index : ℕ → ℕ → Option ℕ
   pub fresh : ℕ → List Value
+  -- the slot of the constructor of a class, where it has one
+  pub maker : ℕ → Option ℕ
   -- the body that an object of the class runs for a slot; that of a static method; that of `super.name()` in a class
   pub body : ℕ → ℕ → Option Body
   pub static_body : ℕ → Option Body

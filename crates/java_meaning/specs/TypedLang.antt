@@ -5,6 +5,7 @@ use Rattle.java_core.specs.declared.Ty.{Ty}
 use Rattle.java_core.specs.Trees.{Ex, Exs, no_ex, ex_then, local, static_field, own_field, field, index, call, static_call, super_call, create, create_array, cast, instance_of, unary, binary, Target, to_local, to_static, to_own, to_field, to_element, no_target}
 use Rattle.java_core.specs.Programs.{Plain}
 use Rattle.java_core.specs.Classes.{below, is_concrete, member_field, slot_of, super_method, has_body}
+use Rattle.java_core.specs.Makers.{maker_of}
 use Rattle.java_core.specs.Types.{Env, class_of, element_in, field_in, field_type, is_subtype, Signature, signature_of_method, signature_of_slot, static}
 use Rattle.java_core.specs.Typing.{TypedSts}
 use Rattle.java_meaning.specs.Moment.{Body, Lang}
@@ -96,6 +97,10 @@ pub record TypedLang (P : Plain) (L : Lang) : Type 0 where
   -- the bodies that are found have the signatures that typing asks
   pub bodies : (c d j : ℕ) (x : List ℕ) (sig : Signature) → is_concrete P c ≡ true → below P c d ≡ true → slot_of P d x ≡ Some j
       → signature_of_slot P j ≡ Some sig → HasBody P (L.body c j) c sig
+  -- a class without a constructor has none in a run; that of a class which has one is found, by its slot
+  pub no_maker : (c : ℕ) → maker_of P c ≡ None → L.maker c ≡ None
+  pub makers : (c m : ℕ) (sig : Signature) → is_concrete P c ≡ true → maker_of P c ≡ Some m → signature_of_method P m ≡ Some sig
+      → (j : ℕ) × (L.maker c ≡ Some j) × HasBody P (L.body c j) c sig
   pub static_bodies : (m : ℕ) (sig : Signature) → has_body P m ≡ true → signature_of_method P m ≡ Some sig → HasStaticBody P (L.static_body m) sig
   pub super_bodies : (c m : ℕ) (x : List ℕ) (sig : Signature) → super_method P c x ≡ Some m → has_body P m ≡ true → signature_of_method P m ≡ Some sig
       → HasBody P (L.super_body c x) c sig

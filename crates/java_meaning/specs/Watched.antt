@@ -36,6 +36,7 @@ pub record IsUnwatched (L M : Lang) : Type 0 where
   pub typed_field : (f : ℕ) → M.field_type f ≡ L.field_type f
   pub index : (c f : ℕ) → M.index c f ≡ L.index c f
   pub fresh : (c : ℕ) → M.fresh c ≡ L.fresh c
+  pub maker : (c : ℕ) → M.maker c ≡ L.maker c
   pub body : (c s : ℕ) → RetaggedBody (L.body c s) (M.body c s)
   pub static_body : (m : ℕ) → RetaggedBody (L.static_body m) (M.static_body m)
   pub super_body : (c : ℕ) (x : List ℕ) → RetaggedBody (L.super_body c x) (M.super_body c x)

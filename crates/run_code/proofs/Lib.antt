@@ -1,4 +1,5 @@
 mod Try
+mod TryMakers
 pub mod Slots
 pub mod Comes
 pub mod Given
@@ -7,6 +8,7 @@ pub mod Turns
 pub mod Members
 pub mod Calls
 pub mod Receivers
+pub mod Creations
 pub mod Values
 pub mod Tests
 pub mod Effects

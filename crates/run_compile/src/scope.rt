@@ -3,14 +3,15 @@
 ghost use Rattle.std.specs.Prelude.{◌≡◌, slice_get, Option};
 ghost use Rattle.std.specs.Option.{option_map};
 ghost use Rattle.run_compile.specs.Words.{Place, expr_of, base_seen, field_in, static, slot_in, place_of, is_int, plain, env, IsScopeReady};
-ghost use Rattle.java_core.specs.Classes.{super_method};
+ghost use Rattle.java_core.specs.Classes.{lookup, super_method};
+ghost use Rattle.java_core.specs.Makers.{maker_slot};
 ghost use Rattle.java_core.specs.Types.{field_type};
 
 use java_core::{
-    Code, Program, RExpr, Static, Ty, TyBase, field_in, field_type, plain_type, slot_in, static_of,
-    super_method,
+    Code, Program, RExpr, Static, Ty, TyBase, field_in, field_type, lookup, maker_slot, plain_type,
+    slot_in, static_of, super_method,
 };
-use kaba_base::{MemberId, Name};
+use kaba_base::{ClassId, MemberId, Name};
 use std::alloc::Global;
 
 /// A program, the places of its fields by their numbers, and the body that is compiled.
@@ -122,6 +123,27 @@ pub fn super_of(scope: &Scope, name: &Name) -> Option<u32>
     ensures { result ≡ super_method (plain scope.now) (env scope.now).self name.now }
 {
     match super_method(scope.program, scope.code.owner, name) {
+        Some(method) => Some(method.0),
+        None => None,
+    }
+}
+
+/// The slot of the constructor of a class.
+#[tactic(auto, unfolding(crate::specs::Scopes::plain))]
+pub fn maker_in(scope: &Scope, class: ClassId) -> Option<u32>
+    requires { IsScopeReady scope.now }
+    ensures { result ≡ maker_slot (plain scope.now) class.0 }
+{
+    maker_slot(scope.program, class)
+}
+
+/// The method that an object of a class runs for a slot.
+#[tactic(auto, unfolding(crate::specs::Scopes::plain))]
+pub fn method_in(scope: &Scope, class: ClassId, slot: u32) -> Option<u32>
+    requires { IsScopeReady scope.now }
+    ensures { result ≡ lookup (plain scope.now) class.0 slot }
+{
+    match lookup(scope.program, class, slot) {
         Some(method) => Some(method.0),
         None => None,
     }

@@ -9,8 +9,8 @@ ghost use Rattle.java_core.specs.Programs.{Plain};
 ghost use Rattle.java_meaning.specs.Moment as moment;
 ghost use Rattle.java_meaning.specs.Moment.{Cell, an_array};
 ghost use Rattle.java_meaning.specs.Values.{convert, defaults};
-ghost use Rattle.java_meaning.specs.Meaning.{make_cell, make_object, make_array, on_fitting, place_in, write_element};
-ghost use Rattle.run_code.specs.Machine.{nowhere};
+ghost use Rattle.java_meaning.specs.Meaning.{make_cell, new_object, make_array, on_fitting, place_in, write_element};
+ghost use Rattle.run_code.specs.Machine.{nowhere, steps};
 ghost use Rattle.run_state.specs.Run.{plain_of};
 
 use crate::casts::is_of;
@@ -23,21 +23,52 @@ use kaba_base::SiteId;
 use run_classes::Classes;
 use run_code::{Destination, Tried};
 
-/// A step, and a new object.
-pub fn make<'a>(m: &mut Machine<'a>, to: Destination, number: u32, class: u32) -> Tried<Turn>
+/// A step, a second one where so it is said, and a new object.
+pub fn make<'a>(
+    m: &mut Machine<'a>,
+    to: Destination,
+    twice: bool,
+    number: u32,
+    class: u32,
+) -> Tried<Turn>
     requires { m.old.pc < 2 ^ 63 }
-    ensures { Turns (λ go. make_object (language_of (plain_of m.old)) nowhere nothing number class [] (state_of m.old)
-        (to_slot m.old to go)) m.old result m.new }
+    ensures { Turns (λ go. steps twice (state_of m.old) (λ s. new_object (language_of (plain_of m.old)) nowhere.body nothing number class s
+        (to_slot m.old to go))) m.old result m.new }
 {
     if m.left == 0 {
         return stop!(m, Ending::Unfinished);
     }
     m.left -= 1;
+    if twice {
+        add_later(m, to, number, class)
+    } else {
+        add_object(m, to, number, class)
+    }
+}
+
+/// A step, and a new object.
+fn add_later<'a>(m: &mut Machine<'a>, to: Destination, number: u32, class: u32) -> Tried<Turn>
+    requires { m.old.pc < 2 ^ 63 }
+    ensures { Turns (λ go. step (state_of m.old) (λ s. new_object (language_of (plain_of m.old)) nowhere.body nothing number class s
+        (to_slot m.old to go))) m.old result m.new }
+{
+    if m.left == 0 {
+        return stop!(m, Ending::Unfinished);
+    }
+    m.left -= 1;
+    add_object(m, to, number, class)
+}
+
+/// A new object.
+#[inline(always)]
+fn add_object<'a>(m: &mut Machine<'a>, to: Destination, number: u32, class: u32) -> Tried<Turn>
+    requires { m.old.pc < 2 ^ 63 }
+    ensures { Turns (λ go. new_object (language_of (plain_of m.old)) nowhere.body nothing number class (state_of m.old) (to_slot m.old to go))
+        m.old result m.new }
+{
     let at = m.classes.make(&mut m.heap, SiteId(number), class)?;
     keep(m, to, Value::Ref(at))
 }
-
-ghost use Rattle.std.specs.Prelude.{[]};
 
 /// A new array.
 pub fn new_array<'a>(
