@@ -1,3 +1,4 @@
+pub mod FirstMakers
 pub mod Middle
 pub mod Sorting
 pub mod Along

@@ -21,6 +21,7 @@ pub record IsListed {T K : Type 0} (key : T → K) (limit : ℕ) (wanted list : 
 -- what a fault says of a count and its limit
 abbrev pub IsCountOver : ℕ → ℕ → Counted → FactsFault → Type 0
 IsCountOver n limit what (fault.TooMany kind k) = (limit < n) × (kind ≡ what) × (k ≡ limit + 1)
+IsCountOver n limit what (fault.HasConstructor _) = ⊥
 IsCountOver n limit what fault.Memory = Unit {0}
 
 -- the rows and the columns, with their items

@@ -9,6 +9,7 @@ ghost use Rattle.flow_facts.specs.Gathered.{AreGathered};
 ghost use Rattle.flow_facts.specs.Said.{AreFactTables, AreTexts, AreOrderedLists, IsSaid};
 ghost use Rattle.flow_facts.specs.Seen.{calls_seen};
 ghost use Rattle.flow_facts.specs.Stages.{IsNumbered};
+ghost use Rattle.java_core.specs.Makers.{HasNoMaker};
 ghost use Rattle.flow_facts.specs.Words.{Plain, program_of, IsFormed, body_seen, numbers_seen};
 
 use crate::Tried;
@@ -135,7 +136,7 @@ fn say(alloc: Global, program: &Program, numbered: &Numbered) -> Tried<Said>
 /// The facts of what is numbered and said.
 #[tactic(none)]
 fn assemble(alloc: Global, numbered: Numbered, said: Said) -> Facts
-    ensures { (P : Plain) → IsNumbered P numbered → IsSaid P numbered said → IsFactsOf P result × AreNamesOf P result }
+    ensures { (P : Plain) → HasNoMaker P → IsNumbered P numbered → IsSaid P numbered said → IsFactsOf P result × AreNamesOf P result }
 {
     let (tables, texts, lists) = (said.tables, said.texts, said.lists);
     let unordered = lists.unordered;
@@ -169,6 +170,7 @@ fn assemble(alloc: Global, numbered: Numbered, said: Said) -> Facts
 #[tactic(none)]
 pub fn facts_over(alloc: Global, program: &Program, numbered: Numbered) -> Tried<Facts>
     requires formed { IsFormed (program_of program.now) }
+    requires no_maker { HasNoMaker (program_of program.now) }
     requires numbered { IsNumbered (program_of program.now) numbered }
     ensures ok { IfOk result (λ f. IsFactsOf (program_of program.now) f) }
     ensures names { IfOk result (λ f. AreNamesOf (program_of program.now) f) }

@@ -44,6 +44,7 @@ mod given;
 mod infos;
 mod labels;
 mod lists;
+mod makers;
 mod names;
 mod numbering;
 mod ordered;
@@ -65,6 +66,7 @@ pub use expr_rows::row_of;
 pub use flow_rules::{
     Column, ColumnItem, Counted, FactsFault, ObjectType, PointItem, Row, RowItem, Site,
 };
+pub use makers::maker_class;
 pub use numbering::Numbering;
 pub use survey::result_row;
 pub use top::{facts, numbering_of};

@@ -1,2 +1,3 @@
+pub mod NoMaker
 pub mod cover
 pub mod order

@@ -11,7 +11,7 @@ use Rattle.flow_program.specs.Solved.{HasCoveringSets}
 
 -- the facts are those of the program, in range and in order, and their points-to sets cover each run
 pub record AreProgramFacts (P : Plain) (F : Facts) : Type 0 where
-  -- there is not too much of anything in the program
+  -- no class has a constructor, and there is not too much of anything in the program
   pub within : IsWithinLimits P
   -- each list has what the text gives, in its order or as a set; there are no makers
   pub is : IsFactsOf P F

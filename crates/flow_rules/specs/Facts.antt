@@ -1,6 +1,6 @@
 -- Believed. The facts of a program: each list has exactly the items that the text gives, in their order or as a set.
-use Rattle.std.specs.Prelude.{◌≡◌, ◌↔◌, ℕ, zero, suc, ◌+◌, ◌==◌, ◌&&◌, ◌||◌, if◌then◌else◌, nat_lt, Bool, List, [], ◌∷◌, ◌++◌, length, map, drop, Contains, Option, Some, None, slice_get, option_and_then, codes}
-use Rattle.std.specs.Option.{option_map, option_map_or}
+use Rattle.std.specs.Prelude.{◌≡◌, ◌↔◌, ℕ, zero, suc, ◌+◌, ◌==◌, ◌&&◌, ◌||◌, if◌then◌else◌, nat_lt, not, Bool, false, List, [], ◌∷◌, ◌++◌, length, map, drop, Contains, Option, Some, None, slice_get, codes}
+use Rattle.std.specs.Option.{option_map, option_map_or, option_and_then, is_some}
 use Rattle.std.specs.List.{flat_map, list_any}
 use Rattle.std.specs.Str.{bytes_eq, chars, encode_utf8_all}
 use Rattle.std.specs.Fmt.{decimal}
@@ -9,7 +9,8 @@ use Rattle.kaba_base.specs.declared.ClassId.{ClassId}
 use Rattle.kaba_base.specs.declared.ColId.{ColId}
 use Rattle.kaba_base.specs.declared.SiteId.{SiteId}
 use Rattle.java_core.specs.Programs.{Plain, PlainClass, PlainMethod}
-use Rattle.java_core.specs.Classes.{below}
+use Rattle.java_core.specs.Makers.{maker_of, HasNoMaker}
+use Rattle.java_core.specs.Classes.{below, first_or}
 use Rattle.fact_model.specs.declared.facts.Facts.{Facts}
 use Rattle.fact_model.specs.declared.facts.RowInfo.{RowInfo}
 use Rattle.fact_model.specs.declared.facts.ColumnInfo.{ColumnInfo}
@@ -288,7 +289,8 @@ module _ (P : Plain) where
     pub supers : IsSameSet F.supers.items (gathered (λ b. supers_of numbers b.number))
     pub ties : IsSameSet F.ties.items (gathered (λ b. ties_of numbers P b.number b.slot))
     pub tests : F.tests.items ≡ by_place (λ t. t.place.at) (gathered (λ b. tests_of numbers))
-    -- no creation has a constructor
+    -- no class has a constructor
+    pub no_maker : HasNoMaker P
     pub makers : F.makers ≡ None
     pub makes : F.makes.items ≡ []
     -- the casts and the calls through a receiver, by place
@@ -310,11 +312,35 @@ too_many P =
     (over 8192 (length (columns_of P)) counted.Columns
     (over 8192 (length (sites_of P)) counted.Sites (over 65536 (length (points_of P) + length (cells_of P)) counted.Points None)))
 
+-- why the items of a program cannot be counted: there is too much of something, or no memory
+abbrev pub IsCountRefusal : Plain → FactsFault → Type 0
+IsCountRefusal P (fault.HasConstructor name) = ⊥
+IsCountRefusal P (fault.TooMany what n) = too_many P ≡ Some (record { what = what; number = n })
+IsCountRefusal P fault.Memory = Unit {0}
+
+-- whether the class of a number writes a constructor: the one that it has stands elsewhere than at the class's name
+abbrev pub writes_maker : Plain → ℕ → Bool
+writes_maker P c =
+    option_map_or (λ k. option_map_or (λ h. not (h.tag.place.at == k.tag.place.at)) (option_and_then (λ m. slice_get P.methods m) (maker_of P c)) false)
+    (slice_get P.classes c) false
+
+-- the first of so many numbers from c on that passes a test
+abbrev pub first_number : (ℕ → Bool) → ℕ → ℕ → Option ℕ
+first_number p zero c = None
+first_number p (suc n) c = if p c then Some c else first_number p n (suc c)
+
+-- the class that is named as one with a constructor: the first that writes one; in a program that no text gave, else the first that has one
+abbrev pub maker_class : Plain → Option ℕ
+maker_class P =
+    first_or (first_number (writes_maker P) (length P.classes) 0) (first_number (λ c. is_some (maker_of P c)) (length P.classes) 0)
+
 -- what a fault says of the program
 abbrev pub IsFactsRefusal : Plain → FactsFault → Type 0
-IsFactsRefusal P (fault.TooMany what n) = too_many P ≡ Some (record { what = what; number = n })
+IsFactsRefusal P (fault.HasConstructor name) = option_map (λ k. k.name) (option_and_then (λ c. slice_get P.classes c) (maker_class P)) ≡ Some name
+IsFactsRefusal P (fault.TooMany what n) = (maker_class P ≡ None) × (too_many P ≡ Some (record { what = what; number = n }))
 IsFactsRefusal P fault.Memory = Unit {0}
 
--- a program of which the facts can be given: there is not too much of anything
+-- a program of which the facts can be given: it has no constructor, and there is not too much of anything
 pub record IsWithinLimits (P : Plain) : Type 0 where
+  pub no_maker : maker_class P ≡ None
   pub counts : too_many P ≡ None

@@ -37,7 +37,7 @@ fn numbers_of(alloc: Global, program: &Program) -> Result<Numbering, AllocError>
             columns: numbering.columns,
         }),
         Err(FactsFault::Memory) => Err(AllocError),
-        Err(FactsFault::TooMany(_, _)) => unreachable!(),
+        Err(FactsFault::TooMany(_, _) | FactsFault::HasConstructor(_)) => unreachable!(),
     }
 }
 

@@ -48,7 +48,7 @@ module _ (n : ℕ) (most : n ≤ 100) where
 
   pub method_resolves : (i : ℕ) → BodyResolves O (method_at i) (method_made i)
   method_resolves i =
-      r_body refl refl
+      r_body refl refl refl
       (r_and_then (r_assign (r_field (r_this refl)) (r_binary (r_field (r_this refl)) r_number))
       (r_and_then (r_return (r_some (total_resolves i i))) r_no_statements))
       no_number
@@ -100,7 +100,7 @@ module _ (n : ℕ) (most : n ≤ 100) where
   unfolding main_body
   main_resolves =
       let count : suc (0 + n) ≡ length (variables_of (main_made n)) = let l = length-map-range_with_len local_made 0 n in omega (arith, l) in
-      r_body refl refl (steps_resolve (params_from 0 (main_made n).params) 0 n (omega arith) (λ j le lt. refl))
+      r_body refl refl refl (steps_resolve (params_from 0 (main_made n).params) 0 n (omega arith) (λ j le lt. refl))
       (subst (λ z. Counts 1 (declares_all (main_body_made (range_with_len 0 n))) z) count (steps_counted 0 n))
 
   -- ---- all bodies

@@ -15,7 +15,7 @@ use Rattle.name_rules.specs.declared.parts.Kind.{Kind}
 use Rattle.name_rules.specs.declared.parts.Kind.TheVariants as kinds
 use Rattle.name_rules.specs.Outline.{FieldAt, MethodAt, is_private, has_word, is_abstract_word, is_known, is_type_name, name_of, mods_of, faces_named, types_in, object, outline}
 use Rattle.name_rules.specs.Resolves.{heading_of}
-use Rattle.name_rules.specs.Conditions.{unknown, type_twice, known_twice, super_twice, field_twice, method_twice, param_twice, loop, overload, type_as_field, type_as_param, face_as_parent, class_as_face, private_reused, no_main, modifiers_disagree, modifier_unfit, wrong_body, in_body, AreOneSlot, HasModifiers, of_type, of_field, of_method, HasWrongBody, missing, superfluous, in_concrete, is_unfit, kind_of}
+use Rattle.name_rules.specs.Conditions.{unknown, type_twice, known_twice, super_twice, field_twice, method_twice, maker_twice, maker_named, makers_written, param_twice, loop, overload, type_as_field, type_as_param, face_as_parent, class_as_face, private_reused, no_main, modifiers_disagree, modifier_unfit, wrong_body, in_body, in_up, AreOneSlot, HasModifiers, of_type, of_field, of_method, HasWrongBody, missing, superfluous, in_concrete, is_unfit, kind_of}
 use Rattle.name_rules.specs.Causes.{HasNoCondition}
 use Rattle.kaba_work.specs.Sample.{class_name, main_head, main_param, class_tree, main_tree, sample_tree}
 use Rattle.kaba_work.specs.Program.{class_made, main_class_made, method_made, main_made, sample_program}
@@ -216,11 +216,21 @@ module _ (n : ℕ) (most : n ≤ 100) where
 
   sound_body : (j : ℕ) (m : MethodAt) → IsMember j m → HasWrongBody m → ⊥
   sound_body j m (is_row lt e) (missing kind plain none) = let z = sym (ap (λ (x : MethodAt). x.body) e) ∙ none in cc z
-  sound_body j m (is_row lt e) (superfluous abstract some) = false≢true (sym (ap (λ (x : MethodAt). has_word is_abstract_word x.head.mods) e) ∙ abstract)
-  sound_body j m (is_row lt e) (in_concrete abstract class) = false≢true (sym (ap (λ (x : MethodAt). has_word is_abstract_word x.head.mods) e) ∙ abstract)
+  sound_body j m (is_row lt e) (superfluous other abstract some) = false≢true (sym (ap (λ (x : MethodAt). has_word is_abstract_word x.head.mods) e) ∙ abstract)
+  sound_body j m (is_row lt e) (in_concrete other abstract class) = false≢true (sym (ap (λ (x : MethodAt). has_word is_abstract_word x.head.mods) e) ∙ abstract)
   sound_body j m (is_last l e) (missing kind plain none) = let z = sym (ap (λ (x : MethodAt). x.body) e) ∙ none in cc z
-  sound_body j m (is_last l e) (superfluous abstract some) = false≢true (sym (ap (λ (x : MethodAt). has_word is_abstract_word x.head.mods) e) ∙ abstract)
-  sound_body j m (is_last l e) (in_concrete abstract class) = false≢true (sym (ap (λ (x : MethodAt). has_word is_abstract_word x.head.mods) e) ∙ abstract)
+  sound_body j m (is_last l e) (superfluous other abstract some) = false≢true (sym (ap (λ (x : MethodAt). has_word is_abstract_word x.head.mods) e) ∙ abstract)
+  sound_body j m (is_last l e) (in_concrete other abstract class) = false≢true (sym (ap (λ (x : MethodAt). has_word is_abstract_word x.head.mods) e) ∙ abstract)
+
+  -- ---- constructors
+
+  none_written : (j : ℕ) (d : DeclTree) → IsDecl j d → makers_written d ≡ []
+  none_written j d (is_row lt e) = ap makers_written e
+  none_written j d (is_last l e) = ap makers_written e
+
+  no_up : (j : ℕ) (m : MethodAt) → IsMember j m → m.up ≡ None
+  no_up j m (is_row lt e) = ap (λ (x : MethodAt). x.up) e
+  no_up j m (is_last l e) = ap (λ (x : MethodAt). x.up) e
 
   -- ---- all of them
 
@@ -230,10 +240,13 @@ module _ (n : ℕ) (most : n ≤ 100) where
   no_condition _ (known_twice {d = d} c h) = let z = decl_in n d c in type_new z.0 d z.1 h
   no_condition _ (super_twice {d = d} {i = i} {a = a} c p q lt s) = let z = decl_in n d c in none_at (faces_named d) i a (no_faces n z.0 d z.1) p
   no_condition _ (field_twice {i = i} {j = j} {f = f} {g = g} p q lt o s) = fields_apart i j f g (field_at_place n i f p) (field_at_place n j g q) lt o s
-  no_condition _ (method_twice {i = i} {j = j} {h = h} {k = k} p q lt o s) = methods_apart i j h k (method_at_place n i h p) (method_at_place n j k q) lt o
+  no_condition _ (method_twice {i = i} {j = j} {h = h} {k = k} p q lt o s w) = methods_apart i j h k (method_at_place n i h p) (method_at_place n j k q) lt o
   no_condition _ (param_twice {m = m} {i = i} {j = j} {a = a} {b = b} c p q lt s) = let z = method_in n m c in params_once z.0 m i j a b z.1 p q lt
   no_condition _ (loop {c = c} p h) = no_loop (suc c) h
   no_condition _ (overload {i = i} {j = j} {c = c} {h = h} {k = k} p q lt s u v other) = apart c i j h k p q lt s u v other
+  no_condition _ (maker_twice {d = d} {i = i} {a = a} c p q lt) =
+      let z = decl_in n d c in none_at (makers_written d) i a (none_written z.0 d z.1) p
+  no_condition _ (maker_named {d = d} {i = i} c k other) = let z = decl_in n d c in none_in (makers_written d) i (none_written z.0 d z.1) k
   no_condition _ (type_as_field {f = f} c h) = let z = field_in n f c in false≢true (sym (field_free z.0 f z.1) ∙ h)
   no_condition _ (type_as_param {m = m} {q = q} c d h) =
       let z = method_in n m c in false≢true (sym (ap (λ (x : Param). is_type_name (types_in T) x.name) (sym (params_are n z.0 m q z.1 d)) ∙ param_free) ∙ h)
@@ -248,3 +261,4 @@ module _ (n : ℕ) (most : n ≤ 100) where
   no_condition _ (modifier_unfit {kind = kind} {mods = mods} {a = a} h c u) = mods_fit kind mods a (few_mods kind mods h) c u
   no_condition _ (wrong_body {m = m} c w) = let z = method_in n m c in sound_body z.0 m z.1 w
   no_condition r (in_body {m = m} {ss = ss} c b f) = let z = method_in n m c in no_body_fault n most z.0 m ss r z.1 b f
+  no_condition r (in_up {m = m} c e f) = let z = method_in n m c in let w = sym (no_up z.0 m z.1) ∙ e in cc w

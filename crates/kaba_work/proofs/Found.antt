@@ -1,16 +1,17 @@
 -- What is found in the program of a sample: fields, methods and supertypes.
-use Rattle.std.proofs.Common.{◌≡◌, ℕ, zero, suc, ◌+◌, ◌*◌, ◌<◌, ⊎_elim, Bool, true, false, List, [], ◌∷◌, ◌++◌, length, Option, Some, Contains, refl, sym, ap, ◌∙◌, subst, arith}
-use Rattle.std.specs.Prelude.{◌==◌, ◌&&◌, slice_get, option_and_then}
+use Rattle.std.proofs.Common.{◌≡◌, ℕ, zero, suc, ◌+◌, ◌*◌, ◌<◌, ⊎_elim, Bool, true, false, List, [], ◌∷◌, ◌++◌, length, Option, Some, None, Contains, refl, sym, ap, ◌∙◌, subst, arith}
+use Rattle.std.specs.Prelude.{◌==◌, ◌&&◌, not, slice_get, option_and_then}
 use Rattle.std.specs.Option.{option_map, option_map_or, option_to_list, is_some}
 use Rattle.std.specs.List.{list_any}
 use Rattle.std.specs.Str.{bytes_eq}
-use Rattle.std.proofs.lemmas.Bool.{false≢true, and_from, or_left, eq-eqb}
+use Rattle.std.proofs.lemmas.Bool.{false≢true, and_from, and_parts, or_left, eq-eqb}
 use Rattle.std.proofs.lemmas.Option.{same_Some}
 use Rattle.kaba_base.specs.declared.ClassId.{ClassId}
 use Rattle.kaba_base.proofs.ListLemmas.{at_contains as at_contains}
 use Rattle.kaba_base.proofs.Texts.{bytes_of}
 use Rattle.java_core.specs.Programs.{Plain, PlainClass, PlainField, PlainMethod}
 use Rattle.java_core.specs.Classes.{parent_of, supers_of, IsSubclass, IsProperSubclass, reaches, below, first_or, nearest_of, is_field_of, own_field_of, field_of, is_static_field, when_instance, if_instance, member_field, is_method_of, own_method, chain, search_order, first_found, declaration_of, slot_of_method, has_slot, own_declaration, nearest_declaration, super_method, has_body, is_interface, class_id}
+use Rattle.java_core.specs.Makers.{maker_name, maker_of}
 use Rattle.java_core.specs.Types.{a_value, class_type, types_of, Signature, signature_of_slot, signature_of_method, call_signature, super_signature, field_type, field_in, value_type, access_type}
 use Rattle.java_core.proofs.Positions.{position-passes, passes-position}
 use Rattle.java_core.proofs.Subclasses.{subclass_cases, below-subclass, nearest-here}
@@ -36,6 +37,26 @@ module _ (n : ℕ) where
   pub class_stands : (i : ℕ) → i < n → slice_get (sample_program n).classes (suc i) ≡ Some (class_made i)
   unfolding sample_program
   class_stands i h = row_at class_made main_class_made n i h
+
+  -- no class has a constructor: no method has the name of one
+  pub none_made : (c : ℕ) → maker_of (sample_program n) c ≡ None
+  unfolding sample_program
+  none_made c = at (slice_get (sample_program n).classes c)
+    where
+      other : (x : List ℕ) (m : ℕ) (k : PlainMethod) → StandsAt method_made (main_made n) n m k → bytes_eq k.name (maker_name x) ≡ true → ⊥
+      other x m k (is_row lt e) h = false≢true (sym (ap (λ (z : PlainMethod). bytes_eq z.name (maker_name x)) e) ∙ h)
+      other x m k (is_last l e) h = false≢true (sym (ap (λ (z : PlainMethod). bytes_eq z.name (maker_name x)) e) ∙ h)
+
+      found : (x : List ℕ) (o : Option ℕ) → own_method (sample_program n) c (maker_name x) ≡ o → o ≡ None
+      found x None e = refl
+      found x (Some m) e =
+          let z = position-passes (λ k. is_method_of c (maker_name x) k) (sample_program n).methods m e in
+          let w = and_parts (z.0.owner == c) (not z.0.is_static && bytes_eq z.0.name (maker_name x)) z.2 in
+          absurd (other x m z.0 (stands method_made (main_made n) n m z.0 z.1) (and_parts (not z.0.is_static) (bytes_eq z.0.name (maker_name x)) w.1).1)
+
+      at : (o : Option PlainClass) → option_and_then (λ k. own_method (sample_program n) c (maker_name k.name)) o ≡ None
+      at None = refl
+      at (Some k) = found k.name (own_method (sample_program n) c (maker_name k.name)) refl
 
   -- the supertypes of a class
   supers_are : (a : ℕ) (k : PlainClass) → slice_get (sample_program n).classes a ≡ Some k → supers_of (sample_program n) a ≡ option_to_list k.parent ++ k.faces

@@ -1,12 +1,14 @@
 -- What the declarations of a sample say.
-use Rattle.std.proofs.Common.{◌≡◌, ℕ, zero, suc, ◌+◌, ◌<◌, ◌≤◌, true, false, List, [], ◌∷◌, ◌++◌, map, Option, Some, refl, sym, ap, ◌∙◌, arith}
+use Rattle.std.proofs.Common.{◌≡◌, ℕ, zero, suc, ◌+◌, ◌<◌, ◌≤◌, true, false, List, [], ◌∷◌, ◌++◌, map, Option, Some, None, refl, sym, ap, ◌∙◌, arith}
 use Rattle.std.specs.Prelude.{nat_lt, codes}
 use Rattle.std.specs.List.{range_with_len, flat_map}
+use Rattle.java_tree.specs.Makers.{has_maker}
 use Rattle.java_core.specs.Programs.{Plain, PlainClass}
 use Rattle.name_rules.specs.declared.parts.Kind.TheVariants as kinds
 use Rattle.name_rules.specs.Outline.{FieldAt, MethodAt, name_of, class_at, type_named, types_in, is_known, is_type_name, fields_from, methods_from, fields_in, methods_in, object, class_outline, field_outline, method_outline, outline}
 use Rattle.name_rules.specs.Meanings.{type_names, class_named}
 use Rattle.name_rules.specs.Resolves.{heading_of}
+use Rattle.name_rules.proofs.NoMakers.{methods_written}
 use Rattle.kaba_work.specs.Sample.{nowhere, class_name, field_name, extra_name, int_type, method_head, addition, total, main_head, main_body, class_tree, main_tree, sample_tree}
 use Rattle.java_tree.specs.Syntax.{and_then, no_statements, ReturnOf}
 use Rattle.kaba_work.specs.Program.{tag, class_made, main_class_made, method_made, main_made, sample_program}
@@ -30,11 +32,12 @@ method_at i =
       kind = kinds.Method;
       in_abstract = false;
       head = method_head;
+      up = None;
       body = Some (and_then (addition i) (and_then (ReturnOf (Some (total i)) nowhere) no_statements));
     }
 
 abbrev pub main_at : ℕ → MethodAt
-main_at n = record { owner = suc n; kind = kinds.Method; in_abstract = false; head = main_head; body = Some (main_body n) }
+main_at n = record { owner = suc n; kind = kinds.Method; in_abstract = false; head = main_head; up = None; body = Some (main_body n) }
 
 fields_rest : (z a n : ℕ)
     → fields_from (suc a) (map class_tree (range_with_len a n) ++ main_tree z ∷ []) ≡ flat_map (λ i. sum_field i ∷ extra_field i ∷ []) (range_with_len a n)
@@ -50,7 +53,7 @@ fields_are n = fields_rest n 0 n
 
 -- the main class has the number behind those of the others
 abbrev main_of : ℕ → ℕ → MethodAt
-main_of z c = record { owner = suc c; kind = kinds.Method; in_abstract = false; head = main_head; body = Some (main_body z) }
+main_of z c = record { owner = suc c; kind = kinds.Method; in_abstract = false; head = main_head; up = None; body = Some (main_body z) }
 
 methods_rest : (z a n : ℕ)
     → methods_from (suc a) (map class_tree (range_with_len a n) ++ main_tree z ∷ []) ≡ map method_at (range_with_len a n) ++ main_of z (a + n) ∷ []
@@ -62,9 +65,20 @@ methods_rest z a (suc n) =
     ∙ ap (λ xs. method_at a ∷ xs) (methods_rest z (a + 1) n)
     ∙ ap (λ k. method_at a ∷ (map method_at (range_with_len (a + 1) n) ++ main_of z k ∷ [])) t
 
+-- no class of a sample writes a constructor
+makerless_rest : (z a n : ℕ) → has_maker (map class_tree (range_with_len a n) ++ main_tree z ∷ []) ≡ false
+makerless_rest z a zero = refl
+makerless_rest z a (suc n) = makerless_rest z (a + 1) n
+
+makerless : (n : ℕ) → has_maker (sample_tree n) ≡ false
+unfolding sample_tree
+makerless n = makerless_rest n 0 n
+
 pub methods_are : (n : ℕ) → methods_in (sample_tree n) ≡ map method_at (range_with_len 0 n) ++ main_at n ∷ []
 unfolding sample_tree
-methods_are n = methods_rest n 0 n ∙ (let s : 0 + n ≡ n = omega arith in ap (λ k. map method_at (range_with_len 0 n) ++ main_of n k ∷ []) s)
+methods_are n =
+    methods_written (sample_tree n) (makerless n) ∙ methods_rest n 0 n
+    ∙ (let s : 0 + n ≡ n = omega arith in ap (λ k. map method_at (range_with_len 0 n) ++ main_of n k ∷ []) s)
 
 pub types_are : (n : ℕ) → types_in (sample_tree n) ≡ names n
 unfolding sample_tree

@@ -15,7 +15,7 @@ use Rattle.java_core.specs.Typing.{Typed, TypedTarget, TypedSts, t_number, t_thi
 use Rattle.kaba_work.specs.Sample.{field_name, extra_name, method_name}
 use Rattle.kaba_work.specs.Program.{tag, int, class_made, main_class_made, own_made, sum_made, total_made, body_made, method_made, variable_made, extra_made, main_body_made, local_made, main_made, sample_program}
 use Rattle.kaba_work.proofs.Places.{StandsAt, is_row, is_last, stands, mapped_at}
-use Rattle.kaba_work.proofs.Found.{below_self, class_stands, chain_not_above_object, chain_not_above_main, FieldFound, field_found, extra_found, field_there, value_is, access_is, call_is, super_found, declaration_found, no_interface}
+use Rattle.kaba_work.proofs.Found.{below_self, none_made, class_stands, chain_not_above_object, chain_not_above_main, FieldFound, field_found, extra_found, field_there, value_is, access_is, call_is, super_found, declaration_found, no_interface}
 
 abbrev number_value : Static
 number_value = a_value int
@@ -117,7 +117,7 @@ module _ (n : ℕ) where
         (access_typed G a (variable_made a) t_local v (extra_name a) f)
         (ap result_of signature) e in
         let value = sum_static P G (call tag (variable_made a) method_name no_ex) (extra_made a) (ap result_of signature) e in
-        t_st_then (t_declare_as (t_create (concrete a lt))
+        t_st_then (t_declare_as (t_create (concrete a lt) (none_made n (suc a)))
         (ap (λ o. fits_in P (a_value (class_type (suc a))) (or_nothing o)) (variable_type a lt) ∙ object_fits a))
         (t_st_then
         (t_assign (target_typed G a (variable_made a) t_local v (extra_name a) f) t_number

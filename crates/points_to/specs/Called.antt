@@ -7,8 +7,8 @@ use Rattle.points_to.specs.Work.{IsBodyNode}
 use Rattle.points_to.specs.declared.targets.Called.{Called}
 
 -- the class of the site runs the body of the column for the slot
-abbrev pub IsCalled : Facts → Called → Type 0
-IsCalled F x = finds F (site_class F x.site) x.slot ≡ Some x.column
+abbrev pub IsFoundCall : Facts → Called → Type 0
+IsFoundCall F x = finds F (site_class F x.site) x.slot ≡ Some x.column
 
 -- n is the point of the member of that body
 abbrev pub IsCalledNode : Facts → Called → ℕ → Type 0

@@ -2,7 +2,7 @@
 
 ghost use Rattle.std.specs.Prelude.{◌≡◌, ℕ, ◌+◌, ◌<◌, ◌↔◌, [], length, All, Contains, Some, IsTrue, OnOk};
 ghost use Rattle.fact_model.specs.Flowing.{IsCell, point_at};
-ghost use Rattle.points_to.specs.Called.{IsCalled, IsCalledNode};
+ghost use Rattle.points_to.specs.Called.{IsFoundCall, IsCalledNode};
 ghost use Rattle.points_to.specs.Listed.{ListsBody};
 ghost use Rattle.points_to.specs.Words.{InRange, IsSolverInput};
 ghost use Rattle.points_to.specs.Work.{IsCellNode, AreTargets, slot_of, body_node};
@@ -103,7 +103,7 @@ pub struct Called {
 
 /// The member of a body, where that is the one of the column. An error comes only for want of memory.
 fn add_body(facts: &Facts, list: &mut Vec<usize>, x: &Called, b: usize) -> Result<(), AllocError>
-    requires called { IsCalled facts.now x.now }
+    requires called { IsFoundCall facts.now x.now }
     requires sound { All (IsCalledNode facts.now x.now) list.old.items }
     ensures sound { OnOk result (All (IsCalledNode facts.now x.now) list.new.items) }
     ensures kept { OnOk result ((n : ℕ) → Contains list.old.items n → Contains list.new.items n) }
@@ -130,7 +130,7 @@ fn add_bodies(
     x: &Called,
     bodies: &[usize],
 ) -> Result<(), AllocError>
-    requires called { IsCalled facts.now x.now }
+    requires called { IsFoundCall facts.now x.now }
     requires sound { All (IsCalledNode facts.now x.now) list.old.items }
     ensures sound { OnOk result (All (IsCalledNode facts.now x.now) list.new.items) }
     ensures here { OnOk result (All (ListsBody facts.now x.now.member x.now.column list.new.items) bodies.now) }

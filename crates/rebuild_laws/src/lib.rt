@@ -31,7 +31,7 @@
 //! `proofs/runs/Creations.antt` that they have it where the hierarchy breaks no obligation;
 //! `proofs/runs/Rebuilt.antt` has the two programs, and `proofs/runs/Whole.antt` the law.
 //!
-//! Two programs that are one but for places, order, modifiers and `this.` have the same run.
+//! Two programs without constructors that are one but for places, order, modifiers and `this.` have the same run.
 //!
 //! `proofs/one/Found.antt` says what the look-ups of the two find, `proofs/one/Statics.antt` what types expressions have,
 //! `proofs/one/Laid.antt` what new objects hold, `proofs/one/Twin.antt` that their bodies are twins;
@@ -62,9 +62,9 @@ pub fn same_run()
     ensures { RebuiltRunsTheSame }
 {}
 
-/// Two formed programs that are one but for places, modifiers without meaning, `this.` written or left away, and the
-/// order of types and members have the same run, where the first is typed: for all words and every bound on the steps
-/// they end the same way, with the same output and as many steps left.
+/// Two formed programs without constructors that are one but for places, modifiers without meaning, `this.` written or
+/// left away, and the order of types and members have the same run, where the first is typed: for all words and every
+/// bound on the steps they end the same way, with the same output and as many steps left.
 pub fn one_run()
     ensures { OneRunsTheSame }
 {}

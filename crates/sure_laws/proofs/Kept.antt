@@ -14,7 +14,7 @@ use Rattle.java_core.specs.Trees.{Tag, Ex, Exs, no_ex, ex_then, number, characte
 use Rattle.java_core.specs.Types.{Env, class_type, element_in, StringMethod, LengthOf, CharAt, Equals, is_plus}
 use Rattle.java_meaning.specs.Moment.{End, Ended, Going, Value, Number, Truth, CodeUnit, Nothing, Text, Object, Kind, an_object, an_array, Cell, own_type, own_class, Spot, held, tested, Met, State, Frame, Faulted, Wrong, Escaped, Outcome, stop, Body, Lang, step, step_of, with_some, or_fault, with_result, on_bool, look, look_all}
 use Rattle.java_meaning.specs.Values.{cast_number, arguments, number_of, truth_of, natural_of, text_of, arith as op_arith, unary_value, same_value, compared, join, is_text, equals_value}
-use Rattle.java_meaning.specs.Meaning.{Flow, Next, Broke, Continued, Gave, ToValue, ToFlow, Later, on_test, with_cell, read_static, write_static, read_field, write_field, names_length, read_member, element_type, place_in, read_element, on_fitting, write_element, enter, call_object, string_call, text_method, call_on, call_static, call_super, make_cell, make_object, make_array, is_number_type, cast_object, cast_to, test_class, after_left, join_values, compute, operate, write_local, after_one, after_turn, value, values, run_test, run_print, run_initial, run_return, run_assign, run_one, run_all, run_arms, meaning, start, run_in}
+use Rattle.java_meaning.specs.Meaning.{Flow, Next, Broke, Continued, Gave, ToValue, ToFlow, Later, on_test, with_cell, read_static, write_static, read_field, write_field, names_length, read_member, element_type, place_in, read_element, on_fitting, write_element, enter, call_object, string_call, text_method, call_on, call_static, call_super, make_cell, construct, made_by, make_array, is_number_type, cast_object, cast_to, test_class, after_left, join_values, compute, operate, write_local, after_one, after_turn, value, values, run_test, run_print, run_initial, run_return, run_assign, run_one, run_all, run_arms, meaning, start, run_in}
 
 -- the language without its watch: it notes as before
 abbrev pub unguarded : Lang → Lang
@@ -177,11 +177,6 @@ module _ (L : Lang) (Ok : List Met → Type 0) (kept : IsKept L Ok) where
       → R (make_cell L b d c s k) (make_cell M b d c s k')
   make_cell_kept b d c s k k' le h = look_kept _ _ _ _ _ tt le (λ s1 l1. h _ s1 l1)
 
-  make_object_kept : (g : Env) (d : Ex) (n c : ℕ) (vs : List Value) (s : State) (k k' : ToValue) → Ok s.met → AlikeV k k'
-      → R (make_object L g d n c vs s k) (make_object M g d n c vs s k')
-  make_object_kept g d n c [] s k k' le h = step_kept s _ _ le (λ s1 l1. make_cell_kept g.body d _ s1 k k' l1 h)
-  make_object_kept g d n c (v ∷ vs) s k k' le h = ends Wrong s le
-
   make_array_kept : (g : Env) (d : Ex) (n : ℕ) (t : Ty) (size : ℤ) (s : State) (k k' : ToValue) → Ok s.met → AlikeV k k'
       → R (make_array L g d n t size s k) (make_array M g d n t size s k')
   make_array_kept g d n t size s k k' le h =
@@ -306,6 +301,20 @@ module _ (L : Lang) (Ok : List Met → Type 0) (kept : IsKept L Ok) where
         step_kept s _ _ le (λ s1 l1. with_some_kept (L.super_body g.self x) s1 l1 _ _ (λ y. look_kept _ _ s1 _ _ tt l1 (λ s2 l2.
         enter_kept y v vs s2 _ _ l2 (λ u s4 l4. look_kept (held g.body d) u s4 _ _ tt l4 (λ s5 l5. h u s5 l5)))))
 
+    construct_kept : (g : Env) (d : Ex) (x j : ℕ) (v : Value) (vs : List Value) (s : State) (k k' : ToValue)
+        → Ok s.met → AlikeV k k' → R (construct L b g d x j v vs s k) (construct M c g d x j v vs s k')
+    construct_kept g d x j v vs s k k' le h =
+        with_some_kept (L.body x j) s le _ _ (λ y. look_kept _ _ s _ _ tt le (λ s1 l1. look_kept _ _ s1 _ _ tt l1 (λ s2 l2.
+        enter_kept y v vs s2 _ _ l2 (λ u s3 l3. h v s3 l3))))
+
+    made_by_kept : (g : Env) (d : Ex) (n x : ℕ) (o : Option ℕ) (vs : List Value) (s : State) (k k' : ToValue)
+        → Ok s.met → AlikeV k k' → R (made_by L b g d n x o vs s k) (made_by M c g d n x o vs s k')
+    made_by_kept g d n x None [] s k k' le h = step_kept s _ _ le (λ s1 l1. make_cell_kept g.body d _ s1 k k' l1 h)
+    made_by_kept g d n x None (v ∷ vs) s k k' le h = ends Wrong s le
+    made_by_kept g d n x (Some j) vs s k k' le h =
+        step_kept s _ _ le (λ s1 l1. step_kept s1 _ _ l1 (λ s2 l2. step_kept s2 _ _ l2 (λ s3 l3. make_cell_kept g.body d _ s3 _ _ l3 (λ v s4 l4.
+        construct_kept g d x j v vs s4 k k' l4 h))))
+
     mutual
       pub value_kept : (e : Ex) (f : Frame) (s : State) (k k' : ToValue) → Ok s.met → AlikeV k k'
           → R (value L b e f s k) (value M c e f s k')
@@ -331,7 +340,7 @@ module _ (L : Lang) (Ok : List Met → Type 0) (kept : IsKept L Ok) where
       value_kept (super_call t x es) f s k k' le h =
           values_kept es f s _ _ le (λ vs s2 l2. call_super_kept f.env (super_call t x es) x f.self vs s2 k k' l2 h)
       value_kept (create t n x es) f s k k' le h =
-          values_kept es f s _ _ le (λ vs s1 l1. make_object_kept f.env (create t n x es) n x vs s1 k k' l1 h)
+          values_kept es f s _ _ le (λ vs s1 l1. made_by_kept f.env (create t n x es) n x (L.maker x) vs s1 k k' l1 h)
       value_kept (create_array t n u e) f s k k' le h =
           value_kept e f s _ _ le (λ v s1 l1. with_some_kept (number_of v) s1 l1 _ _ (λ size. make_array_kept f.env (create_array t n u e) n u
           size s1 k k' l1 h))

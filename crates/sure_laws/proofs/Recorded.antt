@@ -90,6 +90,7 @@ only_recorded P = record {
   typed_field = λ f. refl;
   index = λ c f. refl;
   fresh = λ c. refl;
+  maker = λ c. refl;
   body = λ c s. found_body P (lookup P c s);
   static_body = found_retagged P;
   super_body = λ c x. found_body P (super_method P c x);

@@ -13,7 +13,7 @@ use Rattle.java_core.specs.Programs.{PlainMethod}
 use Rattle.java_core.specs.Classes.{slot_of, lookup, super_method}
 use Rattle.java_core.specs.Types.{Static, a_value, or_nothing, types_of, class_type, class_in, class_of, element_in, is_numeric, env_of, fits_in, Signature, signature_of_method, call_signature, super_signature, field_type, static, target_type}
 use Rattle.java_core.specs.Types.{result_of as given_by}
-use Rattle.java_core.specs.Typing.{are_related, can_cast, t_field, t_index, t_call, t_static_call, t_super_call, t_create_array, t_cast, t_instance_of, t_unary, t_binary, TypedArgs, t_ex_then, TypedTarget, t_to_field, t_to_element, TypedTest, t_test, TypedSt, TypedSts, TypedArms, t_declare_as, t_block, t_assign, t_act, t_print, t_choose, t_loop, t_return, t_st_then, t_otherwise, t_arm}
+use Rattle.java_core.specs.Typing.{are_related, can_cast, t_field, t_index, t_call, t_static_call, t_super_call, t_create, t_make, t_create_array, t_cast, t_instance_of, t_unary, t_binary, TypedArgs, t_ex_then, TypedTarget, t_to_field, t_to_element, TypedTest, t_test, TypedSt, TypedSts, TypedArms, t_declare_as, t_block, t_assign, t_act, t_print, t_choose, t_loop, t_return, t_st_then, t_otherwise, t_arm}
 use Rattle.java_core.specs.Formed.{IsFormed}
 use Rattle.java_meaning.specs.EachStatement.{OfOption, InSt, InSts, InArms}
 use Rattle.java_meaning.specs.Moment.{Kind, an_object, an_array, own_type, bound, self_of, result_of, kept, put_in, tested, Body}
@@ -27,7 +27,7 @@ use Rattle.flow_rules.specs.Parts.{a_call, a_test, is_accessed, parts_assign, pa
 use Rattle.flow_rules.specs.Lists.{Placed, PlainCall, point_at, row_at, site_in}
 use Rattle.flow_rules.specs.Facts.{numbers}
 use Rattle.flow_rules.proofs.Listed.{one}
-use Rattle.flow_laws.specs.cover.Families.{Set, Family, Sub, Gives, Reads, Writes, ReadsElement, WritesElement, Passes, Enters, Calls, StaticCalls, SuperCalls, Tests, Casts, Included, IncludedAll, Assigns, included}
+use Rattle.flow_laws.specs.cover.Families.{Set, Family, Sub, Gives, Reads, Writes, ReadsElement, WritesElement, Passes, Enters, Calls, StaticCalls, SuperCalls, Makes, Tests, Casts, Included, IncludedAll, Assigns, included}
 use Rattle.flow_laws.specs.cover.Slotted.{HaveSlots}
 use Rattle.flow_laws.specs.cover.Covers.{operand_at, labelled_body}
 use Rattle.flow_laws.proofs.cover.Each.{left, right, past, here}
@@ -295,6 +295,15 @@ module _ (B : ClosedBody) (formed : IsFormed B.program) (slots : HaveSlots B.pro
         (subtype_back P (own_type h) t sub i)))),
   )
 
+  makes : (u : Bool) (t : Tag) (n c : ℕ) (es : Exs) → Stands (tree u (create t n c es)) → Makes L Made V g (create t n c es) n (an_object c)
+  makes u t n c es st =
+      let w = (expressions.included B u (create t n c es) st).1.made in
+      record {
+        made = w;
+        looks = refl;
+        holds = from_shape (create t n c es) (Some n) (or_left (sited P (Some n)) _ (made_sited (Some n) (an_object c) w refl));
+      }
+
   mutual
     pub included_ex : (u : Bool) (e : Ex) → Typed e → Stands (tree u e) → Included L Made V g e
     included_ex u (this t) a st = this_sub t
@@ -320,17 +329,8 @@ module _ (B : ClosedBody) (formed : IsFormed B.program) (slots : HaveSlots B.pro
     )
     included_ex u (static_call t d es) (t_static_call {s = sig} a b) st = (included_all false es sig.params b (past _ _ st), static_calls t d es sig a b)
     included_ex u (super_call t x es) (t_super_call {s = sig} a b c d) st = (included_all false es sig.params d (past _ _ st), super_calls t x es sig c d)
-    included_ex u (create t n c no_ex) a st = (
-      tt,
-      (let w = (expressions.included B u (create t n c no_ex) st).1.made in
-          record {
-            made = w;
-            looks = refl;
-            holds = from_shape (create t n c no_ex) (Some n)
-                (or_left (sited P (Some n)) _ (made_sited (Some n) (an_object c) w refl));
-          }),
-    )
-    included_ex u (create t n c (ex_then e es)) a st = elim a [ ]
+    included_ex u (create t n c no_ex) (t_create a b) st = (tt, makes u t n c no_ex st)
+    included_ex u (create t n c es) (t_make {s = sig} a b w v) st = (included_all false es sig.params v (past _ (trees false es) st), makes u t n c es st)
     included_ex u (create_array t n v e) (t_create_array a b) st = (
       included_ex false e a (past _ _ st),
       (let w = (expressions.included B u (create_array t n v e) st).1.made in

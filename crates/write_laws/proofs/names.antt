@@ -13,6 +13,7 @@ pub mod Starts
 pub mod Holders
 pub mod Whole
 pub mod Main
+pub mod Written
 pub mod Conditions
 pub mod Instances
 pub mod Declared

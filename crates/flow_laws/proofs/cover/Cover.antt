@@ -163,7 +163,7 @@ module _ (L : Lang) (Made : Option ℕ → Kind → Type 0) (V : Family) (inc : 
             (of_kept s.cells s1.cells f.self (V.spot (self_of f.env.body)) r.keeps fo.self) ivs
             (kv_on s.cells s1.cells (V.value f.env.body (super_call t x es)) k r.keeps h))
         value_fine (create t n c es) f s k i ok fo h =
-            values_fine es f s _ i.0 ok fo (λ vs s1 r ivs. steps.make_object_fine L Made V inc hooks f.env (create t n c es) n c vs i.1 s1 k r.good
+            values_fine es f s _ i.0 ok fo (λ vs s1 r ivs. steps.make_object_fine L Made V inc hooks later f.env (create t n c es) n c vs i.1 s1 k r.good
             (kv_on s.cells s1.cells (V.value f.env.body (create t n c es)) k r.keeps h))
         value_fine (create_array t n u e) f s k i ok fo h =
             value_fine e f s _ i.0 ok fo (λ v s1 r iv. some_fine (number_of v) s1 _ (λ size es.

@@ -16,7 +16,7 @@ use Rattle.java_core.specs.Trees.{Ex, Exs, no_ex, ex_then}
 use Rattle.java_core.specs.Types.{Env, class_type, element_in, StringMethod, LengthOf, CharAt, Equals}
 use Rattle.java_meaning.specs.Moment.{Value, Number, Truth, CodeUnit, Nothing, Object, Kind, an_object, an_array, Cell, own_type, own_class, Spot, held, bound, self_of, result_of, set_static, kept, put_in, touched, tested, Met, State, Frame, Faulted, Wrong, Escaped, Outcome, stop, Body, Lang, with_some, on_bool, look, look_all}
 use Rattle.java_meaning.specs.Values.{default_of, convert, number_of, truth_of, natural_of, text_of, arith, unary_value, cast_number, same_value, compared, join, defaults, equals_value}
-use Rattle.java_meaning.specs.Meaning.{Flow, Next, Broke, Continued, Gave, ToValue, ToFlow, add_cell, set_value, set_local, give_string, write_static, read_field, write_field, names_length, read_member, element_type, place_in, read_element, on_fitting, write_element, given, string_call, make_cell, make_object, make_array, is_number_type, cast_object, cast_to, test_class, after_left, join_values, compute, operate, write_local, after_one, after_turn}
+use Rattle.java_meaning.specs.Meaning.{Flow, Next, Broke, Continued, Gave, ToValue, ToFlow, add_cell, set_value, set_local, give_string, write_static, read_field, write_field, names_length, read_member, element_type, place_in, read_element, on_fitting, write_element, given, string_call, make_cell, made_by, make_object, Later, make_array, is_number_type, cast_object, cast_to, test_class, after_left, join_values, compute, operate, write_local, after_one, after_turn}
 use Rattle.flow_laws.specs.cover.Families.{Set, Family, ArePlain, Reads, Writes, ReadsElement, WritesElement, Passes, Makes, Tests, Casts, AreIncluded}
 use Rattle.flow_laws.specs.cover.Watched.{Of, IsWatched}
 use Rattle.flow_laws.proofs.cover.Lists.{set_cases}
@@ -219,10 +219,16 @@ module _ (L : Lang) (Made : Option ℕ → Kind → Type 0) (V : Family) (inc : 
       h (Object (length s.cells)) (record s { cells = s.cells ++ c ∷ []; met = m }) (good_add s.cells s.statics c ok new)
       (record { cell = c; there = get_last s.cells c; member = mk.holds }))
 
-  pub make_object_fine : (g : Env) (d : Ex) (n c : ℕ) (vs : List Value) → Makes L Made V g d n (an_object c) → (s : State) (k : ToValue)
-      → Good s.cells s.statics → KV s.cells (V.value g.body d) k → Fine (make_object L g d n c vs s k)
-  make_object_fine g d n c [] mk s k ok h = step_fine s _ (λ m. make_fine g d n (an_object c) (L.fresh c) mk (inc.fresh c) (record s { left = m }) k ok h)
-  make_object_fine g d n c (v ∷ vs) mk s k ok h = fine_stop Wrong s tt
+  made_fine : (later : Later) (g : Env) (d : Ex) (n c : ℕ) (vs : List Value) → Makes L Made V g d n (an_object c) → (s : State) (k : ToValue)
+      → Good s.cells s.statics → KV s.cells (V.value g.body d) k → Fine (made_by L later g d n c None vs s k)
+  made_fine later g d n c [] mk s k ok h =
+      step_fine s _ (λ m. make_fine g d n (an_object c) (L.fresh c) mk (inc.fresh c) (record s { left = m }) k ok h)
+  made_fine later g d n c (v ∷ vs) mk s k ok h = fine_stop Wrong s tt
+
+  pub make_object_fine : (later : Later) (g : Env) (d : Ex) (n c : ℕ) (vs : List Value) → Makes L Made V g d n (an_object c) → (s : State) (k : ToValue)
+      → Good s.cells s.statics → KV s.cells (V.value g.body d) k → Fine (make_object L later g d n c vs s k)
+  make_object_fine later g d n c vs mk s k ok h =
+      subst (λ j. Fine (made_by L later g d n c j vs s k)) (sym (inc.no_maker c)) (made_fine later g d n c vs mk s k ok h)
 
   pub make_array_fine : (g : Env) (d : Ex) (n : ℕ) (t : Ty) (size : ℤ) → Makes L Made V g d n (an_array t) → (s : State) (k : ToValue)
       → Good s.cells s.statics → KV s.cells (V.value g.body d) k → Fine (make_array L g d n t size s k)

@@ -8,8 +8,8 @@ use Rattle.java_core.specs.Trees.{Tag, Ex, Exs, no_ex, ex_then, local, static_fi
 use Rattle.java_core.specs.Programs.{Plain, PlainMethod}
 use Rattle.java_core.specs.Classes.{super_method}
 use Rattle.java_core.specs.Types.{fits, fits_in, static, target_type}
-use Rattle.java_core.specs.Typing.{t_field, t_index, t_call, t_static_call, t_super_call, t_create_array, t_cast, t_instance_of, t_unary, t_binary, TypedArgs, t_ex_then, TypedTarget, t_to_field, t_to_element, TypedTest, t_test, TypedSt, t_declare_as, t_block, t_assign, t_act, t_print, t_choose, t_loop, t_return, TypedSts, t_st_then, TypedArms, t_otherwise, t_arm, IsTyped, IsTypedMethod}
-use Rattle.java_core.specs.Formed.{f_field, f_index, f_call, f_static_call, f_super_call, f_create_array, f_cast, f_instance_of, f_unary, f_binary, FormedExs, f_ex_then, FormedTarget, f_to_field, f_to_element, FormedOption, f_some, FormedSt, f_declare, f_block, f_assign, f_act, f_print, f_choose, f_loop, f_return, FormedSts, f_st_then, FormedArms, f_otherwise, f_arm, IsFormed}
+use Rattle.java_core.specs.Typing.{t_field, t_index, t_call, t_static_call, t_super_call, t_create, t_make, t_create_array, t_cast, t_instance_of, t_unary, t_binary, TypedArgs, t_ex_then, TypedTarget, t_to_field, t_to_element, TypedTest, t_test, TypedSt, t_declare_as, t_block, t_assign, t_act, t_print, t_choose, t_loop, t_return, TypedSts, t_st_then, TypedArms, t_otherwise, t_arm, IsTyped, IsTypedMethod}
+use Rattle.java_core.specs.Formed.{f_field, f_index, f_call, f_static_call, f_super_call, f_create, f_create_array, f_cast, f_instance_of, f_unary, f_binary, FormedExs, f_ex_then, FormedTarget, f_to_field, f_to_element, FormedOption, f_some, FormedSt, f_declare, f_block, f_assign, f_act, f_print, f_choose, f_loop, f_return, FormedSts, f_st_then, FormedArms, f_otherwise, f_arm, IsFormed}
 use Rattle.flow_rules.specs.Labels.{label_sts}
 use Rattle.flow_rules.specs.Parts.{Part, a_load, an_element, a_creation, a_call, a_static_call, a_super_call, a_test, a_pair, a_set, a_store, an_element_store, a_return, is_accessed, nothing, parts_assign, parts_st, parts_arms, parts_body, parts_of}
 use Rattle.flow_rules.specs.Operands.{object_field, call_slot, call_declaration, this_operand, test_operand, type_in}
@@ -90,8 +90,10 @@ module _ (P : Plain) (m : ℕ) (k : PlainMethod) where
     ex_from u (super_call t x es) (t_super_call a b v w) (f_super_call i j q) into c =
         split (own u (super_call t x es)) (tree_all false es) into c (λ way. from_ex u (super_call t x es) (t_super_call a b v w) (f_super_call i j q)
         into) (all_from false es w q)
-    ex_from u (create t i d no_ex) a f into c = from_ex u (create t i d no_ex) a f into c
-    ex_from u (create t i d (ex_then e es)) a f into c = elim a [ ]
+    ex_from u (create t i d no_ex) (t_create a b) f into c = from_ex u (create t i d no_ex) (t_create a b) f into c
+    ex_from u (create t i d es) (t_make a b w v) (f_create x q) into c =
+        split (own u (create t i d es)) (tree_all false es) into c (λ way. from_ex u (create t i d es) (t_make a b w v) (f_create x q) into)
+        (all_from false es v q)
     ex_from u (create_array t i v e) (t_create_array a b) (f_create_array d q r) into c =
         split (own u (create_array t i v e)) (tree false e) into c (λ way. from_ex u (create_array t i v e) (t_create_array a b)
         (f_create_array d q r) into) (ex_from false e a r)

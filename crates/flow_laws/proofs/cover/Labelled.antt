@@ -6,7 +6,7 @@ use Rattle.java_core.specs.declared.Ty.{Ty}
 use Rattle.java_core.specs.Trees.{Ex, Exs, no_ex, ex_then, number, character, text, truth, null, this, local, static_field, own_field, field, index, call, static_call, super_call, create, create_array, cast, instance_of, unary, binary, Target, to_local, to_static, to_own, to_field, to_element, no_target, St, Sts, IfArms, declare, block, assign, act, print, choose, loop, return, break, continue, no_st, st_then, no_other, otherwise, arm}
 use Rattle.java_core.specs.Programs.{Plain, PlainMethod}
 use Rattle.java_core.specs.Types.{Env, target_type}
-use Rattle.java_core.specs.Typing.{Typed, t_number, t_character, t_text, t_truth, t_null, t_this, t_local, t_static_field, t_own_field, t_field, t_index, t_call, t_static_call, t_super_call, t_create, t_create_array, t_cast, t_instance_of, t_unary, t_binary, TypedArgs, t_no_ex, t_ex_then, TypedTarget, t_to_local, t_to_static, t_to_own, t_to_field, t_to_element, TypedTest, t_always, t_test, TypedSt, t_declare, t_declare_as, t_block, t_assign, t_act, t_print_line, t_print, t_choose, t_loop, t_return_nothing, t_return, t_break, t_continue, TypedSts, t_no_st, t_st_then, TypedArms, t_no_other, t_otherwise, t_arm}
+use Rattle.java_core.specs.Typing.{Typed, t_number, t_character, t_text, t_truth, t_null, t_this, t_local, t_static_field, t_own_field, t_field, t_index, t_call, t_static_call, t_super_call, t_create, t_make, t_create_array, t_cast, t_instance_of, t_unary, t_binary, TypedArgs, t_no_ex, t_ex_then, TypedTarget, t_to_local, t_to_static, t_to_own, t_to_field, t_to_element, TypedTest, t_always, t_test, TypedSt, t_declare, t_declare_as, t_block, t_assign, t_act, t_print_line, t_print, t_choose, t_loop, t_return_nothing, t_return, t_break, t_continue, TypedSts, t_no_st, t_st_then, TypedArms, t_no_other, t_otherwise, t_arm}
 use Rattle.java_core.specs.Formed.{scope_after, scope_after_all, is_act, is_first, is_at_most_one, IsLoopHead, of_while, of_for, is_call, FormedEx, f_number, f_character, f_text, f_truth, f_null, f_this, f_local, f_static_field, f_own_field, f_field, f_index, f_call, f_static_call, f_super_call, f_create, f_create_array, f_cast, f_instance_of, f_unary, f_binary, FormedExs, f_no_ex, f_ex_then, FormedTarget, f_to_local, f_to_static, f_to_own, f_to_field, f_to_element, FormedOption, f_none, f_some, FormedSt, f_declare, f_block, f_assign, f_act, f_print, f_choose, f_loop, f_return, f_break, f_continue, FormedSts, f_no_st, f_st_then, FormedArms, f_no_other, f_otherwise, f_arm}
 use Rattle.java_core.specs.Retagged.{Retagged, s_number, s_character, s_text, s_truth, s_null, s_this, s_local, s_static_field, s_own_field, s_field, s_index, s_call, s_static_call, s_super_call, s_create, s_create_array, s_cast, s_instance_of, s_unary, s_binary, RetaggedAll, s_no_ex, s_ex_then, RetaggedTarget, s_to_local, s_to_static, s_to_own, s_to_field, s_to_element, s_no_target}
 use Rattle.java_meaning.specs.Paired.{PairedIf, PairedSt, PairedArms, pair_none, pair_some, pair_declare, pair_block, pair_assign, pair_act, pair_print, pair_choose, pair_loop, pair_return, pair_break, pair_continue, pair_no_st, pair_st_then, pair_no_other, pair_otherwise, pair_arm}
@@ -103,8 +103,8 @@ module _ (P : Plain) (g : Env) where
     typed_same (s_call h i) (t_call {s = y} a b c) = t_call {s = y} (typed_same h a) (rw (static_same P g h) b) (typed_all_same i c)
     typed_same (s_static_call h) (t_static_call a b) = t_static_call a (typed_all_same h b)
     typed_same (s_super_call h) (t_super_call a b c d) = t_super_call a b c (typed_all_same h d)
-    typed_same (s_create s_no_ex) (t_create a) = t_create a
-    typed_same (s_create (s_ex_then h i)) a = elim a [ ]
+    typed_same (s_create s_no_ex) (t_create a b) = t_create a b
+    typed_same (s_create h) (t_make a b c d) = t_make a b c (typed_all_same h d)
     typed_same (s_create_array h) (t_create_array a b) = t_create_array (typed_same h a) (rw (static_same P g h) b)
     typed_same (s_cast h) (t_cast a b) = t_cast (typed_same h a) (rw (static_same P g h) b)
     typed_same (s_instance_of h) (t_instance_of a b) = t_instance_of (typed_same h a) (rw (static_same P g h) b)

@@ -17,6 +17,7 @@ use Rattle.ucd_derived.specs.XidContinueRanges.{xid_continue_ranges}
 use Rattle.ucd_table.specs.Rows.{in_ranges}
 use Rattle.java_lex.specs.Writable.{IsName}
 use Rattle.java_core.specs.Programs.{Plain, PlainClass, PlainField, PlainMethod}
+use Rattle.java_core.specs.Makers.{HasNoMaker}
 use Rattle.java_core.specs.Formed.{IsFormed, IsVariableName}
 use Rattle.fact_model.specs.Items.{column_kind}
 use Rattle.fact_model.specs.InOrder.{IsMember as IsMemberColumn, name_of, AreNamesInOrder}
@@ -26,6 +27,7 @@ use Rattle.flow_rules.specs.declared.items.ColumnItem.{ColumnItem}
 use Rattle.flow_rules.specs.Ordered.{once}
 use Rattle.flow_rules.specs.Facts.{kind_of, name_in, is_holder, all_names, all_variables, variable_names, IsFactsOf, AreNamesOf}
 use Rattle.flow_rules.proofs.Listed.{more, first, contains_at, at_contains, map_has, map_from, flat_has, flat_from, all_of, once_has, once_from}
+use Rattle.flow_laws.proofs.NoMaker as no_maker
 use Rattle.flow_laws.proofs.order.Columns.{Stands, for_field, for_declaration, for_body, for_mark, item_of}
 use Rattle.flow_laws.proofs.order.Classes.{class_at}
 
@@ -44,7 +46,7 @@ any_at : {A : Type 0} (f : A → Bool) (xs : List A) → list_any f xs ≡ true 
 any_at f [] e = absurd (false≢true e)
 any_at f (x ∷ xs) e = ⊎_elim (λ h. (x, first x xs, h)) (λ h. let z = any_at f xs h in (z.0, more z.0 x xs z.1, z.2)) (or_cases (f x) (list_any f xs) e)
 
-module _ (P : Plain) (formed : IsFormed P) where
+module _ (P : Plain) (formed : IsFormed P) (none : HasNoMaker P) where
   abbrev class_names : List (List ℕ)
   class_names = map (λ k. k.name) (drop 1 P.classes)
 
@@ -83,7 +85,7 @@ module _ (P : Plain) (formed : IsFormed P) where
   field_named f k e = (formed.fields f k e).name
 
   method_named : (m : ℕ) (k : PlainMethod) (x : List ℕ) → slice_get P.methods m ≡ Some k → Contains (own_names k) x → IsName x
-  method_named m k x e (zero, lt, d) = subst (λ x. IsName x) d (formed.methods m k e).name
+  method_named m k x e (zero, lt, d) = subst (λ x. IsName x) d (no_maker.method_name P formed none m k e)
   method_named m k x e (suc i, lt, d) =
       let each = (formed.methods m k e).variables in
       ⊎_elim (λ c. let v = map_from (λ v. v.name) k.params x c in subst (λ x. IsName x) v.2

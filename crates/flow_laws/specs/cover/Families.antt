@@ -173,10 +173,11 @@ module _ (L : Lang) (Made : Option ℕ → Kind → Type 0) (V : Family) where
     pub rest : ArePlain b.rest
     pub ends : (a : ℕ) → b.ends ≡ Object a → ⊥
 
-  -- all bodies stay in the sets, and no field begins with an object
+  -- all bodies stay in the sets, and no field begins with an object; no class has a constructor
   pub record AreIncluded : Type 0 where
     pub places : (c f h i : ℕ) → L.index c f ≡ Some i → L.index c h ≡ Some i → f ≡ h
     pub fresh : (c : ℕ) → ArePlain (L.fresh c)
+    pub no_maker : (c : ℕ) → L.maker c ≡ None
     pub statics : ArePlain L.statics
     pub bodies : (c j : ℕ) (b : Body) → L.body c j ≡ Some b → IsIncluded b
     pub static_bodies : (m : ℕ) (b : Body) → L.static_body m ≡ Some b → IsIncluded b

@@ -1,15 +1,17 @@
 -- The program over the worked hierarchy is formed.
 use Rattle.std.proofs.Common.{◌≡◌, ℕ, zero, suc, ◌<◌, ◌≤◌, ◌⊎◌, [], ◌∷◌, Some, None, Contains, refl, sym, ap, ◌∙◌, subst, inl, inr, arith}
 use Rattle.std.specs.Prelude.{true, false, codes, slice_get}
+use Rattle.std.specs.Option.{is_some}
 use Rattle.std.proofs.lemmas.Bool.{false≢true}
 use Rattle.std.proofs.lemmas.Option.{same_Some}
 use Rattle.kaba_base.specs.declared.ClassId.{ClassId}
 use Rattle.java_core.specs.Trees.{Sts, field, this, return, no_st, st_then}
 use Rattle.java_core.specs.Programs.{PlainClass, PlainMethod}
 use Rattle.java_core.specs.Classes.{supers_of}
+use Rattle.java_core.specs.Makers.{maker_of, IsMakerOf}
 use Rattle.java_core.specs.Formed.{IsFormedClass, IsFormedField, IsFormedMethod, IsFormedSlot, IsMain, FormedSts, IsFormed, numbers_below, f_field, f_this, f_some, f_return, f_no_st, f_st_then}
 use Rattle.rebuild_model.proofs.Worked.{place, class, object, the_field, method, main, main_code, new}
-use Rattle.rebuild_laws.proofs.looks.WorkedParts.{one_item, at_only, formed_m, formed_main}
+use Rattle.rebuild_laws.proofs.looks.WorkedParts.{one_item, at_only, no_maker_m, no_maker_main, formed_m, formed_main}
 use Rattle.java_meaning.proofs.Small.{Each, each_at, no_item, no_twice, one_once, once_each, differ, named, variable_name, formed_class, acyclic}
 
 abbrev face : PlainClass
@@ -114,6 +116,14 @@ one_slot m n h k e d x = go m n h k e d x
     go (suc (suc zero)) (suc (suc (suc n))) h k e d x = absurd (cc d)
     go (suc (suc (suc m))) n h k e d x = absurd (cc e)
 
+-- no class has a constructor
+pub none : (c : ℕ) → maker_of new c ≡ None
+none zero = refl
+none (suc zero) = refl
+none (suc (suc zero)) = refl
+none (suc (suc (suc zero))) = refl
+none (suc (suc (suc (suc c)))) = refl
+
 pub formed : IsFormed new
 formed = record {
   object = record { object = top; first = refl; name = refl; class = refl; concrete = refl; parent = refl; faces = refl };
@@ -132,6 +142,9 @@ formed = record {
   method_names = λ m n h k e d o x. one_method m n h k e d o;
   one_slot = λ c m n h k e d p q x. one_slot m n h k e d x;
   slots = at_only (IsFormedSlot new) _ (record { method = head_m; stands = refl; of = refl; least = λ m k d f. omega arith });
+  makers = λ m k e i. absurd (each_at (λ k. IsMakerOf new k → ⊥) new.methods m k
+      ((λ i. no_maker_m new 1 None i), ((λ i. no_maker_m new 2 (Some body_m) i), ((λ i. no_maker_main new 3 1 (main_code 2) i), tt))) e i);
+  inherited = λ c b p h. absurd (false≢true (sym (ap is_some (none b.0)) ∙ h));
   numbered = one_once 0;
   main = method_main;
   main_stands = refl;

@@ -1,15 +1,17 @@
 -- The worked program is formed.
 use Rattle.std.proofs.Common.{◌≡◌, ℕ, zero, suc, ◌<◌, ◌≤◌, [], ◌∷◌, Some, None, refl, sym, ap, ◌∙◌, subst, inl, arith}
 use Rattle.std.specs.Prelude.{false, codes, slice_get}
+use Rattle.std.specs.Option.{is_some}
 use Rattle.std.proofs.lemmas.Bool.{false≢true}
 use Rattle.std.proofs.lemmas.Option.{same_Some}
 use Rattle.kaba_base.specs.declared.ClassId.{ClassId}
 use Rattle.java_core.specs.Trees.{Sts, own_field, return, no_st, st_then}
 use Rattle.java_core.specs.Programs.{PlainClass, PlainMethod}
 use Rattle.java_core.specs.Classes.{field_of, supers_of}
+use Rattle.java_core.specs.Makers.{maker_of, IsMakerOf}
 use Rattle.java_core.specs.Formed.{IsFormedClass, IsFormedField, IsFormedMethod, IsFormedSlot, IsMain, FormedSts, IsFormed, numbers_below, f_own_field, f_some, f_return, f_no_st, f_st_then}
 use Rattle.rebuild_model.proofs.Worked.{place, class, object, the_field, method, main, main_code, old}
-use Rattle.rebuild_laws.proofs.looks.WorkedParts.{one_item, at_only, formed_m, formed_main}
+use Rattle.rebuild_laws.proofs.looks.WorkedParts.{one_item, at_only, no_maker_m, no_maker_main, formed_m, formed_main}
 use Rattle.java_meaning.proofs.Small.{Each, each_at, no_item, no_twice, one_once, once_each, differ, named, variable_name, formed_class, acyclic}
 
 abbrev top : PlainClass
@@ -68,6 +70,13 @@ one_method zero (suc (suc n)) h k e d x = absurd (cc d)
 one_method (suc zero) (suc (suc n)) h k e d x = absurd (cc d)
 one_method (suc (suc m)) n h k e d x = absurd (cc e)
 
+-- no class has a constructor
+pub none : (c : ℕ) → maker_of old c ≡ None
+none zero = refl
+none (suc zero) = refl
+none (suc (suc zero)) = refl
+none (suc (suc (suc c))) = refl
+
 pub formed : IsFormed old
 formed = record {
   object = record { object = top; first = refl; name = refl; class = refl; concrete = refl; parent = refl; faces = refl };
@@ -85,6 +94,9 @@ formed = record {
   method_names = λ m n h k e d o x. one_method m n h k e d x;
   one_slot = λ c m n h k e d p q x. inl (one_method m n h k e d x);
   slots = at_only (IsFormedSlot old) _ (record { method = method_m; stands = refl; of = refl; least = λ m k d f. omega arith });
+  makers = λ m k e i. absurd (each_at (λ k. IsMakerOf old k → ⊥) old.methods m k
+      ((λ i. no_maker_m old 1 (Some body_m) i), ((λ i. no_maker_main old 2 1 (main_code 1) i), tt)) e i);
+  inherited = λ c b p h. absurd (false≢true (sym (ap is_some (none b.0)) ∙ h));
   numbered = one_once 0;
   main = method_main;
   main_stands = refl;

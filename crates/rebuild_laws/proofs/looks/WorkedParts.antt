@@ -1,5 +1,5 @@
 -- What the worked program and the one over the worked hierarchy have alike: classes below Object, methods m of slot 0, and main.
-use Rattle.std.proofs.Common.{◌≡◌, ◌≢◌, ℕ, zero, suc, ◌<◌, ◌||◌, List, [], ◌∷◌, ◌++◌, length, Option, Some, None, Contains, refl, sym, ap, ◌∙◌, subst, arith}
+use Rattle.std.proofs.Common.{◌≡◌, ◌≢◌, ℕ, zero, suc, ◌<◌, ◌||◌, List, [], ◌∷◌, ◌++◌, length, Option, Some, None, Contains, refl, sym, ap, ◌∙◌, subst, inl, arith}
 use Rattle.std.specs.Prelude.{true, false, codes, slice_get}
 use Rattle.std.specs.List.{list_any}
 use Rattle.std.specs.Str.{bytes_eq}
@@ -7,9 +7,10 @@ use Rattle.std.proofs.lemmas.Bool.{false≢true}
 use Rattle.std.proofs.lemmas.Option.{same_Some}
 use Rattle.java_core.specs.Trees.{Sts}
 use Rattle.java_core.specs.Programs.{Plain, PlainClass, PlainLocal}
+use Rattle.java_core.specs.Makers.{maker_name, IsMakerOf}
 use Rattle.java_core.specs.Formed.{IsFormedLocal, IsFormedMethod, IsInSlot, FormedSts, numbers_below, f_some, f_no_st, f_st_then, f_declare, f_create, f_no_ex, f_act, f_call, f_local}
 use Rattle.rebuild_model.proofs.Worked.{place, object_of, method, main, slot, main_code}
-use Rattle.java_meaning.proofs.Small.{each_in, no_item, no_twice, one_once, named, variable_name, other_name}
+use Rattle.java_meaning.proofs.Small.{each_in, no_item, no_twice, one_once, differ, named, variable_name, other_name}
 
 -- only one field is there, and only slot 0
 pub one_item : {A : Type 0} (a : A) (i : ℕ) (x : A) → slice_get (a ∷ []) i ≡ Some x → 0 ≡ i
@@ -21,12 +22,19 @@ pub at_only : {A : Type 0} (P : ℕ → A → Type 0) (a : A) → P 0 a → (i :
 at_only P a h zero x e = subst (P 0) (same_Some a x e) h
 at_only P a h (suc i) x e = absurd (cc e)
 
+-- no method is a constructor
+pub no_maker_m : (A : Plain) (owner : ℕ) (b : Option Sts) → IsMakerOf A (method owner b) → ⊥
+no_maker_m A owner b i = differ (codes "m") (maker_name i.class.name) refl i.name
+
+pub no_maker_main : (A : Plain) (owner kept : ℕ) (code : Sts) → IsMakerOf A (main owner kept code) → ⊥
+no_maker_main A owner kept code i = differ (codes "main") (maker_name i.class.name) refl i.name
+
 module _ (A : Plain) (slots : (s : ℕ) → slice_get A.slots s ≡ slice_get (slot ∷ []) s) (owner : ℕ) (own : owner ≢ 0) (holder : PlainClass)
     (stands : slice_get A.classes owner ≡ Some holder) where
   pub formed_m : (b : Option Sts) → (holder.is_interface ≡ true → b ≡ None) → (b ≡ None → holder.is_interface || holder.is_abstract ≡ true)
       → ((xs : Sts) → b ≡ Some xs → FormedSts A (method owner b) false (numbers_below 0) xs) → IsFormedMethod A (method owner b)
   formed_m b face bare code = record {
-    name = named (codes "m") refl;
+    name = inl (named (codes "m") refl);
     variables = λ v h. no_item v h;
     params = no_twice (List ℕ);
     result = tt;
@@ -66,11 +74,11 @@ module _ (A : Plain) (slots : (s : ℕ) → slice_get A.slots s ≡ slice_get (s
           no_parameter = omega arith;
           other = other_name variables _ (codes "x") refl refl;
         }) (f_some (f_create makes f_no_ex)))
-        (f_st_then (f_act refl (f_call (f_local (0, omega arith, refl) (omega arith)) (named (codes "m") refl) f_no_ex)) f_no_st)
+        (f_st_then (f_act refl (f_call (f_local (0, omega arith, refl) (omega arith)) (inl (named (codes "m") refl)) f_no_ex)) f_no_st)
 
     pub formed_main : IsFormedMethod A (main owner 1 (main_code made))
     formed_main = record {
-      name = named (codes "main") refl;
+      name = inl (named (codes "main") refl);
       variables = formed_local;
       params = one_once (codes "args");
       result = tt;

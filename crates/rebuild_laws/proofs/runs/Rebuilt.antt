@@ -37,6 +37,8 @@ use Rattle.rebuild_model.specs.Members.{HasTypes, HasCode, new_types}
 use Rattle.rebuild_laws.specs.looks.Known.{KnownOfBoth, Offers, sides}
 use Rattle.rebuild_laws.proofs.looks.Fields as fields
 use Rattle.rebuild_laws.proofs.looks.Fields.{one_old_field}
+use Rattle.flow_laws.proofs.NoMaker.{no_slot}
+use Rattle.rebuild_laws.proofs.looks.NoMaker.{no_maker_new}
 use Rattle.rebuild_laws.proofs.looks.Statics.{static_fields, static_methods}
 use Rattle.rebuild_laws.proofs.types.Asked.{SeesNew}
 use Rattle.rebuild_laws.proofs.types.Bodies.{have_slots, copied_locals, this_class}
@@ -325,6 +327,8 @@ module _ {P : Plain} {F : Facts} {H : Hierarchy} {W : Plain} (K : KnownOfBoth P 
     passes = λ p v h. refl;
     passes_all = λ b vs h. refl;
     words = words_made K t;
+    old_makers = no_slot P K.no_maker;
+    new_makers = no_slot W (no_maker_new K);
     old_places = places P;
     new_places = places W;
     fields_apart = kept_apart;

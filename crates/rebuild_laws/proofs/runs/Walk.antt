@@ -12,8 +12,8 @@ use Rattle.java_core.specs.Trees.{Tag, Ex, Exs, no_ex, ex_then, number, characte
 use Rattle.java_core.specs.Programs.{Plain}
 use Rattle.java_core.specs.Classes.{member_field, slot_of, slot_of_method, declaration_of, super_method}
 use Rattle.java_core.specs.Types.{Env, env_of, class_in, class_of, element_of, is_string, is_length, is_subtype, field_in, field_type, value_type, or_nothing, StringMethod, string_method, Signature, signature_of_slot, signature_of_string, object_signature, call_signature, static}
-use Rattle.java_core.specs.Typing.{TypedArgs, t_field, t_index, t_call, t_static_call, t_super_call, t_create_array, t_cast, t_instance_of, t_unary, t_binary, t_ex_then, can_cast}
-use Rattle.java_core.specs.Formed.{FormedExs, f_own_field, f_field, f_index, f_call, f_static_call, f_super_call, f_create_array, f_cast, f_instance_of, f_unary, f_binary, f_ex_then}
+use Rattle.java_core.specs.Typing.{TypedArgs, t_field, t_index, t_call, t_static_call, t_super_call, t_create, t_make, t_create_array, t_cast, t_instance_of, t_unary, t_binary, t_ex_then, can_cast}
+use Rattle.java_core.specs.Formed.{FormedExs, f_own_field, f_field, f_index, f_call, f_static_call, f_super_call, f_create, f_create_array, f_cast, f_instance_of, f_unary, f_binary, f_ex_then}
 use Rattle.java_meaning.specs.Moment.{Kind, own_type, Body, Lang}
 use Rattle.java_meaning.specs.Languages.{language_of}
 use Rattle.java_meaning.specs.Meaning.{is_number_type, names_length, text_method}
@@ -349,9 +349,11 @@ module _ (A : TwinBody) where
         (asked (a_super_call t.place (super_method P k.owner x) (operands es) (O (super_call t x es))) _ st) in
         same_super_call (twins false sc es ds _ args fes (past _ _ st) mes) (λ y ey. q y (tie.self inst) (typed_parts.super_instance B k.owner x f here)
         (ap (λ z. option_and_then (labelled_body P F S) z) (sym here) ∙ ey))
-    twin u sc (create t n c no_ex) d ty fo st (m_create {k = a} at m_no_ex) =
+    twin u sc (create t n c no_ex) d (t_create v w) fo st (m_create {k = a} at m_no_ex) =
         same_create same_no_ex (object_made t n c no_ex a (asked (a_creation t.place u (O (create t n c no_ex))) [] st) at)
-    twin u sc (create t n c (ex_then e es)) d ty fo st me = elim ty [ ]
+    twin u sc (create t n c es) d (t_make v w called args) (f_create x fes) st (m_create {k = a} {ds = ds} at mes) =
+        same_create (twins false sc es ds _ args fes (past _ (tree_all false es) st) mes)
+        (object_made t n c es a (asked (a_creation t.place u (O (create t n c es))) (tree_all false es) st) at)
     twin u sc (create_array t n v e) d (t_create_array te num) (f_create_array ty deep fe) st (m_create_array {d = b} me) =
         same_create_array (twin false sc e b te fe (past _ _ st) me) (array_made t n v e (asked (a_creation t.place u (O (create_array t n v e))) _ st) deep)
     twin u sc (cast t n v e) d (t_cast te can) (f_cast ct fe) st (m_cast {d = b} me) =

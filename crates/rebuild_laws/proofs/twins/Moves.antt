@@ -1,5 +1,5 @@
 -- Moves of two languages that are twins: fields, elements, creations, casts and tests, from states that are the same.
-use Rattle.std.proofs.Common.{◌≡◌, ℕ, List, [], ◌∷◌, Option, Some, length, refl, sym, ap, ◌∙◌, subst}
+use Rattle.std.proofs.Common.{◌≡◌, ℕ, List, [], ◌∷◌, Option, Some, None, length, refl, sym, ap, ◌∙◌, subst}
 use Rattle.std.specs.Prelude.{ℤ, Bool, true, false, slice_get, slice_set, replicate}
 use Rattle.std.specs.Option.{option_map, option_and_then}
 use Rattle.java_core.specs.declared.Ty.{Ty}
@@ -10,7 +10,7 @@ use Rattle.java_core.specs.Trees.{Ex}
 use Rattle.java_core.specs.Types.{Env, class_type, element_in}
 use Rattle.java_meaning.specs.Moment.{Value, Number, Truth, CodeUnit, Nothing, Text, Object, Kind, an_object, an_array, Cell, own_type, Spot, held, set_static, kept, put_in, touched, tested, Met, State, Faulted, Wrong, Escaped, Outcome, stop, Body, Lang, with_some, or_fault, on_bool, look, look_all}
 use Rattle.java_meaning.specs.Values.{int_of, convert, number_of, natural_of, cast_number, defaults}
-use Rattle.java_meaning.specs.Meaning.{ToValue, add_cell, set_value, write_static, read_field, write_field, names_length, read_member, element_type, place_in, read_element, on_fitting, write_element, make_cell, make_object, make_array, is_number_type, cast_object, cast_to, test_class}
+use Rattle.java_meaning.specs.Meaning.{ToValue, add_cell, set_value, write_static, read_field, write_field, names_length, read_member, element_type, place_in, read_element, on_fitting, write_element, make_cell, made_by, make_object, Later, make_array, is_number_type, cast_object, cast_to, test_class}
 use Rattle.java_meaning.proofs.Moves.{then_some}
 use Rattle.flow_laws.specs.cover.Families.{Set}
 use Rattle.flow_laws.specs.cover.Watched.{Of}
@@ -264,14 +264,22 @@ module _ (L M : Lang) (K : Link) (Made : Option ℕ → Kind → Kind → Type 0
       subst (λ z. Alike (go (Object at) (record (add_cell x s) { met = m })) (on (Object z) (record (add_cell y t) { met = n }))) (same_length L M K Made s t r)
       (q (Object at) _ _ r1 (keeps_add s.cells x) o))
 
-  pub object_made : (g h : Env) (d a : Ex) (n m c k : ℕ) (vs : List Value) → SameNew L M K Made Pair n c k → (s t : State) (go on : ToValue) → R s t
-      → KV L M K Made s.cells (K.may (held g.body d)) go on
-      → Alike (make_object L g d n c vs s go) (make_object M h a m k vs t on)
-  object_made g h d a n m c k [] new s t go on r q = steps L M K Made s t _ _ r (λ l r1.
+  both_made : (later next : Later) (g h : Env) (d a : Ex) (n m c k : ℕ) (vs : List Value) → SameNew L M K Made Pair n c k → (s t : State) (go on : ToValue)
+      → R s t → KV L M K Made s.cells (K.may (held g.body d)) go on
+      → Alike (made_by L later g d n c None vs s go) (made_by M next h a m k None vs t on)
+  both_made later next g h d a n m c k [] new s t go on r q = steps L M K Made s t _ _ r (λ l r1.
       cell_made g.body h.body d a (cell (Some n) (an_object c) (L.fresh c)) (cell (Some m) (an_object k) (M.fresh k)) (record s { left = l })
       (record t { left = l }) go on r1
       (record { made = new.made; values = same_fields new.values }) q)
-  object_made g h d a n m c k (v ∷ vs) new s t go on r q = wrong_first s (stop Wrong t)
+  both_made later next g h d a n m c k (v ∷ vs) new s t go on r q = wrong_first s (stop Wrong t)
+
+  pub object_made : (later next : Later) (g h : Env) (d a : Ex) (n m c k : ℕ) (vs : List Value) → SameNew L M K Made Pair n c k → (s t : State)
+      (go on : ToValue) → R s t → KV L M K Made s.cells (K.may (held g.body d)) go on
+      → Alike (make_object L later g d n c vs s go) (make_object M next h a m k vs t on)
+  object_made later next g h d a n m c k vs new s t go on r q =
+      subst (λ i. Alike (made_by L later g d n c i vs s go) (make_object M next h a m k vs t on)) (sym (twins.old_makers c))
+      (subst (λ i. Alike (made_by L later g d n c None vs s go) (made_by M next h a m k i vs t on)) (sym (twins.new_makers k))
+      (both_made later next g h d a n m c k vs new s t go on r q))
 
   pub array_made : (g h : Env) (d a : Ex) (n m : ℕ) (v w : Ty) (size : ℤ) → SameArray L M K Made Pair n v w → (s t : State) (go on : ToValue) → R s t
       → KV L M K Made s.cells (K.may (held g.body d)) go on

@@ -222,7 +222,7 @@ module _ (L M : Lang) (K : Link) (Made : Option ℕ → Kind → Kind → Type 0
               values_same ps v ls s t _ _ r i (λ us s1 t1 r1 k1. super_called g h _ _ x y f v us s1 t1 k j r1 (on_value s s1 _ k j k1 q))
           value_same (same_create {n = n} {j = m} {c = c} {k = c2} ps f) v ls s t k j r i q =
               values_same ps v ls s t _ _ r i
-              (λ us s1 t1 r1 k1. object_made L M K Made Pair twins g h _ _ n m c c2 us f s1 t1 k j r1 (on_value s s1 _ k j k1 q))
+              (λ us s1 t1 r1 k1. object_made L M K Made Pair twins later next g h _ _ n m c c2 us f s1 t1 k j r1 (on_value s s1 _ k j k1 q))
           value_same (same_create_array {n = n} {j = m} {v = c} {w = c2} p f) v ls s t k j r i q =
               value_same p v ls s t _ _ r i (λ u s1 t1 r1 k1 o1. equals (number_of u) (number_of u) s1 t1 _ _ refl (λ size.
               array_made L M K Made Pair twins g h _ _ n m c c2 size f s1 t1 k j r1 (on_value s s1 _ k j k1 q)))

@@ -3,6 +3,7 @@ use Rattle.std.specs.Prelude.{◌≡◌, ℕ, suc, true, false, List, [], ◌∷
 use Rattle.java_core.specs.declared.Ty.{Ty}
 use Rattle.java_core.specs.Programs.{Plain, PlainField, PlainMethod, PlainSlot}
 use Rattle.java_core.specs.Classes.{member_field, slot_of, slot_of_method, super_method, has_body, is_concrete}
+use Rattle.java_core.specs.Makers.{HasNoMaker}
 use Rattle.java_core.specs.Types.{Env, env_of, types_of, field_type, Signature, signature_of_slot, signature_of_method}
 use Rattle.flow_rules.specs.declared.items.ObjectType.{ObjectType}
 use Rattle.flow_rules.specs.declared.items.Operand.{Operand}
@@ -93,6 +94,7 @@ module _ (P W : Plain) (R : Renaming) where
   -- rows have classes, and static members are found with the types of theirs
   pub record AreRenewed : Type 0 where
     pub numbered : (i : RowItem) (r : ℕ) → row_number P i ≡ Some r → (c : ℕ) × (R.row_type i ≡ Some c)
+    pub no_maker : HasNoMaker W
     pub static_fields : (f g : ℕ) → IsStaticField P W R f g → field_type W g ≡ retyped_if (R.row_type (row.Field f)) (field_type P f)
     pub static_methods : (d g : ℕ) → IsStaticMethod P W R d g → (k : PlainMethod) → slice_get P.methods d ≡ Some k
         → signature_of_method W g ≡ Some (method_signature d k)

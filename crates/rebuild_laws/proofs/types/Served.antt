@@ -50,6 +50,7 @@ use Rattle.flow_laws.proofs.order.Fitted.{part_fitted}
 use Rattle.rebuild_model.specs.Renaming.{renaming_of, retyped, retyped_if}
 use Rattle.rebuild_model.specs.Members.{is_made_at, new_types, HasTypes}
 use Rattle.rebuild_laws.specs.looks.Known.{KnownOfBoth, Offers, sides}
+use Rattle.rebuild_laws.proofs.looks.NoMaker.{no_maker_new}
 use Rattle.rebuild_laws.proofs.looks.Nodes.{below_is, concrete}
 use Rattle.rebuild_laws.proofs.looks.Fields.{new_field, finds_field}
 use Rattle.rebuild_laws.proofs.looks.Slots.{method_of_slot, offers_item}
@@ -135,6 +136,7 @@ module _ {P : Plain} {F : Facts} {H : Hierarchy} {W : Plain} (K : KnownOfBoth P 
   pub renewed : AreRenewed P W R
   renewed = record {
     numbered = λ i r e. (T.type_of (place_of_row H r), row_class_is i r e);
+    no_maker = no_maker_new K;
     static_fields = λ f g s.
         let x = (static_fields K).is f g s in
         static_field_type K f g x ∙ sym (ap (λ z. retyped_if (R.row_type (row.Field f)) (option_map (λ (k : PlainField). k.ty) z)) x.same.old_stands);

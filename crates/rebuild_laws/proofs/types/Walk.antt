@@ -10,7 +10,7 @@ use Rattle.java_core.specs.Trees.{Tag, Ex, Exs, no_ex, ex_then, number, characte
 use Rattle.java_core.specs.Programs.{Plain, PlainMethod, PlainField, PlainSlot}
 use Rattle.java_core.specs.Classes.{slot_of, slot_of_method, super_method, declaration_of, has_body, is_concrete}
 use Rattle.java_core.specs.Types.{Static, a_value, or_nothing, Env, env_of, types_of, class_type, class_of, element_of, is_numeric, is_string, field_type, value_type, field_in, access_type, fits, string_method, string_params, signature_of_string, call_signature, result_of, unary_type, binary_type, static}
-use Rattle.java_core.specs.Typing.{Typed, TypedArgs, t_number, t_character, t_text, t_truth, t_null, t_this, t_local, t_static_field, t_field, t_index, t_call, t_static_call, t_super_call, t_create, t_create_array, t_cast, t_instance_of, t_unary, t_binary, t_no_ex, t_ex_then, are_related, takes_one, takes_two, can_cast}
+use Rattle.java_core.specs.Typing.{Typed, TypedArgs, t_number, t_character, t_text, t_truth, t_null, t_this, t_local, t_static_field, t_field, t_index, t_call, t_static_call, t_super_call, t_create, t_make, t_create_array, t_cast, t_instance_of, t_unary, t_binary, t_no_ex, t_ex_then, are_related, takes_one, takes_two, can_cast}
 use Rattle.java_core.specs.Formed.{FormedExs, f_this, f_own_field, f_field, f_index, f_call, f_static_call, f_super_call, f_create_array, f_cast, f_instance_of, f_unary, f_binary, f_ex_then}
 use Rattle.flow_rules.specs.declared.items.ObjectType.{ObjectType}
 use Rattle.flow_rules.specs.declared.items.Operand.{Operand}
@@ -137,15 +137,15 @@ module _ (A : CopiedBody) where
   retyped_result : (i : Option RowItem) (k : Option ℕ) (t : Option Ty) → C i ≡ k → or_nothing (retyped_if k t) ≡ retyped_static (C i) (or_nothing t)
   retyped_result i k t e = sym (retyped_or k t) ∙ ap (λ z. retyped_static z (or_nothing t)) (sym e)
 
-  -- a creation asks for no arguments
+  -- a creation of a class without a constructor asks for no arguments
   no_args : (es ds : Exs) (t : Tag) (n c : ℕ) → Typed P g (create t n c es) → MatchesAll P W R g es ds → ds ≡ no_ex
   no_args no_ex no_ex t n c ty m_no_ex = refl
   no_args no_ex (ex_then d ds) t n c ty ms = elim ms [ ]
-  no_args (ex_then e es) ds t n c ty ms = elim ty [ ]
+  no_args (ex_then e es) ds t n c (t_make a b w args) ms = absurd (let z = sym (B.are_facts.no_maker c) ∙ b in cc)
 
   typed_create : (t : Tag) (n c : ℕ) (es : Exs) → Typed P g (create t n c es) → (s : Tag) (i a : ℕ) (ds : Exs) → MatchesAll P W R g es ds
       → is_concrete W a ≡ true → Typed W h (create s i a ds)
-  typed_create t n c es ty s i a ds ms e = subst (λ z. Typed W h (create s i a z)) (sym (no_args es ds t n c ty ms)) (t_create e)
+  typed_create t n c es ty s i a ds ms e = subst (λ z. Typed W h (create s i a z)) (sym (no_args es ds t n c ty ms)) (t_create e (N.no_maker a))
 
   slot_classed : (s : ℕ) (slot : PlainSlot) → slice_get P.slots s ≡ Some slot → (i : ℕ) (u : Ty) → slice_get slot.params i ≡ Some u
       → HasClass (object_of u) (R.row_type (row.Param s i))

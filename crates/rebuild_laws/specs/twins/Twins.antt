@@ -199,6 +199,9 @@ module _ (L M : Lang) (K : Link) (Made : Option ℕ → Kind → Kind → Type 0
     pub passes : (p : Spot) (v : Value) (h : List Cell) → M.sees p v h ≡ true
     pub passes_all : (b : ℕ) (vs : List Value) (h : List Cell) → M.sees_all b vs h ≡ true
     pub words : Made None (an_array words_type) (an_array words_type)
+    -- no class has a constructor
+    pub old_makers : (c : ℕ) → L.maker c ≡ None
+    pub new_makers : (c : ℕ) → M.maker c ≡ None
     -- different fields of one object are in different places
     pub old_places : (c f k i : ℕ) → L.index c f ≡ Some i → L.index c k ≡ Some i → f ≡ k
     pub new_places : (c f k i : ℕ) → M.index c f ≡ Some i → M.index c k ≡ Some i → f ≡ k

@@ -11,8 +11,8 @@ use Rattle.java_core.specs.Trees.{Tag, at_place, Ex, Exs, no_ex, ex_then, number
 use Rattle.java_core.specs.Programs.{Plain, PlainField, PlainMethod}
 use Rattle.java_core.specs.Classes.{field_of, slot_of, slot_of_method, declaration_of}
 use Rattle.java_core.specs.Types.{Static, Env, env_of, class_of, element_of, is_string, field_type, value_type, length_or, field_in, access_type, Signature, call_signature, static}
-use Rattle.java_core.specs.Typing.{Typed, TypedArgs, t_field, t_index, t_call, t_static_call, t_super_call, t_create_array, t_cast, t_instance_of, t_unary, t_binary, t_ex_then}
-use Rattle.java_core.specs.Formed.{IsFormed, FormedEx, FormedExs, f_local, f_static_field, f_field, f_index, f_call, f_static_call, f_super_call, f_create_array, f_cast, f_instance_of, f_unary, f_binary, f_ex_then}
+use Rattle.java_core.specs.Typing.{Typed, TypedArgs, t_field, t_index, t_call, t_static_call, t_super_call, t_create, t_make, t_create_array, t_cast, t_instance_of, t_unary, t_binary, t_ex_then}
+use Rattle.java_core.specs.Formed.{IsFormed, FormedEx, FormedExs, f_local, f_static_field, f_field, f_index, f_call, f_static_call, f_super_call, f_create, f_create_array, f_cast, f_instance_of, f_unary, f_binary, f_ex_then}
 use Rattle.java_meaning.proofs.Moves.{then_some}
 use Rattle.hier_model.specs.Hierarchies.{Hierarchy}
 use Rattle.flow_rules.specs.declared.items.RowItem.{RowItem}
@@ -60,7 +60,7 @@ module _ (P : Plain) (H : Hierarchy) (U O : Plain) (T : Places) (K : KnowsNames 
     (m : ℕ) (k : PlainMethod) (stands : slice_get P.methods m ≡ Some k) (here : Here) (static_here : here.is_static ≡ k.is_static)
     (owner : k.is_static ≡ true → here.owner ≡ T.holder_of k.owner) where
   open written_body P H T m k use {env as g, by_node, renaming as R}
-  open walked P m k use {type, tree, Stands}
+  open walked P m k use {type, tree, tree_all, Stands}
 
   abbrev pub IsTyped : Ex → Type 0
   IsTyped e = Typed P g e
@@ -249,9 +249,13 @@ module _ (P : Plain) (H : Hierarchy) (U O : Plain) (T : Places) (K : KnowsNames 
           subst (λ z. Matches P U R g (super_call t x es) (super_call w z ds))
           (sym (ap (λ z. option_map_or by_node.method_name z x) there ∙ method_name_is P H T f))
           (m_super_call there (matched_all false (at + 1) es ds _ args fes (past _ _ st) all))
-      matched u at (create t n c no_ex) d ty fo st (r_create {i = i} {k = a} named r_no_more) =
+      matched u at (create t n c no_ex) d (t_create v x) fo st (r_create {i = i} {k = a} named r_no_more) =
           m_create (row_class (row.New n) c a (object_row (labelled at t) u n c no_ex (front _ [] st)) named) m_no_ex
-      matched u at (create t n c (ex_then e es)) d ty fo st r = elim ty [ ]
+      matched u at (create t n c es) d (t_make v x called args) (f_create y fes) st (r_create {xs = ds} {i = i} {k = a} named all) =
+          let labels = label_all (at + 1) es in
+          let rest = tree_all false labels in
+          m_create (row_class (row.New n) c a (object_row (labelled at t) u n c labels (front _ rest st)) named)
+          (matched_all false (at + 1) es ds _ args fes (past _ rest st) all)
       matched u at (create_array t n v e) d (t_create_array te num) (f_create_array known deep fe) st (r_create_array {t = v2} {x = x} {i = i} means re) =
           subst (λ z. Matches P U R g (create_array t n v e) (create_array w i z x))
           (sym (means_is O P H T K.type K.no_text (by_node.row_type (row.New n)) v v2 (array_node (labelled at t) u n v (label (at + 1) e) (front _ _ st)) means

@@ -11,7 +11,7 @@ use Rattle.java_core.specs.declared.Ty.{Ty}
 use Rattle.java_core.specs.Trees.{Ex, Exs, no_ex, ex_then, number, character, text, truth, null, this, local, static_field, own_field, field, index, call, static_call, super_call, create, create_array, cast, instance_of, unary, binary, Target, to_local, to_static, to_own, to_field, to_element, no_target, St, Sts, IfArms, declare, block, assign, act, print, choose, loop, return, break, continue, no_st, st_then, no_other, otherwise, arm}
 use Rattle.java_core.specs.Programs.{PlainLocal}
 use Rattle.java_core.specs.Types.{field_type, value_type, fits_in, target_type}
-use Rattle.java_core.specs.Typing.{TypedArgs, TypedTarget, TypedTest, TypedSt, TypedSts, TypedArms, t_field, t_index, t_call, t_static_call, t_super_call, t_create_array, t_cast, t_instance_of, t_unary, t_binary, t_ex_then, t_to_field, t_to_element, t_test, t_declare_as, t_block, t_assign, t_act, t_print, t_choose, t_loop, t_return, t_st_then, t_otherwise, t_arm}
+use Rattle.java_core.specs.Typing.{TypedArgs, TypedTarget, TypedTest, TypedSt, TypedSts, TypedArms, t_field, t_index, t_call, t_static_call, t_super_call, t_create, t_make, t_create_array, t_cast, t_instance_of, t_unary, t_binary, t_ex_then, t_to_field, t_to_element, t_test, t_declare_as, t_block, t_assign, t_act, t_print, t_choose, t_loop, t_return, t_st_then, t_otherwise, t_arm}
 use Rattle.java_core.specs.Formed as core
 use Rattle.java_core.specs.Formed.{IsNewLocal, variables_of, numbers_below, is_at_most_one, is_first, FormedEx, FormedExs, FormedTarget, FormedOption, FormedSt, FormedSts, FormedArms, f_number, f_character, f_text, f_local, f_static_field, f_own_field, f_field, f_index, f_call, f_static_call, f_super_call, f_create, f_create_array, f_cast, f_instance_of, f_unary, f_binary, f_ex_then, f_to_local, f_to_static, f_to_own, f_to_field, f_to_element, f_some, f_declare, f_block, f_assign, f_act, f_print, f_choose, f_loop, f_return, f_st_then, f_otherwise, f_arm}
 use Rattle.flow_rules.specs.declared.items.RowItem.TheVariants as row
@@ -26,6 +26,7 @@ use Rattle.write_laws.proofs.given.Given.{Given, Bodied, words}
 use Rattle.write_laws.proofs.given.Types.{cast_formed}
 use Rattle.write_laws.proofs.given.Forms.{literal, sign, infix_level, loop_formed}
 use Rattle.write_laws.proofs.given.Named as named
+use Rattle.flow_laws.proofs.NoMaker.{called_name}
 use Rattle.flow_laws.proofs.cover.Walked.{walked}
 use Rattle.flow_laws.proofs.cover.Each.{left, right, past, here}
 
@@ -68,8 +69,8 @@ module _ (C : Given) (B : Bodied C) where
         let l = label at e in
         let inner = left (tree true l) _ st in (
           ex_formed at true sc wr e te fe inner,
-          named.call_named C B sc (labelled (at + size e) t) at e x (label_all (at + size e + 1) es) sig te called fe inner n
-              (here _ _ (right (tree true l) _ st)),
+          named.call_named C B sc (labelled (at + size e) t) at e x (label_all (at + size e + 1) es) sig te called fe inner
+              (called_name P C.ready.formed C.ready.facts.no_maker m k x B.stands n) (here _ _ (right (tree true l) _ st)),
           exs_formed (at + size e + 1) true sc wr es _ args fes (past _ _ (right (tree true l) _ st)),
         )
     ex_formed at u sc wr (static_call t d es) (t_static_call sig args) (f_static_call s fes) st =
@@ -78,8 +79,9 @@ module _ (C : Given) (B : Bodied C) where
       named.super_named C B (labelled at t) x (label_all (at + 1) es) d sig s found bodied called (here _ _ st),
       exs_formed (at + 1) false sc wr es _ args fes (past _ _ st),
     )
-    ex_formed at u sc wr (create t n c no_ex) ty (f_create a b) st = (named.class_row C B (row.New n) c a, tt)
-    ex_formed at u sc wr (create t n c (ex_then e es)) ty fo st = elim ty [ ]
+    ex_formed at u sc wr (create t n c no_ex) (t_create v w) (f_create a b) st = (named.class_row C B (row.New n) c a, tt)
+    ex_formed at u sc wr (create t n c es) (t_make v w called args) (f_create a fes) st =
+        (named.class_row C B (row.New n) c a, exs_formed (at + 1) false sc wr es _ args fes (past _ (all false (label_all (at + 1) es)) st))
     ex_formed at u sc wr (create_array t n v e) (t_create_array te num) (f_create_array a d fe) st =
         (named.base C B (row.New n) v a, omega (arith, d), ex_formed (at + 1) false sc wr e te fe (past _ _ st))
     ex_formed at u sc wr (cast t n v e) (t_cast te can) (f_cast a fe) st =

@@ -26,6 +26,7 @@ use Rattle.flow_rules.specs.Facts.{numbers}
 use Rattle.flow_laws.specs.cover.Slotted.{HaveSlots}
 use Rattle.flow_rules.proofs.TypeLemmas.{class_is}
 use Rattle.java_core.proofs.Retagging.{static_same}
+use Rattle.flow_laws.proofs.NoMaker.{method_name}
 use Rattle.flow_laws.proofs.cover.Labelled.{ex_same, typed_same, formed_same}
 use Rattle.flow_laws.proofs.cover.HasNumbers.{this_row}
 use Rattle.flow_laws.proofs.cover.Types.{class_apart, slot_called}
@@ -87,7 +88,8 @@ module _ (C : Given) (B : Bodied C) where
       subst
       (λ o. let e = option_map_or (λ (g : PlainMethod). static_call_tree (is_simple k wr g.owner g.name) (class_name P g.owner) g.name es) o
       (NullLit nowhere) in (AreFormed es → IsFormedExpression e) × (printed.is_call e ≡ true)) (sym s.stands)
-      (call_tree (is_simple k wr c x) (class_name P c) x es (known_class_named C c (slice_get_within P.classes c w.holder w.stands)) w.name)
+      (call_tree (is_simple k wr c x) (class_name P c) x es (known_class_named C c (slice_get_within P.classes c w.holder w.stands))
+      (method_name P C.ready.formed C.ready.facts.no_maker d s.member s.stands))
 
   same_number : (i : Option RowItem) → row_in N i ≡ number_if (row_number P) i
   unfolding numbers

@@ -48,7 +48,9 @@ use Rattle.write_laws.proofs.rebuilds.Members.{IsHeadTree, IsHeadAt, IsMember, a
 use Rattle.write_laws.proofs.rebuilds.Nodes.{items, tree, Declares, a_node, a_holder, declares}
 use Rattle.write_laws.proofs.rebuilds.Order.{superclass_from, cover_from, among_from}
 use Rattle.write_laws.proofs.given.Given.{Given, words}
-use Rattle.write_laws.proofs.given.Names.{columns, method_member, type_named, member_named, field_name_is, method_name_is}
+use Rattle.flow_laws.proofs.NoMaker.{method_name}
+use Rattle.rebuild_laws.proofs.given.Written.{method_member}
+use Rattle.write_laws.proofs.given.Names.{columns, type_named, member_named, field_name_is, method_name_is}
 use Rattle.write_laws.proofs.given.Types.{class_named, base_formed}
 use Rattle.write_laws.proofs.given.Bodies.{body_formed}
 
@@ -200,7 +202,7 @@ module _ (C : Given) where
       ((refl, (refl, tt)), base_formed C (row.Field f) k.ty.base w.type, w.name.name)
   static_formed c x (a_static_method m k _ e b d) =
       subst IsFormedMember (one_from _ x (when_from (k.is_static && (k.owner == c)) _ x d).1)
-      (head_formed old_words k.name m k e (refl, (refl, tt)) (C.ready.formed.methods m k e).name, method_body m k e)
+      (head_formed old_words k.name m k e (refl, (refl, tt)) (method_name P C.ready.formed C.ready.facts.no_maker m k e), method_body m k e)
 
   -- ---- declarations
 

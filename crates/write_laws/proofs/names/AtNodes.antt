@@ -249,8 +249,10 @@ module _ {P : Plain} {F : Facts} {pt : PointsTo} {H : Hierarchy} (G : IsNamedPro
   turned (FieldTree m t x p) (MethodTree k c q) e = e
   turned (MethodTree h b p) (FieldTree n u y q) e = e
   turned (FieldTree m t x p) (MakerTree k n qs u ss q) e = e
-  turned (MethodTree h b p) (MakerTree k n qs u ss q) e = e
-  turned (MakerTree m n qs u ss p) y e = absurd e
+  turned (MethodTree h b p) (MakerTree k n qs u ss q) e = sym e
+  turned (MakerTree m n qs u ss p) (FieldTree k t x q) e = e
+  turned (MakerTree m n qs u ss p) (MethodTree k c q) e = sym e
+  turned (MakerTree m n qs u ss p) (MakerTree k x rs v ts q) e = sym e
 
   -- what a column gives a class
   abbrev AtColumn : ℕ → ℕ → MemberTree → Type 0

@@ -9,8 +9,10 @@ use Rattle.fact_model.specs.declared.sets.PointsTo.{PointsTo}
 use Rattle.hier_model.specs.Hierarchies.{Hierarchy}
 use Rattle.flow_rules.proofs.Listed.{at_contains, contains_at}
 use Rattle.name_rules.specs.Outline.{MethodAt, methods_in, is_private}
-use Rattle.name_rules.specs.Conditions.{unknown, type_twice, known_twice, super_twice, field_twice, method_twice, param_twice, loop, overload, type_as_field, type_as_param, face_as_parent, class_as_face, private_reused, no_main, modifiers_disagree, modifier_unfit, wrong_body, in_body}
+use Rattle.name_rules.specs.Conditions.{unknown, type_twice, known_twice, super_twice, field_twice, method_twice, maker_twice, maker_named, makers_written, param_twice, loop, overload, type_as_field, type_as_param, face_as_parent, class_as_face, private_reused, no_main, modifiers_disagree, modifier_unfit, wrong_body, in_body, in_up}
 use Rattle.name_rules.specs.Causes.{HasNoCondition}
+use Rattle.name_rules.proofs.NoMakers.{no_maker_in}
+use Rattle.write_model.proofs.NoMaker.{no_maker}
 use Rattle.write_laws.proofs.rebuilds.Nodes.{tree}
 use Rattle.write_laws.specs.names.Laws.{IsNamedProgram}
 use Rattle.write_laws.proofs.names.Modifiers.{method_sound, modifiers_fit}
@@ -18,6 +20,7 @@ use Rattle.write_laws.proofs.names.Types.{type_once, type_is_new}
 use Rattle.write_laws.proofs.names.Supers.{super_once, no_loop, no_face_as_parent, no_class_as_face}
 use Rattle.write_laws.proofs.names.Variables.{field_free, param_free, param_once}
 use Rattle.write_laws.proofs.names.Named.{all_known}
+use Rattle.write_laws.proofs.names.Written.{none_written}
 use Rattle.write_laws.proofs.names.Whole.{body_has_none}
 use Rattle.write_laws.proofs.names.Main.{has_main}
 use Rattle.write_laws.proofs.names.Separate.{fields_are_apart, methods_are_apart}
@@ -37,10 +40,12 @@ module _ {P : Plain} {F : Facts} {pt : PointsTo} {H : Hierarchy} (G : IsNamedPro
   no_condition _ (known_twice {d = d} c h) = type_is_new G d c h
   no_condition _ (super_twice {d = d} {i = i} {j = j} {a = a} {b = b} c p q lt e) = super_once G d i j a b c p q lt e
   no_condition _ (field_twice {i = i} {j = j} {f = f} {g = g} p q lt o e) = fields_are_apart G i j f g p q lt o e
-  no_condition _ (method_twice {i = i} {j = j} {h = h} {k = k} p q lt o e) = methods_are_apart G i j h k p q lt o e
+  no_condition _ (method_twice {i = i} {j = j} {h = h} {k = k} p q lt o e z) = methods_are_apart G i j h k p q lt o e
   no_condition _ (param_twice {m = m} {i = i} {j = j} {a = a} {b = b} c p q lt e) = param_once G m i j a b c p q lt e
   no_condition _ (loop {c = c} {d = d} e p) = no_loop G c d e p
   no_condition _ (overload {i = i} {j = j} {c = c} {h = h} {k = k} p q lt e a b n) = n (slots_are_apart G i j c h k p q lt e a b)
+  no_condition _ (maker_twice {d = d} c p q lt) = none_written T (no_maker P F H) d c _ (contains_at (makers_written d) _ _ p)
+  no_condition _ (maker_named {d = d} {i = i} c a n) = none_written T (no_maker P F H) d c i a
   no_condition _ (type_as_field {f = f} c h) = false≢true (sym (field_free G f c) ∙ h)
   no_condition _ (type_as_param {m = m} {q = q} c d h) = false≢true (sym (param_free G m q c d) ∙ h)
   no_condition _ (face_as_parent {d = d} {i = i} {c = c} {k = k} a b e f h) = no_face_as_parent G d i c k a b e f h
@@ -54,3 +59,4 @@ module _ {P : Plain} {F : Facts} {pt : PointsTo} {H : Hierarchy} (G : IsNamedPro
       let z = at_contains mods a c in false≢true (sym ((modifiers_fit G kind mods h).each z.0 a z.1) ∙ u)
   no_condition _ (wrong_body {m = m} c w) = (method_sound G m c).body w
   no_condition r (in_body {m = m} {ss = ss} c b x) = body_has_none G m ss r c b x
+  no_condition r (in_up {m = m} c e x) = let n = (no_maker_in T (no_maker P F H) m c).up in cc (n, e)

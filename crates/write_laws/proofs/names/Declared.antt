@@ -2,6 +2,7 @@
 use Rattle.std.proofs.Common.{◌≡◌, ℕ, suc, ◌+◌, true, List, [], ◌∷◌, Some, None, Contains, refl, sym, ap, ◌∙◌, subst, arith}
 use Rattle.std.specs.Prelude.{slice_get}
 use Rattle.java_tree.specs.Syntax.{HeadTree, MemberTree, FieldTree, MethodTree, MakerTree, DeclTree, ClassTree, InterfaceTree}
+use Rattle.java_core.specs.Makers.{maker_name}
 use Rattle.flow_rules.proofs.Listed.{map_from, one_from, each_from}
 use Rattle.flow_rules.specs.Ordered.{each}
 use Rattle.name_rules.specs.declared.parts.Kind.TheVariants as kinds
@@ -16,8 +17,10 @@ SameMember (MethodTree h b p) (MethodTree k c q) = h.name ≡ k.name
 SameMember (FieldTree m t x p) (MethodTree k c q) = ⊥
 SameMember (MethodTree h b p) (FieldTree n u y q) = ⊥
 SameMember (FieldTree m t x p) (MakerTree k n qs u ss q) = ⊥
-SameMember (MethodTree h b p) (MakerTree k n qs u ss q) = ⊥
-SameMember (MakerTree m n qs u ss p) y = ⊥
+SameMember (MethodTree h b p) (MakerTree k n qs u ss q) = h.name ≡ maker_name n
+SameMember (MakerTree m n qs u ss p) (FieldTree k t x q) = ⊥
+SameMember (MakerTree m n qs u ss p) (MethodTree k c q) = maker_name n ≡ k.name
+SameMember (MakerTree m n qs u ss p) (MakerTree k x rs v ts q) = maker_name n ≡ maker_name x
 
 abbrev pub SameHead : HeadTree → HeadTree → Type 0
 SameHead h k = h.name ≡ k.name
@@ -42,9 +45,14 @@ method_names : (c : ℕ) (w : _) (m n : MemberTree) (f g : MethodAt) → Contain
 method_names c w (MethodTree h b p) (MethodTree k d q) f g a x e =
     ap (λ (z : MethodAt). z.head.name) (one_from _ f a) ∙ e ∙ ap (λ (z : MethodAt). z.head.name) (sym (one_from _ g x))
 method_names c w (MethodTree h b p) (FieldTree n u y q) f g a x e = absurd (let l = x.1 in omega (arith, l))
-method_names c w (MethodTree h b p) (MakerTree k n qs u ss q) f g a x e = absurd (let l = x.1 in omega (arith, l))
+method_names c w (MethodTree h b p) (MakerTree k n qs u ss q) f g a x e =
+    ap (λ (z : MethodAt). z.head.name) (one_from _ f a) ∙ e ∙ ap (λ (z : MethodAt). z.head.name) (sym (one_from _ g x))
 method_names c w (FieldTree n u y q) m f g a x e = absurd (let l = a.1 in omega (arith, l))
-method_names c w (MakerTree k n qs u ss p) m f g a x e = absurd (let l = a.1 in omega (arith, l))
+method_names c w (MakerTree k n qs u ss p) (MethodTree h b q) f g a x e =
+    ap (λ (z : MethodAt). z.head.name) (one_from _ f a) ∙ e ∙ ap (λ (z : MethodAt). z.head.name) (sym (one_from _ g x))
+method_names c w (MakerTree k n qs u ss p) (MakerTree m y rs v ts q) f g a x e =
+    ap (λ (z : MethodAt). z.head.name) (one_from _ f a) ∙ e ∙ ap (λ (z : MethodAt). z.head.name) (sym (one_from _ g x))
+method_names c w (MakerTree k n qs u ss p) (FieldTree m t y q) f g a x e = absurd (let l = x.1 in omega (arith, l))
 
 field_once : (c : ℕ) (m : MemberTree) → Once SameField (field_member c m)
 field_once c (FieldTree m t x p) = (λ y c. absurd (let l = c.1 in omega (arith, l)), tt)
@@ -53,7 +61,7 @@ field_once c (MakerTree m n qs u ss p) = tt
 
 method_once : (c : ℕ) (w : _) (m : MemberTree) → Once SameMethod (method_member c w m)
 method_once c w (FieldTree m t x p) = tt
-method_once c w (MakerTree m n qs u ss p) = tt
+method_once c w (MakerTree m n qs u ss p) = (λ y c. absurd (let l = c.1 in omega (arith, l)), tt)
 method_once c w (MethodTree h b p) = (λ y c. absurd (let l = c.1 in omega (arith, l)), tt)
 
 fields_once : (c : ℕ) (ms : List MemberTree) → Once SameMember ms → Once SameField (fields_of c ms)
@@ -69,8 +77,8 @@ methods_once c w (m ∷ ms) o =
     (λ f g a b e. let z = member_method_from c w ms g b in o.0 z.0 z.1 (method_names c w m z.0 f g a z.2 e.1))
 
 weaker : (c : ℕ) (hs : List HeadTree) → Once SameHead hs
-    → Once (λ h k. SameMethod (record { owner = c; kind = kinds.Head; in_abstract = true; head = h; body = None })
-    (record { owner = c; kind = kinds.Head; in_abstract = true; head = k; body = None })) hs
+    → Once (λ h k. SameMethod (record { owner = c; kind = kinds.Head; in_abstract = true; head = h; up = None; body = None })
+    (record { owner = c; kind = kinds.Head; in_abstract = true; head = k; up = None; body = None })) hs
 weaker c [] o = tt
 weaker c (h ∷ hs) o = (λ y a e. o.0 y a e.1, weaker c hs o.1)
 
@@ -94,7 +102,7 @@ member_field_owner c (MakerTree m n qs u ss p) f a = absurd (let l = a.1 in omeg
 
 member_method_owner : (c : ℕ) (w : _) (m : MemberTree) (f : MethodAt) → Contains (method_member c w m) f → f.owner ≡ c
 member_method_owner c w (FieldTree m t x p) f a = absurd (let l = a.1 in omega (arith, l))
-member_method_owner c w (MakerTree m n qs u ss p) f a = absurd (let l = a.1 in omega (arith, l))
+member_method_owner c w (MakerTree m n qs u ss p) f a = ap (λ (z : MethodAt). z.owner) (sym (one_from _ f a))
 member_method_owner c w (MethodTree h b p) f a = ap (λ (z : MethodAt). z.owner) (sym (one_from _ f a))
 
 field_owner : (c : ℕ) (d : DeclTree) (f : FieldAt) → Contains (fields_declared c d) f → f.owner ≡ c

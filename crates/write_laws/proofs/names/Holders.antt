@@ -28,8 +28,9 @@ use Rattle.name_rules.specs.Meanings.{class_named, IsMet}
 use Rattle.rebuild_model.specs.Renaming.{Renaming}
 use Rattle.write_model.specs.Names.{nowhere, class_name, written_type}
 use Rattle.write_model.specs.Members.{head, body, holder_members, static_field_member, static_method_member}
+use Rattle.write_model.proofs.NoMaker.{no_maker}
 use Rattle.write_laws.proofs.rebuilds.Apart.{holder_class, no_holder}
-use Rattle.write_laws.proofs.rebuilds.Outlined.{fields_each, methods_each, declared_has, member_field_has, member_method_has}
+use Rattle.write_laws.proofs.rebuilds.Outlined.{fields_each, methods_in_each, declared_has, member_field_has, member_method_has}
 use Rattle.write_laws.proofs.rebuilds.Nodes.{node_tree, old_tree, tree_name}
 use Rattle.write_laws.proofs.rebuilds.Members.{static_field_has, static_method_has}
 use Rattle.write_laws.specs.names.Stages.{HasHolder, FindsField, FindsMethod}
@@ -217,6 +218,7 @@ module _ {P : Plain} {F : Facts} {pt : PointsTo} {H : Hierarchy} (G : IsNamedPro
           kind = kinds.Method;
           in_abstract = false;
           head = head P R₀ H (old_words P F H) old.name d old;
+          up = None;
           body = body P R₀ H d old;
         } in
         let mine = and_from old.is_static (old.owner == old.owner) s (eq-eqb old.owner old.owner refl) in
@@ -224,8 +226,8 @@ module _ {P : Plain} {F : Facts} {pt : PointsTo} {H : Hierarchy} (G : IsNamedPro
         (first t []) in
         let c : Contains (methods_declared (suc h.index) (old_tree P F H old.owner h.class)) x =
         member_method_has (suc h.index) false (holder_members P R₀ H old.owner) x t (static_method_has P R₀ H old.owner d old t e y) (first x []) in
-        let z = method_there x (declared_has methods_declared 1 T (methods_each 1 T) x h.index (suc h.index) (old_tree P F H old.owner h.class)
-        h.stands (omega arith) c) in
+        let z = method_there x (declared_has methods_declared 1 T (methods_in_each T (no_maker P F H)) x h.index (suc h.index)
+        (old_tree P F H old.owner h.class) h.stands (omega arith) c) in
         record {
           holder = has_holder m k at here old.owner h;
           method = z.0;

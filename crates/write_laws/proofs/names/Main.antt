@@ -1,5 +1,5 @@
 -- The written tree has a method that a run may begin with.
-use Rattle.std.proofs.Common.{◌≡◌, ℕ, suc, ◌&&◌, false, List, [], ◌∷◌, Option, Some, Contains, refl, ap, ◌∙◌, arith}
+use Rattle.std.proofs.Common.{◌≡◌, ℕ, suc, ◌&&◌, false, List, [], ◌∷◌, Option, Some, None, Contains, refl, ap, ◌∙◌, arith}
 use Rattle.std.specs.Prelude.{◌==◌, map, slice_get, codes, if◌then◌else◌}
 use Rattle.std.specs.Option.{option_map}
 use Rattle.std.proofs.lemmas.Bool.{and_from, eq-eqb}
@@ -20,7 +20,8 @@ use Rattle.name_rules.specs.declared.parts.Kind.TheVariants as kinds
 use Rattle.name_rules.specs.Outline.{MethodAt, types_in, type_meant, class_at, type_named, outline, method_outline, param_outline, methods_declared}
 use Rattle.write_model.specs.Names.{nowhere, written_type}
 use Rattle.write_model.specs.Members.{head, param, body, holder_members, static_method_member}
-use Rattle.write_laws.proofs.rebuilds.Outlined.{methods_each, declared_has, member_method_has}
+use Rattle.write_model.proofs.NoMaker.{no_maker}
+use Rattle.write_laws.proofs.rebuilds.Outlined.{methods_in_each, declared_has, member_method_has}
 use Rattle.write_laws.proofs.rebuilds.Nodes.{tree, old_tree}
 use Rattle.write_laws.proofs.rebuilds.Members.{static_method_has}
 use Rattle.write_laws.proofs.names.Origins.{R, old_words}
@@ -64,6 +65,7 @@ module _ {P : Plain} {F : Facts} {pt : PointsTo} {H : Hierarchy} (G : IsNamedPro
         kind = kinds.Method;
         in_abstract = false;
         head = head P (R P F H) H (old_words P F H) old.name d old;
+        up = None;
         body = body P (R P F H) H d old;
       } in
       let mine = and_from old.is_static (old.owner == old.owner) is.static (eq-eqb old.owner old.owner refl) in
@@ -72,7 +74,7 @@ module _ {P : Plain} {F : Facts} {pt : PointsTo} {H : Hierarchy} (G : IsNamedPro
       let c : Contains (methods_declared (suc h.index) (old_tree P F H old.owner h.class)) x =
       member_method_has (suc h.index) false (holder_members P (R P F H) H old.owner) x t (static_method_has P (R P F H) H old.owner d old t e y)
       (first x []) in
-      let z = method_there G x (declared_has methods_declared 1 (tree P F H) (methods_each 1 (tree P F H)) x h.index (suc h.index)
+      let z = method_there G x (declared_has methods_declared 1 (tree P F H) (methods_in_each (tree P F H) (no_maker P F H)) x h.index (suc h.index)
       (old_tree P F H old.owner h.class) h.stands (omega arith) c) in (
         z.0,
         method_outline types x,

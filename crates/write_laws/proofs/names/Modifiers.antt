@@ -87,18 +87,18 @@ mapped f (Some x) = refl
 -- a method with a body that is not abstract, an abstract one without a body, and a head of an interface
 right_body : (x : MethodAt) → has_word is_abstract_word x.head.mods ≡ false → is_some x.body ≡ true → HasWrongBody x → ⊥
 right_body x plain bodied (missing p q r) = false≢true (sym (ap is_some r) ∙ bodied)
-right_body x plain bodied (superfluous p q) = false≢true (sym plain ∙ p)
-right_body x plain bodied (in_concrete p q) = false≢true (sym plain ∙ p)
+right_body x plain bodied (superfluous o p q) = false≢true (sym plain ∙ p)
+right_body x plain bodied (in_concrete o p q) = false≢true (sym plain ∙ p)
 
 abstract_body : (x : MethodAt) → has_word is_abstract_word x.head.mods ≡ true → is_some x.body ≡ false → x.in_abstract ≡ true → HasWrongBody x → ⊥
 abstract_body x word bodyless inside (missing p q r) = false≢true (sym q ∙ word)
-abstract_body x word bodyless inside (superfluous p q) = false≢true (sym bodyless ∙ q)
-abstract_body x word bodyless inside (in_concrete p q) = false≢true (sym q ∙ inside)
+abstract_body x word bodyless inside (superfluous o p q) = false≢true (sym bodyless ∙ q)
+abstract_body x word bodyless inside (in_concrete o p q) = false≢true (sym q ∙ inside)
 
 head_body : (x : MethodAt) → x.kind ≡ kinds.Head → has_word is_abstract_word x.head.mods ≡ false → HasWrongBody x → ⊥
 head_body x kind plain (missing p q r) = absurd (cc (p, kind))
-head_body x kind plain (superfluous p q) = false≢true (sym plain ∙ p)
-head_body x kind plain (in_concrete p q) = false≢true (sym plain ∙ p)
+head_body x kind plain (superfluous o p q) = false≢true (sym plain ∙ p)
+head_body x kind plain (in_concrete o p q) = false≢true (sym plain ∙ p)
 
 module _ {P : Plain} {F : Facts} {pt : PointsTo} {H : Hierarchy} (G : IsNamedProgram P F pt H) where
   -- the body of a column is there

@@ -21,7 +21,8 @@ use Rattle.rebuild_model.specs.Members.{is_made_at, is_filled}
 use Rattle.write_model.specs.Names.{nowhere, modifier, written_type}
 use Rattle.write_model.specs.Members.{head, body, filling, class_members, interface_heads, holder_members}
 use Rattle.write_model.specs.Written.{class_modifiers, type_tree}
-use Rattle.write_laws.proofs.rebuilds.Outlined.{fields_each, methods_each, declared_from, member_field_from, member_method_from}
+use Rattle.write_model.proofs.NoMaker.{no_maker}
+use Rattle.write_laws.proofs.rebuilds.Outlined.{fields_each, methods_in_each, declared_from, member_field_from, member_method_from}
 use Rattle.write_laws.proofs.rebuilds.Nodes.{items, by_node, tree, node_tree, old_tree, Declares, a_node, a_holder, declares}
 use Rattle.write_laws.proofs.rebuilds.Members.{IsHeadTree, IsHeadAt, IsMember, a_field, a_body, a_head, a_filler, in_class, as_filler, class_from, interface_from, IsStatic, a_static_field, a_static_method, holder_from}
 
@@ -59,6 +60,7 @@ module _ (P : Plain) (F : Facts) (H : Hierarchy) where
     kind = kinds.Method;
     in_abstract = has_word is_abstract_word (class_modifiers (is_made_at F H n));
     head = h;
+    up = None;
     body = b;
   }
 
@@ -71,10 +73,17 @@ module _ (P : Plain) (F : Facts) (H : Hierarchy) where
     node_filler : (n i s : ℕ) (h : HeadTree) → IsNodeAt true n i → is_filled F H n s ≡ true → (t : IsHeadTree P R F H (as_filler P R F H) s h)
         → HasMethod (class_method n i h (Some (filling t.signature.result)))
     interface_head : (n i : ℕ) (h : HeadTree) → IsNodeAt false n i → IsHeadAt P R F H [] n h
-        → HasMethod (record { owner = suc i; kind = kinds.Head; in_abstract = true; head = h; body = None })
+        → HasMethod (record { owner = suc i; kind = kinds.Head; in_abstract = true; head = h; up = None; body = None })
     static_method : (c i m : ℕ) (k : PlainClass) (old : PlainMethod) → IsHolderAt c i k → slice_get P.methods m ≡ Some old → old.is_static ≡ true
         → old.owner ≡ c
-        → HasMethod (record { owner = suc i; kind = kinds.Method; in_abstract = false; head = head P R H old_words old.name m old; body = body P R H m old })
+        → HasMethod (record {
+          owner = suc i;
+          kind = kinds.Method;
+          in_abstract = false;
+          head = head P R H old_words old.name m old;
+          up = None;
+          body = body P R H m old;
+        })
 
   -- a field of the tree
   pub data HasField : FieldAt → Type 0 where
@@ -104,7 +113,8 @@ module _ (P : Plain) (F : Facts) (H : Hierarchy) where
       let z = member_method_from (suc i) (has_word is_abstract_word (class_modifiers (is_made_at F H n))) (class_members P R F H (items P F H) n) x h in
       class_method_from n i x z.0 a (class_from P R F H (items P F H) n z.0 z.1) z.2
   node_method_from false n i x a h =
-      let z = map_from (λ t. record { owner = suc i; kind = kinds.Head; in_abstract = true; head = t; body = None }) (interface_heads P R F H n) x h in
+      let z = map_from (λ t. record { owner = suc i; kind = kinds.Head; in_abstract = true; head = t; up = None; body = None })
+      (interface_heads P R F H n) x h in
       subst HasMethod z.2 (interface_head n i z.0 a (interface_from P R F H n z.0 z.1))
 
   node_field_from : (b : Bool) (n i : ℕ) (x : FieldAt) → IsNodeAt b n i → Contains (fields_declared (suc i) (type_tree P R F H (items P F H) b n)) x
@@ -152,7 +162,7 @@ module _ (P : Plain) (F : Facts) (H : Hierarchy) where
 
   pub method_origin : (x : MethodAt) → Contains (methods_in (tree P F H)) x → HasMethod x
   method_origin x c =
-      let z = declared_from methods_declared 1 (tree P F H) (methods_each 1 (tree P F H)) x refl c in
+      let z = declared_from methods_declared 1 (tree P F H) (methods_in_each (tree P F H) (no_maker P F H)) x refl c in
       declared_method z.number z.declaration x z.stands (declares P F H z.number z.declaration z.stands) z.has
 
   pub field_origin : (x : FieldAt) → Contains (fields_in (tree P F H)) x → HasField x

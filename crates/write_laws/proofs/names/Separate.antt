@@ -15,6 +15,8 @@ use Rattle.flow_rules.specs.declared.items.RowItem.TheVariants as row
 use Rattle.write_model.specs.Names.{nowhere, written_type}
 use Rattle.write_model.specs.Members.{head, body, static_field_member, static_method_member, holder_members}
 use Rattle.write_model.specs.Written.{type_tree}
+use Rattle.name_rules.proofs.NoMakers.{methods_written}
+use Rattle.write_model.proofs.NoMaker.{no_maker}
 use Rattle.write_laws.proofs.rebuilds.Nodes.{items, tree, Declares, a_node, a_holder, declares}
 use Rattle.write_laws.proofs.names.Origins.{R, old_words}
 use Rattle.write_laws.specs.names.Laws.{IsNamedProgram}
@@ -92,4 +94,5 @@ module _ {P : Plain} {F : Facts} {pt : PointsTo} {H : Hierarchy} (G : IsNamedPro
 
   pub methods_are_apart : (i j : ℕ) (h k : MethodAt) → slice_get (methods_in T) i ≡ Some h → slice_get (methods_in T) j ≡ Some k → i < j
       → h.owner ≡ k.owner → h.head.name ≡ k.head.name → ⊥
-  methods_are_apart i j h k p q lt o e = once_at SameMethod (methods_in T) (methods_apart 1 T members_apart) i j h k p q lt (o, e)
+  methods_are_apart i j h k p q lt o e = once_at SameMethod (methods_in T)
+      (subst (Once SameMethod) (sym (methods_written T (no_maker P F H))) (methods_apart 1 T members_apart)) i j h k p q lt (o, e)

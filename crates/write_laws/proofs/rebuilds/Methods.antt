@@ -33,6 +33,7 @@ use Rattle.rebuild_model.specs.Members.{is_made_at, offers_body, is_headed, is_f
 use Rattle.write_model.specs.Names.{nowhere, modifier}
 use Rattle.write_model.specs.Members.{is_declaration, filling, head, body, class_members, interface_heads, is_first_there}
 use Rattle.write_model.specs.Written.{class_modifiers, type_tree, java_tree}
+use Rattle.write_model.proofs.NoMaker.{no_maker}
 use Rattle.write_laws.proofs.rebuilds.Outlined.{IsResolved, method_there, member_method_from, member_method_has}
 use Rattle.write_laws.proofs.rebuilds.Nodes.{by_node, items, tree, node_tree, node_at, node_number}
 use Rattle.write_laws.proofs.rebuilds.Members.{IsMember, IsHeadTree, IsHeadAt, class_from, interface_from, body_has, head_has, filler_has, interface_has, in_class, as_filler}
@@ -48,11 +49,11 @@ least_below p (suc n) h =
 
 -- the declaration of a method in the class of a node
 abbrev pub as_method : ℕ → Bool → HeadTree → Option Statements → MethodAt
-as_method i a h b = record { owner = suc i; kind = kinds.Method; in_abstract = a; head = h; body = b }
+as_method i a h b = record { owner = suc i; kind = kinds.Method; in_abstract = a; head = h; up = None; body = b }
 
 -- and in an interface
 abbrev pub as_head : ℕ → HeadTree → MethodAt
-as_head i h = record { owner = suc i; kind = kinds.Head; in_abstract = true; head = h; body = None }
+as_head i h = record { owner = suc i; kind = kinds.Head; in_abstract = true; head = h; up = None; body = None }
 
 -- the renaming of the written tree, and which of its methods are resolved to which
 pub record Read : Type 1 where
@@ -244,7 +245,7 @@ module _ {P : Plain} {F : Facts} {pt : PointsTo} {H : Hierarchy} {V : Plain} (G 
       let d : Contains (methods_declared (suc i) (node_tree P F H n)) x =
       subst (λ z. Contains (methods_declared (suc i) (type_tree P R₀ F H (items P F H) z n)) x) (sym c)
       (member_method_has (suc i) (is_abstract n) (class_members P R₀ F H (items P F H) n) x (MethodTree h b nowhere) m (first x [])) in
-      method_there (tree P F H) V G.resolves G.new i (node_tree P F H n) x e d
+      method_there (tree P F H) V G.resolves G.new (no_maker P F H) i (node_tree P F H n) x e d
 
   interface_method : (n i : ℕ) (h : HeadTree) → slice_get (tree P F H) i ≡ Some (node_tree P F H n) → is_class_node F H n ≡ false
       → Contains (interface_heads P R₀ F H n) h → (g : ℕ) × Rs (as_head i h) g
@@ -253,7 +254,7 @@ module _ {P : Plain} {F : Facts} {pt : PointsTo} {H : Hierarchy} {V : Plain} (G 
       let d : Contains (methods_declared (suc i) (node_tree P F H n)) x =
       subst (λ z. Contains (methods_declared (suc i) (type_tree P R₀ F H (items P F H) z n)) x) (sym c)
       (map_has (λ h. as_head i h) (interface_heads P R₀ F H n) h m) in
-      method_there (tree P F H) V G.resolves G.new i (node_tree P F H n) x e d
+      method_there (tree P F H) V G.resolves G.new (no_maker P F H) i (node_tree P F H n) x e d
 
   -- the old method of a body's column
   pub record IsOldMethod (m : ℕ) : Type 0 where

@@ -21,6 +21,7 @@ use Rattle.rebuild_laws.proofs.looks.Fields.{method_holder}
 use Rattle.write_model.specs.Names.{nowhere, modifier}
 use Rattle.write_model.specs.Members.{filling, head, body, static_method_member, holder_members}
 use Rattle.write_model.specs.Written.{type_tree}
+use Rattle.write_model.proofs.NoMaker.{no_maker}
 use Rattle.write_laws.proofs.rebuilds.Outlined.{method_there, method_back, member_method_from, member_method_has}
 use Rattle.write_laws.proofs.rebuilds.Nodes.{items, tree, node_tree, old_tree, holder_there, holder_number, Declares, a_node, a_holder, declares}
 use Rattle.write_laws.proofs.rebuilds.Members.{IsMember, a_field, a_body, a_head, a_filler, in_class as class_mods, IsStatic, a_static_field, a_static_method, holder_from, static_method_has}
@@ -127,7 +128,7 @@ module _ {P : Plain} {F : Facts} {pt : PointsTo} {H : Hierarchy} {V : Plain} (G 
 
   pub origin : (g : ℕ) (new : PlainMethod) → slice_get V.methods g ≡ Some new → Origin g new
   origin g new e =
-      let z = method_back (tree P F H) V G.resolves G.new g new e in
+      let z = method_back (tree P F H) V G.resolves G.new (no_maker P F H) g new e in
       let d = z.declared in
       subst (Origin g) z.is (by_declaration d.number g d.declaration z.method d.stands (declares P F H d.number d.declaration d.stands) d.has z.resolved)
 
@@ -156,5 +157,5 @@ module _ {P : Plain} {F : Facts} {pt : PointsTo} {H : Hierarchy} {V : Plain} (G 
       let y : Contains (static_method_member P R₀ H c m old) t = when_has (old.is_static && (c == c)) (t ∷ []) t mine (first t []) in
       let d : Contains (methods_declared (suc k.2) (old_tree P F H c k.0)) x =
       member_method_has (suc k.2) false (holder_members P R₀ H c) x t (static_method_has P R₀ H c m old t e y) (first x []) in
-      let r = method_there (tree P F H) V G.resolves G.new k.2 (old_tree P F H c k.0) x k.3 d in
+      let r = method_there (tree P F H) V G.resolves G.new (no_maker P F H) k.2 (old_tree P F H c k.0) x k.3 d in
       (r.0, holder_method c k.2 m r.0 k.0 old xs.0 k.3 k.1 e mine xs.1 r.1)

@@ -1,16 +1,18 @@
 -- What a program has to which a tree resolves: its classes, fields and methods, one for each declaration of the tree.
-use Rattle.std.proofs.Common.{◌≡◌, ℕ, zero, suc, ◌+◌, List, [], ◌∷◌, Some, Contains, refl, sym, ap, ◌∙◌, subst, arith, inl, inr, ⊎_elim}
+use Rattle.std.proofs.Common.{◌≡◌, ℕ, zero, suc, ◌+◌, false, List, [], ◌∷◌, Some, Contains, refl, sym, ap, ◌∙◌, subst, arith, inl, inr, ⊎_elim}
 use Rattle.std.specs.Prelude.{◌⊎◌, ◌++◌, map, slice_get, codes}
 use Rattle.std.specs.Str.{bytes_eq}
 use Rattle.std.proofs.lemmas.List.Elements.{Contains-append_left, Contains-append_right, Contains-append_cases}
 use Rattle.std.proofs.lemmas.Option.{same_Some}
 use Rattle.std.proofs.lemmas.Slice.Eq.{bytes_eq-Decides}
 use Rattle.java_tree.specs.Syntax.{MemberTree, DeclTree}
+use Rattle.java_tree.specs.Makers.{has_maker}
 use Rattle.java_core.specs.Programs.{Plain, PlainClass, PlainField, PlainMethod}
 use Rattle.java_core.specs.Formed.{IsFormed, HasNoTwice}
 use Rattle.java_core.proofs.Positions.{position-passes}
-use Rattle.name_rules.specs.Outline.{FieldAt, MethodAt, name_of, types_in, type_named, class_at, field_member, method_member, fields_of, methods_of, fields_declared, methods_declared, fields_from, methods_from, fields_in, methods_in, object, class_outline, field_outline, method_outline, outline}
+use Rattle.name_rules.specs.Outline.{FieldAt, MethodAt, is_maker, name_of, types_in, type_named, class_at, field_member, method_member, fields_of, methods_of, fields_declared, methods_declared, fields_from, methods_from, fields_in, methods_in, object, class_outline, field_outline, method_outline, outline}
 use Rattle.name_rules.specs.Resolves.{BodyResolves, BodiesResolve, r_no_methods, r_method, heading_of, Resolves}
+use Rattle.name_rules.proofs.NoMakers.{methods_written, no_maker_in}
 use Rattle.flow_rules.specs.Ordered.{each}
 use Rattle.flow_rules.proofs.Listed.{each_from, each_has, first, more, contains_at, at_contains, at_map, map_at, position_there}
 
@@ -28,6 +30,10 @@ fields_each = as_each fields_declared fields_from (λ c. refl) (λ c d ds. refl)
 
 pub methods_each : (c : ℕ) (ds : List DeclTree) → methods_from c ds ≡ each methods_declared c ds
 methods_each = as_each methods_declared methods_from (λ c. refl) (λ c d ds. refl)
+
+-- those of a tree without constructors
+pub methods_in_each : (ds : List DeclTree) → has_maker ds ≡ false → methods_in ds ≡ each methods_declared 1 ds
+methods_in_each ds makerless = methods_written ds makerless ∙ methods_each 1 ds
 
 -- one of some declarations has it
 pub record IsDeclared {A : Type 0} (of : ℕ → DeclTree → List A) (ds : List DeclTree) (f : A) : Type 0 where
@@ -167,9 +173,10 @@ module _ (tree : List DeclTree) (V : Plain) (resolves : Resolves tree V) (new : 
     pub stands : slice_get V.methods g ≡ Some method
     pub heading : heading_of method ≡ method_outline types m
     pub body : BodyResolves (outline tree) m method
+    pub other : is_maker m ≡ false
 
-  resolved_at : (g : ℕ) (m : MethodAt) → slice_get (methods_in tree) g ≡ Some m → IsResolved m g
-  resolved_at g m e =
+  resolved_at : has_maker tree ≡ false → (g : ℕ) (m : MethodAt) → slice_get (methods_in tree) g ≡ Some m → IsResolved m g
+  resolved_at makerless g m e =
       let z = body_there (outline tree) (methods_in tree) V.methods g m resolves.bodies e in
       record {
         method = z.0;
@@ -177,12 +184,14 @@ module _ (tree : List DeclTree) (V : Plain) (resolves : Resolves tree V) (new : 
         heading = same_Some _ _ (sym (at_map heading_of V.methods g z.0 z.1)
             ∙ (ap (λ w. slice_get w g) headings_are ∙ at_map (method_outline types) (methods_in tree) g m e));
         body = z.2;
+        other = (no_maker_in tree makerless m (contains_at (methods_in tree) g m e)).other;
       }
 
-  pub method_there : (i : ℕ) (d : DeclTree) (m : MethodAt) → slice_get tree i ≡ Some d → Contains (methods_declared (suc i) d) m → (g : ℕ) × IsResolved m g
-  method_there i d m e c =
-      let z = at_contains (methods_in tree) m (declared_has methods_declared 1 tree (methods_each 1 tree) m i (suc i) d e (omega arith) c) in
-      (z.0, resolved_at z.0 m z.1)
+  pub method_there : has_maker tree ≡ false → (i : ℕ) (d : DeclTree) (m : MethodAt) → slice_get tree i ≡ Some d
+      → Contains (methods_declared (suc i) d) m → (g : ℕ) × IsResolved m g
+  method_there makerless i d m e c =
+      let z = at_contains (methods_in tree) m (declared_has methods_declared 1 tree (methods_in_each tree makerless) m i (suc i) d e (omega arith) c) in
+      (z.0, resolved_at makerless z.0 m z.1)
 
   pub record IsDeclaredMethod (g : ℕ) (k : PlainMethod) : Type 0 where
     pub method : MethodAt
@@ -190,14 +199,14 @@ module _ (tree : List DeclTree) (V : Plain) (resolves : Resolves tree V) (new : 
     pub resolved : IsResolved method g
     pub is : resolved.method ≡ k
 
-  pub method_back : (g : ℕ) (k : PlainMethod) → slice_get V.methods g ≡ Some k → IsDeclaredMethod g k
-  method_back g k e =
+  pub method_back : has_maker tree ≡ false → (g : ℕ) (k : PlainMethod) → slice_get V.methods g ≡ Some k → IsDeclaredMethod g k
+  method_back makerless g k e =
       let w = map_at (method_outline types) (methods_in tree) g (heading_of k)
       (sym (ap (λ y. slice_get y g) headings_are) ∙ at_map heading_of V.methods g k e) in
-      let r = resolved_at g w.0 w.1 in
+      let r = resolved_at makerless g w.0 w.1 in
       record {
         method = w.0;
-        declared = declared_from methods_declared 1 tree (methods_each 1 tree) w.0 refl (contains_at (methods_in tree) g w.0 w.1);
+        declared = declared_from methods_declared 1 tree (methods_in_each tree makerless) w.0 refl (contains_at (methods_in tree) g w.0 w.1);
         resolved = r;
         is = same_Some _ _ (sym r.stands ∙ e);
       }

@@ -11,7 +11,7 @@ use Rattle.java_core.specs.Trees.{Sts}
 use Rattle.java_core.specs.Programs.{Plain, PlainClass, PlainMethod, PlainSlot}
 use Rattle.java_core.specs.Classes.{is_interface, slot_of_method}
 use Rattle.name_rules.specs.Outline.{MethodAt, methods_declared, method_member, is_public_word, has_word, outline}
-use Rattle.name_rules.specs.Resolves.{BodyResolves, r_no_body, r_body, StsResolve, here_of, params_from}
+use Rattle.name_rules.specs.Resolves.{BodyResolves, r_no_body, r_body, r_maker, StsResolve, here_of, params_from}
 use Rattle.fact_model.specs.Items.{column_kind, column_slot}
 use Rattle.fact_model.specs.Classes.{is_def, is_slot}
 use Rattle.fact_model.specs.declared.facts.Facts.{Facts}
@@ -33,6 +33,7 @@ use Rattle.rebuild_laws.proofs.given.Apart.{names_apart}
 use Rattle.write_model.specs.Names.{modifier}
 use Rattle.write_model.specs.Members.{filling, head, body, class_members, interface_heads, holder_members}
 use Rattle.write_model.specs.Written.{type_tree, java_tree}
+use Rattle.write_model.proofs.NoMaker.{no_maker}
 use Rattle.write_laws.proofs.rebuilds.Outlined.{IsResolved, method_back, member_method_from}
 use Rattle.write_laws.proofs.rebuilds.Nodes.{by_node, items, tree, node_tree, node_number, node_type, nodes_once, Declares, a_node, a_holder, declares}
 use Rattle.write_laws.proofs.rebuilds.Members.{IsHeadTree, IsMember, a_field, a_body, a_head, a_filler, class_from, as_filler, IsStatic, a_static_field, a_static_method, holder_from}
@@ -96,7 +97,7 @@ module _ {P : Plain} {F : Facts} {pt : PointsTo} {H : Hierarchy} {V : Plain} (G 
   pub public_method : (g : ℕ) (new : PlainMethod) → slice_get V.methods g ≡ Some new → new.is_static ≡ false → is_interface V new.owner ≡ false
       → new.is_public ≡ true
   public_method g new e h free =
-      let z = method_back (tree P F H) V G.resolves G.new g new e in
+      let z = method_back (tree P F H) V G.resolves G.new (no_maker P F H) g new e in
       let d = z.declared in
       let ow : new.owner ≡ z.method.owner = ap (λ (y : PlainMethod). y.owner) (sym z.is) ∙ owner_is G z.method g z.resolved in
       ap (λ (y : PlainMethod). y.is_public) (sym z.is) ∙ public_is G z.method g z.resolved
@@ -168,7 +169,8 @@ module _ {P : Plain} {F : Facts} {pt : PointsTo} {H : Hierarchy} {V : Plain} (G 
 
       go : BodyResolves (outline (java_tree P F H)) x r.method → HasFilling P F H V (T G) r.method
       go (r_no_body a _ _) = absurd (cc (a, b))
-      go (r_body {ss = ss} {xs = ys} a d res counts) =
+      go (r_maker is a b c d f) = absurd (false≢true (sym r.other ∙ is))
+      go (r_body {ss = ss} {xs = ys} is a d res counts) =
           let same : ss ≡ filling o.signature.result = same_Some _ _ (sym a ∙ b) in
           record {
             code = ys;
@@ -235,7 +237,7 @@ module _ {P : Plain} {F : Facts} {pt : PointsTo} {H : Hierarchy} {V : Plain} (G 
   written = record {
     public = public_method;
     fillers = λ g n m new e f.
-        let z = method_back (tree P F H) V G.resolves G.new g new e in
+        let z = method_back (tree P F H) V G.resolves G.new (no_maker P F H) g new e in
         let d = z.declared in
         subst (HasFilling P F H V (T G)) z.is
         (declared_fills d.number g d.declaration z.method d.stands (declares P F H d.number d.declaration d.stands) d.has z.resolved n m

@@ -1,8 +1,8 @@
 -- A method to which a declaration resolves: its owner, name and types, and its code.
-use Rattle.std.proofs.Common.{◌≡◌, ℕ, suc, ◌+◌, ◌<◌, true, false, List, [], ◌∷◌, Option, Some, None, refl, sym, ap, ◌∙◌, subst, arith}
+use Rattle.std.proofs.Common.{◌≡◌, ℕ, suc, ◌+◌, ◌<◌, ◌||◌, true, false, List, [], ◌∷◌, Option, Some, None, refl, sym, ap, ◌∙◌, subst, arith}
 use Rattle.std.specs.Prelude.{length, map, slice_get, nat_lt}
 use Rattle.std.specs.Option.{option_map, is_some}
-use Rattle.std.proofs.lemmas.Bool.{lt-ltb}
+use Rattle.std.proofs.lemmas.Bool.{false≢true, lt-ltb}
 use Rattle.std.proofs.lemmas.Option.{same_Some, slice_get_within}
 use Rattle.java_tree.specs.declared.Modifier.{Modifier}
 use Rattle.java_tree.specs.Syntax.{HeadTree, Statements}
@@ -13,7 +13,7 @@ use Rattle.java_core.specs.Types.{types_of, env_of}
 use Rattle.java_core.specs.Formed.{variables_of}
 use Rattle.name_rules.specs.declared.parts.Here.{Here}
 use Rattle.name_rules.specs.Outline.{MethodAt, is_static, is_public_word, has_word, types_in, type_meant, param_outline, outline}
-use Rattle.name_rules.specs.Resolves.{StsResolve, Counts, declares_all, params_from, here_of, BodyResolves, r_no_body, r_body}
+use Rattle.name_rules.specs.Resolves.{StsResolve, Counts, declares_all, params_from, here_of, BodyResolves, r_no_body, r_body, r_maker}
 use Rattle.fact_model.specs.declared.facts.Facts.{Facts}
 use Rattle.fact_model.specs.declared.sets.PointsTo.{PointsTo}
 use Rattle.hier_model.specs.Hierarchies.{Hierarchy}
@@ -112,7 +112,7 @@ module _ {P : Plain} {F : Facts} {pt : PointsTo} {H : Hierarchy} {V : Plain} (G 
     static_is = ap (λ (z : PlainMethod). z.is_static) r.heading
 
     pub public_is : made.is_public ≡ has_word is_public_word at.head.mods
-    public_is = ap (λ (z : PlainMethod). z.is_public) r.heading
+    public_is = ap (λ (z : PlainMethod). z.is_public) r.heading ∙ ap (λ b. b || has_word is_public_word at.head.mods) r.other
 
     params_is : types_of made.params ≡ types_of (map (param_outline types) at.head.params)
     params_is = ap (λ (z : PlainMethod). types_of z.params) r.heading
@@ -125,14 +125,16 @@ module _ {P : Plain} {F : Facts} {pt : PointsTo} {H : Hierarchy} {V : Plain} (G 
       where
         go : BodyResolves O at r.method → made.body ≡ None
         go (r_no_body a b c) = b
-        go (r_body a b c d) = absurd (cc (h, a))
+        go (r_body o a b c d) = absurd (cc (h, a))
+        go (r_maker o a b c d e) = absurd (false≢true (sym r.other ∙ o))
 
     pub bodied : (ss : Statements) → at.body ≡ Some ss → is_some made.body ≡ true
     bodied ss h = go r.body
       where
         go : BodyResolves O at r.method → is_some made.body ≡ true
         go (r_no_body a b c) = absurd (cc (h, a))
-        go (r_body a b c d) = ap (λ o. is_some o) b
+        go (r_body o a b c d) = ap (λ o. is_some o) b
+        go (r_maker o a b c d e) = ap (λ o. is_some o) b
 
     pub types_are : (mods : List Modifier) (name : List ℕ) (m : ℕ) (k : PlainMethod) → slice_get P.methods m ≡ Some k
         → at.head ≡ head P (by_node P F H) H mods name m k → HasTypes (R G) m k made
@@ -168,7 +170,8 @@ module _ {P : Plain} {F : Facts} {pt : PointsTo} {H : Hierarchy} {V : Plain} (G 
 
         go : BodyResolves O at r.method → HasCode P V (R G) m k made
         go (r_no_body a _ _) = absurd (cc (is, a))
-        go (r_body {ss = ss} {xs = ys} a d resolved counts) =
+        go (r_maker o a b c d f) = absurd (false≢true (sym r.other ∙ o))
+        go (r_body {ss = ss} {xs = ys} o a d resolved counts) =
             let same : ss ≡ written_sts P (by_node P F H) H m k (parameters 0 k.params) xs = same_Some _ _ (sym a ∙ is) in
             let z = match m k xs (here_of at) r.method ys e b st ow (param_names_are mods name m k h)
             (subst (λ w. StsResolve O (here_of at) r.method false (params_from 0 r.method.params) w ys) same resolved) counts in

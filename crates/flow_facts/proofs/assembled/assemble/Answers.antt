@@ -7,7 +7,7 @@ use Rattle.flow_facts.proofs.Whole.{rows_whole, columns_whole, sites_whole, poin
 use Rattle.flow_facts.proofs.assembled.assemble.Goals as goal
 
 pub returns : goal.returns
-returns c = λ P n s.
+returns c = λ P m n s.
     let d = c.args.numbered in
     let t = s.tables in
     let l = s.lists in
@@ -30,6 +30,7 @@ returns c = λ P n s.
         supers = set_whole P d n (λ N b. supers_of N b.number) _ h.supers;
         ties = set_whole P d n (λ N b. ties_of N P b.number b.slot) _ h.ties;
         tests = tests_whole P d n _ l.tests;
+        no_maker = m;
         makers = refl;
         makes = c.new.ensures.items;
         spots = s.spots ∙ ap (numbered_spots 0 0) (marks_whole P d n _ l.marks);
