@@ -30,6 +30,7 @@ pub mod WhyLemmas
 pub mod OneSure
 pub mod OneSame
 pub mod Absent
+pub mod NamedClass
 pub mod Naming
 pub mod OneEach
 pub mod Completing

@@ -1,11 +1,9 @@
 -- A text is refused, or it is that of one program; it is refused in one way, but for what may be told of names and of types.
 use Rattle.std.proofs.Common.{◌≡◌, ◌⊎◌, inl, inr, ⊎_elim, ℕ, ◌≤◌, List, Result, Ok, Err, refl, sym, ap, ◌∙◌, subst, arith, codes}
-use Rattle.std.proofs.lemmas.Bool.{false≢true}
 use Rattle.java_lex.specs.declared.Token.{Token}
 use Rattle.java_lex.specs.Lexing.{tokens_of}
 use Rattle.java_tree.specs.Syntax.{DeclTree}
 use Rattle.java_tree.specs.Declarations.{IsPlaced, Derives}
-use Rattle.java_tree.specs.Makers.{has_maker}
 use Rattle.java_tree.specs.Nesting.{IsTooDeep, nesting_of}
 use Rattle.java_parse.proofs.CompleteDeclarations.{one_placed}
 use Rattle.java_parse.specs.Beginnings.{IsExact}
@@ -21,7 +19,7 @@ use Rattle.name_rules.specs.Resolves.{Resolves}
 use Rattle.name_laws.proofs.OnlyWhole.{only}
 use Rattle.kaba_top.specs.Lines.{Says, line}
 use Rattle.kaba_top.specs.TextPrograms.{most_nesting, IsParsedAs, HasProgram, IsTypedText}
-use Rattle.kaba_top.specs.Reading.{refused, lex_text, at_token, line_of, HasMaker, IsRefusedText, TextAnswers}
+use Rattle.kaba_top.specs.Reading.{refused, lex_text, at_token, line_of, IsRefusedText, TextAnswers}
 use Rattle.kaba_top.specs.OneAnswer.{AreFree, AreOneAnswer, AreOneKind}
 use Rattle.write_laws.proofs.given.Read.{read_formed}
 
@@ -37,13 +35,6 @@ ok_no_err e = cc e
 -- what has places derives itself
 derived : (tokens : List Token) (tree : List DeclTree) → IsPlaced tokens tree → Derives tokens tree
 derived tokens tree p = record { placed = tree; derived = p; same = refl }
-
--- tokens that are no program are so at one token
-one_token : (tokens : List Token) (j k : ℕ) → IsExact tokens j ⊎ HasMaker tokens j → IsExact tokens k ⊎ HasMaker tokens k → j ≡ k
-one_token tokens j k (inl a) (inl b) = exact_once tokens j k a b
-one_token tokens j k (inl a) (inr b) = absurd (a.none b.tree (derived tokens b.tree b.placed))
-one_token tokens j k (inr a) (inl b) = absurd (b.none a.tree (derived tokens a.tree a.placed))
-one_token tokens j k (inr a) (inr b) = a.at_first ∙ sym b.at_first
 
 -- ---- what a text is read as
 
@@ -69,12 +60,8 @@ module _ (bytes : List ℕ) where
       let deep = deep_nested others k (subst (λ ts. IsTooDeep ts k) e d) in
       omega (arith, deep, nested)
 
-  no_tree : (tokens : List Token) (k : ℕ) → tokens_of bytes ≡ Ok tokens → IsExact tokens k ⊎ HasMaker tokens k → (tree : List DeclTree)
-      → IsParsedAs bytes tree → ⊥
-  no_tree tokens k h (inl exact) tree r = exact.none tree (derived tokens tree (subst (λ ts. IsPlaced ts tree) (ok_same (sym r.lexed ∙ h)) r.placed))
-  no_tree tokens k h (inr m) tree r =
-      let same = one_placed tokens m.tree tree m.placed (subst (λ ts. IsPlaced ts tree) (ok_same (sym r.lexed ∙ h)) r.placed) in
-      false≢true (sym r.makerless ∙ ap has_maker (sym same) ∙ m.has)
+  no_tree : (tokens : List Token) (k : ℕ) → tokens_of bytes ≡ Ok tokens → IsExact tokens k → (tree : List DeclTree) → IsParsedAs bytes tree → ⊥
+  no_tree tokens k h exact tree r = exact.none tree (derived tokens tree (subst (λ ts. IsPlaced ts tree) (ok_same (sym r.lexed ∙ h)) r.placed))
 
   no_names : (a b : List DeclTree) (why : Refusal) → IsParsedAs bytes a → ConditionAt a why → IsParsedAs bytes b → HasNoCondition b → ⊥
   no_names a b why h c k none = none why (subst (λ z. ConditionAt z why) (one_tree a b h k) c)
@@ -130,7 +117,7 @@ module _ (bytes : List ℕ) where
   one_refusal s t o p e f (inr (inr (inl a))) (inr (inl b)) = absurd (too_deep b.tokens b.token b.lexed b.deep a.tokens a.lexed a.nested)
   one_refusal s t o p e f (inr (inr (inl a))) (inr (inr (inl b))) =
       let ts = ok_same (sym a.lexed ∙ b.lexed) in
-      let k = one_token b.tokens a.token b.token (subst (λ z. IsExact z a.token ⊎ HasMaker z a.token) ts a.why) b.why in
+      let k = exact_once b.tokens a.token b.token (subst (λ z. IsExact z a.token) ts a.why) b.why in
       said 65 (refused (at_token (codes "NotAProgram") a.token (line_of bytes a.token a.tokens)))
       (refused (at_token (codes "NotAProgram") b.token (line_of bytes b.token b.tokens)))
       (λ i. refused (at_token (codes "NotAProgram") (k i) (line_of bytes (k i) (ts i)))) s t o p e f a.says b.says

@@ -11,9 +11,10 @@ use Rattle.java_core.specs.declared.BinOp.{BinOp}
 use Rattle.java_core.specs.declared.BinOp.TheVariants as bin
 use Rattle.java_core.specs.Trees.{Ex, Exs, no_ex, ex_then, number, character, text, truth, null, this, local, static_field, own_field, field, index, call, static_call, super_call, create, create_array, cast, instance_of, unary, binary, Target, to_local, to_static, to_own, to_field, to_element, no_target, St, Sts, IfArms, declare, block, assign, act, print, choose, loop, return, break, continue, no_st, st_then, no_other, otherwise, arm}
 use Rattle.java_core.specs.Programs.{Plain, PlainClass, PlainMethod}
-use Rattle.java_core.specs.Classes.{below, nearest, own_declaration, has_slot, nearest_declaration, has_body, is_interface, is_concrete}
+use Rattle.java_core.specs.Makers.{maker_name, maker_of}
+use Rattle.java_core.specs.Classes.{below, nearest, is_method_of, own_method, own_declaration, has_slot, nearest_declaration, has_body, is_interface, is_concrete}
 use Rattle.java_core.specs.Types.{Static, a_value, null_value, no_value, Env, env_of, class_type, class_in, class_of, element_of, is_numeric, is_boolean, is_string, is_printable, is_object, is_only, fits, fits_in, are_comparable, Signature, types_of, string_method, signature_of_string, object_signature, call_signature, super_signature, signature_of_slot, signature_of_method, field_in, value_type, length_or, access_type, or_nothing, result_of, binary_type, static, target_type}
-use Rattle.java_core.specs.Typing.{takes_one, takes_two, are_related, can_cast, Typed, t_number, t_character, t_text, t_truth, t_null, t_this, t_local, t_static_field, t_own_field, t_field, t_index, t_call, t_static_call, t_super_call, t_create, t_create_array, t_cast, t_instance_of, t_unary, t_binary, TypedArgs, t_no_ex, t_ex_then, TypedTarget, t_to_local, t_to_static, t_to_own, t_to_field, t_to_element, TypedTest, t_always, t_test, TypedSt, t_declare, t_declare_as, t_block, t_assign, t_act, t_print_line, t_print, t_choose, t_loop, t_return_nothing, t_return, t_break, t_continue, TypedSts, t_no_st, t_st_then, TypedArms, t_no_other, t_otherwise, t_arm, Offers, HasBodies, is_public_method, HasPublicMethods, IsTypedClass, IsTypedMethod, IsTyped}
+use Rattle.java_core.specs.Typing.{takes_one, takes_two, are_related, can_cast, Typed, t_number, t_character, t_text, t_truth, t_null, t_this, t_local, t_static_field, t_own_field, t_field, t_index, t_call, t_static_call, t_super_call, t_create, t_make, t_create_array, t_cast, t_instance_of, t_unary, t_binary, TypedArgs, t_no_ex, t_ex_then, TypedTarget, t_to_local, t_to_static, t_to_own, t_to_field, t_to_element, TypedTest, t_always, t_test, TypedSt, t_declare, t_declare_as, t_block, t_assign, t_act, t_print_line, t_print, t_choose, t_loop, t_return_nothing, t_return, t_break, t_continue, TypedSts, t_no_st, t_st_then, TypedArms, t_no_other, t_otherwise, t_arm, Offers, HasBodies, is_public_method, HasPublicMethods, IsTypedClass, IsTypedMethod, IsTyped}
 use Rattle.java_core.specs.Untagged.{bare, bare_all, bare_if, bare_target, bare_st, bare_sts, bare_arms, untag_body, untag_local, untag_class, untag_method, untagged}
 use Rattle.java_core.proofs.Positions.{position-map}
 use Rattle.java_meaning.proofs.UntaggedLooks.{untyped, same_subtype, same_field_type, same_field_in, same_super, same_slot, same_static}
@@ -47,6 +48,19 @@ module _ (P : Plain) where
     where
       go : (o : Option PlainClass) → option_map_or (λ (k : PlainClass). not k.is_interface && not k.is_abstract) (option_map untag_class o) false
           ≡ option_map_or (λ (k : PlainClass). not k.is_interface && not k.is_abstract) o false
+      go None = refl
+      go (Some k) = refl
+
+  own_is : (c : ℕ) (x : List ℕ) → own_method U c x ≡ own_method P c x
+  own_is c x = position-map untag_method (λ m. is_method_of c x m) P.methods
+
+  maker_is : (c : ℕ) → maker_of U c ≡ maker_of P c
+  maker_is c =
+      (λ i. option_and_then (λ k. own_is c (maker_name k.name) i) (slice_get U.classes c))
+      ∙ ap (option_and_then (λ k. own_method P c (maker_name k.name))) (slice_get-map untag_class P.classes c) ∙ go (slice_get P.classes c)
+    where
+      go : (o : Option PlainClass) → option_and_then (λ k. own_method P c (maker_name k.name)) (option_map untag_class o)
+          ≡ option_and_then (λ k. own_method P c (maker_name k.name)) o
       go None = refl
       go (Some k) = refl
 
@@ -190,8 +204,11 @@ module _ (P : Plain) where
       ex (static_call t m es) (t_static_call c k) = t_static_call (sym (signature_is m) ∙ c) (args es k)
       ex (super_call t x es) (t_super_call {m = m} a b c k) =
           t_super_call (sym (same_super P g.self x) ∙ a) (holds (body_is m) b) (sym (super_is g.self x) ∙ c) (args es k)
-      ex (create t n c no_ex) (t_create a) = t_create (holds (concrete_is c) a)
-      ex (create t n c (ex_then e es)) h = elim h [ ]
+      ex (create t n c no_ex) (t_create a m) = t_create (holds (concrete_is c) a) (sym (maker_is c) ∙ m)
+      ex (create t n c no_ex) (t_make {m = k} a m s h) =
+          t_make (holds (concrete_is c) a) (sym (maker_is c) ∙ m) (sym (signature_is k) ∙ s) (args no_ex h)
+      ex (create t n c (ex_then e es)) (t_make {m = k} a m s h) =
+          t_make (holds (concrete_is c) a) (sym (maker_is c) ∙ m) (sym (signature_is k) ∙ s) (args (ex_then e es) h)
       ex (create_array t n u e) (t_create_array h a) = t_create_array (ex e h) (holds (ap is_numeric (static_is e)) a)
       ex (cast t n u e) (t_cast h a) = t_cast (ex e h) (holds (ap (λ z. can_cast U z u) (static_is e) ∙ cast_is (static P g e) u) a)
       ex (instance_of t n e c) (t_instance_of h a) =

@@ -1,5 +1,5 @@
 -- What a text is, from what each part of the reading gave.
-use Rattle.std.proofs.Common.{◌≡◌, inl, inr, ℕ, ◌≤◌, true, false, List, Result, Ok, Err, IfOk, refl, sym, subst, codes}
+use Rattle.std.proofs.Common.{◌≡◌, inl, inr, ℕ, ◌≤◌, List, Result, Ok, Err, IfOk, sym, subst, codes}
 use Rattle.std.specs.declared.alloc.AllocError.{AllocError}
 use Rattle.kaba_base.specs.declared.Place.{Place}
 use Rattle.java_lex.specs.declared.Token.{Token}
@@ -9,7 +9,6 @@ use Rattle.java_lex.specs.Lexing.{tokens_of, GivesTokens}
 use Rattle.java_tree.specs.Nesting as nesting
 use Rattle.java_tree.specs.Syntax.{DeclTree}
 use Rattle.java_tree.specs.Declarations.{IsPlaced}
-use Rattle.java_tree.specs.Makers.{has_maker}
 use Rattle.java_parse.specs.Beginnings.{IsExact}
 use Rattle.java_core.specs.declared.Program.{Program}
 use Rattle.java_core.specs.Programs.{program_of}
@@ -54,23 +53,7 @@ pub no_tree : (bytes : List ℕ) (tokens : List Token) (k : ℕ) (reply : Reply)
     → Says 65 (refused (at_token (codes "NotAProgram") k (line_of bytes k tokens))) reply.status reply.out.items reply.err.items
     → IsProgramReading bytes (readings.Refused reply)
 unfolding IsRefusedText
-no_tree bytes tokens k reply h w s = inr (inr (inl (record { tokens = tokens; lexed = h; nested = w.0; token = k; why = inl w.1; says = s })))
-
--- a text with a constructor
-pub with_maker : (bytes : List ℕ) (tokens : List Token) (tree : List DeclTree) (reply : Reply) → tokens_of bytes ≡ Ok tokens
-    → nesting.nesting_of tokens ≤ most_nesting → IsPlaced tokens tree → has_maker tree ≡ true
-    → Says 65 (refused (at_token (codes "NotAProgram") 0 (line_of bytes 0 tokens))) reply.status reply.out.items reply.err.items
-    → IsProgramReading bytes (readings.Refused reply)
-unfolding IsRefusedText
-with_maker bytes tokens tree reply h d p m s =
-    inr (inr (inl (record {
-      tokens = tokens;
-      lexed = h;
-      nested = d;
-      token = 0;
-      why = inr (record { tree = tree; placed = p; has = m; at_first = refl });
-      says = s;
-    })))
+no_tree bytes tokens k reply h w s = inr (inr (inl (record { tokens = tokens; lexed = h; nested = w.0; token = k; why = w.1; says = s })))
 
 -- a program that is not typed
 pub ill_typed : (program : Program) (kind : Kind) (place : Place) (reply : Reply) → IsRefused (program_of program) (IllTyped kind place)
@@ -97,34 +80,34 @@ unresolved tree why reply h s = inl (record { why = why; condition = named_cause
 
 -- what is known of the tree is known of the bytes that are read as it
 of_tree : (bytes : List ℕ) (tokens : List Token) (tree : List DeclTree) (reading : Reading) → tokens_of bytes ≡ Ok tokens
-    → nesting.nesting_of tokens ≤ most_nesting → IsPlaced tokens tree → has_maker tree ≡ false → IsReadingOfTree tree reading → IsProgramReading bytes reading
+    → nesting.nesting_of tokens ≤ most_nesting → IsPlaced tokens tree → IsReadingOfTree tree reading → IsProgramReading bytes reading
 unfolding IsRefusedText
-of_tree bytes tokens tree (readings.Typed program) h d p m t =
+of_tree bytes tokens tree (readings.Typed program) h d p t =
     record {
       tree = tree;
       has = record {
-        read = record { tokens = tokens; lexed = h; nested = d; placed = p; makerless = m };
+        read = record { tokens = tokens; lexed = h; nested = d; placed = p };
         resolves = t.resolved.resolves;
         none = t.resolved.none;
       };
       formed = t.resolved.formed;
       typed = t.typed;
     }
-of_tree bytes tokens tree (readings.Refused reply) h d p m (inl u) =
+of_tree bytes tokens tree (readings.Refused reply) h d p (inl u) =
     inr (inr (inr (inl (record {
       tree = tree;
-      read = record { tokens = tokens; lexed = h; nested = d; placed = p; makerless = m };
+      read = record { tokens = tokens; lexed = h; nested = d; placed = p };
       why = u.why;
       condition =
           u.condition;
       says = u.says;
     }))))
-of_tree bytes tokens tree (readings.Refused reply) h d p m (inr u) =
+of_tree bytes tokens tree (readings.Refused reply) h d p (inr u) =
     inr (inr (inr (inr (record {
       tree = tree;
       program = u.program;
       has = record {
-        read = record { tokens = tokens; lexed = h; nested = d; placed = p; makerless = m };
+        read = record { tokens = tokens; lexed = h; nested = d; placed = p };
         resolves = u.resolved.resolves;
         none = u.resolved.none;
       };
@@ -136,10 +119,10 @@ of_tree bytes tokens tree (readings.Refused reply) h d p m (inr u) =
     }))))
 
 pub read_as : (bytes : List ℕ) (tokens : List Token) (tree : List DeclTree) (r : Result Reading AllocError) → tokens_of bytes ≡ Ok tokens
-    → nesting.nesting_of tokens ≤ most_nesting → IsPlaced tokens tree → has_maker tree ≡ false → IfOk r (λ reading. IsReadingOfTree tree reading)
+    → nesting.nesting_of tokens ≤ most_nesting → IsPlaced tokens tree → IfOk r (λ reading. IsReadingOfTree tree reading)
     → IfOk r (λ reading. IsProgramReading bytes reading)
-read_as bytes tokens tree (Err e) h d p m t = tt
-read_as bytes tokens tree (Ok reading) h d p m t = of_tree bytes tokens tree reading h d p m t
+read_as bytes tokens tree (Err e) h d p t = tt
+read_as bytes tokens tree (Ok reading) h d p t = of_tree bytes tokens tree reading h d p t
 
 -- the answers for the bytes of a typed program
 pub answers : (K : Program → ℕ → List ℕ → List ℕ → Type 0) (bytes : List ℕ) (program : Program) (r : Result Reply AllocError)

@@ -1,5 +1,5 @@
 -- Believed. What is answered where the bytes of a file are no typed program, and what follows where they are one.
-use Rattle.std.specs.Prelude.{◌≡◌, ◌⊎◌, ℕ, ◌+◌, ◌-◌, ◌≤◌, ◌==◌, true, List, [], ◌++◌, length, take, count_by, Ok, Err, codes, Option, Some, None, slice_get}
+use Rattle.std.specs.Prelude.{◌≡◌, ◌⊎◌, ℕ, ◌+◌, ◌-◌, ◌≤◌, ◌==◌, List, [], ◌++◌, length, take, count_by, Ok, Err, codes, Option, Some, None, slice_get}
 use Rattle.std.specs.Fmt.{decimal}
 use Rattle.std.specs.Str.{encode_utf8_all}
 use Rattle.kaba_base.specs.declared.Place.{Place}
@@ -9,8 +9,6 @@ use Rattle.java_lex.specs.declared.LexFault.TheVariants as lexing
 use Rattle.java_lex.specs.Lexing.{tokens_of}
 use Rattle.java_tree.specs.Nesting as nesting
 use Rattle.java_tree.specs.Syntax.{DeclTree}
-use Rattle.java_tree.specs.Declarations.{IsPlaced}
-use Rattle.java_tree.specs.Makers.{has_maker}
 use Rattle.java_parse.specs.Beginnings.{IsExact}
 use Rattle.java_core.specs.declared.Program.{Program}
 use Rattle.java_core.specs.Programs.{program_of}
@@ -116,20 +114,13 @@ pub record IsTooDeepText (bytes : List ℕ) (status : ℕ) (out err : List ℕ) 
   pub deep : nesting.IsTooDeep tokens token
   pub says : Says 65 (refused (at_token (codes "TooDeep") token (line_of bytes token tokens))) status out err
 
--- the tokens derive a tree in which a class has a constructor, which no command takes; such a text is refused at its first token
-pub record HasMaker (tokens : List Token) (token : ℕ) : Type 0 where
-  pub tree : List DeclTree
-  pub placed : IsPlaced tokens tree
-  pub has : has_maker tree ≡ true
-  pub at_first : token ≡ 0
-
--- the tokens derive no tree, and this is the first that cannot stand where it does, or their count; or they derive one with a constructor
+-- the tokens derive no tree, and this is the first that cannot stand where it does, or their count
 pub record IsNoTree (bytes : List ℕ) (status : ℕ) (out err : List ℕ) : Type 0 where
   pub tokens : List Token
   pub lexed : tokens_of bytes ≡ Ok tokens
   pub nested : nesting.nesting_of tokens ≤ most_nesting
   pub token : ℕ
-  pub why : IsExact tokens token ⊎ HasMaker tokens token
+  pub why : IsExact tokens token
   pub says : Says 65 (refused (at_token (codes "NotAProgram") token (line_of bytes token tokens))) status out err
 
 -- a condition that refuses names holds of the tree at the place named

@@ -17,7 +17,7 @@ use java_core::{Checked, Program};
 use java_lex::{LexFault, Token, lex};
 use java_parse::{ParseFault, parse};
 use java_resolve::{Refusal, resolve};
-use java_tree::{Tree, has_maker};
+use java_tree::Tree;
 use kaba_base::{Name, Place};
 use std::alloc::{AllocError, Global};
 
@@ -170,8 +170,7 @@ fn type_tree(alloc: Global, tree: &Tree) -> Tried<Reading>
     }
 }
 
-/// The typed program of the bytes of a file, or the reply that there is none. A text with a constructor is refused at
-/// its first token.
+/// The typed program of the bytes of a file, or the reply that there is none.
 pub fn read_program(alloc: Global, bytes: &Vec<u8>) -> Tried<Reading>
     requires small { length bytes.now.items ≤ most_bytes }
     ensures reading { IfOk result (λ reading. IsProgramReading bytes.now.items reading) }
@@ -181,13 +180,7 @@ pub fn read_program(alloc: Global, bytes: &Vec<u8>) -> Tried<Reading>
         Err(fault) => return Ok(Reading::Refused(not_lexed(alloc, fault)?)),
     };
     match parse(alloc, &tokens) {
-        Ok(tree) => {
-            if has_maker(&tree) {
-                let reply = not_parsed(alloc, bytes, &tokens, "NotAProgram", 0)?;
-                return Ok(Reading::Refused(reply));
-            }
-            type_tree(alloc, &tree)
-        }
+        Ok(tree) => { type_tree(alloc, &tree) }
         Err(ParseFault::TooDeep(token)) => {
             let reply = not_parsed(alloc, bytes, &tokens, "TooDeep", token)?;
             Ok(Reading::Refused(reply))

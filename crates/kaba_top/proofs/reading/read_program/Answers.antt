@@ -1,9 +1,9 @@
-use Rattle.std.proofs.Common.{arith, sym, ◌∙◌, subst}
+use Rattle.std.proofs.Common.{arith, subst}
 use Rattle.java_lex.proofs.Few.{few-tokens}
 use Rattle.java_tree.specs.Syntax.{tree_of}
 use Rattle.java_parse.specs.Faults.{IsParseCause}
 use Rattle.write_laws.proofs.given.Read.{read_formed}
-use Rattle.kaba_top.proofs.Texts.{no_tokens, too_deep, no_tree, with_maker, read_as}
+use Rattle.kaba_top.proofs.Texts.{no_tokens, too_deep, no_tree, read_as}
 use Rattle.kaba_top.proofs.reading.read_program.Goals as goal
 
 pub returns-in-Err : goal.returns-in-Err
@@ -21,17 +21,10 @@ type_tree-requires c = record {
       c.in-Ok-parse.ensures.found;
 }
 
-pub returns-then-has_maker : goal.returns-then-has_maker
-returns-then-has_maker c = record {
-  reading = with_maker c.args.bytes.now.items c.in-Ok.tokens.items (tree_of c.in-Ok-parse.tree) c.in_ok-reply-in-Ok-parse.reply c.in-Ok.ensures.value
-      c.in-Ok-parse.ensures.nested c.in-Ok-parse.ensures.found (sym c.has_maker.ensures.value ∙ c.if-has_maker.true)
-      c.in_ok-reply-in-Ok-parse.ensures;
-}
-
 pub returns-in-Ok-parse : goal.returns-in-Ok-parse
 returns-in-Ok-parse c = record {
   reading = read_as c.args.bytes.now.items c.in-Ok.tokens.items (tree_of c.in-Ok-parse.tree) c.type_tree.result c.in-Ok.ensures.value
-      c.in-Ok-parse.ensures.nested c.in-Ok-parse.ensures.found (sym c.has_maker.ensures.value ∙ c.if-has_maker.false) c.type_tree.ensures.reading;
+      c.in-Ok-parse.ensures.nested c.in-Ok-parse.ensures.found c.type_tree.ensures.reading;
 }
 
 pub returns-in-Err-TooDeep : goal.returns-in-Err-TooDeep
