@@ -16,6 +16,26 @@ HINTS = [
     ("int i = true; char c = i;", ["3:7: IllTyped Assign", "3:22: the same: int i = true;", "2 places of one kind"]),
 ]
 
+# Members of a class A below a class Up with a constructor, and for each the place and a part of what is told.
+MAKERS = [
+    ("B() { super(1); }", "3:1: Unknown: a constructor has the name of its class, which is `A`"),
+    ("A() { super(1); } A(int k) { super(k); }", "3:19: Overload: a class has one constructor"),
+    ("static A() { super(1); }", "3:1: NotInProfile Modifier: before a constructor stand public, protected and private alone"),
+    ("int f; A() { super(f); }", "3:20: NotInProfile ThisInStatic: what super(..) is given"),
+    ("A() { }", "3:1: IllTyped Arguments: super(..) does not fit the constructor of the class above"),
+    ("int f;", "2:7: IllTyped Arguments: this class has no constructor"),
+    ("A() { super(1); Up up = new Up(); }", "3:25: IllTyped Arguments: the arguments do not fit the parameters of the class's constructor"),
+    ("A() { super(1); super(1); }", "3:22: NotAProgram: super(..) stands first in the body of a constructor"),
+    ("A() { this(1); }", "3:11: NotAProgram: no constructor calls another one of its class"),
+    ("A();", "3:4: NotAProgram: a constructor has a body behind its parameters"),
+]
+# A fault in the constructor above one that has begun with its `super(..)`.
+MADE = """class A { int a; A(int x) { this.a = 1 / x; } }
+class B extends A { B(int x) { super(x + 1); return; } }
+class Main { static void main(String[] a) { new B(-1); } }
+"""
+UP = "class Main { static void main(String[] a) { } } class Up { Up(int k) { } }\nclass A extends Up {\n"
+
 SUBCLASS = """class Main { static void main(String[] a) { } }
 class A { int n; void init(int k) { n = k; } }
 class B extends A { int m; void init(int k, int l) { n = k; m = l; } }
@@ -77,11 +97,20 @@ def check_explain_all(tests):
         file = tests.file("hint.java", "class Main {\n  static void main(String[] args) {\n" + statement + "\n  }\n}\n")
         status, out, err = tests.tool("explain", file)
         tests.check(f"explain of `{statement}`", status == 65 and all(part in out for part in wanted), out + err)
+    for member, wanted in MAKERS:
+        status, out, err = tests.tool("explain", "--first", tests.file("maker.java", UP + member + "\n}\n"))
+        tests.check(f"explain of `{member}`", status == 65 and f":{wanted}" in out, out + err)
+    status, out, err = tests.tool("explain", tests.file("made.java", MADE))
+    fits = status == 10 and "1:29: in A.A" in out and "3:45: in Main.main" in out
+    tests.check("explain of a fault in a constructor", fits, out + err)
+    file = tests.file("maker.java", UP + "A() { super(1); }\n}\n")
+    tests.one_line("a report of a constructor", 75, tests.tool("report", file))
+    tests.one_line("a hierarchy with a constructor", 75, tests.tool("hierarchy", "--json", file))
     status, out, err = tests.tool("explain", tests.file("sub.java", SUBCLASS))
     tests.check("explain of an init that clashes", "3:33: Overload" in out and "call it initB here" in out, out + err)
     status, out, err = tests.tool("explain", "examples/java/Shop.java")
     ours = [line for line in out.splitlines() if line.startswith("examples/java/Shop.java:")]
-    tests.check("explain of many faults", status == 65 and len(ours) == 16, out + err)
+    tests.check("explain of many faults", status == 65 and len(ours) == 11, out + err)
     status, out, err = tests.tool("explain", "--first", "examples/java/Shop.java")
     tests.check("explain --first", status == 65 and out.count("\n") == 3, out + err)
     status, out, err = tests.tool("explain", tests.file("escapes.java", ESCAPES))

@@ -7,8 +7,6 @@ import explain_words as words
 # at: the place of its byte, or none; exact: whether the column is known; kind, sentence: what is said; name: of what.
 Fault = namedtuple("Fault", "at exact kind sentence name")
 
-MODIFIERS = ("public", "protected", "private", "abstract", "static", "final")
-
 
 def lexical(source, kind, at):
     if kind == "BadByte":
@@ -20,23 +18,9 @@ def lexical(source, kind, at):
     return Fault(at, True, kind, sentence, None)
 
 
-def maker_in(source):
-    """The `(` behind the name of the first constructor of a text that has a tree, or nothing."""
-    depth = 0
-    for k, token in enumerate(source.tokens):
-        depth += (token.text == "{") - (token.text == "}") if token.kind == "mark" else 0
-        is_head = depth == 1 and token.text == "(" and source.tokens[k - 1].kind == "word"
-        if is_head and source.tokens[k - 2].text in ("{", "}", ";", *MODIFIERS):
-            return k
-    return None
-
-
 def syntactic(source, kind, k):
     if kind == "TooDeep":
         return Fault(source.tokens[k].at, True, kind, words.TOO_DEEP, None)
-    if k == 0 and source.tokens and source.tokens[0].text in ("class", "interface", *MODIFIERS):
-        # Such a token does begin a program: the text has a constructor, and is refused as a whole.
-        k = maker_in(source) or k
     k, sentence = words.at_token(source, k)
     return Fault(None if k is None else source.tokens[k].at, True, kind, sentence, None)
 

@@ -371,7 +371,7 @@ def arrays(mender, k):
 
 
 def members(mender, k):
-    """An initial value of a field, a constructor, a block or a class in a class."""
+    """An initial value of a field, a constructor in an interface or without a body, a block or a class in a class."""
     text = mender.text
     around = text.around(k)
     if len(around) == 1 and text.text(k) == "=":
@@ -381,7 +381,7 @@ def members(mender, k):
     if len(around) == 1 and text.text(k) == "{" and text.text(k - 1) in ENDS + ("static",):
         return mender.without(k - (text.text(k - 1) == "static"), text.closing(k))
     if len(around) == 1 and text.text(k) == ";":
-        return [text.replace(k, k)]
+        return [text.replace(k, k, "{ }" if text.text(k - 1) == ")" else "")]
     for at in (k, k - 1):
         if around and text.text(at) in ("class", "interface") and text.text(at - 1) != ".":
             mender.lost.add(text.text(at + 1))

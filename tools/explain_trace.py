@@ -27,14 +27,23 @@ class Noted:
         while any(token.text == self.spare for token in self.tokens):
             self.spare += "_"
         for body in declarations.bodies:
-            self.put(body.opens + 1, note("b", body.opens))
-            self.body(body)
+            begins = self.behind_above(body.opens + 1)
+            self.put(begins, note("b", body.opens))
+            self.body(body, begins)
             self.put(body.closes, note("e", body.closes))
 
     def put(self, k, text):
         self.before[k] = self.before.get(k, "") + text
 
-    def body(self, body):
+    def behind_above(self, k):
+        """The token behind the `super(..);` that may stand at a token: no note stands before it."""
+        if [token.text for token in self.tokens[k : k + 2]] != ["super", "("]:
+            return k
+        while self.tokens[k].text != ";":
+            k += 1
+        return k + 1
+
+    def body(self, body, begins):
         brackets = []
         for k in range(body.opens, body.closes):
             text = self.tokens[k].text
@@ -42,7 +51,8 @@ class Noted:
                 brackets.append(text)
             elif text in (")", "]", "}"):
                 brackets.pop()
-            if text in (";", "{", "}") and brackets[-1:] == ["{"] and self.tokens[k + 1].text != "else":
+            is_end = text in (";", "{", "}") and brackets[-1:] == ["{"] and k + 1 >= begins
+            if is_end and self.tokens[k + 1].text != "else":
                 self.put(k + 1, note("s", k + 1))
             if text == "return":
                 self.enclose(k, body.result)

@@ -1,6 +1,7 @@
 """The sentences of tools/explain: what stands at the place of a refusal, and what to write instead."""
 import re
 
+import explain_makers as makers
 from explain_tokens import Pieces
 
 KEYWORDS = {
@@ -44,7 +45,6 @@ GENERIC = "there are no generics: write a class for the one type, or take Object
 FOREACH = "`:` after the head of a for: for-each is not in the language; write an index, such as for (int i = 0; i < a.length; i++)"
 CHOICE = "`? :` is not in the language: write if (..) {..} else {..}"
 INITIAL = "a field has no initial value in its declaration: set it in main, or in a method that is called first (a constant can be a static method)"
-MAKER = "this is no member: a method has a result type or void, and where it is a constructor, a method such as init sets the fields in its place"
 ARRAY = "there are no array initialisers: write new T[N] and store each element by its index"
 
 
@@ -221,8 +221,9 @@ def in_class(spot):
         return "the brackets stand behind the type: int[] a"
     if text == "<" or before == "<" or text == ">":
         return GENERIC
-    if text == "(" and spot.is_name(-1):
-        return MAKER
+    found = makers.in_class(spot)
+    if found:
+        return found
     if text in ("class", "interface") or before in ("class", "interface"):
         return "there are no classes within classes: declare it beside the others (or a `}` is missing before it)"
     if text == "{":
@@ -269,8 +270,9 @@ def in_body(spot):
         return "the brackets stand behind the type: int[] a"
     if text == "]" and before == "[":
         return ARRAY if "new" in said else None
-    if text in ("super", "this") or before in ("super", "this") and text == "(":
-        return "there are no constructors to call: write a method such as init, and call it by its name"
+    found = makers.in_body(spot)
+    if found:
+        return found
     if text == "." and (before == "." or after == "."):
         return "there are no variable numbers of arguments: take an array"
     if spot.is_name() and spot.is_name(-1) and "instanceof" in said:
@@ -318,6 +320,9 @@ def class_at(source, at):
 def of_name(source, kind, name, at):
     """The sentence for a condition on names that holds at a place."""
     holder = class_at(source, at)
+    found = makers.of_name(source, kind, name, at, holder)
+    if found:
+        return found
     if kind == "Overload" and re.fullmatch("init[A-Z]*", name) and holder:
         return f"`{name}` has other parameters in a class above or below: call it {name}{holder} here, with its class"
     if kind == "Unknown" and name == "System":
@@ -335,12 +340,12 @@ def of_name(source, kind, name, at):
 
 def of_rule(source, rule, at):
     """The sentence for a rule of types, or a form, that fails at a place."""
-    return FORMS[rule] if rule in FORMS else RULES[rule]
+    return makers.of_rule(source, rule, at) or (FORMS[rule] if rule in FORMS else RULES[rule])
 
 
 RULES = {
     "Assign": "the value does not fit what it is stored into; an int becomes a char, and an object one of a class below, by a cast",
-    "Arguments": "the arguments do not fit the parameters in number or type; a creation takes none",
+    "Arguments": "the arguments do not fit the parameters in number or type",
     "Operand": "an operand has a type that the operator does not take: there are int, char and boolean, and + joins a String with them or a String; "
     "print takes these four",
     "Condition": "the test is not boolean",

@@ -4,7 +4,7 @@ import re
 from explain_warnings import unicode_escapes
 from kaba_names import warning_of_method, warning_of_type
 from kaba_scripts import edits_in
-from kaba_tools import Declarations, Source, bytes_of, fail, kaba
+from kaba_tools import Declarations, Source, bytes_of, fail_as, kaba
 
 CONDITIONS = ("if", "while", "for")
 CONSTANT = (
@@ -76,7 +76,7 @@ def columns_of(file):
     """The labels of the columns of a program's table."""
     status, out, error = kaba("table", file)
     if status:
-        fail(error or f"the program ends with {status}", status)
+        fail_as(status, error, file)
     lines = out.decode().split("\ncolumns ", 1)[1].splitlines()[1:]
     return [line.split(" ", 1)[1] for line in lines]
 
@@ -85,10 +85,8 @@ def explain_written(file, script):
     """Tells the places of a file and of a script; gives the status of the program on the file."""
     source = Source(bytes_of(file))
     status, _, error = kaba("run", file, "0")
-    if status == 65:
-        fail(f"{error}; tools/explain {file} says more", status)
     if status not in (0, 10, 11):
-        fail(error or f"the program ends with {status}", status)
+        fail_as(status, error, file)
     declared = Declarations(source)
     found = sorted(of_text(source, declared))
     told = [f"{file}:{line}: {said}\n    {source.line(line).strip()}" for line, said in found]

@@ -1,6 +1,6 @@
 """What the analysis of a program shows: its lattice and its text, with each row and column in words and lines."""
 from kaba_given import Plain
-from kaba_tools import BadLattice, Declarations, Lattice, Source, bytes_of, class_of, fail, kaba
+from kaba_tools import BadLattice, Declarations, Lattice, Source, bytes_of, class_of, fail, fail_as, kaba
 
 KINDS = {"fld": "field", "dcl": "declaration", "def": "body", "is": "mark"}
 NO_CLASS = ("int", "boolean", "char", "String", "void")
@@ -124,10 +124,8 @@ def analyse(file, most=16384):
     """The analysis of a file, or one line and the program's status."""
     data = bytes_of(file)
     status, output, error = kaba("lattice", "-j", "-c", str(most), file)
-    if status == 65:
-        fail(f"{error}; tools/explain {file} says more", status)
     if status:
-        fail(error or f"the program ends with {status}", status)
+        fail_as(status, error, file)
     try:
         return Analysis(file, Source(data), Lattice(output))
     except BadLattice as error:

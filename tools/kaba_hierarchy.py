@@ -9,7 +9,7 @@ from pathlib import Path
 
 from kaba_analysis import analyse
 from kaba_scripts import edits_in, fault_in
-from kaba_tools import bytes_of, fail, kaba
+from kaba_tools import bytes_of, fail, fail_as, kaba
 
 MOST_CONCEPTS, MOST_EDITS = 16384, 4096
 MADE, REFUSED, BAD_SCRIPT, NO_TREE = 0, 4, 69, 5
@@ -116,9 +116,7 @@ def end_with(status, error, file, script_name, script):
         number = int(found[1])
         line = script.split(b"\n")[number - 1]
         fail(f"{script_name}:{number}: {fault_in(line)}", status)
-    if status == 65:
-        fail(f"{error}; tools/explain {file} says more", status)
-    fail(error or f"the program ends with {status}", status)
+    fail_as(status, error, file)
 
 
 def asked(command, file, script_name, script, most):

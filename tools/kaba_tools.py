@@ -20,6 +20,7 @@ HERE = Path(__file__).resolve().parent.parent
 # Where `rt ci` and tools/build make the program, and where `./kaba` keeps a copy of it.
 BUILT, KEPT = HERE / "crates" / "kaba" / "out" / "kaba", HERE / "out" / "kaba"
 FILE_LIMIT, USAGE = 1048576, 64
+NO_MAKERS = "`run` takes constructors, the analysis does not yet: write a method such as init in place of each (docs/JAVA.md)"
 
 Token = namedtuple("Token", "kind text at")  # kind: word, number, char, string or mark; at: the place of its first byte
 Declared = namedtuple("Declared", "label type line")  # a variable: the label of its row, the text of its type, and its line
@@ -93,6 +94,12 @@ class Words(argparse.ArgumentParser):
 
     def error(self, message):
         fail(f"{message}; --help says more", 64)
+
+
+def fail_as(status, error, file):
+    """Ends the tool with what the program says of a file, and with where more is said of it."""
+    more = {65: f"; tools/explain {file} says more", 75: f"; {NO_MAKERS}"}.get(status, "")
+    fail((error or f"the program ends with {status}") + more, status)
 
 
 def words_of(documentation):

@@ -73,15 +73,18 @@ class Program:
             lines.append(c.heading())
             lines += [f"  {kind} {name};" for name, kind in c.own_fields]
             self.this = c
+            lines += self.maker(c)
             for name, signature in c.own_methods:
                 lines += self.method(self.modifier(name), name, signature)
             lines.append("}")
         self.this = None
         lines.append(f"class {self.prefix} {{")
+        lines += self.main_fields()
         for name, signature in self.statics.items():
             lines += self.method("static ", name, signature)
         self.scope, self.in_main, self.left = [("args", "String[]")], True, 40
         lines.append("  static void main(String[] args) {")
+        lines += self.main_start()
         lines += self.statements(2, self.random.randint(6, 14))
         return "\n".join(lines + ["  }", "}", ""])
 
@@ -90,6 +93,28 @@ class Program:
 
     def modifier(self, method):
         """What stands before the method of a class."""
+        return ""
+
+    # what a kind of programs may add (random_makers.py)
+
+    def maker(self, c):
+        """The lines of the constructor of a class, where it writes one."""
+        return []
+
+    def main_fields(self):
+        """The lines of the fields of main's class."""
+        return []
+
+    def main_start(self):
+        """The lines with which main begins."""
+        return []
+
+    def may_make(self, c):
+        """Whether an object of a class may be made where the text is."""
+        return True
+
+    def arguments_for(self, name, depth):
+        """The text between the brackets of a creation."""
         return ""
 
     def declare(self, c):
@@ -184,8 +209,11 @@ class Program:
         near = [name for name, c in self.objects() if c.is_below(kind) or self.class_of(kind).is_below(c.name)]
         if near and depth > 0 and self.chance(0.2):
             return f"(({kind}) {self.pick(*near)})"
-        classes = [c.name for c in self.classes if c.is_below(kind)]
-        return "null" if self.chance(0.1) or not classes else f"(new {self.pick(*classes)}())"
+        classes = [c.name for c in self.classes if c.is_below(kind) and self.may_make(c)]
+        return "null" if self.chance(0.1) or not classes else self.creation(self.pick(*classes), depth)
+
+    def creation(self, name, depth):
+        return f"(new {name}({self.arguments_for(name, depth)}))"
 
     def number(self, depth):
         form = self.random.randint(0, 9) if depth > 0 else 9
