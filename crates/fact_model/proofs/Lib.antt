@@ -6,3 +6,4 @@ pub mod EntryLemmas
 pub mod ChainLemmas
 pub mod NearestLemmas
 pub mod FreeLemmas
+pub mod MarkedNames

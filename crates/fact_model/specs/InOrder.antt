@@ -10,6 +10,7 @@ use Rattle.fact_model.specs.Items.{site_at, cell_at, row_at, column_at, point_ro
 use Rattle.fact_model.specs.Classes.{parent_of, faces_of, IsBelow, IsAcyclic, is_interface, finds}
 use Rattle.fact_model.specs.Flowing.{IsInRow}
 use Rattle.fact_model.specs.declared.facts.Facts.{Facts}
+use Rattle.fact_model.specs.declared.facts.MakerNames.{MakerNames}
 use Rattle.fact_model.specs.declared.sets.Table.{Table}
 use Rattle.fact_model.specs.declared.facts.BodyInfo.{BodyInfo}
 use Rattle.fact_model.specs.declared.facts.CastInfo.{CastInfo}
@@ -151,7 +152,13 @@ module _ (F : Facts) where
     -- the columns of a slot have one name
     pub names : (c d x : ℕ) → column_slot F c ≡ Some x → column_slot F d ≡ Some x → name_of c ≡ name_of d
 
-  -- the names of the text
+  -- the names of the holder and of the local of the methods that make objects stand among the words, and no field has the holder's
+  pub record AreMakersInOrder (m : MakerNames) : Type 0 where
+    pub holder : Contains F.words.items m.holder
+    pub local : Contains F.words.items m.local
+    pub fields : (c : ℕ) → c < length F.columns.items → column_kind F c ≡ Fld → name_of c ≢ m.holder
+
+  -- the names of the text, and those that are fixed beside them
   pub record AreNamesInOrder : Type 0 where
     pub vars : All (Contains F.words.items) F.vars.items
     pub holders : All (λ k. k.holder ≡ true → Contains F.words.items k.name) F.classes.items
@@ -162,6 +169,7 @@ module _ (F : Facts) where
     pub fields : (c : ℕ) → c < length F.columns.items → column_kind F c ≡ Fld → All (λ k. k.holder ≡ true → name_of c ≢ k.name) F.classes.items
     pub others : (c : ℕ) → c < length F.columns.items → column_kind F c ≡ Fld → (name_of c ≢ codes "Object") × (name_of c ≢ codes "String")
         × (name_of c ≢ codes "System")
+    pub makers : (m : MakerNames) → F.makers ≡ Some m → AreMakersInOrder m
 
 -- all of these: classes, types, owners, bodies, sites, tests, members and names are in order
 pub record InOrder (F : Facts) : Type 0 where

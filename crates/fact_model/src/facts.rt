@@ -165,14 +165,15 @@ pub struct TestInfo {
     pub place: Place,
 }
 
-/// The names of the holder of makers, and of the one local in them.
+/// The names that are fixed for the methods that make objects of classes with a constructor in a written program: of
+/// the class that holds them, and of the one local in each.
 #[derive(Drop)]
 pub struct MakerNames {
     pub holder: Name,
     pub local: Name,
 }
 
-/// The name of the maker of a creation that has a constructor.
+/// The name of the method that makes the objects of a site whose class has a constructor.
 #[derive(Drop)]
 pub struct MakeInfo {
     pub site: SiteId,
@@ -186,7 +187,7 @@ pub enum SpotKind {
     Call,
 }
 
-/// A cast, an `instanceof` or a call in the text: its number in `tests` or in `calls`, and its place.
+/// A cast or a call through a receiver in the text: its number in `tests` or in `calls`, and its place.
 #[derive(Clone, Copy)]
 pub struct Spot {
     pub kind: SpotKind,
@@ -219,14 +220,17 @@ pub struct Facts {
     pub supers: Vec<SuperInfo>,
     pub ties: Vec<TieInfo>,
     pub tests: Vec<TestInfo>,
-    /// The names of classes, fields, methods, parameters and locals, each once where it first stands.
+    /// The names of classes, fields, methods, parameters and locals, each once where it first stands, and behind them
+    /// the names that are fixed for constructors: of their slots, of the holder and the local of the methods that make
+    /// objects, and of those methods.
     pub words: Vec<Name>,
-    /// The name of every type, and of every local, parameter and field.
+    /// The name of every field, parameter and local.
     pub vars: Vec<Name>,
-    /// There where a creation has a constructor.
+    /// There where a creation is of a class with a constructor.
     pub makers: Option<MakerNames>,
-    /// The makers by their site.
+    /// The methods that make objects, by their site.
     pub makes: Vec<MakeInfo>,
-    /// Casts, `instanceof` and calls by their place.
+    /// The casts and the calls through a receiver, by their place. An `instanceof`, a super call and a call of a
+    /// constructor have none.
     pub spots: Vec<Spot>,
 }

@@ -41,7 +41,7 @@ calling = record program {
 }
 
 -- the `instanceof` has the first number among the tests, and no spot
-spots : numbered_spots 0 0 (by_place (λ x. x.place.at) (gathered calling (λ b. marks_of (numbers calling))))
+spots : numbered_spots 0 0 (by_place (λ x. x.place.at) (gathered calling (λ b. marks_of calling (numbers calling))))
     ≡ record { kind = spot.Cast; at = 1; place = record { at = 72; line = 1 } } ∷ record { kind = spot.Call; at = 0; place = record { at = 81; line = 1 } }
     ∷ record { kind = spot.Cast; at = 2; place = record { at = 91; line = 1 } } ∷ record { kind = spot.Call; at = 1; place = record { at = 95; line = 1 } } ∷ []
 unfolding numbers bodies_of points_of point_number sites_of site_number rows_of row_number columns_of column_number parts_of type_in search_order declaration_of

@@ -9,6 +9,7 @@ use Rattle.kaba_base.proofs.ListLemmas.{contains_cases}
 use Rattle.fact_model.specs.declared.facts.Spot.{Spot}
 use Rattle.fact_model.specs.declared.facts.SpotKind.TheVariants as spot
 use Rattle.fact_model.specs.declared.facts.TestInfo.{TestInfo}
+use Rattle.java_core.specs.Programs.{Plain}
 use Rattle.flow_rules.specs.declared.items.Mark.{Mark}
 use Rattle.flow_rules.specs.Parts.{Part}
 use Rattle.flow_rules.specs.Ordered.{by_place}
@@ -34,8 +35,8 @@ abbrev pub test_in : Entry → List TestInfo
 test_in (an_entry_call b c) = []
 test_in (an_entry_test b t) = t ∷ []
 
-abbrev pub entries_of : Numbers → Part → List Entry
-entries_of N p = map (an_entry_call (has_spot p)) (calls_of N p) ++ map (an_entry_test (has_spot p)) (tests_of N p)
+abbrev pub entries_of : Plain → Numbers → Part → List Entry
+entries_of P N p = map (an_entry_call (has_spot P p)) (calls_of N p) ++ map (an_entry_test (has_spot P p)) (tests_of N p)
 
 -- all of it
 marks_calls : (b : Bool) (cs : List (Placed PlainCall)) → map mark_of (map (an_entry_call b) cs)
@@ -68,23 +69,23 @@ nil_right : {A : Type 0} (xs : List A) → xs ++ [] ≡ xs
 nil_right [] = refl
 nil_right (x ∷ xs) = ap (λ l. x ∷ l) (nil_right xs)
 
-pub part_marks : (N : Numbers) (p : Part) → map mark_of (entries_of N p) ≡ marks_of N p
-part_marks N p =
-    map-append mark_of (map (an_entry_call (has_spot p)) (calls_of N p)) (map (an_entry_test (has_spot p)) (tests_of N p))
-    ∙ ap (λ l. l ++ map mark_of (map (an_entry_test (has_spot p)) (tests_of N p))) (marks_calls (has_spot p) (calls_of N p))
-    ∙ ap (λ l. map (λ c. record { kind = spot.Call; is_spot = has_spot p; place = c.place }) (calls_of N p) ++ l) (marks_tests (has_spot p) (tests_of N p))
+pub part_marks : (P : Plain) (N : Numbers) (p : Part) → map mark_of (entries_of P N p) ≡ marks_of P N p
+part_marks P N p =
+    map-append mark_of (map (an_entry_call (has_spot P p)) (calls_of N p)) (map (an_entry_test (has_spot P p)) (tests_of N p))
+    ∙ ap (λ l. l ++ map mark_of (map (an_entry_test (has_spot P p)) (tests_of N p))) (marks_calls (has_spot P p) (calls_of N p))
+    ∙ ap (λ l. map (λ c. record { kind = spot.Call; is_spot = has_spot P p; place = c.place }) (calls_of N p) ++ l) (marks_tests (has_spot P p) (tests_of N p))
 
-pub part_calls : (N : Numbers) (p : Part) → flat_map call_in (entries_of N p) ≡ calls_of N p
-part_calls N p =
-    flat_map-append call_in (map (an_entry_call (has_spot p)) (calls_of N p)) (map (an_entry_test (has_spot p)) (tests_of N p))
-    ∙ ap (λ l. l ++ flat_map call_in (map (an_entry_test (has_spot p)) (tests_of N p))) (calls_calls (has_spot p) (calls_of N p))
-    ∙ ap (λ l. calls_of N p ++ l) (calls_tests (has_spot p) (tests_of N p)) ∙ nil_right (calls_of N p)
+pub part_calls : (P : Plain) (N : Numbers) (p : Part) → flat_map call_in (entries_of P N p) ≡ calls_of N p
+part_calls P N p =
+    flat_map-append call_in (map (an_entry_call (has_spot P p)) (calls_of N p)) (map (an_entry_test (has_spot P p)) (tests_of N p))
+    ∙ ap (λ l. l ++ flat_map call_in (map (an_entry_test (has_spot P p)) (tests_of N p))) (calls_calls (has_spot P p) (calls_of N p))
+    ∙ ap (λ l. calls_of N p ++ l) (calls_tests (has_spot P p) (tests_of N p)) ∙ nil_right (calls_of N p)
 
-pub part_tests : (N : Numbers) (p : Part) → flat_map test_in (entries_of N p) ≡ tests_of N p
-part_tests N p =
-    flat_map-append test_in (map (an_entry_call (has_spot p)) (calls_of N p)) (map (an_entry_test (has_spot p)) (tests_of N p))
-    ∙ ap (λ l. l ++ flat_map test_in (map (an_entry_test (has_spot p)) (tests_of N p))) (tests_calls (has_spot p) (calls_of N p))
-    ∙ tests_tests (has_spot p) (tests_of N p)
+pub part_tests : (P : Plain) (N : Numbers) (p : Part) → flat_map test_in (entries_of P N p) ≡ tests_of N p
+part_tests P N p =
+    flat_map-append test_in (map (an_entry_call (has_spot P p)) (calls_of N p)) (map (an_entry_test (has_spot P p)) (tests_of N p))
+    ∙ ap (λ l. l ++ flat_map test_in (map (an_entry_test (has_spot P p)) (tests_of N p))) (tests_calls (has_spot P p) (calls_of N p))
+    ∙ tests_tests (has_spot P p) (tests_of N p)
 
 -- by place
 pub marks_in_place : (es : List Entry) → by_place (λ (x : Mark). x.place.at) (map mark_of es) ≡ map mark_of (by_place (λ e. (mark_of e).place.at) es)

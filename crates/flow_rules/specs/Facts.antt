@@ -1,5 +1,5 @@
 -- Believed. The facts of a program: each list has exactly the items that the text gives, in their order or as a set.
-use Rattle.std.specs.Prelude.{◌≡◌, ◌↔◌, ℕ, zero, suc, ◌+◌, ◌==◌, ◌&&◌, ◌||◌, if◌then◌else◌, nat_lt, not, Bool, false, List, [], ◌∷◌, ◌++◌, length, map, drop, Contains, Option, Some, None, slice_get, codes}
+use Rattle.std.specs.Prelude.{◌≡◌, ◌↔◌, ℕ, zero, suc, ◌+◌, ◌==◌, ◌&&◌, ◌||◌, if◌then◌else◌, nat_lt, not, Bool, true, false, List, [], ◌∷◌, ◌++◌, length, map, drop, Contains, Option, Some, None, slice_get, codes}
 use Rattle.std.specs.Option.{option_map, option_map_or, option_and_then, is_some}
 use Rattle.std.specs.List.{flat_map, list_any}
 use Rattle.std.specs.Str.{bytes_eq, chars, encode_utf8_all}
@@ -9,8 +9,9 @@ use Rattle.kaba_base.specs.declared.ClassId.{ClassId}
 use Rattle.kaba_base.specs.declared.ColId.{ColId}
 use Rattle.kaba_base.specs.declared.SiteId.{SiteId}
 use Rattle.java_core.specs.Programs.{Plain, PlainClass, PlainMethod}
-use Rattle.java_core.specs.Makers.{maker_of, HasNoMaker}
+use Rattle.java_core.specs.Makers.{maker_of}
 use Rattle.java_core.specs.Classes.{below, first_or}
+use Rattle.fact_model.specs.FreeNames.{free_name}
 use Rattle.fact_model.specs.declared.facts.Facts.{Facts}
 use Rattle.fact_model.specs.declared.facts.RowInfo.{RowInfo}
 use Rattle.fact_model.specs.declared.facts.ColumnInfo.{ColumnInfo}
@@ -21,6 +22,8 @@ use Rattle.fact_model.specs.declared.facts.ClassInfo.{ClassInfo}
 use Rattle.fact_model.specs.declared.facts.CellInfo.{CellInfo}
 use Rattle.fact_model.specs.declared.facts.BodyInfo.{BodyInfo}
 use Rattle.fact_model.specs.declared.facts.CallInfo.{CallInfo}
+use Rattle.fact_model.specs.declared.facts.MakerNames.{MakerNames}
+use Rattle.fact_model.specs.declared.facts.MakeInfo.{MakeInfo}
 use Rattle.flow_rules.specs.declared.faults.Counted.{Counted}
 use Rattle.flow_rules.specs.declared.faults.Counted.TheVariants as counted
 use Rattle.flow_rules.specs.declared.faults.FactsFault.{FactsFault}
@@ -48,6 +51,11 @@ pub record TooMany : Type 0 where
 abbrev pub class_text : Plain → ℕ → List ℕ
 class_text P c = option_map_or (λ k. encode_utf8_all k.name) (slice_get P.classes c) []
 
+-- the name of a method as it is printed: that of a constructor is its class's
+abbrev pub shown_name : List ℕ → List ℕ
+shown_name [] = []
+shown_name (c ∷ cs) = if c == 60 then cs else c ∷ cs
+
 -- a member: its class, a dot and its name
 abbrev pub member_text : Plain → ℕ → List ℕ → List ℕ
 member_text P c x = class_text P c ++ codes "." ++ encode_utf8_all x
@@ -58,7 +66,7 @@ field_text P f = option_map_or (λ k. member_text P k.owner k.name) (slice_get P
 
 -- a method: its class, a dot and its name
 abbrev pub method_text : Plain → ℕ → List ℕ
-method_text P m = option_map_or (λ k. member_text P k.owner k.name) (slice_get P.methods m) []
+method_text P m = option_map_or (λ k. member_text P k.owner (shown_name k.name)) (slice_get P.methods m) []
 
 -- the name of a parameter or local of a method, by its number among both
 abbrev pub variable_name : Plain → ℕ → ℕ → List ℕ
@@ -104,6 +112,92 @@ column_text P (column.Dcl m) = codes "dcl(" ++ method_text P m ++ codes ")"
 column_text P (column.Def m) = codes "def(" ++ method_text P m ++ codes ")"
 column_text P (column.Is c) = codes "is(" ++ class_text P c.0 ++ codes ")"
 
+-- the names of a method, its parameters and its locals
+abbrev pub variable_names : PlainMethod → List (List ℕ)
+variable_names k = map (λ v. v.name) k.params ++ map (λ v. v.name) k.locals
+
+-- whether a method is a constructor, by its name
+abbrev pub is_marked : List ℕ → Bool
+is_marked [] = false
+is_marked (c ∷ cs) = c == 60
+
+-- the names of a method with its parameters and locals; those of a constructor come apart
+abbrev pub method_names : PlainMethod → List (List ℕ)
+method_names k = if is_marked k.name then [] else k.name ∷ variable_names k
+
+-- the parameters and locals of a constructor
+abbrev pub maker_names : PlainMethod → List (List ℕ)
+maker_names k = if is_marked k.name then variable_names k else []
+
+-- the names of the text: of the types but Object, of the fields, of each method with its parameters and locals, and then of the parameters and locals
+-- of each constructor
+abbrev pub all_names : Plain → List (List ℕ)
+all_names P = map (λ k. k.name) (drop 1 P.classes) ++ map (λ f. f.name) P.fields ++ flat_map method_names P.methods ++ flat_map maker_names P.methods
+
+-- ---- the names that are fixed for constructors
+
+-- what a name is fixed for: the slot of the constructor of a class, the holder of the methods that make objects, the local of each, and the method of a
+-- site
+pub data FixedFor : Type 0 where
+  an_init : ℕ → FixedFor
+  the_holder : FixedFor
+  the_local : FixedFor
+  a_make : ℕ → FixedFor
+
+-- what it is fixed for, and a name
+pub record FixedName : Type 0 where
+  pub for : FixedFor
+  pub name : List ℕ
+
+-- whether it is fixed for the same
+abbrev pub same_fixed : FixedFor → FixedFor → Bool
+same_fixed (an_init c) (an_init d) = c == d
+same_fixed the_holder the_holder = true
+same_fixed the_local the_local = true
+same_fixed (a_make i) (a_make j) = i == j
+same_fixed _ _ = false
+
+-- the names that are wished for the slots of constructors: `init_` and the class's name, by class
+abbrev pub wished_inits : Plain → ℕ → PlainClass → List FixedName
+wished_inits P c k = when (is_some (maker_of P c)) (record { for = an_init c; name = codes "init_" ++ k.name } ∷ [])
+
+-- that of a site: `make_` and its number, where its class has a constructor
+abbrev pub wished_makes : Plain → ℕ → Site → List FixedName
+wished_makes P i s = when ((s.ty.dim == 0) && is_some (maker_of P s.ty.class.0)) (record { for = a_make i; name = codes "make_" ++ decimal i } ∷ [])
+
+-- those of the holder and of the local stand before the sites', where there is a site
+abbrev pub wished_behind : List FixedName → List FixedName
+wished_behind [] = []
+wished_behind (m ∷ ms) = record { for = the_holder; name = codes "Makers" } ∷ record { for = the_local; name = codes "made" } ∷ m ∷ ms
+
+-- each of the names, with as many underscores behind it as it needs to be none of those taken, nor of those before it
+abbrev pub fixed_from : List (List ℕ) → List FixedName → List FixedName
+fixed_from taken [] = []
+fixed_from taken (w ∷ ws) =
+    let name = free_name taken w.name in
+    record { for = w.for; name = name } ∷ fixed_from (taken ++ name ∷ []) ws
+
+-- the words of the text
+abbrev pub text_words : Plain → List (List ℕ)
+text_words P = once bytes_eq encode_utf8_all (all_names P)
+
+-- the names that are fixed, in their order
+abbrev pub fixed_names : Plain → List FixedName
+fixed_names P = fixed_from (text_words P) (each (wished_inits P) 0 P.classes ++ wished_behind (each (wished_makes P) 0 (sites_of P)))
+
+-- the name that is fixed for something, where one is
+abbrev pub name_for : FixedFor → List FixedName → Option (List ℕ)
+name_for i [] = None
+name_for i (f ∷ fs) = if same_fixed i f.for then Some f.name else name_for i fs
+
+-- the words of the text, and behind them the fixed names
+abbrev pub all_words : Plain → List (List ℕ)
+all_words P = text_words P ++ map (λ f. f.name) (fixed_names P)
+
+-- the name under which a method's columns stand: that of a constructor is the one that is fixed for its slot
+abbrev pub column_name : Plain → PlainMethod → List ℕ
+column_name P k = if is_marked k.name then option_map_or (λ n. n) (name_for (an_init k.owner) (fixed_names P)) [] else k.name
+
 -- the class, the slot and the name of what a column stands for
 abbrev pub kind_of : ColumnItem → ColKind
 kind_of (column.Fld f) = kind.Fld
@@ -128,8 +222,8 @@ slot_in P (column.Is c) = None
 -- the simple name of the member or class of a column
 abbrev pub name_in : Plain → ColumnItem → List ℕ
 name_in P (column.Fld f) = option_map_or (λ k. k.name) (slice_get P.fields f) []
-name_in P (column.Dcl m) = option_map_or (λ k. k.name) (slice_get P.methods m) []
-name_in P (column.Def m) = option_map_or (λ k. k.name) (slice_get P.methods m) []
+name_in P (column.Dcl m) = option_map_or (column_name P) (slice_get P.methods m) []
+name_in P (column.Def m) = option_map_or (column_name P) (slice_get P.methods m) []
 name_in P (column.Is c) = option_map_or (λ k. k.name) (slice_get P.classes c.0) []
 
 -- a column as the facts list it
@@ -177,13 +271,42 @@ is_holder P c = list_any (λ f. f.is_static && (f.owner == c)) P.fields || list_
 abbrev pub class_facts : Plain → ℕ → PlainClass → List ClassFacts
 class_facts P c k = record { name = k.name; parent = k.parent; faces = k.faces; is_interface = k.is_interface; holder = is_holder P c } ∷ []
 
--- the names of a method, its parameters and its locals
-abbrev pub variable_names : PlainMethod → List (List ℕ)
-variable_names k = map (λ v. v.name) k.params ++ map (λ v. v.name) k.locals
-
 -- two lists have the same items
 abbrev pub IsSameSet : {A : Type 0} → List A → List A → Type 0
 IsSameSet {A} xs ys = (x : A) → Contains xs x ↔ Contains ys x
+
+-- the names of the holder and of the local of the methods that make objects, as plain data
+pub record PlainMakers : Type 0 where
+  pub holder : List ℕ
+  pub local : List ℕ
+
+-- those of the facts
+abbrev pub makers_seen : MakerNames → PlainMakers
+makers_seen m = record { holder = m.holder; local = m.local }
+
+-- those that are fixed, where a creation has a constructor
+abbrev pub makers_of : Plain → Option PlainMakers
+makers_of P =
+    option_and_then (λ h. option_map (λ l. record { holder = h; local = l }) (name_for the_local (fixed_names P))) (name_for the_holder (fixed_names P))
+
+-- the name of the method that makes the objects of a site
+pub record PlainMake : Type 0 where
+  pub site : ℕ
+  pub name : List ℕ
+
+-- one of the facts
+abbrev pub make_seen : MakeInfo → PlainMake
+make_seen m = record { site = m.site.0; name = m.name }
+
+-- the site that a name is fixed for, with the name; other names give none
+abbrev pub make_of : FixedName → List PlainMake
+make_of f = made f.for f.name
+  where
+    made : FixedFor → List ℕ → List PlainMake
+    made (a_make i) n = record { site = i; name = n } ∷ []
+    made (an_init c) n = []
+    made the_holder n = []
+    made the_local n = []
 
 module _ (N : Numbers) where
   -- the site of a creation's row, and the body of a `this`
@@ -249,10 +372,6 @@ array_cell i r = record { site = record { 0 = i }; column = None; row = record {
 abbrev pub site_cells : Plain → List FieldCell → ℕ → Site → List CellInfo
 site_cells P fs i s = if s.ty.dim == 0 then flat_map (field_cell P i s.ty.class.0) fs else array_cell i s.row
 
--- the names of the text: of the types but Object, of the fields, and of each method with its parameters and locals
-abbrev pub all_names : Plain → List (List ℕ)
-all_names P = map (λ k. k.name) (drop 1 P.classes) ++ map (λ f. f.name) P.fields ++ flat_map (λ k. k.name ∷ variable_names k) P.methods
-
 -- the names of the fields, parameters and locals
 abbrev pub all_variables : Plain → List (List ℕ)
 all_variables P = map (λ f. f.name) P.fields ++ flat_map variable_names P.methods
@@ -289,16 +408,15 @@ module _ (P : Plain) where
     pub supers : IsSameSet F.supers.items (gathered (λ b. supers_of numbers b.number))
     pub ties : IsSameSet F.ties.items (gathered (λ b. ties_of numbers P b.number b.slot))
     pub tests : F.tests.items ≡ by_place (λ t. t.place.at) (gathered (λ b. tests_of numbers))
-    -- no class has a constructor
-    pub no_maker : HasNoMaker P
-    pub makers : F.makers ≡ None
-    pub makes : F.makes.items ≡ []
+    -- what is fixed for creations that have a constructor
+    pub makers : option_map makers_seen F.makers ≡ makers_of P
+    pub makes : map make_seen F.makes.items ≡ flat_map make_of (fixed_names P)
     -- the casts and the calls through a receiver, by place
-    pub spots : F.spots.items ≡ numbered_spots 0 0 (by_place (λ x. x.place.at) (gathered (λ b. marks_of numbers)))
+    pub spots : F.spots.items ≡ numbered_spots 0 0 (by_place (λ x. x.place.at) (gathered (λ b. marks_of P numbers)))
 
 -- the names in the facts: each of the text once, in the order of the program, and those of the variables
 pub record AreNamesOf (P : Plain) (F : Facts) : Type 0 where
-  pub words : F.words.items ≡ once bytes_eq encode_utf8_all (all_names P)
+  pub words : F.words.items ≡ all_words P
   pub vars : IsSameSet F.vars.items (all_variables P)
 
 -- how many of each kind there may be
@@ -312,35 +430,11 @@ too_many P =
     (over 8192 (length (columns_of P)) counted.Columns
     (over 8192 (length (sites_of P)) counted.Sites (over 65536 (length (points_of P) + length (cells_of P)) counted.Points None)))
 
--- why the items of a program cannot be counted: there is too much of something, or no memory
-abbrev pub IsCountRefusal : Plain → FactsFault → Type 0
-IsCountRefusal P (fault.HasConstructor name) = ⊥
-IsCountRefusal P (fault.TooMany what n) = too_many P ≡ Some (record { what = what; number = n })
-IsCountRefusal P fault.Memory = Unit {0}
-
--- whether the class of a number writes a constructor: the one that it has stands elsewhere than at the class's name
-abbrev pub writes_maker : Plain → ℕ → Bool
-writes_maker P c =
-    option_map_or (λ k. option_map_or (λ h. not (h.tag.place.at == k.tag.place.at)) (option_and_then (λ m. slice_get P.methods m) (maker_of P c)) false)
-    (slice_get P.classes c) false
-
--- the first of so many numbers from c on that passes a test
-abbrev pub first_number : (ℕ → Bool) → ℕ → ℕ → Option ℕ
-first_number p zero c = None
-first_number p (suc n) c = if p c then Some c else first_number p n (suc c)
-
--- the class that is named as one with a constructor: the first that writes one; in a program that no text gave, else the first that has one
-abbrev pub maker_class : Plain → Option ℕ
-maker_class P =
-    first_or (first_number (writes_maker P) (length P.classes) 0) (first_number (λ c. is_some (maker_of P c)) (length P.classes) 0)
-
--- what a fault says of the program
+-- what a fault says of the program: there is too much of something, or no memory
 abbrev pub IsFactsRefusal : Plain → FactsFault → Type 0
-IsFactsRefusal P (fault.HasConstructor name) = option_map (λ k. k.name) (option_and_then (λ c. slice_get P.classes c) (maker_class P)) ≡ Some name
-IsFactsRefusal P (fault.TooMany what n) = (maker_class P ≡ None) × (too_many P ≡ Some (record { what = what; number = n }))
+IsFactsRefusal P (fault.TooMany what n) = too_many P ≡ Some (record { what = what; number = n })
 IsFactsRefusal P fault.Memory = Unit {0}
 
--- a program of which the facts can be given: it has no constructor, and there is not too much of anything
+-- a program of which the facts can be given: there is not too much of anything
 pub record IsWithinLimits (P : Plain) : Type 0 where
-  pub no_maker : maker_class P ≡ None
   pub counts : too_many P ≡ None

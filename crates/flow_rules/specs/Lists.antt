@@ -146,7 +146,7 @@ module _ (N : Numbers) where
   -- a creation flows into its own point, into the variable that it is assigned to, into the result of a body, and as an argument of a static or a
   -- super call into the parameter
   abbrev pub news_of : ℕ → Part → List NewInfo
-  news_of m (a_creation p u o) = created o (point_at o)
+  news_of m (a_creation p u o s d es) = created o (point_at o)
   news_of m (a_set v o) = created o (point_at v)
   news_of m (a_return o) = created o (N.point (point.Result m))
   news_of m (a_static_call p d es o) = created_args d es
@@ -176,11 +176,13 @@ module _ (N : Numbers) where
   stores_of (an_element_store p b o) = both (point_at b) (point_at o) (λ a q. record { base = a; column = None; value = q; place = p })
   stores_of _ = []
 
-  -- the calls of an instance method, whose body the receiver's sites decide
+  -- the calls of an instance method, whose body the receiver's sites decide; a creation of a class with a constructor is one of that, on its own point
   abbrev pub calls_of : Part → List (Placed PlainCall)
   calls_of (a_call p b (Some s) d es o) =
       option_map_or (λ r. record { place = p; item = record { receiver = r; slot = s; args = map point_at es; result = point_at o } }
       ∷ []) (point_at b) []
+  calls_of (a_creation p u o (Some s) d es) =
+      option_map_or (λ r. record { place = p; item = record { receiver = r; slot = s; args = map point_at es; result = None } } ∷ []) (point_at o) []
   calls_of _ = []
 
   -- the flow of what a cast or `instanceof` lets pass into a point of its own
@@ -193,11 +195,12 @@ module _ (N : Numbers) where
   tests_of (a_test p e o) = these (point_at e) (row_at o) o.ty (λ a r t. record { from = a; target = record { 0 = r }; class = t.class; place = p })
   tests_of _ = []
 
-  -- T1: the access of a field, read or written; T2: a call, and the declaration found statically
+  -- T1: the access of a field, read or written; T2: a call, and the declaration found statically, which of a creation is the constructor
   abbrev pub accesses_of : Part → List AccessInfo
   accesses_of (a_load p b (Some f) o) = accessed (row_at b) (N.column (column.Fld f))
   accesses_of (a_store p b (Some f) o) = accessed (row_at b) (N.column (column.Fld f))
   accesses_of (a_call p b s (Some d) es o) = accessed (row_at b) (N.column (column.Dcl d))
+  accesses_of (a_creation p u o s (Some d) es) = accessed (row_at o) (N.column (column.Dcl d))
   accesses_of _ = []
 
   -- T7: the `this` of the caller, and the body that a super call runs
@@ -234,6 +237,7 @@ module _ (N : Numbers) where
     ties_of m s (a_store p b (Some f) o) = tied (row_at o) (N.row (row.Field f))
     ties_of m s (an_element_store p b o) = tied (row_at o) (row_at b)
     ties_of m s (a_call p b (Some q) d es o) = slot_ties q es
+    ties_of m s (a_creation p u o (Some q) d es) = slot_ties q es
     ties_of m s (a_static_call p d es o) = method_ties d es
     ties_of m s (a_super_call p (Some d) es o) = method_ties d es
     ties_of m s (a_pair o l r) = when (is_comparison o) (pair_ties l r l.ty r.ty)

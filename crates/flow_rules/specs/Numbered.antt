@@ -63,7 +63,7 @@ own_row p (Some i) t = row_if i p t
 
 -- the row that a creation, a cast or an `instanceof` adds; other parts add none
 abbrev pub form_rows : Part → List Row
-form_rows (a_creation p u o) = own_row p o.row o.ty
+form_rows (a_creation p u o s d es) = own_row p o.row o.ty
 form_rows (a_test p e o) = own_row p o.row o.ty
 form_rows _ = []
 
@@ -79,7 +79,7 @@ array_mark p (Some t) = when (not (t.dim == 0)) (record { item = column.Is t.cla
 
 -- the marks that a creation of an array, a cast or an `instanceof` adds
 abbrev pub form_columns : Part → List Column
-form_columns (a_creation p u o) = array_mark p o.ty
+form_columns (a_creation p u o s d es) = array_mark p o.ty
 form_columns (a_test p e o) = mark p o.ty
 form_columns _ = []
 
@@ -105,7 +105,7 @@ point_of_form p o = own_point p o.point o.row o.ty
 abbrev pub form_points : Part → List PointAt
 form_points (a_load p b f o) = point_of_form p o
 form_points (an_element p b o) = point_of_form p o
-form_points (a_creation p u o) = when u (point_of_form p o)
+form_points (a_creation p u o s d es) = when u (point_of_form p o)
 form_points (a_call p b s d es o) = point_of_form p o
 form_points (a_static_call p m es o) = point_of_form p o
 form_points (a_super_call p m es o) = point_of_form p o
@@ -165,7 +165,7 @@ module _ (number : RowItem → Option ℕ) where
 
   -- a creation of a type that a row can have
   abbrev pub form_sites : Part → List Site
-  form_sites (a_creation p u o) = site_if p o.created o.ty (number_if o.row)
+  form_sites (a_creation p u o s d es) = site_if p o.created o.ty (number_if o.row)
   form_sites _ = []
 
   -- a flow point has a row

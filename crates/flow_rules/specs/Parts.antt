@@ -1,11 +1,13 @@
 -- Believed. The parts of a body that facts come from, in the order of the text. This is the one recursion over trees:
 -- each list of the facts is read off the parts.
-use Rattle.std.specs.Prelude.{ℕ, Bool, true, false, List, [], ◌∷◌, ◌++◌, Option, Some, None}
+use Rattle.std.specs.Option.{is_some}
+use Rattle.std.specs.Prelude.{ℕ, ◌||◌, Bool, true, false, List, [], ◌∷◌, ◌++◌, Option, Some, None}
 use Rattle.kaba_base.specs.declared.Place.{Place}
 use Rattle.java_core.specs.declared.BinOp.{BinOp}
 use Rattle.java_core.specs.Trees.{Ex, Exs, no_ex, ex_then, number, character, text, truth, null, this, local, static_field, own_field, field, index, call, static_call, super_call, create, create_array, cast, instance_of, unary, binary, Target, to_local, to_static, to_own, to_field, to_element, no_target, St, Sts, IfArms, declare, block, assign, act, print, choose, loop, return, break, continue, no_st, st_then, no_other, otherwise, arm}
 use Rattle.java_core.specs.Programs.{Plain, PlainMethod}
 use Rattle.java_core.specs.Classes.{super_method}
+use Rattle.java_core.specs.Makers.{maker_of, maker_slot}
 use Rattle.flow_rules.specs.declared.items.ObjectType.{ObjectType}
 use Rattle.flow_rules.specs.declared.items.Operand.{Operand}
 use Rattle.flow_rules.specs.Labels.{label_sts}
@@ -17,8 +19,9 @@ pub data Part : Type 0 where
   a_load : Place → Operand → Option ℕ → Operand → Part
   -- a read of an element: the array, and the read itself
   an_element : Place → Operand → Operand → Part
-  -- a creation: whether it is a flow point, and the creation itself
-  a_creation : Place → Bool → Operand → Part
+  -- a creation: whether it is a flow point, the creation itself, and, where its class has a constructor, the slot and the declaration of that, and
+  -- the arguments: the creation is the receiver of that call
+  a_creation : Place → Bool → Operand → Option ℕ → Option ℕ → List Operand → Part
   -- a call of an instance method: the receiver, the slot, the declaration found statically, the arguments, and the call itself
   a_call : Place → Operand → Option ℕ → Option ℕ → List Operand → Operand → Part
   -- a call of a static method: the method, the arguments, and the call itself
@@ -90,8 +93,9 @@ module _ (P : Plain) (type : Ex → Option ObjectType) (m : ℕ) (k : PlainMetho
     parts u (static_call t d es) = a_static_call t.place d (operands_of P type m k es) (operand_of P type m k (static_call t d es)) ∷ parts_all false es
     parts u (super_call t x es) = a_super_call t.place (super_method P k.owner x) (operands_of P type m k es)
         (operand_of P type m k (super_call t x es)) ∷ parts_all false es
-    parts u (create t n c es) = a_creation t.place u (operand_of P type m k (create t n c es)) ∷ parts_all false es
-    parts u (create_array t n v e) = a_creation t.place u (operand_of P type m k (create_array t n v e)) ∷ parts false e
+    parts u (create t n c es) = a_creation t.place (u || is_some (maker_of P c)) (operand_of P type m k (create t n c es)) (maker_slot P c) (maker_of P c)
+        (operands_of P type m k es) ∷ parts_all (is_some (maker_of P c)) es
+    parts u (create_array t n v e) = a_creation t.place u (operand_of P type m k (create_array t n v e)) None None [] ∷ parts false e
     parts u (cast t n v e) = a_test t.place (operand_of P type m k e) (operand_of P type m k (cast t n v e)) ∷ parts true e
     parts u (instance_of t n e c) = parts true e ++ a_test t.place (operand_of P type m k e) (test_operand m t n c) ∷ []
     parts u (unary t o e) = parts false e

@@ -1,6 +1,8 @@
 -- Believed. The spots of the text: its casts and its calls through a receiver, each with its number among the tests or
 -- the calls of the facts.
-use Rattle.std.specs.Prelude.{ℕ, ◌+◌, Bool, true, false, List, [], ◌∷◌, ◌++◌, map, Option, Some, None}
+use Rattle.std.specs.Option.{option_map_or}
+use Rattle.std.specs.Prelude.{ℕ, ◌+◌, ◌==◌, not, slice_get, Bool, true, false, List, [], ◌∷◌, ◌++◌, map, Option, Some, None}
+use Rattle.java_core.specs.Programs.{Plain}
 use Rattle.fact_model.specs.declared.facts.Spot.{Spot}
 use Rattle.fact_model.specs.declared.facts.SpotKind.{SpotKind}
 use Rattle.fact_model.specs.declared.facts.SpotKind.TheVariants as spot
@@ -24,26 +26,35 @@ is_cast_row (Some (row.Local m i)) = false
 is_cast_row (Some (row.New n)) = false
 is_cast_row (Some (row.Test n)) = false
 
--- whether a part has a spot: a call through a receiver and a cast; a super call, a static call and an `instanceof` have none
-abbrev pub has_spot : Part → Bool
-has_spot (a_call p b s d es o) = true
-has_spot (a_test p e o) = is_cast_row o.row
-has_spot (a_load p b f o) = false
-has_spot (an_element p b o) = false
-has_spot (a_creation p u o) = false
-has_spot (a_static_call p m es o) = false
-has_spot (a_super_call p m es o) = false
-has_spot (a_pair o l r) = false
-has_spot (a_set v o) = false
-has_spot (a_store p b f o) = false
-has_spot (an_element_store p b o) = false
-has_spot (a_return o) = false
+-- whether a slot is that of a constructor
+abbrev pub is_maker_slot : Plain → Option ℕ → Bool
+is_maker_slot P None = false
+is_maker_slot P (Some s) = option_map_or (λ z. begins z.name) (slice_get P.slots s) false
+  where
+    begins : List ℕ → Bool
+    begins [] = false
+    begins (c ∷ cs) = c == 60
+
+-- whether a part has a spot: a call through a receiver and a cast; a call of a constructor, a super call, a static call and an `instanceof` have none
+abbrev pub has_spot : Plain → Part → Bool
+has_spot P (a_call p b s d es o) = not (is_maker_slot P s)
+has_spot P (a_test p e o) = is_cast_row o.row
+has_spot P (a_load p b f o) = false
+has_spot P (an_element p b o) = false
+has_spot P (a_creation p u o s d es) = false
+has_spot P (a_static_call p m es o) = false
+has_spot P (a_super_call p m es o) = false
+has_spot P (a_pair o l r) = false
+has_spot P (a_set v o) = false
+has_spot P (a_store p b f o) = false
+has_spot P (an_element_store p b o) = false
+has_spot P (a_return o) = false
 
 -- each call and each test that a part gives to the facts, with or without a spot
-abbrev pub marks_of : Numbers → Part → List Mark
-marks_of N p =
-    map (λ c. record { kind = spot.Call; is_spot = has_spot p; place = c.place }) (calls_of N p)
-    ++ map (λ t. record { kind = spot.Cast; is_spot = has_spot p; place = t.place }) (tests_of N p)
+abbrev pub marks_of : Plain → Numbers → Part → List Mark
+marks_of P N p =
+    map (λ c. record { kind = spot.Call; is_spot = has_spot P p; place = c.place }) (calls_of N p)
+    ++ map (λ t. record { kind = spot.Cast; is_spot = has_spot P p; place = t.place }) (tests_of N p)
 
 -- the number of a call among the calls, and of a test among the tests, where so many of each come before
 abbrev pub mark_number : SpotKind → ℕ → ℕ → ℕ

@@ -1,6 +1,5 @@
 //! Why the facts of a program are not given.
 
-use kaba_base::Name;
 use std::alloc::AllocError;
 
 /// What is counted against a limit.
@@ -19,8 +18,6 @@ pub enum Counted {
 /// Why the facts of a program are not given.
 #[derive(Drop)]
 pub enum FactsFault {
-    /// A class has a constructor: the first that writes one.
-    HasConstructor(Name),
     /// There is too much of something; the number is one past its limit.
     TooMany(Counted, u32),
     /// Memory is short.

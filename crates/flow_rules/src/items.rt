@@ -138,8 +138,9 @@ pub enum Part {
     Load(Place, Operand, Option<u32>, Operand),
     /// A read of an element: the array, and the read itself.
     Element(Place, Operand, Operand),
-    /// A creation: whether it is a flow point, and the creation itself.
-    New(Place, bool, Operand),
+    /// A creation: whether it is a flow point, the creation itself, and the slot, the declaration and the arguments of
+    /// the call of the constructor that it runs, where its class has one.
+    New(Place, bool, Operand, Option<u32>, Option<u32>, Vec<Operand>),
     /// A call of an instance method: the receiver, the slot, the declaration found statically, the arguments, and the call itself.
     Call(Place, Operand, Option<u32>, Option<u32>, Vec<Operand>, Operand),
     /// A call of a static method, its arguments, and the call itself.
