@@ -59,7 +59,7 @@ module _ (N : Numbers) (P : Plain) where
     supers = more (supers_of N m) ps p _ a.supers b.supers;
     ties = more (ties_of N P m slot) ps p _ a.ties b.ties;
     calls = more (calls_of N) ps p _ a.calls b.calls;
-    marks = more (marks_of N) ps p _ a.marks b.marks;
+    marks = more (marks_of P N) ps p _ a.marks b.marks;
   }
 
   pub body_more : {bs : List BodyParts} {b : BodyParts} {mid new : Lists} → AreGathered N P bs mid → ArePartsAdded N P b.number b.slot b.parts mid new
@@ -79,5 +79,5 @@ module _ (N : Numbers) (P : Plain) where
         };
         tests = last (λ b. flat_map (tests_of N) b.parts) bs b g.tests h.tests;
         calls = last (λ b. flat_map (calls_of N) b.parts) bs b g.calls h.calls;
-        marks = last (λ b. flat_map (marks_of N) b.parts) bs b g.marks h.marks;
+        marks = last (λ b. flat_map (marks_of P N) b.parts) bs b g.marks h.marks;
       }

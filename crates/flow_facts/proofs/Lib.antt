@@ -1,4 +1,3 @@
-pub mod FirstMakers
 pub mod Middle
 pub mod Sorting
 pub mod Along
@@ -13,3 +12,6 @@ pub mod Ranged
 pub mod Gathers
 pub mod Walks
 pub mod Passed
+pub mod MarkedSlots
+pub mod Fixing
+pub mod Shown

@@ -74,7 +74,7 @@ module _ (count : ℕ) where
       [ true ↦ (tt, tt) | false ↦ tt ]
 
   of_form : (a : Part) → AllRanged (form_columns a)
-  of_form (a_creation p u o) = of_array p o.ty
+  of_form (a_creation p u o s d es) = of_array p o.ty
   of_form (a_test p e o) = of_mark p o.ty
   of_form (a_load p b f o) = tt
   of_form (an_element p b o) = tt

@@ -9,7 +9,7 @@ use Rattle.flow_rules.specs.declared.faults.Counted.TheVariants as counted_as
 use Rattle.flow_rules.specs.Numbered.{rows_of, columns_of, sites_of, points_of}
 use Rattle.flow_rules.specs.declared.faults.FactsFault.{FactsFault}
 use Rattle.flow_rules.specs.declared.faults.FactsFault.TheVariants as fault
-use Rattle.flow_rules.specs.Facts.{too_many, IsCountRefusal, cells_of}
+use Rattle.flow_rules.specs.Facts.{too_many, IsFactsRefusal, cells_of}
 use Rattle.flow_facts.specs.Stages.{IsCountOver, IsListed}
 use Rattle.flow_facts.proofs.Counts.{over_points, none_over}
 
@@ -25,13 +25,12 @@ module _ {A : Type 0} {n : ℕ} {xs ys : List A} where
 
 -- more than a limit of what a program has
 pub refused : (P : Plain) (n limit : ℕ) (what : Counted) (e : FactsFault) → IsCountOver n limit what e
-    → (limit < n → too_many P ≡ Some (record { what = what; number = limit + 1 })) → IsCountRefusal P e
+    → (limit < n → too_many P ≡ Some (record { what = what; number = limit + 1 })) → IsFactsRefusal P e
 refused P n limit what (fault.TooMany kind k) a f =
     let e = f a.0 in
     let p = a.1 in
     let q = a.2 in
     cc
-refused P n limit what (fault.HasConstructor _) a f = elim a [ ]
 refused P n limit what fault.Memory a f = tt
 
 -- the same count, and the same list, under another name
@@ -51,7 +50,7 @@ too_many_points P r c s h = over_points P r c s (omega (arith, h))
 -- the cells beside the flow points
 module _ (P : Plain) (r : length (rows_of P) ≤ 16384) (c : length (columns_of P) ≤ 8192) (s : length (sites_of P) ≤ 8192) {most : ℕ}
     (p : length (points_of P) + most ≡ 65536) {xs : List CellInfo} (e : xs ≡ cells_of P) where
-  pub too_many_cells : most < length xs → IsCountRefusal P (fault.TooMany counted_as.Points 65537)
+  pub too_many_cells : most < length xs → IsFactsRefusal P (fault.TooMany counted_as.Points 65537)
   too_many_cells h = let k : most < length (cells_of P) = subst (λ l. most < length l) e h in over_points P r c s (omega (arith, k, p))
 
   pub all_counted : length xs ≤ most → too_many P ≡ None

@@ -2,12 +2,12 @@
 use Rattle.std.proofs.Common.{◌≡◌, ℕ, ◌+◌, Bool, true, false, List, [], ◌∷◌, ◌++◌, length, sym, ap, ◌∙◌, subst, add-zero, arith}
 use Rattle.std.proofs.lemmas.List.{length-map}
 use Rattle.std.proofs.lemmas.List.{append-nil}
-use Rattle.std.specs.Prelude.{Some, Result, Ok, Err, IfOk}
+use Rattle.std.specs.Prelude.{Some, None, Result, Ok, Err, IfOk}
 use Rattle.kaba_base.specs.declared.Place.{Place}
 use Rattle.java_core.specs.declared.Ty.{Ty}
 use Rattle.java_core.specs.declared.UnOp.{UnOp}
 use Rattle.java_core.specs.declared.BinOp.{BinOp}
-use Rattle.java_core.specs.Trees.{Tag, Ex, Exs, this, own_field, field, index, call, create, create_array, cast, instance_of, unary, binary}
+use Rattle.java_core.specs.Trees.{Tag, Ex, Exs, this, own_field, field, index, call, create_array, cast, instance_of, unary, binary}
 use Rattle.java_core.specs.Programs.{Plain, PlainMethod}
 use Rattle.flow_rules.specs.declared.items.Operand.{Operand}
 use Rattle.flow_rules.specs.declared.items.Part.{Part}
@@ -19,7 +19,7 @@ use Rattle.flow_rules.specs.Types.{object_type, field_object, element_object}
 use Rattle.flow_rules.specs.Parts.{is_accessed, nothing, parts, a_load, an_element, a_creation, a_test, a_pair}
 use Rattle.flow_rules.specs.Parts as plain
 use Rattle.flow_facts.specs.Views.{parts_seen, part_seen, labelled_operand, load_operand, call_operand}
-use Rattle.flow_facts.specs.Walked.{IsAdded, IsOperandMade, IsWalked, AreWalked, parts_from, call_from}
+use Rattle.flow_facts.specs.Walked.{IsAdded, IsOperandMade, IsWalked, call_from}
 use Rattle.flow_facts.proofs.Composed.{then, then_at}
 
 pub if_ok : {A E : Type 0} {p q : A → Type 0} (r : Result A E) → ((a : A) → p a → q a) → IfOk r p → IfOk r q
@@ -29,15 +29,17 @@ if_ok (Err e) f h = tt
 seen-length : (xs : List Part) → length (parts_seen xs) ≡ length xs
 seen-length xs = length-map xs part_seen
 
--- a creation, and then the parts of what stands in it
-begun : {p : Place} {u : Bool} {made : Operand} {old mid new : List Part} {o : Operand} (s : ℕ) (rest : ℕ → List plain.Part)
-    → IsAdded old mid 1 (a_creation p u o ∷ []) → o ≡ made → length new ≡ length mid + s → parts_seen new ≡ parts_seen mid ++ rest (length mid)
-    → IsOperandMade old new (1 + s) (a_creation p u made ∷ rest (length old + 1)) o made
-begun {p} {u} {made} {old} {mid} {new} s rest a eo g h = record {
+-- a creation of an array, and then the parts of what stands in it
+begun : {p : Place} {u : Bool} {made : Operand} {old mid new : List Part} {o : Operand} {es : List Operand} (s : ℕ) (rest : ℕ → List plain.Part)
+    → es ≡ [] → IsAdded old mid 1 (a_creation p u o None None es ∷ []) → o ≡ made → length new ≡ length mid + s
+    → parts_seen new ≡ parts_seen mid ++ rest (length mid)
+    → IsOperandMade old new (1 + s) (a_creation p u made None None [] ∷ rest (length old + 1)) o made
+begun {p} {u} {made} {old} {mid} {new} {o} {es} s rest none a eo g h = record {
   grown = omega (arith, a.grown, g);
   value = eo;
-  parts = then_at (parts_seen old) (parts_seen mid) (parts_seen new) (a_creation p u made ∷ []) rest (length mid) (length old + 1)
-      (a.parts ∙ ap (λ q. parts_seen old ++ a_creation p u q ∷ []) eo) a.grown h;
+  parts = then_at (parts_seen old) (parts_seen mid) (parts_seen new) (a_creation p u made None None [] ∷ []) rest (length mid) (length old + 1)
+      (a.parts ∙ ap (λ q. parts_seen old ++ a_creation p u q None None es ∷ []) eo
+      ∙ ap (λ l. parts_seen old ++ a_creation p u made None None l ∷ []) none) a.grown h;
 }
 
 module _ (P : Plain) (m : ℕ) (k : PlainMethod) where
@@ -104,7 +106,8 @@ module _ (P : Plain) (m : ℕ) (k : PlainMethod) {u : Bool} {E : Ex} where
   this_walked {old = old} is e = as_form is (record { grown = sym (add-zero (length old)); value = e; parts = sym (append-nil (parts_seen old)) })
 
   pub call_walked : {t : Tag} {x : List ℕ} {es : Exs} {B : Ex} {old mid new : List Part} {b o : Operand} → E ≡ call t B x es → IsWalked P m k true B old mid b
-      → IsOperandMade mid new (1 + sizes es) (call_from P m k t.place b x (length mid) es) o (call_operand P m (length mid) b.ty x) → IsWalked P m k u E old new o
+      → IsOperandMade mid new (1 + sizes es) (call_from P m k t.place b x (length mid) es) o (call_operand P m (length mid) b.ty x)
+      → IsWalked P m k u E old new o
   call_walked {t} {x} {es} {B} {old} {mid} {new} {b} {o} is w h =
       let n = length old in
       let last : parts_seen new ≡ parts_seen mid ++ call_from P m k t.place (is_of P m k (label n B)) x (length mid) es =
@@ -117,20 +120,15 @@ module _ (P : Plain) (m : ℕ) (k : PlainMethod) {u : Bool} {E : Ex} where
       })
 
   pub made_walked : {F : Ex} {old new : List Part} {o : Operand} → E ≡ F
-      → IsOperandMade old new (size F) (parts P (object_type P k) m k u (label (length old) F)) o (is_of P m k (label (length old) F)) → IsWalked P m k u E old new o
+      → IsOperandMade old new (size F) (parts P (object_type P k) m k u (label (length old) F)) o (is_of P m k (label (length old) F))
+      → IsWalked P m k u E old new o
   made_walked is h = as_form is (record { grown = h.grown; value = h.value; parts = h.parts })
 
-  pub creation_walked : {t : Tag} {i c : ℕ} {es : Exs} {old mid new : List Part} {o : Operand} {os : List Operand} → E ≡ create t i c es
-      → IsAdded old mid 1 (a_creation t.place u o ∷ [])
-      → o ≡ record { point = Some (point.Expr m (length old)); row = Some (row.New i); ty = class_object c; created = Some i }
-      → AreWalked P m k false es mid new os → IsWalked P m k u E old new o
-  creation_walked {es = es} is a eo w = made_walked is (begun _ (λ l. parts_from P m k false l es) a eo w.grown w.parts)
-
-  pub array_walked : {t : Tag} {i : ℕ} {y : Ty} {S : Ex} {old mid new : List Part} {o s : Operand} → E ≡ create_array t i y S
-      → IsAdded old mid 1 (a_creation t.place u o ∷ [])
+  pub array_walked : {t : Tag} {i : ℕ} {y : Ty} {S : Ex} {old mid new : List Part} {o s : Operand} {es : List Operand} → E ≡ create_array t i y S
+      → es ≡ [] → IsAdded old mid 1 (a_creation t.place u o None None es ∷ [])
       → o ≡ record { point = Some (point.Expr m (length old)); row = Some (row.New i); ty = object_of y; created = Some i }
       → IsWalked P m k false S mid new s → IsWalked P m k u E old new o
-  array_walked {S = S} is a eo w = made_walked is (begun _ (λ l. parts P (object_type P k) m k false (label l S)) a eo w.grown w.parts)
+  array_walked {S = S} is none a eo w = made_walked is (begun _ (λ l. parts P (object_type P k) m k false (label l S)) none a eo w.grown w.parts)
 
   pub cast_walked : {t : Tag} {i : ℕ} {y : Ty} {V : Ex} {old mid z new : List Part} {v o p : Operand} → E ≡ cast t i y V
       → IsAdded old mid 1 (a_test t.place p o ∷ []) → IsWalked P m k true V mid z v

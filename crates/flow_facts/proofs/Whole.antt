@@ -26,6 +26,9 @@ module _ (P : Plain) (d : Numbered) (n : IsNumbered P d) where
   pub few_columns : length d.columns.items < 4294967295
   few_columns = let k : length d.columns.items ≤ 8192 = subst (λ l. length l ≤ 8192) (sym n.columns) n.few in omega (arith, k)
 
+  pub few_sites : length d.sites.items < 4294967295
+  few_sites = let k : length d.sites.items ≤ 8192 = subst (λ l. length l ≤ 8192) (sym n.sites) n.few_sites in omega (arith, k)
+
   pub rows_whole : (xs : List RowInfo) → xs ≡ map (row_info (numbers_seen d.numbering) P) d.rows.items
       → xs ≡ map (row_info (numbers P) P) (numbered.rows_of P)
   rows_whole xs e = e ∙ ap (λ N. map (row_info N P) d.rows.items) n.numbers ∙ ap (map (row_info (numbers P) P)) n.rows
@@ -69,7 +72,7 @@ module _ (P : Plain) (d : Numbered) (n : IsNumbered P d) where
       → ys ≡ by_place (λ t. t.place.at) (gathered P (λ b. tests_of (numbers P)))
   tests_whole ys h = h ∙ ap (by_place (λ t. t.place.at)) (gathered_whole (λ N b. tests_of N) _ refl)
 
-  pub marks_whole : (ys : List Mark) → ys ≡ by_place (λ x. x.place.at) (flat_map (λ b. flat_map (marks_of (numbers_seen d.numbering)) b.parts)
+  pub marks_whole : (ys : List Mark) → ys ≡ by_place (λ x. x.place.at) (flat_map (λ b. flat_map (marks_of P (numbers_seen d.numbering)) b.parts)
       (map body_seen d.bodies.items))
-      → ys ≡ by_place (λ x. x.place.at) (gathered P (λ b. marks_of (numbers P)))
-  marks_whole ys h = h ∙ ap (by_place (λ x. x.place.at)) (gathered_whole (λ N b. marks_of N) _ refl)
+      → ys ≡ by_place (λ x. x.place.at) (gathered P (λ b. marks_of P (numbers P)))
+  marks_whole ys h = h ∙ ap (by_place (λ x. x.place.at)) (gathered_whole (λ N b. marks_of P N) _ refl)

@@ -23,7 +23,7 @@ module _ (N : Numbers) (P : Plain) where
     pub supers : new.unordered.supers.items ≡ old.unordered.supers.items ++ supers_of N m p
     pub ties : new.unordered.ties.items ≡ old.unordered.ties.items ++ ties_of N P m slot p
     pub calls : calls_seen new.calls.items ≡ calls_seen old.calls.items ++ calls_of N p
-    pub marks : new.marks.items ≡ old.marks.items ++ marks_of N p
+    pub marks : new.marks.items ≡ old.marks.items ++ marks_of P N p
 
   -- each list has what the parts of a method's body give to it more
   pub record ArePartsAdded (m : ℕ) (slot : Option ℕ) (ps : List Part) (old new : Lists) : Type 0 where
@@ -37,7 +37,7 @@ module _ (N : Numbers) (P : Plain) where
     pub supers : new.unordered.supers.items ≡ old.unordered.supers.items ++ flat_map (supers_of N m) ps
     pub ties : new.unordered.ties.items ≡ old.unordered.ties.items ++ flat_map (ties_of N P m slot) ps
     pub calls : calls_seen new.calls.items ≡ calls_seen old.calls.items ++ flat_map (calls_of N) ps
-    pub marks : new.marks.items ≡ old.marks.items ++ flat_map (marks_of N) ps
+    pub marks : new.marks.items ≡ old.marks.items ++ flat_map (marks_of P N) ps
 
   -- each list that is read as a set has what the parts of the bodies give to it
   pub record AreUnordered (bs : List BodyParts) (l : Unordered) : Type 0 where
@@ -55,4 +55,4 @@ module _ (N : Numbers) (P : Plain) where
     pub unordered : AreUnordered bs l.unordered
     pub tests : l.tests.items ≡ flat_map (λ b. flat_map (tests_of N) b.parts) bs
     pub calls : calls_seen l.calls.items ≡ flat_map (λ b. flat_map (calls_of N) b.parts) bs
-    pub marks : l.marks.items ≡ flat_map (λ b. flat_map (marks_of N) b.parts) bs
+    pub marks : l.marks.items ≡ flat_map (λ b. flat_map (marks_of P N) b.parts) bs

@@ -7,3 +7,4 @@ pub mod Owned
 pub mod Walked
 pub mod Holders
 pub mod Words
+pub mod Fixed

@@ -21,7 +21,6 @@ pub record IsListed {T K : Type 0} (key : T → K) (limit : ℕ) (wanted list : 
 -- what a fault says of a count and its limit
 abbrev pub IsCountOver : ℕ → ℕ → Counted → FactsFault → Type 0
 IsCountOver n limit what (fault.TooMany kind k) = (limit < n) × (kind ≡ what) × (k ≡ limit + 1)
-IsCountOver n limit what (fault.HasConstructor _) = ⊥
 IsCountOver n limit what fault.Memory = Unit {0}
 
 -- the rows and the columns, with their items
@@ -44,5 +43,7 @@ pub record IsNumbered (P : Plain) (d : Numbered) : Type 0 where
   pub bodies : map body_seen d.bodies.items ≡ bodies_of P
   pub numbers : numbers_seen d.numbering ≡ numbers P
   pub column_items : d.numbering.columns.keys ≡ map (λ c. c.item) (columns_of P)
+  pub site_numbers : d.numbering.sites.keys ≡ map (λ s. s.number) (sites_of P)
   pub few : length (columns_of P) ≤ 8192
+  pub few_sites : length (sites_of P) ≤ 8192
   pub counts : too_many P ≡ None

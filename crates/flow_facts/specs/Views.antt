@@ -8,7 +8,7 @@ use Rattle.flow_rules.specs.declared.items.Operand.{Operand}
 use Rattle.flow_rules.specs.declared.items.RowItem.{RowItem}
 use Rattle.flow_rules.specs.declared.items.RowItem.TheVariants as row
 use Rattle.flow_rules.specs.declared.items.PointItem.TheVariants as point
-use Rattle.flow_rules.specs.Operands.{object_field, call_slot, super_slot, variable_row}
+use Rattle.flow_rules.specs.Operands.{object_field, call_slot, super_slot, class_object, variable_row}
 use Rattle.flow_rules.specs.Types.{field_object, slot_object, method_object, variable_object}
 use Rattle.flow_rules.specs.declared.items.Part.{Part}
 use Rattle.flow_rules.specs.declared.items.Part.TheVariants as the
@@ -21,7 +21,7 @@ use Rattle.flow_rules.specs.Numbered as numbered
 abbrev pub part_seen : Part → plain.Part
 part_seen (the.Load p b f o) = plain.a_load p b f o
 part_seen (the.Element p b o) = plain.an_element p b o
-part_seen (the.New p u o) = plain.a_creation p u o
+part_seen (the.New p u o s d es) = plain.a_creation p u o s d es.items
 part_seen (the.Call p b s d es o) = plain.a_call p b s d es.items o
 part_seen (the.StaticCall p m es o) = plain.a_static_call p m es.items o
 part_seen (the.SuperCall p m es o) = plain.a_super_call p m es.items o
@@ -55,6 +55,10 @@ static_operand P m n d = labelled_operand m n (Some (row.Result d)) (method_obje
 -- a super call: the row of what its slot gives back, and the type that the method gives back
 abbrev pub super_operand : Plain → ℕ → ℕ → ℕ → List ℕ → Operand
 super_operand P m n c x = labelled_operand m n (option_map row.Return (super_slot P c x)) (option_and_then (method_object P) (super_method P c x))
+
+-- a creation of the number n of an object of the class c, with the label l
+abbrev pub creation_operand : ℕ → ℕ → ℕ → ℕ → Operand
+creation_operand m l n c = record { point = Some (point.Expr m l); row = Some (row.New n); ty = class_object c; created = Some n }
 
 -- a parameter or a local, and a static field
 abbrev pub variable_operand : ℕ → PlainMethod → ℕ → Operand

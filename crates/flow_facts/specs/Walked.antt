@@ -1,8 +1,10 @@
 -- Mirror. What a walk over a tree adds to the parts of a body.
-use Rattle.std.specs.Prelude.{◌≡◌, ℕ, ◌+◌, ◌++◌, ◌∷◌, Bool, true, List, length, Option}
+use Rattle.std.specs.Prelude.{◌≡◌, ℕ, ◌+◌, ◌++◌, ◌∷◌, ◌||◌, Bool, true, List, length, Option}
+use Rattle.std.specs.Option.{is_some}
 use Rattle.kaba_base.specs.declared.Place.{Place}
 use Rattle.java_core.specs.Trees.{Ex, Exs}
 use Rattle.java_core.specs.Programs.{Plain, PlainMethod, program_of, code_seen}
+use Rattle.java_core.specs.Makers.{maker_of, maker_slot}
 use Rattle.flow_rules.specs.declared.items.ObjectType.{ObjectType}
 use Rattle.flow_rules.specs.declared.items.Operand.{Operand}
 use Rattle.flow_rules.specs.declared.items.Part.{Part}
@@ -11,7 +13,7 @@ use Rattle.flow_rules.specs.Operands.{operand_of, operands_of, call_slot, call_d
 use Rattle.flow_rules.specs.Types.{object_type}
 use Rattle.flow_rules.specs.Parts as plain
 use Rattle.flow_facts.specs.declared.enclosing.Enclosing.{Enclosing}
-use Rattle.flow_facts.specs.Views.{parts_seen, call_operand}
+use Rattle.flow_facts.specs.Views.{parts_seen, call_operand, creation_operand}
 
 -- what is said of a body, by its program, the types there, its number and itself
 abbrev pub in_body : {X : Type 0} → Enclosing → (Plain → (Ex → Option ObjectType) → ℕ → PlainMethod → X) → X
@@ -57,6 +59,13 @@ module _ (P : Plain) (m : ℕ) (k : PlainMethod) where
   -- the parts of arguments with their labels from n on; u tells whether a creation there is a flow point
   abbrev pub parts_from : Bool → ℕ → Exs → List plain.Part
   parts_from u n es = plain.parts_all P (object_type P k) m k u (label_all n es)
+
+  -- the parts of the creation of the number i of an object of a class, labelled from a number on; it is a flow point where u says so, and where a
+  -- constructor is called on it
+  abbrev pub creation_from : Bool → Place → ℕ → ℕ → ℕ → Exs → List plain.Part
+  creation_from u p i c n es =
+      plain.a_creation p (u || is_some (maker_of P c)) (creation_operand m n i c) (maker_slot P c) (maker_of P c) (args_from (n + 1) es)
+      ∷ parts_from (is_some (maker_of P c)) (n + 1) es
 
   -- the parts of a call of an instance method on an operand, labelled from a number on
   abbrev pub call_from : Place → Operand → List ℕ → ℕ → Exs → List plain.Part

@@ -1,18 +1,20 @@
 //! The facts over what is numbered.
 
 ghost use Rattle.std.specs.Prelude.{◌≡◌, ◌<◌, List, IfOk, length, map};
-ghost use Rattle.flow_rules.specs.Facts.{AreNamesOf, IsFactsOf, call_seen};
+ghost use Rattle.flow_rules.specs.Facts.{AreNamesOf, IsFactsOf, call_seen, fixed_names};
 ghost use Rattle.flow_rules.specs.Lists.{Numbers};
 ghost use Rattle.flow_rules.specs.Numbered as numbered;
+ghost use Rattle.flow_rules.specs.Numbered.{sites_of};
 ghost use Rattle.flow_rules.specs.Ordered.{by_place};
 ghost use Rattle.flow_facts.specs.Gathered.{AreGathered};
 ghost use Rattle.flow_facts.specs.Said.{AreFactTables, AreTexts, AreOrderedLists, IsSaid};
 ghost use Rattle.flow_facts.specs.Seen.{calls_seen};
 ghost use Rattle.flow_facts.specs.Stages.{IsNumbered};
-ghost use Rattle.java_core.specs.Makers.{HasNoMaker};
+ghost use Rattle.flow_facts.specs.Fixed.{fixed_seen};
 ghost use Rattle.flow_facts.specs.Words.{Plain, program_of, IsFormed, body_seen, numbers_seen};
 
 use crate::Tried;
+use crate::fixed::{FixedName, makers_of, makes_of};
 use crate::gathering::{Lists, gather};
 use crate::given::Given;
 use crate::infos::{body_infos, column_infos, point_rows, row_infos, site_infos};
@@ -22,6 +24,7 @@ use crate::ordered::by_place;
 use crate::spots::spots_of;
 use crate::stages::{Numbered, Tables, Texts};
 use fact_model::{CallInfo, Facts, Spot};
+use flow_rules::Site;
 use java_core::Program;
 use std::alloc::Global;
 use std::mem::{drop, replace};
@@ -42,8 +45,14 @@ fn calls_in_order(alloc: Global, calls: Vec<PlacedCall>) -> Tried<Vec<CallInfo>>
 }
 
 /// Says what each row, column, site and flow point is, and each body.
-fn list_tables(alloc: Global, program: &Program, numbered: &Numbered) -> Tried<Tables>
-    requires { length numbered.now.columns.items < 4294967295 }
+fn list_tables(
+    alloc: Global,
+    program: &Program,
+    fixed: &[FixedName],
+    numbered: &Numbered,
+) -> Tried<Tables>
+    requires few { length numbered.now.columns.items < 4294967295 }
+    requires fixed { map fixed_seen fixed.now ≡ fixed_names (program_of program.now) }
     ensures { IfOk result (λ t. AreFactTables (program_of program.now) numbered.now t) }
 {
     let given = Given {
@@ -52,7 +61,7 @@ fn list_tables(alloc: Global, program: &Program, numbered: &Numbered) -> Tried<T
         numbering: &numbered.numbering,
     };
     let rows = made!(row_infos(&given, &numbered.rows));
-    let columns = made!(column_infos(alloc, program, &numbered.columns); rows);
+    let columns = made!(column_infos(alloc, program, fixed, &numbered.columns); rows);
     let sites = made!(site_infos(alloc, &numbered.sites); rows, columns);
     let points = made!(point_rows(alloc, &numbered.points); rows, columns, sites);
     let bodies = made!(
@@ -68,17 +77,31 @@ fn list_tables(alloc: Global, program: &Program, numbered: &Numbered) -> Tried<T
     })
 }
 
-/// Lists the classes, and the names of the text.
-fn list_texts(alloc: Global, program: &Program) -> Tried<Texts>
+/// Lists the classes, the names of the text and those that are fixed for constructors.
+fn list_texts(alloc: Global, program: &Program, sites: &Vec<Site>) -> Tried<Texts>
+    requires formed { IsFormed (program_of program.now) }
+    requires sites { sites.now.items ≡ sites_of (program_of program.now) }
+    requires few { length sites.now.items < 4294967295 }
     ensures { IfOk result (λ t. AreTexts (program_of program.now) t) }
 {
     let classes = made!(class_infos(alloc, program));
-    let words = made!(words(alloc, program); classes);
-    let variables = made!(variables(alloc, program); classes, words);
+    let named = made!(words(alloc, program, sites); classes);
+    let variables = made!(variables(alloc, program); classes, named);
+    let makes = made!(
+        makes_of(alloc, named.fixed.as_slice());
+        classes, named, variables
+    );
+    let makers = made!(
+        makers_of(alloc, named.fixed.as_slice());
+        classes, named, variables, makes
+    );
     Ok(Texts {
         classes,
-        words,
+        words: named.words,
         variables,
+        fixed: named.fixed,
+        makers,
+        makes,
     })
 }
 
@@ -114,8 +137,11 @@ fn say(alloc: Global, program: &Program, numbered: &Numbered) -> Tried<Said>
     requires numbered { IsNumbered (program_of program.now) numbered.now }
     ensures { IfOk result (λ s. IsSaid (program_of program.now) numbered.now s) }
 {
-    let tables = made!(list_tables(alloc, program, numbered));
-    let texts = made!(list_texts(alloc, program); tables);
+    let texts = made!(list_texts(alloc, program, &numbered.sites));
+    let tables = made!(
+        list_tables(alloc, program, texts.fixed.as_slice(), numbered);
+        texts
+    );
     let given = Given {
         alloc,
         program,
@@ -135,8 +161,8 @@ fn say(alloc: Global, program: &Program, numbered: &Numbered) -> Tried<Said>
 
 /// The facts of what is numbered and said.
 #[tactic(none)]
-fn assemble(alloc: Global, numbered: Numbered, said: Said) -> Facts
-    ensures { (P : Plain) → HasNoMaker P → IsNumbered P numbered → IsSaid P numbered said → IsFactsOf P result × AreNamesOf P result }
+fn assemble(numbered: Numbered, said: Said) -> Facts
+    ensures { (P : Plain) → IsNumbered P numbered → IsSaid P numbered said → IsFactsOf P result × AreNamesOf P result }
 {
     let (tables, texts, lists) = (said.tables, said.texts, said.lists);
     let unordered = lists.unordered;
@@ -160,8 +186,8 @@ fn assemble(alloc: Global, numbered: Numbered, said: Said) -> Facts
         tests: lists.tests,
         words: texts.words,
         vars: texts.variables,
-        makers: None,
-        makes: Vec::new(alloc),
+        makers: texts.makers,
+        makes: texts.makes,
         spots: said.spots,
     }
 }
@@ -170,11 +196,10 @@ fn assemble(alloc: Global, numbered: Numbered, said: Said) -> Facts
 #[tactic(none)]
 pub fn facts_over(alloc: Global, program: &Program, numbered: Numbered) -> Tried<Facts>
     requires formed { IsFormed (program_of program.now) }
-    requires no_maker { HasNoMaker (program_of program.now) }
     requires numbered { IsNumbered (program_of program.now) numbered }
     ensures ok { IfOk result (λ f. IsFactsOf (program_of program.now) f) }
     ensures names { IfOk result (λ f. AreNamesOf (program_of program.now) f) }
 {
     let said = made!(say(alloc, program, &numbered); numbered);
-    Ok(assemble(alloc, numbered, said))
+    Ok(assemble(numbered, said))
 }

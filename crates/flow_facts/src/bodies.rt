@@ -12,8 +12,9 @@ ghost use Rattle.flow_facts.specs.Words.{program_of, code_seen, IsFormed, parts_
 
 use crate::Tried;
 use crate::enclosing::Enclosing;
+use crate::operands::{NOTHING, this_operand, variable_operand};
 use crate::types::{field_object, object_field};
-use crate::walk::{NOTHING, add, is_accessed, this_operand, variable_operand, walk};
+use crate::walk::{add, is_accessed, walk};
 use flow_rules::{Operand, Part, PointItem, RowItem};
 use java_core::{Program, RArm, RExpr, RStmt};
 use kaba_base::Place;

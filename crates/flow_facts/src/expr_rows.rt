@@ -8,8 +8,8 @@ ghost use Rattle.flow_rules.specs.Operands.{object_static, object_field, call_sl
 ghost use Rattle.flow_facts.specs.Words.{program_of, code_seen, IsFormed};
 
 use crate::by_number::method_by_number;
+use crate::operands::{class_object, variable_row};
 use crate::types::{object_class, object_field, object_of};
-use crate::walk::{class_object, variable_row};
 use flow_rules::{ObjectType, RowItem};
 use java_core::{Code, Program, RExpr, Static, slot_of, static_of, super_method};
 use kaba_base::{ClassId, Name};

@@ -40,7 +40,7 @@ fn add_part(given: &Given, m: u64, slot: Option<u32>, part: &Part, lists: &mut L
     made!(add_calls(given, part, &mut lists.calls));
     made!(add_casts(n, part, &mut lists.unordered.casts));
     made!(add_tests(n, part, &mut lists.tests));
-    made!(add_marks(n, part, &mut lists.marks));
+    made!(add_marks(given, part, &mut lists.marks));
     made!(add_accesses(n, part, &mut lists.unordered.accesses));
     made!(add_supers(n, m, part, &mut lists.unordered.supers));
     add_ties(given.program, n, m, slot, part, &mut lists.unordered.ties)

@@ -2,14 +2,17 @@
 
 ghost use Rattle.std.specs.Prelude.{◌≡◌, ℕ, ◌+◌, ◌<◌, ◌++◌, ◌∷◌, [], List, Option, Some, None, IfOk, OnOk, length, map, slice_get};
 ghost use Rattle.std.specs.Option.{option_map, option_map_or};
-ghost use Rattle.flow_rules.specs.Facts.{row_info, site_of_row, this_of_row, column_info, kind_of, owner_of, slot_in, name_in, site_info, field_at, fields_of, field_cell, site_cells, param_points, body_if, column_body, body_seen, class_facts, class_seen, is_holder, variable_names, all_variables};
+ghost use Rattle.flow_rules.specs.Facts.{row_info, site_of_row, this_of_row, column_info, kind_of, owner_of, slot_in, name_in, column_name, fixed_names, site_info, field_at, fields_of, field_cell, site_cells, param_points, body_if, column_body, body_seen, class_facts, class_seen, is_holder, variable_names, all_variables};
+ghost use Rattle.flow_facts.specs.Fixed.{fixed_seen};
 ghost use Rattle.flow_facts.specs.Words.{Plain, program_of, code_seen, IsFormed, each, numbers_seen, if_there};
 
 use crate::Tried;
 use crate::by_number::{class_name, field_by_number, method_by_number};
+use crate::fixed::{FixedFor, FixedName, name_for};
 use crate::given::Given;
 use crate::labels::{column_label, row_label};
 use crate::lists::put_if;
+use crate::makers::is_marked;
 use crate::numbering::Numbering;
 use fact_model::{BodyInfo, ColKind, ColumnInfo, RowInfo, SiteInfo};
 use flow_rules::{Column, ColumnItem, Point, PointItem, Row, RowItem, Site, number_among};
@@ -113,8 +116,20 @@ fn slot_in(program: &Program, item: ColumnItem) -> Option<u32>
     }
 }
 
+/// The name under which a method's columns stand: that of a constructor is the one that is fixed for its slot.
+fn column_name<'a>(fixed: &'a [FixedName], method: &Code<'a>) -> Option<&'a Name>
+    ensures value { (P : Plain) → map fixed_seen fixed.now ≡ fixed_names P
+        → option_map_or (λ x. x.now) result [] ≡ column_name P (code_seen method.now) }
+{
+    if is_marked(method.name) {
+        return name_for(fixed, FixedFor::Init(method.owner));
+    }
+    Some(method.name)
+}
+
 /// The name of what a column stands for, where it is there.
-fn named(program: &Program, item: ColumnItem) -> Option<&Name>
+fn named<'a>(program: &'a Program, fixed: &'a [FixedName], item: ColumnItem) -> Option<&'a Name>
+    requires { map fixed_seen fixed.now ≡ fixed_names (program_of program.now) }
     ensures value { option_map_or (λ x. x.now) result [] ≡ name_in (program_of program.now) item }
 {
     match item {
@@ -124,7 +139,7 @@ fn named(program: &Program, item: ColumnItem) -> Option<&Name>
         },
         ColumnItem::Dcl(method) | ColumnItem::Def(method) => {
             match method_by_number(program, method) {
-                Some(method) => Some(method.name),
+                Some(method) => column_name(fixed, &method),
                 None => None,
             }
         }
@@ -133,21 +148,24 @@ fn named(program: &Program, item: ColumnItem) -> Option<&Name>
 }
 
 /// The name of what a column stands for.
-fn name_in(alloc: Global, program: &Program, item: ColumnItem) -> Tried<Name>
+fn name_in(alloc: Global, program: &Program, fixed: &[FixedName], item: ColumnItem) -> Tried<Name>
+    requires { map fixed_seen fixed.now ≡ fixed_names (program_of program.now) }
     ensures value { IfOk result (λ x. x ≡ name_in (program_of program.now) item) }
 {
-    match named(program, item) {
+    match named(program, fixed, item) {
         Some(name) => name.copy(alloc),
         None => Name::new(alloc, ""),
     }
 }
 
-/// The columns.
+/// The columns, with the names that are fixed for constructors.
 pub fn column_infos(
     alloc: Global,
     program: &Program,
+    fixed: &[FixedName],
     columns: &Vec<Column>,
 ) -> Tried<Vec<ColumnInfo>>
+    requires { map fixed_seen fixed.now ≡ fixed_names (program_of program.now) }
     ensures value { IfOk result (λ v. v.items ≡ map (λ c. column_info (program_of program.now) c.item) columns.now.items) }
 {
     let mut list = Vec::new(alloc);
@@ -156,7 +174,7 @@ pub fn column_infos(
         let kind = kind_of(item);
         let class = owner_of(program, item);
         let slot = slot_in(program, item);
-        let name = made!(name_in(alloc, program, item); list);
+        let name = made!(name_in(alloc, program, fixed, item); list);
         let label = made!(column_label(alloc, program, item); list, name);
         let info = ColumnInfo {
             kind,

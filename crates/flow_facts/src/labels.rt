@@ -3,11 +3,12 @@
 ghost use Rattle.std.specs.Prelude.{◌≡◌, ℕ, ◌++◌, [], List, Option, Some, None, IfOk, OnOk, codes, string_bytes};
 ghost use Rattle.std.specs.Option.{option_map_or};
 ghost use Rattle.std.specs.Str.{chars};
-ghost use Rattle.flow_rules.specs.Facts.{class_text, member_text, field_text, method_text, variable_name, variable_text, brackets, at_line, row_text, row_label, column_text, first_of};
+ghost use Rattle.flow_rules.specs.Facts.{class_text, field_text, method_text, variable_name, variable_text, brackets, at_line, row_text, row_label, column_text, first_of};
 ghost use Rattle.flow_facts.specs.Words.{program_of};
 
 use crate::Tried;
 use crate::by_number::{class_name, field_by_number, method_by_number, slot_by_number};
+use crate::makers::shown_name;
 use flow_rules::{ColumnItem, Row, RowItem, variable_at};
 use java_core::Program;
 use kaba_base::{Name, Place};
@@ -44,12 +45,12 @@ fn add_class(program: &Program, class: u64, text: &mut String) -> Tried<()>
 }
 
 /// Adds the name of a member with that of its class.
-fn add_member(program: &Program, owner: u64, name: &Name, text: &mut String) -> Tried<()>
-    ensures value { OnOk result (string_bytes text.new ≡ string_bytes text.old ++ member_text (program_of program.now) owner name.now) }
+fn add_member(program: &Program, owner: u64, name: &str, text: &mut String) -> Tried<()>
+    ensures value { OnOk result (string_bytes text.new ≡ string_bytes text.old ++ class_text (program_of program.now) owner ++ codes "." ++ name.now) }
 {
     made!(add_class(program, owner, text));
     made!(add_text(".", text));
-    add_text(name.as_str(), text)
+    add_text(name, text)
 }
 
 /// Adds the name of a field with that of its class.
@@ -57,7 +58,7 @@ fn add_field(program: &Program, field: u64, text: &mut String) -> Tried<()>
     ensures value { OnOk result (string_bytes text.new ≡ string_bytes text.old ++ field_text (program_of program.now) field) }
 {
     match field_by_number(program, field) {
-        Some(field) => add_member(program, field.owner.0 as u64, &field.name, text),
+        Some(field) => add_member(program, field.owner.0 as u64, field.name.as_str(), text),
         None => Ok(()),
     }
 }
@@ -67,7 +68,10 @@ fn add_method(program: &Program, method: u64, text: &mut String) -> Tried<()>
     ensures value { OnOk result (string_bytes text.new ≡ string_bytes text.old ++ method_text (program_of program.now) method) }
 {
     match method_by_number(program, method) {
-        Some(method) => add_member(program, method.owner.0 as u64, method.name, text),
+        Some(method) => {
+            let name = shown_name(method.name);
+            add_member(program, method.owner.0 as u64, name, text)
+        }
         None => Ok(()),
     }
 }

@@ -37,6 +37,7 @@ mod by_number;
 mod cells;
 mod enclosing;
 mod expr_rows;
+mod fixed;
 mod from_part;
 mod from_variable;
 mod gathering;
@@ -47,6 +48,7 @@ mod lists;
 mod makers;
 mod names;
 mod numbering;
+mod operands;
 mod ordered;
 mod points;
 mod spots;
@@ -66,8 +68,7 @@ pub use expr_rows::row_of;
 pub use flow_rules::{
     Column, ColumnItem, Counted, FactsFault, ObjectType, PointItem, Row, RowItem, Site,
 };
-pub use makers::maker_class;
 pub use numbering::Numbering;
+pub use operands::variable_row;
 pub use survey::result_row;
 pub use top::{facts, numbering_of};
-pub use walk::variable_row;

@@ -153,7 +153,7 @@ pub fn add_news(n: &Numbering, m: u64, part: &Part, news: &mut Vec<NewInfo>) -> 
     ensures value { OnOk result (news.new.items ≡ news.old.items ++ news_of (numbers_seen n.now) m (part_seen part.now)) }
 {
     match part {
-        Part::New(_, _, own) => add_created(n, own, point_at(n, own), news),
+        Part::New(_, _, own, _, _, _) => add_created(n, own, point_at(n, own), news),
         Part::Set(target, value) => add_created(n, value, point_at(n, target), news),
         Part::Return(value) => add_created(n, value, n.point(PointItem::Result(m)), news),
         Part::StaticCall(_, callee, args, _) => add_created_args(n, *callee as u64, args, news),
@@ -254,25 +254,29 @@ fn points_at(alloc: Global, n: &Numbering, operands: &Vec<Operand>) -> Tried<Vec
     Ok(points)
 }
 
-/// Adds the calls of instance methods.
+/// Adds the calls of instance methods, and of the constructors that creations run.
 pub fn add_calls(given: &Given, part: &Part, calls: &mut Vec<PlacedCall>) -> Tried<()>
     ensures value { OnOk result (calls_seen calls.new.items
         ≡ calls_seen calls.old.items ++ calls_of (numbers_seen given.now.numbering.now) (part_seen part.now)) }
 {
-    let Part::Call(place, base, Some(slot), _, args, own) = part else {
-        return Ok(());
-    };
     let n = given.numbering;
+    let (place, base, slot, args, result) = match part {
+        Part::Call(place, base, Some(slot), _, args, own) => {
+            (*place, base, *slot, args, point_at(n, own))
+        }
+        Part::New(place, _, own, Some(slot), _, args) => (*place, own, *slot, args, None),
+        _ => return Ok(()),
+    };
     let Some(receiver) = point_at(n, base) else {
         return Ok(());
     };
+    let args = made!(points_at(given.alloc, n, args));
     let call = CallInfo {
         receiver,
-        slot: *slot,
-        result: point_at(n, own),
-        args: made!(points_at(given.alloc, n, args)),
+        slot,
+        result,
+        args,
     };
-    let place = *place;
     put(calls, PlacedCall { place, call })
 }
 
@@ -316,7 +320,7 @@ pub fn add_tests(n: &Numbering, part: &Part, tests: &mut Vec<TestInfo>) -> Tried
     }
 }
 
-/// Adds the accesses of fields, and the calls by the declaration found statically.
+/// Adds the accesses of fields, and the calls by the declaration found statically, which of a creation is the constructor.
 pub fn add_accesses(n: &Numbering, part: &Part, accesses: &mut Vec<AccessInfo>) -> Tried<()>
     ensures value { OnOk result (accesses.new.items ≡ accesses.old.items ++ accesses_of (numbers_seen n.now) (part_seen part.now)) }
 {
@@ -325,7 +329,8 @@ pub fn add_accesses(n: &Numbering, part: &Part, accesses: &mut Vec<AccessInfo>) 
             let column = n.column(ColumnItem::Fld(*field as u64));
             add_accessed(row_at(n, base), column, accesses)
         }
-        Part::Call(_, base, _, Some(declaration), _, _) => {
+        Part::Call(_, base, _, Some(declaration), _, _)
+        | Part::New(_, _, base, _, Some(declaration), _) => {
             let column = n.column(ColumnItem::Dcl(*declaration as u64));
             add_accessed(row_at(n, base), column, accesses)
         }

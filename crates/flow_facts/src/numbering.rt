@@ -1,6 +1,6 @@
 //! The numbers of rows, columns, sites and flow points.
 
-ghost use Rattle.std.specs.Prelude.{◌≡◌, ◌<◌, ◌++◌, true, IfOk, OnOk, length, map};
+ghost use Rattle.std.specs.Prelude.{◌≡◌, ◌<◌, ◌++◌, true, [], None, IfOk, OnOk, length, map};
 ghost use Rattle.std.specs.List.{flat_map};
 ghost use Rattle.flow_rules.specs.Numbered.{number_among, same_row, same_column, same_point, form_sites, listed};
 ghost use Rattle.flow_rules.specs.Parts as plain;
@@ -59,7 +59,8 @@ fn add_site(
     sites: &mut Vec<Site>,
 ) -> Tried<()>
     requires { length rows.now.keys < 4294967295 }
-    ensures value { OnOk result (sites.new.items ≡ sites.old.items ++ form_sites (number_among same_row rows.now.keys) (plain.a_creation place true own.now)) }
+    ensures value { OnOk result (sites.new.items ≡ sites.old.items ++ form_sites (number_among same_row rows.now.keys)
+        (plain.a_creation place true own.now None None [])) }
 {
     let row = match own.row {
         Some(item) => number_of_row(rows, item),
@@ -85,7 +86,7 @@ fn add_part_site(rows: &IndexSet<RowItem>, part: &Part, sites: &mut Vec<Site>) -
     ensures value { OnOk result (sites.new.items ≡ sites.old.items ++ form_sites (number_among same_row rows.now.keys) (part_seen part.now)) }
 {
     match part {
-        Part::New(place, _, own) => add_site(rows, *place, own, sites),
+        Part::New(place, _, own, _, _, _) => add_site(rows, *place, own, sites),
         _ => Ok(()),
     }
 }

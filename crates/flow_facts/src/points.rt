@@ -11,9 +11,9 @@ use crate::Tried;
 use crate::enclosing::Enclosing;
 use crate::from_part::{FromPart, add_from};
 use crate::from_variable::{FromVariable, add_from_variables};
+use crate::operands::variable_row;
 use crate::ordered::by_place;
 use crate::survey::result_row;
-use crate::walk::variable_row;
 use flow_rules::{Operand, Part, PointAt, PointItem, RowItem};
 use java_core::Local;
 use kaba_base::{Place, put};
@@ -38,7 +38,7 @@ impl FromPart for PointAt {
         match part {
             Part::Load(place, _, _, own)
             | Part::Element(place, _, own)
-            | Part::New(place, true, own)
+            | Part::New(place, true, own, _, _, _)
             | Part::Call(place, _, _, _, _, own)
             | Part::StaticCall(place, _, _, own)
             | Part::SuperCall(place, _, _, own)

@@ -1,14 +1,16 @@
 //! The spots of the text: its casts and its calls through a receiver.
 
-ghost use Rattle.std.specs.Prelude.{◌≡◌, ◌<◌, ◌↔◌, ◌++◌, IfOk, IsTrue, OnOk, Option};
-ghost use Rattle.flow_rules.specs.Spots.{is_cast_row, marks_of, mark_number, calls_after, tests_after, mark_spot, numbered_spots};
-ghost use Rattle.flow_facts.specs.Words.{part_seen, numbers_seen};
+ghost use Rattle.std.specs.Prelude.{◌≡◌, ◌<◌, ◌↔◌, ◌++◌, IfOk, IsTrue, OnOk, Option, Some};
+ghost use Rattle.flow_rules.specs.Spots.{is_cast_row, is_maker_slot, marks_of, mark_number, calls_after, tests_after, mark_spot, numbered_spots};
+ghost use Rattle.flow_facts.specs.Words.{program_of, part_seen, numbers_seen};
 
 use crate::Tried;
+use crate::by_number::slot_by_number;
+use crate::given::Given;
 use crate::lists::{point_at, row_at};
-use crate::numbering::Numbering;
 use fact_model::{Spot, SpotKind};
 use flow_rules::{Mark, Part, RowItem};
+use java_core::Program;
 use kaba_base::put;
 use std::alloc::{AllocError, Global};
 use std::mem::drop;
@@ -20,16 +22,34 @@ fn is_cast_row(row: Option<RowItem>) -> bool
     matches!(row, Some(RowItem::Cast(_)))
 }
 
-/// Adds the calls and the tests, each with whether it has a spot.
-pub fn add_marks(n: &Numbering, part: &Part, marks: &mut Vec<Mark>) -> Tried<()>
-    ensures value { OnOk result (marks.new.items ≡ marks.old.items ++ marks_of (numbers_seen n.now) (part_seen part.now)) }
+/// Whether a slot is that of a constructor, whose name alone begins with `<`.
+fn is_maker_slot(program: &Program, slot: u32) -> bool
+    ensures value { result ≡ is_maker_slot (program_of program.now) (Some slot) }
 {
+    match slot_by_number(program, slot as u64) {
+        Some(slot) => slot.name.as_str().starts_with('<'),
+        None => false,
+    }
+}
+
+/// Adds the calls and the tests, each with whether it has a spot.
+pub fn add_marks(given: &Given, part: &Part, marks: &mut Vec<Mark>) -> Tried<()>
+    ensures value { OnOk result (marks.new.items ≡ marks.old.items ++ marks_of (program_of given.now.program.now)
+        (numbers_seen given.now.numbering.now) (part_seen part.now)) }
+{
+    let n = given.numbering;
     let (kind, is_spot, place) = match part {
-        Part::Call(place, base, Some(_), _, _, _) => {
+        Part::Call(place, base, Some(slot), _, _, _) => {
             let Some(_) = point_at(n, base) else {
                 return Ok(());
             };
-            (SpotKind::Call, true, *place)
+            (SpotKind::Call, !is_maker_slot(given.program, *slot), *place)
+        }
+        Part::New(place, _, own, Some(_), _, _) => {
+            let Some(_) = point_at(n, own) else {
+                return Ok(());
+            };
+            (SpotKind::Call, false, *place)
         }
         Part::Test(place, operand, own) => {
             let (Some(_), Some(_), Some(_)) = (point_at(n, operand), row_at(n, own), own.ty) else {

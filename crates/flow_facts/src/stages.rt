@@ -1,10 +1,11 @@
 //! The lists that the stages hand on: what is numbered, with its numbers, what is said of it, and what the bodies give.
 
+use crate::fixed::FixedName;
 use crate::numbering::Numbering;
 use crate::ordered::Listed;
 use fact_model::{
-    AccessInfo, BodyInfo, CastInfo, CellInfo, ClassInfo, ColumnInfo, FlowInfo, LoadInfo, NewInfo,
-    RowInfo, SiteInfo, StoreInfo, SuperInfo, TieInfo,
+    AccessInfo, BodyInfo, CastInfo, CellInfo, ClassInfo, ColumnInfo, FlowInfo, LoadInfo, MakeInfo,
+    MakerNames, NewInfo, RowInfo, SiteInfo, StoreInfo, SuperInfo, TieInfo,
 };
 use flow_rules::{
     Body, Column, ColumnItem, Outline, Point, PointAt, PointItem, Row, RowItem, Site,
@@ -58,12 +59,15 @@ pub struct Tables {
     pub bodies: Vec<BodyInfo>,
 }
 
-/// The classes, and the names of the text.
+/// The classes, the names of the text and those that are fixed for constructors.
 #[derive(Drop)]
 pub struct Texts {
     pub classes: Vec<ClassInfo>,
     pub words: Vec<Name>,
     pub variables: Vec<Name>,
+    pub fixed: Vec<FixedName>,
+    pub makers: Option<MakerNames>,
+    pub makes: Vec<MakeInfo>,
 }
 
 /// The lists that the parts of bodies give and that are read as sets.

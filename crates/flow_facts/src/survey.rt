@@ -13,10 +13,10 @@ use crate::by_number::slot_by_number;
 use crate::enclosing::Enclosing;
 use crate::from_part::{FromPart, add_from};
 use crate::from_variable::{FromVariable, add_from_variables};
+use crate::operands::{class_object, variable_row};
 use crate::points::method_points;
 use crate::stages::Surveyed;
 use crate::types::{object_if, object_of};
-use crate::walk::{class_object, variable_row};
 use flow_rules::{
     Body, Column, ColumnItem, ObjectType, Operand, Outline, Part, PointAt, PointItem, Row, RowItem,
 };
@@ -51,7 +51,9 @@ impl FromPart for Row {
 
     fn add(part: &Part, rows: &mut Vec<Row>) -> Tried<()> {
         match part {
-            Part::New(place, _, own) | Part::Test(place, _, own) => add_own_row(rows, *place, *own),
+            Part::New(place, _, own, _, _, _) | Part::Test(place, _, own) => {
+                add_own_row(rows, *place, *own)
+            }
             _ => Ok(()),
         }
     }
@@ -132,7 +134,7 @@ impl FromPart for Column {
 
     fn add(part: &Part, columns: &mut Vec<Column>) -> Tried<()> {
         match part {
-            Part::New(place, _, own) => match own.ty {
+            Part::New(place, _, own, _, _, _) => match own.ty {
                 Some(ty) if ty.dim != 0 => add_mark(columns, *place, own.ty),
                 _ => Ok(()),
             },

@@ -150,7 +150,9 @@ pub fn add_ties(
             ties,
         ),
         Part::ElementStore(_, base, value) => add_tied(row_at(n, value), row_at(n, base), ties),
-        Part::Call(_, _, Some(slot), _, args, _) => add_slot_args(n, *slot as u64, args, ties),
+        Part::Call(_, _, Some(slot), _, args, _) | Part::New(_, _, _, Some(slot), _, args) => {
+            add_slot_args(n, *slot as u64, args, ties)
+        }
         Part::StaticCall(_, callee, args, _) => add_method_args(
             program,
             n,

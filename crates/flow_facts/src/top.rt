@@ -2,7 +2,7 @@
 
 ghost use Rattle.std.specs.Prelude.{◌≡◌, ◌+◌, ◌++◌, ◌<◌, ◌≤◌, None, IfOk, IfErr, OnOk, length, map};
 ghost use Rattle.flow_rules.specs.Numbered.{rows_of, columns_of, sites_of, points_of, bodies_of, field_rows, method_rows, field_columns, method_columns, static_points, outline_if};
-ghost use Rattle.flow_rules.specs.Facts.{AreNamesOf, IsFactsOf, IsCountRefusal, IsFactsRefusal, IsWithinLimits, maker_class, numbers, cells_of, too_many};
+ghost use Rattle.flow_rules.specs.Facts.{AreNamesOf, IsFactsOf, IsFactsRefusal, IsWithinLimits, numbers, cells_of, too_many};
 ghost use Rattle.flow_rules.specs.Ordered.{by_place, once};
 ghost use Rattle.flow_facts.specs.Stages.{IsCountOver, IsListed, IsFactTable, HasFlowPoints, IsNumbered};
 ghost use Rattle.flow_facts.specs.Words.{program_of, IsFormed, each, body_seen, outline_seen, numbers_seen};
@@ -10,7 +10,6 @@ ghost use Rattle.flow_facts.specs.Words.{program_of, IsFormed, each, body_seen, 
 use crate::assembled::facts_over;
 use crate::cells::{cells_of, fields_of};
 use crate::given::Given;
-use crate::makers::maker_class;
 use crate::numbering::{Numbering, all_points, all_sites};
 use crate::ordered::{HasKey, HasPlace, Listed, by_place, once, once_by_place};
 use crate::stages::{Flow, Numbered, Table};
@@ -68,7 +67,7 @@ fn number_points(
     requires sites { length (sites_of (program_of program.now)) ≤ 8192 }
     ensures ok { IfOk result (λ l. IsListed (λ p. p.item) 65536
         (points_of (program_of program.now)) l.items.items l.keys.keys) }
-    ensures refused { IfErr result (λ e. IsCountRefusal (program_of program.now) e) }
+    ensures refused { IfErr result (λ e. IsFactsRefusal (program_of program.now) e) }
 {
     let rows = &table.rows.keys;
     let statics = made!(by_place(statics) => FactsFault; outlines);
@@ -103,7 +102,7 @@ fn number_cells(
     requires points { length (points_of (program_of program.now)) + most ≡ 65536 }
     ensures items { IfOk result (λ v. v.items ≡ cells_of (program_of program.now)) }
     ensures counts { IfOk result (λ v. too_many (program_of program.now) ≡ None) }
-    ensures refused { IfErr result (λ e. IsCountRefusal (program_of program.now) e) }
+    ensures refused { IfErr result (λ e. IsFactsRefusal (program_of program.now) e) }
 {
     let given = Given {
         alloc,
@@ -131,7 +130,7 @@ fn number_table(
         ++ each (method_columns (program_of program.now)) 0
         (program_of program.now).methods }
     ensures ok { IfOk result (λ t. IsFactTable (program_of program.now) t) }
-    ensures refused { IfErr result (λ e. IsCountRefusal (program_of program.now) e) }
+    ensures refused { IfErr result (λ e. IsFactsRefusal (program_of program.now) e) }
 {
     let rows = made!(number_by_place(alloc, rows, 16384, Counted::Rows); columns);
     let columns = made!(number_by_place(alloc, columns, 8192, Counted::Columns); rows);
@@ -154,7 +153,7 @@ fn number_flow(
         ≡ each (outline_if (program_of program.now)) 0
         (program_of program.now).methods }
     ensures ok { IfOk result (λ f. HasFlowPoints (program_of program.now) f) }
-    ensures refused { IfErr result (λ e. IsCountRefusal (program_of program.now) e) }
+    ensures refused { IfErr result (λ e. IsFactsRefusal (program_of program.now) e) }
 {
     let sites = made!(
         all_sites(alloc, &table.rows.keys, bodies) => FactsFault;
@@ -181,7 +180,7 @@ fn number_whole(
     requires flow { HasFlowPoints (program_of program.now) flow }
     requires bodies { map body_seen bodies.items ≡ bodies_of (program_of program.now) }
     ensures ok { IfOk result (λ d. IsNumbered (program_of program.now) d) }
-    ensures refused { IfErr result (λ e. IsCountRefusal (program_of program.now) e) }
+    ensures refused { IfErr result (λ e. IsFactsRefusal (program_of program.now) e) }
 {
     let (rows, columns) = (table.rows, table.columns);
     let (sites, points) = (flow.sites, flow.points);
@@ -220,7 +219,7 @@ fn number_whole(
 fn number_all(alloc: Global, program: &Program) -> Result<Numbered, FactsFault>
     requires { IsFormed (program_of program.now) }
     ensures ok { IfOk result (λ d. IsNumbered (program_of program.now) d) }
-    ensures refused { IfErr result (λ e. IsCountRefusal (program_of program.now) e) }
+    ensures refused { IfErr result (λ e. IsFactsRefusal (program_of program.now) e) }
 {
     let surveyed = made!(survey(alloc, program) => FactsFault;);
     let (statics, outlines) = (surveyed.statics, surveyed.outlines);
@@ -238,26 +237,10 @@ fn number_all(alloc: Global, program: &Program) -> Result<Numbered, FactsFault>
 
 /// The facts of a program (Andersen, 1994, for the points-to sets; Snelting and Tip, 2000, for the table).
 ///
-/// A `HasConstructor` comes where a class has a constructor, with the first class that writes one. Else a
-/// `TooMany` comes where there is more of something than its limit: first the rows are counted,
+/// A `TooMany` comes where there is more of something than its limit: first the rows are counted,
 /// then the columns, the sites, and the flow points with the cells.
 pub fn facts(alloc: Global, program: &Program) -> Result<Facts, FactsFault>
     requires { IsFormed (program_of program.now) }
-    ensures ok { IfOk result (λ f. IsFactsOf (program_of program.now) f) }
-    ensures names { IfOk result (λ f. AreNamesOf (program_of program.now) f) }
-    ensures within { IfOk result (λ f. IsWithinLimits (program_of program.now)) }
-    ensures refused { IfErr result (λ e. IsFactsRefusal (program_of program.now) e) }
-{
-    match maker_class(program) {
-        Some(name) => Err(FactsFault::HasConstructor(made!(name.copy(alloc) => FactsFault;))),
-        None => counted_facts(alloc, program),
-    }
-}
-
-/// The facts of a program without constructors.
-fn counted_facts(alloc: Global, program: &Program) -> Result<Facts, FactsFault>
-    requires formed { IsFormed (program_of program.now) }
-    requires no_maker { maker_class (program_of program.now) ≡ None }
     ensures ok { IfOk result (λ f. IsFactsOf (program_of program.now) f) }
     ensures names { IfOk result (λ f. AreNamesOf (program_of program.now) f) }
     ensures within { IfOk result (λ f. IsWithinLimits (program_of program.now)) }
@@ -272,13 +255,14 @@ fn counted_facts(alloc: Global, program: &Program) -> Result<Facts, FactsFault>
 ///
 /// A row is that of a field, a `this`, a return, a parameter, a local, a creation, a cast or an `instanceof`; a column
 /// is that of a field, a declaration, a body or the mark of a type. The number of each is its place in the facts, and the
-/// items of the columns stand in their order. A
+/// items of the columns and the numbers of the sites' creations stand in their order. A
 /// `TooMany` comes where the facts of the program have one.
 pub fn numbering_of(alloc: Global, program: &Program) -> Result<Numbering, FactsFault>
     requires { IsFormed (program_of program.now) }
     ensures ok { IfOk result (λ n. numbers_seen n ≡ numbers (program_of program.now)) }
     ensures columns { IfOk result (λ n. n.columns.keys ≡ map (λ c. c.item) (columns_of (program_of program.now))) }
-    ensures refused { IfErr result (λ e. IsCountRefusal (program_of program.now) e) }
+    ensures sites { IfOk result (λ n. n.sites.keys ≡ map (λ s. s.number) (sites_of (program_of program.now))) }
+    ensures refused { IfErr result (λ e. IsFactsRefusal (program_of program.now) e) }
 {
     let numbered = made!(number_all(alloc, program));
     Ok(numbered.numbering)

@@ -1,112 +1,29 @@
 //! The parts of an expression.
 
-ghost use Rattle.std.specs.Prelude.{◌≡◌, ℕ, ◌+◌, ◌<◌, ◌++◌, ◌∷◌, [], Bool, true, false, List, Option, Some, None, IfOk, OnOk, length, map, option_and_then};
+ghost use Rattle.std.specs.Prelude.{◌≡◌, ℕ, ◌+◌, ◌<◌, ◌++◌, ◌∷◌, [], Bool, true, false, List, IfOk, OnOk, length, map};
 ghost use Rattle.java_core.specs.Trees.{Ex, Exs, expr_of, exprs};
-ghost use Rattle.java_core.specs.Classes.{super_method, slot_of_method};
+ghost use Rattle.java_core.specs.Classes.{super_method};
 ghost use Rattle.flow_rules.specs.Labels.{size, sizes, label, label_all};
-ghost use Rattle.flow_rules.specs.Operands.{operand_of, operands_of, this_operand, class_object, variable_row, object_field, call_slot, call_declaration};
+ghost use Rattle.flow_rules.specs.Operands.{operand_of, operands_of, object_field, call_slot, call_declaration};
 ghost use Rattle.flow_rules.specs.Types.{object_type};
-ghost use Rattle.flow_facts.specs.Views.{load_operand, call_operand, static_operand, super_operand, variable_operand};
-ghost use Rattle.flow_facts.specs.Walked.{IsAdded, IsOperandMade, IsWalked, AreWalked, args_from, parts_from, call_from};
+ghost use Rattle.flow_facts.specs.Views.{load_operand, call_operand, static_operand, super_operand, creation_operand};
+ghost use Rattle.flow_facts.specs.Walked.{IsAdded, IsOperandMade, IsWalked, AreWalked, args_from, parts_from, call_from, creation_from};
 ghost use Rattle.flow_rules.specs.Parts as plain;
 ghost use Rattle.flow_facts.specs.Words.{program_of, code_seen, IsFormed, part_seen, parts_seen};
 
 use crate::Tried;
-use crate::by_number::method_by_number;
 use crate::enclosing::Enclosing;
+use crate::operands::{
+    NOTHING, call_operand, class_object, creation, labelled, slot_of_method, super_operand,
+    this_operand, variable_operand,
+};
 use crate::types::{
     call_declaration, element_object, field_object, method_object, number_of, object_field,
-    object_of, slot_object, variable_object,
+    object_of,
 };
-use flow_rules::{ObjectType, Operand, Part, PointItem, RowItem};
-use java_core::{BinOp, Code, Program, RExpr, super_method};
+use flow_rules::{Operand, Part, PointItem, RowItem};
+use java_core::{BinOp, RExpr, maker_of, super_method};
 use kaba_base::{ClassId, Name, Place, put};
-
-/// No flow point, no row and no type that a row can have.
-pub const NOTHING: Operand = Operand {
-    point: None,
-    row: None,
-    ty: None,
-    created: None,
-};
-
-/// An object of a class.
-pub fn class_object(class: ClassId) -> Option<ObjectType>
-    ensures value { result ≡ class_object class.0 }
-{
-    Some(ObjectType { class, dim: 0 })
-}
-
-/// What `this` is.
-pub fn this_operand(within: &Enclosing) -> Operand
-    ensures value { result ≡ this_operand within.now.number (code_seen within.now.code) }
-{
-    Operand {
-        point: Some(PointItem::This(within.number)),
-        row: Some(RowItem::This(within.number)),
-        ty: class_object(within.code.owner),
-        created: None,
-    }
-}
-
-/// The row of a parameter or a local.
-pub fn variable_row(m: u64, code: &Code, local: u64) -> RowItem
-    ensures value { result ≡ variable_row m (code_seen code.now) local }
-{
-    match code.slot {
-        Some(slot) if local < code.params.len() as u64 => RowItem::Param(slot as u64, local),
-        _ => RowItem::Local(m, local),
-    }
-}
-
-/// What a parameter or a local is.
-pub fn variable_operand(within: &Enclosing, local: u32) -> Operand
-    ensures value { result ≡ variable_operand within.now.number (code_seen within.now.code) local }
-{
-    Operand {
-        point: Some(PointItem::Local(within.number, local as u64)),
-        row: Some(variable_row(within.number, &within.code, local as u64)),
-        ty: variable_object(&within.code, local),
-        created: None,
-    }
-}
-
-/// What a form with a label is.
-fn labelled(m: u64, label: usize, row: Option<RowItem>, ty: Option<ObjectType>) -> Operand
-    ensures value { result ≡ record { point = Some (PointItem.Expr m label); row = row; ty = ty; created = None } }
-{
-    Operand {
-        point: Some(PointItem::Expr(m, label as u64)),
-        row,
-        ty,
-        created: None,
-    }
-}
-
-/// What a creation is.
-fn creation(m: u64, label: usize, number: u32, ty: Option<ObjectType>) -> Operand
-    ensures value { result ≡ record { point = Some (PointItem.Expr m label); row = Some (RowItem.New number); ty = ty; created = Some number } }
-{
-    Operand {
-        point: Some(PointItem::Expr(m, label as u64)),
-        row: Some(RowItem::New(number as u64)),
-        ty,
-        created: Some(number as u64),
-    }
-}
-
-/// The slot of a method.
-fn slot_of_method(program: &Program, method: Option<u32>) -> Option<u32>
-    ensures value { result ≡ option_and_then (slot_of_method (program_of program.now)) method }
-{
-    match method {
-        Some(method) => match method_by_number(program, method as u64) {
-            Some(member) => member.slot,
-            None => None,
-        },
-        None => None,
-    }
-}
 
 /// Whether a creation there is the base of a field access: `.length` of an array is none.
 pub fn is_accessed(e: &RExpr) -> bool
@@ -213,12 +130,7 @@ pub fn walk(within: &Enclosing, used: bool, e: &RExpr, parts: &mut Vec<Part>) ->
             class,
             args,
             place,
-        } => {
-            let own = creation(within.number, parts.len(), *number, class_object(*class));
-            made!(add(parts, Part::New(*place, used, own)));
-            let _args = made!(walk_all(within, false, args, parts));
-            Ok(own)
-        }
+        } => { add_creation(within, used, *place, *number, *class, args, parts) }
         RExpr::NewArray {
             number,
             ty,
@@ -226,7 +138,8 @@ pub fn walk(within: &Enclosing, used: bool, e: &RExpr, parts: &mut Vec<Part>) ->
             place,
         } => {
             let own = creation(within.number, parts.len(), *number, object_of(*ty));
-            made!(add(parts, Part::New(*place, used, own)));
+            let none = Vec::new(within.alloc);
+            made!(add(parts, Part::New(*place, used, own, None, None, none)));
             made!(walk(within, false, size, parts));
             Ok(own)
         }
@@ -351,19 +264,37 @@ fn add_call(
     Ok(own)
 }
 
-/// What the call of a slot is.
-fn call_operand(within: &Enclosing, label: usize, slot: Option<u32>) -> Operand
-    ensures value { (s : Option ObjectType) (x : List ℕ)
-        → slot ≡ call_slot (program_of within.now.program.now) s x
-        → result ≡ call_operand (program_of within.now.program.now) within.now.number label s x }
+/// Adds the parts of a creation, and gives what it is. `used` says whether it is a flow point; the object that a
+/// constructor is called on always is.
+#[cycle(walk)]
+fn add_creation(
+    within: &Enclosing,
+    used: bool,
+    place: Place,
+    number: u32,
+    class: ClassId,
+    args: &Vec<RExpr>,
+    parts: &mut Vec<Part>,
+) -> Tried<Operand>
+    requires { IsFormed (program_of within.now.program.now) }
+    ensures { IfOk result (λ o. IsOperandMade parts.old.items parts.new.items (1 + sizes (exprs args.now.items))
+        (creation_from (program_of within.now.program.now) within.now.number (code_seen within.now.code) used place number class.0
+        (length parts.old.items) (exprs args.now.items)) o
+        (creation_operand within.now.number (length parts.old.items) number class.0)) }
 {
-    match slot {
-        Some(slot) => {
-            let row = Some(RowItem::Return(slot as u64));
-            labelled(within.number, label, row, slot_object(within.program, slot))
-        }
-        None => labelled(within.number, label, None, None),
-    }
+    let at = parts.len();
+    made!(add(parts, Part::Pair(BinOp::Both, NOTHING, NOTHING)));
+    let maker = number_of(maker_of(within.program, class));
+    let is_made = maker.is_some();
+    let args = made!(walk_all(within, is_made, args, parts));
+    let slot = slot_of_method(within.program, maker);
+    let own = creation(within.number, at, number, class_object(class));
+    fill(
+        parts,
+        at,
+        Part::New(place, used || is_made, own, slot, maker, args),
+    );
+    Ok(own)
 }
 
 /// Adds the parts of a call of a static method, and gives what it is.
@@ -424,20 +355,4 @@ fn add_super_call(
     let own = super_operand(within, at, callee);
     fill(parts, at, Part::SuperCall(place, callee, args, own));
     Ok(own)
-}
-
-/// What a super call of a method is.
-fn super_operand(within: &Enclosing, label: usize, callee: Option<u32>) -> Operand
-    ensures value { (c : ℕ) (x : List ℕ) → callee ≡ super_method (program_of within.now.program.now) c x
-        → result ≡ super_operand (program_of within.now.program.now) within.now.number label c x }
-{
-    let row = match slot_of_method(within.program, callee) {
-        Some(slot) => Some(RowItem::Return(slot as u64)),
-        None => None,
-    };
-    let ty = match callee {
-        Some(callee) => method_object(within.program, callee),
-        None => None,
-    };
-    labelled(within.number, label, row, ty)
 }

@@ -11,9 +11,9 @@ use Rattle.flow_program.specs.Solved.{HasCoveringSets}
 
 -- the facts are those of the program, in range and in order, and their points-to sets cover each run
 pub record AreProgramFacts (P : Plain) (F : Facts) : Type 0 where
-  -- no class has a constructor, and there is not too much of anything in the program
+  -- there is not too much of anything in the program
   pub within : IsWithinLimits P
-  -- each list has what the text gives, in its order or as a set; there are no makers
+  -- each list has what the text gives, in its order or as a set
   pub is : IsFactsOf P F
   pub names : AreNamesOf P F
   pub in_range : InRange F

@@ -1,7 +1,8 @@
 -- Mirror. When two answers for a program are the same: the same lists, some of which are read as sets.
 use Rattle.std.specs.Prelude.{◌≡◌, map}
+use Rattle.std.specs.Option.{option_map}
 use Rattle.fact_model.specs.declared.facts.Facts.{Facts}
-use Rattle.flow_rules.specs.Facts.{IsSameSet, body_seen, call_seen, class_seen}
+use Rattle.flow_rules.specs.Facts.{IsSameSet, body_seen, call_seen, class_seen, make_seen, makers_seen}
 
 -- two answers have the same rows, columns, sites, classes, points, cells, bodies and further lists
 pub record AreSameFacts (F G : Facts) : Type 0 where
@@ -14,8 +15,8 @@ pub record AreSameFacts (F G : Facts) : Type 0 where
   pub bodies : map body_seen F.bodies.items ≡ map body_seen G.bodies.items
   pub calls : map call_seen F.calls.items ≡ map call_seen G.calls.items
   pub tests : F.tests.items ≡ G.tests.items
-  pub makers : F.makers ≡ G.makers
-  pub makes : F.makes.items ≡ G.makes.items
+  pub makers : option_map makers_seen F.makers ≡ option_map makers_seen G.makers
+  pub makes : map make_seen F.makes.items ≡ map make_seen G.makes.items
   pub spots : F.spots.items ≡ G.spots.items
   pub words : F.words.items ≡ G.words.items
   -- the lists that are read as sets

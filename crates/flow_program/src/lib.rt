@@ -11,7 +11,7 @@ ghost use Rattle.flow_program.specs.Known.{AreProgramFacts};
 ghost use Rattle.flow_program.specs.Same.{AreSameFacts};
 
 use fact_model::Facts;
-pub use flow_facts::{Counted, FactsFault, maker_class};
+pub use flow_facts::{Counted, FactsFault};
 use java_core::Checked;
 use std::alloc::Global;
 
@@ -29,8 +29,7 @@ fn are_numbered(facts: &Facts) -> bool
 ///
 /// They are in range and in order, and each family of sets that their inclusions close covers each run of
 /// the program, their points-to sets among them: what a run meets has its site in the set of its operand, receiver,
-/// `this` or base. A `HasConstructor` comes where a class has a constructor, with the first class that writes one. Else
-/// a `TooMany` tells of what there is more than its limit:
+/// `this` or base. A `TooMany` tells of what there is more than its limit:
 /// first of the rows, then of the columns, the sites, and the flow points with the cells. `Memory` comes
 /// where memory is short, and where the calls or the `instanceof`s and casts are 4,294,967,295 or more.
 pub fn facts(alloc: Global, program: &Checked) -> Result<Facts, FactsFault>

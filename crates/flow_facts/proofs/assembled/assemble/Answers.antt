@@ -1,5 +1,5 @@
 -- The lists of the facts, each by what is said of it.
-use Rattle.std.proofs.Common.{refl, ap, ◌∙◌}
+use Rattle.std.proofs.Common.{ap, ◌∙◌}
 use Rattle.flow_rules.specs.Lists.{news_of, flows_of, loads_of, stores_of, casts_of, accesses_of, supers_of, ties_of}
 use Rattle.flow_rules.specs.Spots.{numbered_spots}
 use Rattle.flow_facts.proofs.Along.{same_set}
@@ -7,7 +7,7 @@ use Rattle.flow_facts.proofs.Whole.{rows_whole, columns_whole, sites_whole, poin
 use Rattle.flow_facts.proofs.assembled.assemble.Goals as goal
 
 pub returns : goal.returns
-returns c = λ P m n s.
+returns c = λ P n s.
     let d = c.args.numbered in
     let t = s.tables in
     let l = s.lists in
@@ -30,9 +30,8 @@ returns c = λ P m n s.
         supers = set_whole P d n (λ N b. supers_of N b.number) _ h.supers;
         ties = set_whole P d n (λ N b. ties_of N P b.number b.slot) _ h.ties;
         tests = tests_whole P d n _ l.tests;
-        no_maker = m;
-        makers = refl;
-        makes = c.new.ensures.items;
+        makers = s.texts.makers;
+        makes = s.texts.makes;
         spots = s.spots ∙ ap (numbered_spots 0 0) (marks_whole P d n _ l.marks);
       },
       record { words = s.texts.words; vars = same_set s.texts.variables },

@@ -8,7 +8,7 @@ pub returns-in-Err : goal.returns-in-Err
 returns-in-Err c = record { ok = tt; names = tt }
 
 pub returns-clause-ok : goal.returns-clause-ok
-returns-clause-ok c = (c.assemble.ensures _ c.requires.no_maker c.requires.numbered c.in-Ok.ensures).0
+returns-clause-ok c = (c.assemble.ensures _ c.requires.numbered c.in-Ok.ensures).0
 
 pub returns-clause-names : goal.returns-clause-names
-returns-clause-names c = (c.assemble.ensures _ c.requires.no_maker c.requires.numbered c.in-Ok.ensures).1
+returns-clause-names c = (c.assemble.ensures _ c.requires.numbered c.in-Ok.ensures).1

@@ -1,12 +1,10 @@
 -- The variables of one more method.
 use Rattle.java_core.specs.Programs.{method_seen}
 use Rattle.flow_rules.specs.Facts.{variable_names}
-use Rattle.flow_facts.proofs.Composed.{then}
 use Rattle.flow_facts.proofs.Steps.{flat_step}
 use Rattle.flow_facts.proofs.names.variables.Goals as goal
 
 pub loop-method-preserved : goal.loop-method-preserved
 loop-method-preserved c =
     flat_step method_seen variable_names c.args.program.now.methods.items _ _ c.method-item.result _ _ _ c.deref-method-items.ensures.value
-    c.loop-method-test.true c.method-item.is c.loop-method.invariant
-    (then _ _ _ _ _ c.in-Ok-add_variables.ensures.value c.in-Ok-add_variables-2.ensures.value)
+    c.loop-method-test.true c.method-item.is c.loop-method.invariant c.in-Ok-add_all_variables.ensures.value

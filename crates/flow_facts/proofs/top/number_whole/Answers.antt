@@ -56,6 +56,8 @@ returns-clause-ok c =
       numbers = numbers_are (program_of c.args.program.now) _ _ _ _ t.rows.keys t.columns.keys
           f.sites.keys f.points.keys;
       column_items = t.columns.keys;
+      site_numbers = f.sites.keys;
       few = t.columns.few;
+      few_sites = f.sites.few;
       counts = c.in-Ok.ensures.counts;
     }

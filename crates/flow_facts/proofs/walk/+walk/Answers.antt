@@ -11,7 +11,7 @@ use Rattle.flow_rules.specs.Parts.{is_accessed}
 use Rattle.flow_rules.specs.Types.{field_object, element_object}
 use Rattle.flow_facts.specs.Views.{labelled_operand}
 use Rattle.java_core.proofs.Forms.{own_call, call_on, static_form, super_form, creation_form}
-use Rattle.flow_facts.proofs.Walks.{if_ok, own_walked, field_walked, index_walked, this_walked, call_walked, made_walked, creation_walked, array_walked, cast_walked, test_walked, unary_walked, binary_walked}
+use Rattle.flow_facts.proofs.Walks.{if_ok, own_walked, field_walked, index_walked, this_walked, call_walked, made_walked, array_walked, cast_walked, test_walked, unary_walked, binary_walked}
 use Rattle.flow_facts.proofs.walk.+walk.Goals as goal
 
 pub walk-returns-in-Ok : goal.walk-returns-in-Ok
@@ -74,35 +74,26 @@ walk-returns-in-SuperCall t c =
     (code_seen c.args.within.now.code)
     (super_form _ _ _ _ c.in-SuperCall.is) h) c.add_super_call.ensures
 
-pub walk-returns-in-Ok-walk_all : goal.walk-returns-in-Ok-walk_all
-walk-returns-in-Ok-walk_all t c =
-    let value : c.creation-own.result ≡ record {
-      point = Some (point.Expr c.args.within.now.number (length c.args.parts.now.items));
-      row = Some
-          (row.New c.in-New.number);
-      ty = class_object c.in-New.class.0;
-      created = Some c.in-New.number;
-    } = search rules in
-    let h = c.in-Ok-add-2.ensures in
-    let g = c.in-Ok-walk_all.ensures in
-    creation_walked (program_of c.args.within.now.program.now) c.args.within.now.number (code_seen c.args.within.now.code)
-    (creation_form _ _ _ _ _ c.in-New.is)
-    h value g
+pub walk-returns-in-New : goal.walk-returns-in-New
+walk-returns-in-New t c =
+    if_ok c.add_creation.result (λ o h. made_walked (program_of c.args.within.now.program.now) c.args.within.now.number
+    (code_seen c.args.within.now.code)
+    (creation_form _ _ _ _ _ c.in-New.is) h) c.add_creation.ensures
 
 pub walk-returns-in-Ok-walk-5 : goal.walk-returns-in-Ok-walk-5
 walk-returns-in-Ok-walk-5 t c =
     let form = ap expr_of c.in-NewArray.is ∙ ap (λ y. create_array (at_place c.in-NewArray.place) c.in-NewArray.number c.in-NewArray.ty
     (expr_of y)) (sym c.deref-in-NewArray.ensures) in
-    let value : c.creation-own-in-NewArray.result ≡ record {
+    let value : c.creation-own.result ≡ record {
       point = Some (point.Expr c.args.within.now.number (length c.args.parts.now.items));
       row = Some
           (row.New c.in-NewArray.number);
       ty = object_of c.in-NewArray.ty;
       created = Some c.in-NewArray.number;
     } = search rules in
-    let h = c.in-Ok-add-3.ensures in
+    let h = c.in-Ok-add-2.ensures in
     array_walked (program_of c.args.within.now.program.now) c.args.within.now.number (code_seen c.args.within.now.code) form
-    h value c.in-Ok-walk-5.ensures
+    c.new-none.ensures.items h value c.in-Ok-walk-5.ensures
 
 pub walk-returns-in-Ok-walk-6 : goal.walk-returns-in-Ok-walk-6
 walk-returns-in-Ok-walk-6 t c =
@@ -112,19 +103,19 @@ walk-returns-in-Ok-walk-6 t c =
     let value : c.labelled-own-in-Cast.result ≡ labelled_operand c.args.within.now.number n (Some (row.Cast c.in-Cast.number))
     (object_of c.in-Cast.ty) = search rules in
     let at : c.len-at.result ≡ n = search rules in
-    let h = c.in-Ok-add-4.ensures in
+    let h = c.in-Ok-add-3.ensures in
     cast_walked (program_of c.args.within.now.program.now) c.args.within.now.number (code_seen c.args.within.now.code) form
     h c.in-Ok-walk-6.ensures value c.fill.ensures.grown
     (λ xs ys q e. c.fill.ensures.parts xs ys q (e ∙ sym at))
 
-pub walk-returns-in-Ok-add-5 : goal.walk-returns-in-Ok-add-5
-walk-returns-in-Ok-add-5 t c =
+pub walk-returns-in-Ok-add-4 : goal.walk-returns-in-Ok-add-4
+walk-returns-in-Ok-add-4 t c =
     let form = ap expr_of c.in-InstanceOf.is
     ∙ ap (λ y. instance_of (at_place c.in-InstanceOf.place) c.in-InstanceOf.number (expr_of y) c.in-InstanceOf.class.0)
     (sym c.deref-in-InstanceOf.ensures) in
     let value : c.labelled-own-in-InstanceOf.result ≡ labelled_operand c.args.within.now.number (length c.walk-in-InstanceOf.new.parts.items)
     (Some (row.Test c.in-InstanceOf.number)) (class_object c.in-InstanceOf.class.0) = search rules in
-    let h = c.in-Ok-add-5.ensures in
+    let h = c.in-Ok-add-4.ensures in
     test_walked (program_of c.args.within.now.program.now) c.args.within.now.number (code_seen c.args.within.now.code) form
     c.in-Ok-walk-7.ensures
     h value refl
@@ -136,14 +127,14 @@ walk-returns-in-Ok-walk-8 t c =
     unary_walked (program_of c.args.within.now.program.now) c.args.within.now.number (code_seen c.args.within.now.code) form
     c.in-Ok-walk-8.ensures refl
 
-pub walk-returns-in-Ok-add-6 : goal.walk-returns-in-Ok-add-6
-walk-returns-in-Ok-add-6 t c =
+pub walk-returns-in-Ok-add-5 : goal.walk-returns-in-Ok-add-5
+walk-returns-in-Ok-add-5 t c =
     let form = ap expr_of c.in-Binary.is
     ∙ ap (λ y. binary (at_place c.in-Binary.place) c.in-Binary.op (expr_of y) (expr_of c.in-Binary.right.value))
     (sym c.deref-in-Binary.ensures)
     ∙ ap (λ y. binary (at_place c.in-Binary.place) c.in-Binary.op (expr_of c.deref-in-Binary.result.now) (expr_of y))
     (sym c.deref-in-Binary-2.ensures) in
-    let h = c.in-Ok-add-6.ensures in
+    let h = c.in-Ok-add-5.ensures in
     binary_walked (program_of c.args.within.now.program.now) c.args.within.now.number (code_seen c.args.within.now.code)
     form c.in-Ok-walk-9.ensures
     c.in-Ok-walk-10.ensures h refl
