@@ -1,19 +1,17 @@
--- Programs without constructors: each method, and all that a call names, has a name of the text.
-use Rattle.std.proofs.Common.{◌≡◌, ℕ, List, Option, Some, None, refl, sym, ap, ap₂, ◌∙◌, subst, ⊎_elim}
+-- A program has no constructor where each method has a name of the text.
+use Rattle.std.proofs.Common.{◌≡◌, ℕ, List, Option, Some, None, refl, ap, subst}
 use Rattle.std.specs.Prelude.{◌==◌, ◌&&◌, not, true, slice_get, option_and_then}
 use Rattle.std.specs.Str.{bytes_eq}
-use Rattle.std.proofs.lemmas.Bool.{false≢true, eq-eqb, and_parts}
+use Rattle.std.proofs.lemmas.Bool.{false≢true, and_parts}
 use Rattle.std.proofs.lemmas.Slice.Eq.{bytes_eq-Decides}
 use Rattle.ucd_derived.specs.Binary.{is_xid_start}
 use Rattle.ucd_derived.specs.XidStartRanges.{xid_start_ranges}
 use Rattle.ucd_table.specs.Rows.{in_ranges}
 use Rattle.kaba_base.specs.Words.{is_name}
-use Rattle.java_lex.specs.Writable.{IsName}
 use Rattle.java_core.specs.Programs.{Plain, PlainClass, PlainMethod}
 use Rattle.java_core.specs.Classes.{is_method_of, own_method, slot_of_method}
-use Rattle.java_core.specs.Makers.{maker_name, maker_slot, HasNoMaker, IsMakerOf}
-use Rattle.java_core.specs.Formed.{IsCalled, IsFormed}
-use Rattle.java_core.proofs.Positions.{position-passes, passes-position}
+use Rattle.java_core.specs.Makers.{maker_name, maker_slot, HasNoMaker}
+use Rattle.java_core.proofs.Positions.{position-passes}
 
 -- the name of a constructor is no name of the text
 pub maker_no_name : (x : List ℕ) → is_name (maker_name x) ≡ true → ⊥
@@ -39,22 +37,3 @@ named_no_maker P names c = at (slice_get P.classes c)
 -- no class makes its objects by one
 pub no_slot : (P : Plain) → HasNoMaker P → (c : ℕ) → maker_slot P c ≡ None
 no_slot P none c = ap (option_and_then (slot_of_method P)) (none c)
-
-module _ (P : Plain) (formed : IsFormed P) (none : HasNoMaker P) where
-  -- no method is one
-  pub not_maker : (m : ℕ) (k : PlainMethod) → slice_get P.methods m ≡ Some k → IsMakerOf P k → ⊥
-  not_maker m k e i =
-      let x = maker_name i.class.name in
-      let is : is_method_of k.owner x k ≡ true = ap₂ (λ a b. a && b) (eq-eqb k.owner k.owner refl)
-      (ap₂ (λ a b. not a && b) (formed.makers m k e i).instance ((bytes_eq-Decides k.name x).1 i.name)) in
-      let z = passes-position (λ h. is_method_of k.owner x h) P.methods m k e is in
-      let w = sym (none k.owner) ∙ (ap (option_and_then (λ d. own_method P k.owner (maker_name d.name))) i.stands ∙ z.1) in
-      cc
-
-  -- so each method has a name of the text
-  pub method_name : (m : ℕ) (k : PlainMethod) → slice_get P.methods m ≡ Some k → IsName k.name
-  method_name m k e = ⊎_elim (λ n. n) (λ i. absurd (not_maker m k e i)) (formed.methods m k e).name
-
-  -- and a call in it names one
-  pub called_name : (m : ℕ) (k : PlainMethod) (x : List ℕ) → slice_get P.methods m ≡ Some k → IsCalled P k x → IsName x
-  called_name m k x e c = ⊎_elim (λ n. n) (λ a. absurd (not_maker m k e a.of)) c

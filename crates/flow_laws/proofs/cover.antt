@@ -17,6 +17,7 @@ pub mod Labelled
 pub mod Forms
 pub mod HasRows
 pub mod Types
+pub mod Makers
 pub mod TypedParts
 pub mod TypedExpressions
 pub mod TypedBodies

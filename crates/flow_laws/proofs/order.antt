@@ -1,7 +1,8 @@
 pub mod Columns
 pub mod Classes
-pub mod Members
+pub mod Fixed
 pub mod Names
+pub mod Members
 pub mod Labels
 pub mod Rows
 pub mod Points
@@ -23,5 +24,6 @@ pub mod Pointed
 pub mod Called
 pub mod Held
 pub mod Contained
+pub mod Makes
 pub mod Range
 pub mod Order

@@ -37,32 +37,32 @@ made g e f h (x ∷ xs) = map-append g (e x) (flat_map e xs) ∙ ap (λ l. l ++ 
 
 module _ (P : Plain) (F : Facts) (facts : IsFactsOf P F) where
   abbrev all : List Entry
-  all = gathered P (λ b. entries_of (numbers P))
+  all = gathered P (λ b. entries_of P (numbers P))
 
   -- the calls and the tests by their place
   abbrev placed : List Entry
   placed = by_place (λ e. (mark_of e).place.at) all
 
-  all_picked : {C : Type 0} (g : Entry → List C) (f : Part → List C) → ((p : Part) → flat_map g (entries_of (numbers P) p) ≡ f p)
+  all_picked : {C : Type 0} (g : Entry → List C) (f : Part → List C) → ((p : Part) → flat_map g (entries_of P (numbers P) p) ≡ f p)
       → flat_map g all ≡ gathered P (λ b. f)
-  all_picked g f h = picked g (λ (b : BodyParts). flat_map (entries_of (numbers P)) b.parts) (λ (b : BodyParts). flat_map f b.parts)
-      (λ (b : BodyParts). picked g (entries_of (numbers P)) f h b.parts) (bodies_of P)
+  all_picked g f h = picked g (λ (b : BodyParts). flat_map (entries_of P (numbers P)) b.parts) (λ (b : BodyParts). flat_map f b.parts)
+      (λ (b : BodyParts). picked g (entries_of P (numbers P)) f h b.parts) (bodies_of P)
 
-  all_made : {C : Type 0} (g : Entry → C) (f : Part → List C) → ((p : Part) → map g (entries_of (numbers P) p) ≡ f p) → map g all ≡ gathered P (λ b. f)
-  all_made g f h = made g (λ (b : BodyParts). flat_map (entries_of (numbers P)) b.parts) (λ (b : BodyParts). flat_map f b.parts)
-      (λ (b : BodyParts). made g (entries_of (numbers P)) f h b.parts) (bodies_of P)
+  all_made : {C : Type 0} (g : Entry → C) (f : Part → List C) → ((p : Part) → map g (entries_of P (numbers P) p) ≡ f p) → map g all ≡ gathered P (λ b. f)
+  all_made g f h = made g (λ (b : BodyParts). flat_map (entries_of P (numbers P)) b.parts) (λ (b : BodyParts). flat_map f b.parts)
+      (λ (b : BodyParts). made g (entries_of P (numbers P)) f h b.parts) (bodies_of P)
 
   tests_are : F.tests.items ≡ flat_map test_in placed
-  tests_are = facts.tests ∙ ap (by_place (λ (t : TestInfo). t.place.at)) (sym (all_picked test_in (tests_of (numbers P)) (part_tests (numbers P))))
+  tests_are = facts.tests ∙ ap (by_place (λ (t : TestInfo). t.place.at)) (sym (all_picked test_in (tests_of (numbers P)) (part_tests P (numbers P))))
       ∙ tests_in_place all
 
   calls_are : map call_seen F.calls.items ≡ map (λ c. c.item) (flat_map call_in placed)
   calls_are = facts.calls ∙ ap (λ l. map (λ (c : Placed PlainCall). c.item) l) (ap (by_place (λ (c : Placed PlainCall). c.place.at))
-      (sym (all_picked call_in (calls_of (numbers P)) (part_calls (numbers P)))) ∙ calls_in_place all)
+      (sym (all_picked call_in (calls_of (numbers P)) (part_calls P (numbers P)))) ∙ calls_in_place all)
 
   spots_are : F.spots.items ≡ numbered_spots 0 0 (map mark_of placed)
   spots_are = facts.spots ∙ ap (numbered_spots 0 0) (ap (by_place (λ (x : Mark). x.place.at))
-      (sym (all_made mark_of (marks_of (numbers P)) (part_marks (numbers P)))) ∙ marks_in_place all)
+      (sym (all_made mark_of (marks_of P (numbers P)) (part_marks P (numbers P)))) ∙ marks_in_place all)
 
   calls_count : length F.calls.items ≡ length (flat_map call_in placed)
   calls_count = sym (length-map F.calls.items call_seen) ∙ ap length calls_are ∙ length-map (flat_map call_in placed) (λ c. c.item)
@@ -98,12 +98,12 @@ module _ (P : Plain) (F : Facts) (facts : IsFactsOf P F) where
     pub listed : slice_get F.calls.items found.at ≡ Some call
     pub seen : call_seen call ≡ x.item
 
-  module _ (m : ℕ) (k : PlainMethod) (stands : slice_get P.methods m ≡ Some k) (p : Part) (part : Contains (parts_of P m k) p) (own : has_spot p ≡ true) where
+  module _ (m : ℕ) (k : PlainMethod) (stands : slice_get P.methods m ≡ Some k) (p : Part) (part : Contains (parts_of P m k) p) (own : has_spot P p ≡ true) where
     pub test_spot_of : (x : TestInfo) → Contains (tests_of (numbers P) p) x → IsTestSpot x
     test_spot_of x c =
-        let e = gathered_has P (λ b. entries_of (numbers P)) (an_entry_test true x) m k p stands part
-        (subst (λ z. Contains (map (an_entry_call (has_spot p)) (calls_of (numbers P) p) ++ map (an_entry_test (has_spot p)) (tests_of (numbers P) p))
-        (an_entry_test z x)) own (Contains-append_right _ _ _ (map_has (an_entry_test (has_spot p)) (tests_of (numbers P) p) x c))) in
+        let e = gathered_has P (λ b. entries_of P (numbers P)) (an_entry_test true x) m k p stands part
+        (subst (λ z. Contains (map (an_entry_call (has_spot P p)) (calls_of (numbers P) p) ++ map (an_entry_test (has_spot P p)) (tests_of (numbers P) p))
+        (an_entry_test z x)) own (Contains-append_right _ _ _ (map_has (an_entry_test (has_spot P p)) (tests_of (numbers P) p) x c))) in
         let r = test_spot 0 0 placed x (place_has (λ e. (mark_of e).place.at) all (an_entry_test true x) e) in
         let at : r.found.at ≡ r.number = let i = r.is in omega (arith, i) in
         record {
@@ -117,9 +117,9 @@ module _ (P : Plain) (F : Facts) (facts : IsFactsOf P F) where
 
     pub call_spot_of : (x : Placed PlainCall) → Contains (calls_of (numbers P) p) x → IsCallSpot x
     call_spot_of x c =
-        let e = gathered_has P (λ b. entries_of (numbers P)) (an_entry_call true x) m k p stands part
-        (subst (λ z. Contains (map (an_entry_call (has_spot p)) (calls_of (numbers P) p) ++ map (an_entry_test (has_spot p)) (tests_of (numbers P) p))
-        (an_entry_call z x)) own (Contains-append_left _ _ _ (map_has (an_entry_call (has_spot p)) (calls_of (numbers P) p) x c))) in
+        let e = gathered_has P (λ b. entries_of P (numbers P)) (an_entry_call true x) m k p stands part
+        (subst (λ z. Contains (map (an_entry_call (has_spot P p)) (calls_of (numbers P) p) ++ map (an_entry_test (has_spot P p)) (tests_of (numbers P) p))
+        (an_entry_call z x)) own (Contains-append_left _ _ _ (map_has (an_entry_call (has_spot P p)) (calls_of (numbers P) p) x c))) in
         let r = call_spot 0 0 placed x (place_has (λ e. (mark_of e).place.at) all (an_entry_call true x) e) in
         let at : r.found.at ≡ r.number = let i = r.is in omega (arith, i) in
         let w = map_at call_seen F.calls.items r.found.at x.item (subst (λ z. slice_get z r.found.at ≡ Some x.item) (sym calls_are)

@@ -11,7 +11,7 @@ use Rattle.java_meaning.specs.Meaning.{is_number_type}
 use Rattle.fact_model.specs.declared.facts.Facts.{Facts}
 use Rattle.fact_model.specs.declared.facts.Spot.{Spot as FactSpot}
 use Rattle.flow_rules.specs.Lists.{point_at, site_in}
-use Rattle.flow_rules.specs.Facts.{numbers}
+use Rattle.flow_rules.specs.Facts.{numbers, is_marked}
 use Rattle.flow_laws.specs.cover.Families.{Family}
 use Rattle.flow_laws.specs.cover.Covers.{operand_at}
 use Rattle.sure_report.specs.Report.{is_cast, is_call, test_at}
@@ -51,11 +51,11 @@ module _ (P : Plain) (F : Facts) where
       (point_at (numbers P) (operand_at P m e)) true) (class_in u.base u.dim) false
   cast_there m e = true
 
-  -- a call through a receiver has its spot
+  -- a call through a receiver has its spot; that of a constructor needs none
   abbrev pub call_there : ℕ → Ex → Bool
-  call_there m (call t e x es) = option_map_or (λ j. option_map_or (λ q. list_any (is_call_spot t.place q j) F.spots.items)
+  call_there m (call t e x es) = is_marked x || option_map_or (λ j. option_map_or (λ q. list_any (is_call_spot t.place q j) F.spots.items)
       (point_at (numbers P) (operand_at P m e)) true) (called_slot P m e x) false
-  call_there m e = false
+  call_there m e = true
 
   abbrev pub shapes : Family
   shapes = record { value = λ m e q. shaped P m (λ k. static P (env_of m k) e) q; spot = spots }

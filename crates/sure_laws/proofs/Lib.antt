@@ -7,6 +7,7 @@ mod Examples
 pub mod FactSpots
 pub mod Shapes
 pub mod Families
+mod Spotted
 pub mod Shaped
 pub mod Meeting
 pub mod OwnSpots

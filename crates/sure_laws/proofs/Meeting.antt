@@ -48,7 +48,7 @@ module _ (P : Plain) (F : Facts) (S : Sets) (formed : IsFormed P) (typed : IsTyp
       included_sts (closed_body P F S closed facts (all_kinded P F formed typed (have_slots P formed) facts) eyes c h e) formed (have_slots P formed)
       (ap is_some exs)
       (label_sts 0 xs) (typed_sts_same P (env_of c h) (sts_same 0 xs) (typed.methods c h e xs exs))
-      (λ p d. subst (λ z. Contains (parts_body P (type_in P c h) c h z) p) (sym exs) d)) facts.no_maker
+      (λ p d. subst (λ z. Contains (parts_body P (type_in P c h) c h z) p) (sym exs) d))
 
   words_shaped : (b : Body) → labelled_body P F S P.main ≡ Some b → (shapes P F).spot (bound b.env.body 0) None ≡ true
   unfolding labelled_body

@@ -15,7 +15,7 @@ use Rattle.fact_model.specs.declared.facts.Facts.{Facts}
 use Rattle.fact_model.specs.declared.facts.CallInfo.{CallInfo}
 use Rattle.fact_model.specs.declared.facts.Spot.{Spot}
 use Rattle.flow_rules.specs.Lists.{point_at}
-use Rattle.flow_rules.specs.Facts.{numbers}
+use Rattle.flow_rules.specs.Facts.{numbers, is_marked}
 use Rattle.flow_rules.proofs.Listed.{first, more, at_contains}
 use Rattle.flow_laws.specs.cover.Covers.{operand_at}
 use Rattle.sure_report.specs.Report.{is_cast, is_call, cast_spots, call_spots, test_at}
@@ -75,23 +75,27 @@ module _ (P : Plain) (F : Facts) where
                 (class_base u.base u.dim c.0 c.1 ∙ ap (λ z. class_type z) (sym (eqb-true (test_at F x.0.at).class.0 c.0 w.1))));
           }
 
-  pub own_call : (m : ℕ) (t : Tag) (e : Ex) (y : List ℕ) (es : Exs) (q : ℕ) → call_there P F m (call t e y es) ≡ true
+  pub own_call : (m : ℕ) (t : Tag) (e : Ex) (y : List ℕ) (es : Exs) (q : ℕ) → is_marked y ≡ false → call_there P F m (call t e y es) ≡ true
       → point_at (numbers P) (operand_at P m e) ≡ Some q → HasCallSpot P F m (call t e y es)
-  own_call m t e y es q h eq =
-      let j = mapped (λ j. option_map_or (λ q. list_any (is_call_spot P F t.place q j) F.spots.items) (point_at (numbers P) (operand_at P m e)) true)
-      (called_slot P m e y) h in
-      let x = spot_found (is_call_spot P F t.place q j.0) F.spots.items
-      (there_at (λ q. list_any (is_call_spot P F t.place q j.0) F.spots.items) (point_at (numbers P) (operand_at P m e)) q eq j.2) in
-      let k = and_parts (is_call x.0.kind) _ x.2 in
-      let p = and_parts (same_place x.0.place t.place) _ k.1 in
-      let c = mapped (λ (c : CallInfo). (c.receiver == q) && (c.slot == j.0)) (slice_get F.calls.items x.0.at) p.1 in
-      let w = and_parts (c.0.receiver == q) (c.0.slot == j.0) c.2 in
-      let i = at_contains (call_spots F) x.0 (filter_has (λ x. is_call x.kind) F.spots.items x.0 x.1 k.0) in
-      record {
-        number = i.0;
-        spot = x.0;
-        listed = i.1;
-        call = c.0;
-        own = spot_of_call (place_eq x.0.place t.place p.0) c.1 (call_of (eq ∙ ap (λ z. Some z) (sym (eqb-true c.0.receiver q w.0)))
-            (j.1 ∙ ap (λ z. Some z) (sym (eqb-true c.0.slot j.0 w.1))));
-      }
+  own_call m t e y es q r h eq = ⊎_elim (λ d. absurd (false≢true (sym r ∙ d))) there (or_cases (is_marked y) _ h)
+    where
+      there : option_map_or (λ j. option_map_or (λ q. list_any (is_call_spot P F t.place q j) F.spots.items) (point_at (numbers P) (operand_at P m e)) true)
+          (called_slot P m e y) false ≡ true → HasCallSpot P F m (call t e y es)
+      there h =
+          let j = mapped (λ j. option_map_or (λ q. list_any (is_call_spot P F t.place q j) F.spots.items) (point_at (numbers P) (operand_at P m e)) true)
+          (called_slot P m e y) h in
+          let x = spot_found (is_call_spot P F t.place q j.0) F.spots.items
+          (there_at (λ q. list_any (is_call_spot P F t.place q j.0) F.spots.items) (point_at (numbers P) (operand_at P m e)) q eq j.2) in
+          let k = and_parts (is_call x.0.kind) _ x.2 in
+          let p = and_parts (same_place x.0.place t.place) _ k.1 in
+          let c = mapped (λ (c : CallInfo). (c.receiver == q) && (c.slot == j.0)) (slice_get F.calls.items x.0.at) p.1 in
+          let w = and_parts (c.0.receiver == q) (c.0.slot == j.0) c.2 in
+          let i = at_contains (call_spots F) x.0 (filter_has (λ x. is_call x.kind) F.spots.items x.0 x.1 k.0) in
+          record {
+            number = i.0;
+            spot = x.0;
+            listed = i.1;
+            call = c.0;
+            own = spot_of_call (place_eq x.0.place t.place p.0) c.1 (call_of (eq ∙ ap (λ z. Some z) (sym (eqb-true c.0.receiver q w.0)))
+                (j.1 ∙ ap (λ z. Some z) (sym (eqb-true c.0.slot j.0 w.1))));
+          }

@@ -1,16 +1,14 @@
 -- All that the bodies of a typed program do stays in the shapes of its static types, and each cast and call has its spot.
-use Rattle.std.proofs.Common.{◌≡◌, ℕ, suc, List, [], ◌∷◌, ◌++◌, Option, Some, None, refl, sym, ap, ◌∙◌, subst, arith, ⊎_elim}
-use Rattle.std.specs.Prelude.{◌==◌, ◌&&◌, ◌||◌, not, Bool, true, false, map, Contains, slice_get}
+use Rattle.std.proofs.Common.{◌≡◌, ℕ, suc, List, [], ◌∷◌, ◌++◌, Option, Some, None, refl, sym, ap, ◌∙◌, subst, ⊎_elim}
+use Rattle.std.specs.Prelude.{◌&&◌, ◌||◌, not, Bool, true, false, Contains, slice_get}
 use Rattle.std.specs.Option.{option_map_or, option_and_then, is_some}
-use Rattle.std.specs.List.{list_any}
-use Rattle.std.proofs.lemmas.Bool.{false≢true, eq-eqb, and_parts, and_from, or_left, or_right, or_cases}
+use Rattle.std.proofs.lemmas.Bool.{false≢true, and_parts, and_from, or_left, or_right, or_cases}
 use Rattle.std.proofs.lemmas.Option.{same_Some}
-use Rattle.kaba_base.proofs.ListLemmas.{contains_cases}
 use Rattle.kaba_base.specs.declared.Place.{Place}
 use Rattle.java_core.specs.declared.Ty.{Ty}
-use Rattle.java_core.specs.Trees.{Tag, Ex, Exs, no_ex, ex_then, number, this, local, static_field, own_field, field, index, call, static_call, super_call, create, create_array, cast, instance_of, unary, binary, Target, to_local, to_static, to_own, to_field, to_element, no_target, St, Sts, IfArms, declare, block, assign, act, print, choose, loop, return, break, continue, no_st, st_then, no_other, otherwise, arm}
+use Rattle.java_core.specs.Trees.{Tag, Ex, Exs, no_ex, ex_then, this, local, static_field, own_field, field, index, call, static_call, super_call, create, create_array, cast, instance_of, unary, binary, Target, to_local, to_static, to_own, to_field, to_element, no_target, St, Sts, IfArms, declare, block, assign, act, print, choose, loop, return, break, continue, no_st, st_then, no_other, otherwise, arm}
 use Rattle.java_core.specs.Programs.{PlainMethod}
-use Rattle.java_core.specs.Classes.{slot_of, lookup, super_method}
+use Rattle.java_core.specs.Classes.{slot_of, lookup, super_method, slot_of_method}
 use Rattle.java_core.specs.Types.{Static, a_value, or_nothing, types_of, class_type, class_in, class_of, element_in, is_numeric, env_of, fits_in, Signature, signature_of_method, call_signature, super_signature, field_type, static, target_type}
 use Rattle.java_core.specs.Types.{result_of as given_by}
 use Rattle.java_core.specs.Typing.{are_related, can_cast, t_field, t_index, t_call, t_static_call, t_super_call, t_create, t_make, t_create_array, t_cast, t_instance_of, t_unary, t_binary, TypedArgs, t_ex_then, TypedTarget, t_to_field, t_to_element, TypedTest, t_test, TypedSt, TypedSts, TypedArms, t_declare_as, t_block, t_assign, t_act, t_print, t_choose, t_loop, t_return, t_st_then, t_otherwise, t_arm}
@@ -19,40 +17,27 @@ use Rattle.java_meaning.specs.EachStatement.{OfOption, InSt, InSts, InArms}
 use Rattle.java_meaning.specs.Moment.{Kind, an_object, an_array, own_type, bound, self_of, result_of, kept, put_in, tested, Body}
 use Rattle.java_meaning.specs.Meaning.{is_number_type}
 use Rattle.java_meaning.proofs.Moves.{then_some}
-use Rattle.fact_model.specs.declared.facts.TestInfo.{TestInfo}
-use Rattle.flow_rules.specs.declared.items.ObjectType.{ObjectType}
-use Rattle.flow_rules.specs.declared.items.RowItem.TheVariants as row
 use Rattle.flow_rules.specs.Operands.{object_of, call_slot, call_declaration, type_in}
-use Rattle.flow_rules.specs.Parts.{a_call, a_test, is_accessed, parts_assign, parts_st, parts_arms, parts_of}
-use Rattle.flow_rules.specs.Lists.{Placed, PlainCall, point_at, row_at, site_in}
+use Rattle.flow_rules.specs.Parts.{a_call, is_accessed, parts_assign, parts_st, parts_arms, parts_of}
+use Rattle.flow_rules.specs.Lists.{site_in}
 use Rattle.flow_rules.specs.Facts.{numbers}
-use Rattle.flow_rules.proofs.Listed.{one}
-use Rattle.flow_laws.specs.cover.Families.{Set, Family, Sub, Gives, Reads, Writes, ReadsElement, WritesElement, Passes, Enters, Calls, StaticCalls, SuperCalls, Makes, Tests, Casts, Included, IncludedAll, Assigns, included}
+use Rattle.flow_laws.specs.cover.Families.{Set, Family, Sub, Gives, Reads, Writes, ReadsElement, WritesElement, Passes, Enters, Calls, StaticCalls, SuperCalls, Makes, Tests, Casts, Included, IncludedAll, Assigns, included, MakerRuns}
 use Rattle.flow_laws.specs.cover.Slotted.{HaveSlots}
-use Rattle.flow_laws.specs.cover.Covers.{operand_at, labelled_body}
+use Rattle.flow_laws.specs.cover.Covers.{labelled_body}
 use Rattle.flow_laws.proofs.cover.Each.{left, right, past, here}
-use Rattle.flow_laws.proofs.cover.Flows.{these_has}
 use Rattle.flow_laws.proofs.cover.HasRows.{in_slot}
 use Rattle.flow_laws.proofs.cover.Included.{ClosedBody, watch}
 use Rattle.flow_laws.proofs.cover.Included as sets
 use Rattle.flow_laws.proofs.cover.IncludedExpressions as expressions
-use Rattle.flow_laws.proofs.cover.SeenOperands.{at_seen}
 use Rattle.flow_laws.proofs.cover.TypedParts as typed_parts
 use Rattle.flow_laws.proofs.cover.TypedParts.{TypedBody}
 use Rattle.flow_laws.proofs.cover.Types.{class_apart, slot_called}
 use Rattle.flow_laws.proofs.cover.Walked.{walked}
-use Rattle.sure_report.specs.Report.{is_cast, is_call}
-use Rattle.sure_laws.proofs.Shapes.{some_of, is_there, shape, shape_object, shape_if, subtype_back, fits_shape, fits_in_shape, element_shape, element_some, class_object, variable_there, number_base, related_class, class_base}
-use Rattle.sure_laws.proofs.Families.{same_place, sited, shaped, is_cast_spot, is_call_spot, cast_there, call_there, shapes}
-use Rattle.sure_laws.proofs.FactSpots.{test_spot_of, call_spot_of}
-
-any_has : {A : Type 0} (p : A → Bool) (xs : List A) (x : A) → Contains xs x → p x ≡ true → list_any p xs ≡ true
-any_has p [] x c h = absurd (omega (arith, c.1))
-any_has p (y ∷ ys) x c h = ⊎_elim (λ e. or_left (p y) (list_any p ys) (ap p e ∙ h)) (λ d. or_right (p y) (list_any p ys) (any_has p ys x d h))
-    (contains_cases y ys x c)
-
-place_is : (p q : Place) → p ≡ q → same_place p q ≡ true
-place_is p q e = subst (λ z. same_place p z ≡ true) e (and_from (p.at == p.at) (p.line == p.line) (eq-eqb p.at p.at refl) (eq-eqb p.line p.line refl))
+use Rattle.sure_laws.proofs.Shapes.{some_of, is_there, shape, shape_object, shape_if, subtype_back, fits_shape, fits_in_shape, element_shape, element_some, class_object, variable_there, number_base}
+use Rattle.sure_laws.proofs.Families.{sited, shaped, cast_there, shapes}
+use Rattle.java_core.specs.Makers.{maker_of}
+use Rattle.flow_laws.proofs.cover.Makers.{maker_at, maker_signature}
+use Rattle.sure_laws.proofs.Spotted.{cast_found, call_spotted}
 
 module _ (B : ClosedBody) (formed : IsFormed B.program) (slots : HaveSlots B.program) (bodied : is_some B.method.body ≡ true) where
   open B use {program as P, facts as F, sets as S, are_facts as facts, kinded, number as m, method as k, stands}
@@ -151,78 +136,20 @@ module _ (B : ClosedBody) (formed : IsFormed B.program) (slots : HaveSlots B.pro
       ap (λ z. option_map_or (λ k. shape (or_nothing (slice_get (types_of (k.params ++ k.locals)) i)) (sited P q)) z true) eh
       ∙ subst (λ z. shape (or_nothing z) (sited P q) ≡ true) (sym (variable_there h i u e)) s
 
+  pass_all : (es : Exs) (b : Body) (c : ℕ) (h : PlainMethod) (sig : Signature) → slice_get P.methods c ≡ Some h → b.env.body ≡ c
+      → sig.params ≡ types_of h.params → TypedArgs P g es sig.params → Passes L Made V g es (λ i. V.spot (bound b.env.body i))
+  pass_all es b c h sig eh eb ep args = subst (λ y. Passes L Made V g es (λ i. V.spot (bound y i))) (sym eb) (args_pass es sig.params (λ i. V.spot (bound c i))
+      args (λ i u w. bound_in c h eh i u (ap (λ z. slice_get z i) (sym ep) ∙ w)))
+
   enters : (d : Ex) (es : Exs) (b : Body) (c : ℕ) (h : PlainMethod) (sig : Signature) → slice_get P.methods c ≡ Some h → b.env.body ≡ c
       → sig.params ≡ types_of h.params → sig.result ≡ h.result → TypedArgs P g es sig.params → static P g d ≡ or_nothing sig.result
       → Enters L Made V g d es b
   enters d es b c h sig eh eb ep er args same = record {
-    args = subst (λ y. Passes L Made V g es (λ i. V.spot (bound y i))) (sym eb) (args_pass es sig.params (λ i. V.spot (bound c i)) args
-        (λ i u w. bound_in c h eh i u (ap (λ z. slice_get z i) (sym ep) ∙ w)));
+    args = pass_all es b c h sig eh eb ep args;
     result = subst (λ y. Gives L Made V g d (V.spot (result_of y))) (sym eb) (gives d (V.spot (result_of c)) (λ q r. from_shape d q
         (subst (λ s. shape s (sited P q) ≡ true) (sym (same ∙ ap (λ z. or_nothing z) er))
         (sym (ap (λ z. option_map_or (λ k. shape (or_nothing k.result) (sited P q)) z true) eh) ∙ r))));
   }
-
-  -- the spots of casts and calls
-  cast_found : (t : Tag) (n : ℕ) (u : Ty) (e : Ex) → can_cast P (static P g e) u ≡ true
-      → Contains (parts_of P m k) (a_test t.place (seen e) (seen (cast t n u e)))
-      → cast_there P F m (cast t n u e) ≡ true
-  unfolding numbers type_in
-  cast_found t n u e can part = ⊎_elim
-      (λ h. or_left (is_number_type u.base u.dim) _ (number_base u.base u.dim (and_parts (is_numeric (a_value u)) (is_numeric (static P g e)) h).0))
-      (λ h. let c = related_class P (class_of (static P g e)) (class_in u.base u.dim) h in
-      or_right (is_number_type u.base u.dim) _ (subst (λ z. option_map_or (λ c. option_map_or (λ q. list_any (is_cast_spot P F t.place q c) F.spots.items)
-      (point_at (numbers P) (operand_at P m e)) true) z false ≡ true) (sym c.1)
-      (subst (λ y. option_map_or (λ q. list_any (is_cast_spot P F t.place q c.0) F.spots.items) (point_at (numbers P) y) true ≡ true)
-      (sym (at_seen P m k stands e)) (spot_at c.0 c.1 (point_at (numbers P) (seen e)) refl))))
-      (or_cases (is_numeric (a_value u) && is_numeric (static P g e)) (are_related P (class_of (static P g e)) (class_in u.base u.dim)) can)
-    where
-      spot_at : (c : ℕ) → class_in u.base u.dim ≡ Some c → (z : Option ℕ) → point_at (numbers P) (seen e) ≡ z
-          → option_map_or (λ q. list_any (is_cast_spot P F t.place q c) F.spots.items) z true ≡ true
-      spot_at c ec None ez = refl
-      spot_at c ec (Some q) ez =
-          let o : ObjectType = record { class = record { 0 = c }; dim = 0 } in
-          let et : object_of u ≡ Some o = ap (λ z. object_of z) (class_base u.base u.dim c ec) in
-          let r = typed_parts.own_row_there T (a_test t.place (seen e) (seen (cast t n u e))) t.place (row.Cast n) (object_of u) o part (λ x d. d) et in
-          let x : TestInfo = record { from = q; target = record { 0 = r.0 }; class = o.class; place = t.place } in
-          let s = test_spot_of P F facts m k stands (a_test t.place (seen e) (seen (cast t n u e))) part refl x
-          (these_has (point_at (numbers P) (seen e)) (row_at (numbers P) (seen (cast t n u e))) (object_of u)
-          (λ a r t. record { from = a; target = record { 0 = r }; class = t.class; place = x.place }) q r.0 o ez r.1 et) in
-          any_has (is_cast_spot P F t.place q c) F.spots.items s.found s.there
-          (and_from _ _ (ap is_cast s.kind) (and_from _ _ (place_is s.found.place t.place s.place)
-          (and_from _ _ (eq-eqb _ _ (ap (λ z. z.from) s.test)) (eq-eqb _ _ (ap (λ z. z.class.0) s.test)))))
-
-  call_found : (t : Tag) (e : Ex) (x : List ℕ) (es : Exs) (j : ℕ) → call_slot P (type_in P m k e) x ≡ Some j
-      → Contains (parts_of P m k) (a_call t.place (seen e) (call_slot P (type_in P m k e) x) (call_declaration P (type_in P m k e) x) (operands es)
-      (seen (call t e x es)))
-      → call_there P F m (call t e x es) ≡ true
-  call_found t e x es j ej part =
-      subst (λ z. option_map_or (λ j. option_map_or (λ q. list_any (is_call_spot P F t.place q j) F.spots.items) (point_at (numbers P) (operand_at P m e))
-      true) z false ≡ true) (sym (ap (λ z. option_and_then (λ k. call_slot P (type_in P m k e) x) z) stands ∙ ej))
-      (subst (λ y. option_map_or (λ q. list_any (is_call_spot P F t.place q j) F.spots.items) (point_at (numbers P) y) true ≡ true)
-      (sym (at_seen P m k stands e)) (spot_at (point_at (numbers P) (seen e)) refl))
-    where
-      part_j : Contains (parts_of P m k) (a_call t.place (seen e) (Some j) (call_declaration P (type_in P m k e) x) (operands es) (seen (call t e x es)))
-      part_j = subst (λ z. Contains (parts_of P m k) (a_call t.place (seen e) z (call_declaration P (type_in P m k e) x) (operands es)
-          (seen (call t e x es)))) ej part
-
-      spot_at : (z : Option ℕ) → point_at (numbers P) (seen e) ≡ z → option_map_or (λ q. list_any (is_call_spot P F t.place q j) F.spots.items) z true ≡ true
-      spot_at None ez = refl
-      spot_at (Some q) ez =
-          let y : Placed PlainCall = record {
-            place = t.place;
-            item = record { receiver = q; slot = j; args = map (point_at (numbers P)) (operands es); result = point_at (numbers P) (seen (call t e x es)) };
-          } in
-          let s = call_spot_of P F facts m k stands (a_call t.place (seen e) (Some j) (call_declaration P (type_in P m k e) x) (operands es)
-          (seen (call t e x es)))
-          part_j refl y (subst (λ z. Contains (option_map_or (λ r. record {
-            place = t.place;
-            item = record { receiver = r; slot = j; args = map (point_at (numbers P)) (operands es); result = point_at (numbers P) (seen (call t e x es)) };
-          } ∷ []) z []) y) (sym ez) (one y)) in
-          any_has (is_call_spot P F t.place q j) F.spots.items s.found s.there
-          (and_from _ _ (ap is_call s.kind) (and_from _ _ (place_is s.found.place t.place s.place)
-          (subst (λ z. option_map_or (λ c. (c.receiver == q) && (c.slot == j)) z false ≡ true) (sym s.listed)
-          (and_from (s.call.receiver == q) (s.call.slot == j) (eq-eqb s.call.receiver q (ap (λ z. z.receiver) s.seen))
-          (eq-eqb s.call.slot j (ap (λ z. z.slot) s.seen))))))
 
   -- calls
   calls : (t : Tag) (e : Ex) (x : List ℕ) (es : Exs) (sig : Signature) → call_signature P (static P g e) x ≡ Some sig → TypedArgs P g es sig.params
@@ -240,7 +167,7 @@ module _ (B : ClosedBody) (formed : IsFormed B.program) (slots : HaveSlots B.pro
       let same : s.slot ≡ i.slot = same_Some s.slot i.slot (sym s.stands
       ∙ ap (λ z. slice_get P.slots z) (same_Some s.number j (sym s.found ∙ ej)) ∙ i.stands) in
       record {
-        receiver = call_found t e x es j (sets.slot_seen B e x ∙ ej) part;
+        receiver = call_spotted B formed slots bodied t e x es j (sets.slot_seen B e x ∙ ej) part;
         self = made_sited o (an_object c) made refl;
         enters = enters (call t e x es) es b look.0 f.method sig f.there f.body_is (s.params ∙ ap (λ z. z.params) same ∙ sym i.params)
             (s.result ∙ ap (λ z. z.result) same ∙ sym i.result) args (ap (λ z. given_by z) called);
@@ -295,6 +222,28 @@ module _ (B : ClosedBody) (formed : IsFormed B.program) (slots : HaveSlots B.pro
         (subtype_back P (own_type h) t sub i)))),
   )
 
+  -- the constructor of a creation
+  no_maker : (t : Tag) (n c : ℕ) → maker_of P c ≡ None → MakerRuns L Made V g (create t n c no_ex) n c no_ex
+  unfolding MakerRuns
+  no_maker t n c none = λ j b ej eb. absurd (let z = sym (ap (option_and_then (slot_of_method P)) none) ∙ ej in cc)
+
+  maker_runs : (t : Tag) (n c d : ℕ) (es : Exs) (sig : Signature) → maker_of P c ≡ Some d → signature_of_method P d ≡ Some sig
+      → TypedArgs P g es sig.params → Made (Some n) (an_object c) → MakerRuns L Made V g (create t n c es) n c es
+  unfolding MakerRuns
+  maker_runs t n c d es sig e called args made = λ j b ej eb.
+      let look = then_some (labelled_body P F S) (lookup P c j) b eb in
+      let f = expressions.found B look.0 b look.2 in
+      let slot = (kinded.bodies c j look.0 f.method look.1 f.there f.has_body).slot in
+      let i = in_slot P formed look.0 f.method f.there j slot in
+      let w = maker_at P formed c d j e ej in
+      let same : sig.params ≡ types_of f.method.params = maker_signature P c d j w sig called
+      ∙ ap (λ z. z.params) (same_Some w.slot i.slot (sym w.slot_stands ∙ i.stands)) ∙ sym i.params in
+      record {
+        receiver = refl;
+        self = made_sited (Some n) (an_object c) made refl;
+        args = pass_all es b look.0 f.method sig f.there f.body_is same args;
+      }
+
   makes : (u : Bool) (t : Tag) (n c : ℕ) (es : Exs) → Stands (tree u (create t n c es)) → Makes L Made V g (create t n c es) n (an_object c)
   makes u t n c es st =
       let w = (expressions.included B u (create t n c es) st).1.made in
@@ -329,8 +278,12 @@ module _ (B : ClosedBody) (formed : IsFormed B.program) (slots : HaveSlots B.pro
     )
     included_ex u (static_call t d es) (t_static_call {s = sig} a b) st = (included_all false es sig.params b (past _ _ st), static_calls t d es sig a b)
     included_ex u (super_call t x es) (t_super_call {s = sig} a b c d) st = (included_all false es sig.params d (past _ _ st), super_calls t x es sig c d)
-    included_ex u (create t n c no_ex) (t_create a b) st = (tt, makes u t n c no_ex st)
-    included_ex u (create t n c es) (t_make {s = sig} a b w v) st = (included_all false es sig.params v (past _ (trees false es) st), makes u t n c es st)
+    included_ex u (create t n c no_ex) (t_create a b) st = (tt, makes u t n c no_ex st, no_maker t n c b)
+    included_ex u (create t n c es) (t_make {m = d} {s = sig} a b w v) st = (
+      included_all (is_some (maker_of P c)) es sig.params v (past _ (trees (is_some (maker_of P c)) es) st),
+      makes u t n c es st,
+      maker_runs t n c d es sig b w v (makes u t n c es st).made,
+    )
     included_ex u (create_array t n v e) (t_create_array a b) st = (
       included_ex false e a (past _ _ st),
       (let w = (expressions.included B u (create_array t n v e) st).1.made in
@@ -343,7 +296,7 @@ module _ (B : ClosedBody) (formed : IsFormed B.program) (slots : HaveSlots B.pro
     included_ex u (cast t n v e) (t_cast a b) st = (
       included_ex true e a (past _ _ st),
       tests (cast t n v e) e v (λ z o h. and_from (sited P o || is_number_type v.base v.dim) (cast_there P F m (cast t n v e))
-          (cast_sited e v o b (to_shape e o h)) (cast_found t n v e b (here _ _ st))),
+          (cast_sited e v o b (to_shape e o h)) (cast_found B formed slots bodied t n v e b (here _ _ st))),
       casts (cast t n v e) e v refl,
     )
     included_ex u (instance_of t n e c) (t_instance_of a b) st = (

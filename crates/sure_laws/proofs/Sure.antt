@@ -1,5 +1,5 @@
 -- What the run of a typed program meets is as the report on its facts and their points-to sets says.
-use Rattle.std.proofs.Common.{◌≡◌, ℕ, [], Option, Some, None, length, refl, sym, ap, ◌∙◌, subst, arith}
+use Rattle.std.proofs.Common.{◌≡◌, ℕ, [], Option, Some, None, length, refl, sym, ap, ◌∙◌, subst, arith, not, ◌∷◌}
 use Rattle.std.specs.Prelude.{◌<◌, ◌==◌, ◌||◌, Bool, true, false, Contains, slice_get, position}
 use Rattle.std.specs.Option.{option_map_or, is_some}
 use Rattle.std.proofs.lemmas.Bool.{false≢true, eqb-true, eq-eqb, and_parts, and_from}
@@ -32,8 +32,8 @@ use Rattle.flow_rules.specs.declared.items.ColumnItem.TheVariants as column
 use Rattle.flow_rules.specs.declared.items.PointItem.TheVariants as point
 use Rattle.flow_rules.specs.Lists.{point_at, site_in}
 use Rattle.flow_rules.specs.Numbered.{columns_of, column_number, point_number}
-use Rattle.flow_rules.specs.Facts.{PlainBody, numbers, body_seen, body_if, column_body, param_points, IsFactsOf}
-use Rattle.flow_rules.proofs.Listed.{one, one_from, flat_from, contains_at, below_at, index_at, map_has, map_from, each_has}
+use Rattle.flow_rules.specs.Facts.{PlainBody, numbers, body_seen, body_if, column_body, param_points, IsFactsOf, is_marked}
+use Rattle.flow_rules.proofs.Listed.{one, one_from, flat_from, contains_at, below_at, index_at, map_has, map_from, each_has, when_from}
 use Rattle.flow_rules.proofs.NumberedItems.{numbered_columns}
 use Rattle.flow_laws.specs.cover.Covers.{solved, passes, operand_at, at_point, point_sites}
 use Rattle.flow_laws.specs.cover.Families.{Family}
@@ -50,7 +50,7 @@ use Rattle.sure_report.specs.declared.Bodies.{Bodies}
 use Rattle.sure_report.specs.declared.Bodies.TheVariants.{Zero, One, Many}
 use Rattle.sure_report.specs.declared.Sure.{Sure}
 use Rattle.sure_report.specs.Report.{is_cast, cast_spots, test_at, IsNumberOf, AreSpotsInRange, MayRun, MayRunThese, IsUnreached, IsSureReport}
-use Rattle.sure_laws.specs.Events.{Event, body_ran, body_entered, field_touched, spot_events, met_events, test_events, recorded, events}
+use Rattle.sure_laws.specs.Events.{Event, body_ran, body_entered, field_touched, spot_events, met_events, test_events, recorded, events, run_events}
 use Rattle.sure_laws.specs.Laws.{IsInSet, cast_of, call_of, Allows, PassesWhereSure, RunsWhatIsSaid, IsAsSaid, IsTrueOfRuns, ReportsAreTrue}
 use Rattle.sure_laws.proofs.Kept.{Reached}
 use Rattle.sure_laws.proofs.Recorded.{IsIn}
@@ -61,6 +61,7 @@ use Rattle.sure_laws.proofs.Meeting.{shapes_in, typed_in, tested_sited, met_in}
 use Rattle.sure_laws.proofs.OwnSpots.{own_cast, own_call}
 use Rattle.sure_laws.proofs.Touched.{is_accessed_at}
 use Rattle.sure_laws.proofs.Tested.{tested_flat}
+use Rattle.kaba_base.proofs.TestLemmas.{from_not}
 
 bools_are : (a b : Bool) → same_bool a b ≡ true → b ≡ true → a ≡ true
 bools_are true b h e = refl
@@ -211,16 +212,20 @@ module _ (P : Plain) (F : Facts) (t : PointsTo) (r : Sure) (formed : IsFormed P)
   )
   test_true m d o b e h g k c = absurd (omega (arith, c.1))
 
-  run_true : (m : ℕ) (d : Ex) (x : ℕ) (o : Option ℕ) → V.spot (ran m d x) o ≡ true → call_there P F m d ≡ true → IsAsSaid P F r (body_ran m d x)
-  run_true m (call w e y es) x o h g = (
-    (let q = own_point m e o (met_in P F (solved t) (ran m (call w e y es) x) o h g tt) in own_call P F m w e y es q.0 g q.1),
-    call_true m (call w e y es) x o h,
-  )
-  run_true m d x o h g = absurd (false≢true g)
+  run_true : (m : ℕ) (d : Ex) (x : ℕ) (o : Option ℕ) (v : Event) → V.spot (ran m d x) o ≡ true → call_there P F m d ≡ true
+      → Contains (run_events m d x) v → IsAsSaid P F r v
+  run_true m (call w e y es) x o v h g c =
+      let n = when_from (not (is_marked y)) (body_ran m (call w e y es) x ∷ []) v c in
+      subst (λ z. IsAsSaid P F r z) (one_from _ v n.1) (
+        (let q = own_point m e o (met_in P F (solved t) (ran m (call w e y es) x) o h g tt) in
+            own_call P F m w e y es q.0 (from_not (is_marked y) n.0) g q.1),
+        call_true m (call w e y es) x o h,
+      )
+  run_true m d x o v h g c = absurd (omega (arith, c.1))
 
   spot_true : (p : Spot) (o : Option ℕ) (e : Event) → V.spot p o ≡ true → W.spot p o ≡ true → Reached p → Contains (spot_events p) e → IsAsSaid P F r e
   spot_true (tested m d b) o e h g k c = test_true m d o b e h g k c
-  spot_true (ran m d x) o e h g k c = subst (λ z. IsAsSaid P F r z) (one_from _ e c) (run_true m d x o h g)
+  spot_true (ran m d x) o e h g k c = run_true m d x o e h g c
   spot_true (self_of x) o e h g k c = subst (λ z. IsAsSaid P F r z) (one_from _ e c) (body_true x o h)
   spot_true (touched m x f) o e h g k c = subst (λ z. IsAsSaid P F r z) (one_from _ e c) (field_true m x f o h)
   spot_true p o e h g k c = absurd (omega (arith, c.1))

@@ -1,6 +1,6 @@
 -- Believed. What a run meets, in order: casts of objects, calls through a receiver that run a body, bodies of objects
--- that are entered, and fields of objects that are read or written.
-use Rattle.std.specs.Prelude.{ℕ, Bool, true, List, [], ◌∷◌, ◌++◌, Option, None, slice_get}
+-- that are entered, those of constructors among them, and fields of objects that are read or written.
+use Rattle.std.specs.Prelude.{ℕ, Bool, true, List, [], ◌∷◌, ◌++◌, Option, None, slice_get, not}
 use Rattle.std.specs.Option.{option_map, option_and_then}
 use Rattle.std.specs.List.{flat_map}
 use Rattle.java_core.specs.Trees.{Ex, number, character, text, truth, null, this, local, static_field, own_field, field, index, call, static_call, super_call, create, create_array, cast, instance_of, unary, binary}
@@ -10,6 +10,8 @@ use Rattle.java_meaning.specs.Meaning.{run_in}
 use Rattle.java_meaning.specs.Languages.{body_with}
 use Rattle.java_meaning.specs.Watched.{Eyes, watched_with}
 use Rattle.flow_rules.specs.Labels.{label_sts}
+use Rattle.flow_rules.specs.Ordered.{when}
+use Rattle.flow_rules.specs.Facts.{is_marked}
 
 -- what a run meets. Bodies are named by the numbers of their methods; a cast and a call by the body that they stand in
 -- and by their form there, which carries its place
@@ -46,10 +48,34 @@ test_events m (create_array t n u e) b = []
 test_events m (unary t z e) b = []
 test_events m (binary t z e d) b = []
 
+-- a call through a receiver is met with the body that it runs. A call of a constructor is none: a creation is no call of the text, and that of the
+-- superclass's constructor has no receiver in it
+abbrev pub run_events : ℕ → Ex → ℕ → List Event
+run_events m (call t e x es) c = when (not (is_marked x)) (body_ran m (call t e x es) c ∷ [])
+run_events m (instance_of t n e d) c = []
+run_events m (number t z) c = []
+run_events m (character t u) c = []
+run_events m (text t u) c = []
+run_events m (truth t z) c = []
+run_events m (null t) c = []
+run_events m (this t) c = []
+run_events m (local t i) c = []
+run_events m (static_field t f) c = []
+run_events m (own_field t f) c = []
+run_events m (field t e x) c = []
+run_events m (index t e i) c = []
+run_events m (static_call t d es) c = []
+run_events m (super_call t x es) c = []
+run_events m (create t n d es) c = []
+run_events m (create_array t n u e) c = []
+run_events m (cast t n u e) c = []
+run_events m (unary t z e) c = []
+run_events m (binary t z e d) c = []
+
 -- what is met at a spot
 abbrev pub spot_events : Spot → List Event
 spot_events (tested m d b) = test_events m d b
-spot_events (ran m d c) = body_ran m d c ∷ []
+spot_events (ran m d c) = run_events m d c
 spot_events (self_of c) = body_entered c ∷ []
 spot_events (touched m e f) = field_touched f ∷ []
 spot_events (held m e) = []

@@ -39,8 +39,8 @@ module _ (P : Plain) (F : Facts) (S : Sets) where
     pub is : site_in (numbers P) o ≡ Some site
     pub there : X site ≡ true
 
-  -- what a cast or `instanceof` tests is in the set of its operand, what a call runs on in that of its receiver, what a body is entered on in that of
-  -- its `this`, and what a field is read or written of in that of its base
+  -- what a cast or `instanceof` tests is in the set of its operand, what a call runs on in that of its receiver, what a constructor runs on for a
+  -- creation in that of the creation, what a body is entered on in that of its `this`, and what a field is read or written of in that of its base
   abbrev pub IsMetIn : Seen → Option ℕ → Type 0
   IsMetIn (tested m d b) o = IsInSet (point_sites P F S (operand_at P m (tested_by P F S d))) o
   IsMetIn (ran m d c) o = IsInSet (point_sites P F S (operand_at P m (called_on P F S d))) o

@@ -13,8 +13,9 @@ ghost use Rattle.sure_laws.specs.Laws.{IsRunRecorded, RunsMeetInSets, ReportsAre
 /// The record of a run changes nothing of the run. For all words and every bound, what the run of a typed program meets
 /// has its site in the set of its operand, receiver, `this` or base, for every family of sets that the inclusions of its
 /// facts close; and it is as the report on its facts and their points-to sets says: each cast of an object and each call
-/// has its spot, no object fails a cast that is sure, no body runs at a call that runs none, only the one at a call that
-/// runs one, and no dead body is entered and no dead field touched.
+/// of a method through a receiver has its spot, no object fails a cast that is sure, no body runs at a call that runs
+/// none, only the one at a call that runs one, and no dead body is entered, that of a constructor neither, and no dead
+/// field touched.
 pub fn sure_of_runs()
     ensures recorded { IsRunRecorded }
     ensures met { RunsMeetInSets }

@@ -5,10 +5,10 @@ use Rattle.std.proofs.lemmas.Option.{same_Some}
 use Rattle.java_core.specs.declared.Fault.TheVariants as fault
 use Rattle.java_core.specs.Trees.{Ex, Exs, no_ex, ex_then, number, character, text, truth, null, this, local, static_field, own_field, field, index, call, static_call, super_call, create, create_array, cast, instance_of, unary, binary, Target, to_local, to_static, to_own, to_field, to_element, no_target, St, Sts, IfArms, declare, block, assign, act, print, choose, loop, return, break, continue, no_st, st_then, otherwise, arm, no_other}
 use Rattle.java_core.specs.Types.{Env}
-use Rattle.java_meaning.specs.Moment.{Value, Number, Truth, CodeUnit, Nothing, Text, Object, Kind, an_array, Cell, own_class, held, bound, self_of, result_of, set_static, ran, State, Frame, Ended, Faulted, Going, Wrong, Outcome, stop, Body, Lang, look}
+use Rattle.java_meaning.specs.Moment.{Value, Number, Truth, CodeUnit, Nothing, Text, Object, Kind, an_array, Cell, own_class, held, bound, self_of, result_of, set_static, ran, State, Frame, Ended, Faulted, Going, Wrong, Outcome, stop, Body, Lang, look, Spot, an_object}
 use Rattle.java_meaning.specs.Values.{default_of, convert, arguments, number_of, text_of}
-use Rattle.java_meaning.specs.Meaning.{Flow, Next, Broke, Continued, Gave, ToValue, ToFlow, Later, set_local, given, enter, call_object, text_method, call_on, call_static, call_super, value, values, run_test, run_print, run_initial, run_declare, run_return, run_assign, run_one, run_all, run_arms, meaning, texts, words_type, words_cell, start, run_in}
-use Rattle.flow_laws.specs.cover.Families.{Set, Family, Calls, StaticCalls, SuperCalls, Included, IncludedAll, Sets, Assigns, IsIncluded, AreIncluded, Begins, included}
+use Rattle.java_meaning.specs.Meaning.{Flow, Next, Broke, Continued, Gave, ToValue, ToFlow, Later, set_local, given, enter, call_object, text_method, call_on, call_static, call_super, value, values, run_test, run_print, run_initial, run_declare, run_return, run_assign, run_one, run_all, run_arms, meaning, texts, words_type, words_cell, start, run_in, construct, make_object, made_by}
+use Rattle.flow_laws.specs.cover.Families.{Set, Family, Calls, StaticCalls, SuperCalls, Included, IncludedAll, Sets, Assigns, IsIncluded, AreIncluded, Begins, included, RunsMaker, MakerRuns, Makes}
 use Rattle.java_meaning.specs.EachStatement.{OfOption, InSt, InSts, InArms}
 use Rattle.flow_laws.specs.cover.Watched.{Of, IsWatched}
 use Rattle.flow_laws.proofs.cover.Held.{Stays, of_sub, Keeps, of_kept, keeps_on, member_of, plain_of, of_convert, default_plain, texts_plain, own_object, ArgsIn, args_convert, args_locals, Fine, fine_stop, test_fine, some_fine, step_fine, cell_fine}
@@ -118,6 +118,40 @@ module _ (L : Lang) (Made : Option ℕ → Kind → Type 0) (V : Family) (inc : 
       kv_on : (h l : List Cell) (X : Set) (k : ToValue) → Keeps h l → KV h X k → KV l X k
       kv_on h l X k r c v s p o = c v s (steps.from_on L Made V inc hooks h l s.cells s.statics r p) o
 
+      -- a constructor runs on a new object
+      construct_fine : (g : Env) (d : Ex) (n c j : ℕ) (es : Exs) → ((b : Body) → L.body c j ≡ Some b → RunsMaker L Made V g d n es b) → (v : Value)
+          (vs : List Value) (s : State) (k : ToValue) → Good s.cells s.statics → Of s.cells v (steps.only L Made V inc hooks n) → Ins s.cells g vs es
+          → ((s1 : State) → From s.cells s1.cells s1.statics → Fine (k v s1)) → Fine (construct L later g d c j v vs s k)
+      construct_fine g d n c j es mr v vs s k ok iv ivs h =
+          some_fine (L.body c j) s _ (λ b eb.
+          let r = mr b eb in
+          let in_spot : (p : Spot) → V.spot p (Some n) ≡ true → Of s.cells v (V.spot p) = λ p e.
+          of_sub s.cells v (steps.only L Made V inc hooks n) (V.spot p) (steps.only_sub L Made V inc hooks n (V.spot p) e) iv in
+          let self = in_spot (self_of b.env.body) r.self in
+          steps.look_fine L Made V inc hooks (ran g.body d b.env.body) v s _ (in_spot (ran g.body d b.env.body) r.receiver) (λ m1.
+          let s1 = record s { met = m1 } in
+          steps.look_fine L Made V inc hooks (self_of b.env.body) v s1 _ self (λ m2.
+          enter_fine b v vs (record s1 { met = m2 }) (λ u s3. k v s3) (inc.bodies c j b eb) ok self
+          (steps.ins_args L Made V inc hooks s.cells g vs es _ ivs r.args) (λ u s3 r3 o3. h s3 r3))))
+
+      -- a creation, with the constructor of its class where it has one
+      make_object_fine : (g : Env) (d : Ex) (n c : ℕ) (es : Exs) → Makes L Made V g d n (an_object c) → MakerRuns L Made V g d n c es → (vs : List Value)
+          (s : State) (k : ToValue) → Good s.cells s.statics → Ins s.cells g vs es → KV s.cells (V.value g.body d) k
+          → Fine (make_object L later g d n c vs s k)
+      unfolding MakerRuns
+      make_object_fine g d n c es mk mr vs s k ok ivs h = go (L.maker c) refl
+        where
+          go : (z : Option ℕ) → L.maker c ≡ z → Fine (made_by L later g d n c z vs s k)
+          go None e = steps.made_fine L Made V inc hooks later g d n c vs mk s k ok h
+          go (Some j) e =
+              step_fine s _ (λ l1. step_fine (record s { left = l1 }) _ (λ l2. step_fine (record s { left = l2 }) _ (λ l3.
+              steps.make_fine L Made V inc hooks g d n (an_object c) (L.fresh c) mk (inc.fresh c) (record s { left = l3 })
+              (λ v s4. construct L later g d c j v vs s4 k) ok (λ v s4 r4 o4.
+              construct_fine g d n c j es (λ b eb. mr j b e eb) v vs s4 k r4.good o4 (steps.ins_kept L Made V inc hooks s.cells s4.cells g vs es r4.keeps ivs)
+              (λ s5 r5. h v s5 (steps.from_on L Made V inc hooks s.cells s4.cells s5.cells s5.statics r4.keeps r5)
+              (of_kept s4.cells s5.cells v (V.value g.body d) r5.keeps (of_sub s4.cells v (steps.only L Made V inc hooks n) (V.value g.body d)
+              (steps.only_sub L Made V inc hooks n (V.value g.body d) mk.holds) o4)))))))
+
       mutual
         value_fine : (e : Ex) (f : Frame) (s : State) (k : ToValue) → Included L Made V f.env e → Good s.cells s.statics → FrameIn s.cells f
             → KV s.cells (V.value f.env.body e) k → Fine (value L later e f s k)
@@ -163,7 +197,7 @@ module _ (L : Lang) (Made : Option ℕ → Kind → Type 0) (V : Family) (inc : 
             (of_kept s.cells s1.cells f.self (V.spot (self_of f.env.body)) r.keeps fo.self) ivs
             (kv_on s.cells s1.cells (V.value f.env.body (super_call t x es)) k r.keeps h))
         value_fine (create t n c es) f s k i ok fo h =
-            values_fine es f s _ i.0 ok fo (λ vs s1 r ivs. steps.make_object_fine L Made V inc hooks later f.env (create t n c es) n c vs i.1 s1 k r.good
+            values_fine es f s _ i.0 ok fo (λ vs s1 r ivs. make_object_fine f.env (create t n c es) n c es i.1 i.2 vs s1 k r.good ivs
             (kv_on s.cells s1.cells (V.value f.env.body (create t n c es)) k r.keeps h))
         value_fine (create_array t n u e) f s k i ok fo h =
             value_fine e f s _ i.0 ok fo (λ v s1 r iv. some_fine (number_of v) s1 _ (λ size es.

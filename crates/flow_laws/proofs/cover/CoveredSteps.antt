@@ -1,6 +1,6 @@
 -- The steps of a run under the watch of a family of sets: each look passes, and the cells and frames stay in the sets.
-use Rattle.std.proofs.Common.{◌≡◌, ℕ, suc, List, [], ◌∷◌, ◌++◌, Option, Some, None, length, refl, sym, ap, ◌∙◌, subst, ⊎_elim}
-use Rattle.std.specs.Prelude.{ℤ, Bool, true, false, not, slice_get, slice_set}
+use Rattle.std.proofs.Common.{◌≡◌, ℕ, suc, List, [], ◌∷◌, ◌++◌, Option, Some, None, length, refl, sym, ap, ◌∙◌, subst, ⊎_elim, eqb-true}
+use Rattle.std.specs.Prelude.{ℤ, Bool, true, false, not, slice_get, slice_set, ◌==◌}
 use Rattle.std.specs.Option.{option_and_then, option_map}
 use Rattle.std.proofs.lemmas.Option.{same_Some}
 use Rattle.java_core.specs.declared.Ty.{Ty}
@@ -16,13 +16,14 @@ use Rattle.java_core.specs.Trees.{Ex, Exs, no_ex, ex_then}
 use Rattle.java_core.specs.Types.{Env, class_type, element_in, StringMethod, LengthOf, CharAt, Equals}
 use Rattle.java_meaning.specs.Moment.{Value, Number, Truth, CodeUnit, Nothing, Object, Kind, an_object, an_array, Cell, own_type, own_class, Spot, held, bound, self_of, result_of, set_static, kept, put_in, touched, tested, Met, State, Frame, Faulted, Wrong, Escaped, Outcome, stop, Body, Lang, with_some, on_bool, look, look_all}
 use Rattle.java_meaning.specs.Values.{default_of, convert, number_of, truth_of, natural_of, text_of, arith, unary_value, cast_number, same_value, compared, join, defaults, equals_value}
-use Rattle.java_meaning.specs.Meaning.{Flow, Next, Broke, Continued, Gave, ToValue, ToFlow, add_cell, set_value, set_local, give_string, write_static, read_field, write_field, names_length, read_member, element_type, place_in, read_element, on_fitting, write_element, given, string_call, make_cell, made_by, make_object, Later, make_array, is_number_type, cast_object, cast_to, test_class, after_left, join_values, compute, operate, write_local, after_one, after_turn}
-use Rattle.flow_laws.specs.cover.Families.{Set, Family, ArePlain, Reads, Writes, ReadsElement, WritesElement, Passes, Makes, Tests, Casts, AreIncluded}
+use Rattle.java_meaning.specs.Meaning.{Flow, Next, Broke, Continued, Gave, ToValue, ToFlow, add_cell, set_value, set_local, give_string, write_static, read_field, write_field, names_length, read_member, element_type, place_in, read_element, on_fitting, write_element, given, string_call, make_cell, made_by, Later, make_array, is_number_type, cast_object, cast_to, test_class, after_left, join_values, compute, operate, write_local, after_one, after_turn}
+use Rattle.flow_laws.specs.cover.Families.{Set, Family, ArePlain, Reads, Writes, ReadsElement, WritesElement, Passes, Makes, Tests, Casts, AreIncluded, Sub}
 use Rattle.flow_laws.specs.cover.Watched.{Of, IsWatched}
 use Rattle.flow_laws.proofs.cover.Lists.{set_cases}
 use Rattle.java_meaning.proofs.Sound.{get_last}
 use Rattle.java_meaning.proofs.Sound.{get_added}
 use Rattle.flow_laws.proofs.cover.Held.{of_sub, Keeps, of_kept, keeps_same, keeps_on, keeps_set, keeps_add, member_of, plain_of, of_convert, default_plain, replicate_plain, own_object, own_array, in_values, ArgsIn, args_get, Fine, fine_stop, bool_fine, test_fine, some_fine, fault_fine, result_fine, step_fine, cell_fine}
+use Rattle.std.proofs.lemmas.Bool.{eq-eqb, false≢true}
 
 module _ (L : Lang) (Made : Option ℕ → Kind → Type 0) (V : Family) (inc : AreIncluded L Made V) (hooks : IsWatched L V) where
   pub look_fine : (p : Spot) (v : Value) (s : State) (go : State → Outcome) → Of s.cells v (V.spot p)
@@ -208,34 +209,43 @@ module _ (L : Lang) (Made : Option ℕ → Kind → Type 0) (V : Family) (inc : 
       look_fine (put_in c.site) w s _ iw (λ m.
       h (set_value a c n w (record s { met = m })) (good_set s.cells s.statics a c (record c { values = slice_set c.values n w }) ok at refl new))))))
 
+  -- the creation of this number alone
+  abbrev pub only : ℕ → Set
+  only n None = false
+  only n (Some m) = m == n
+
+  pub only_sub : (n : ℕ) (X : Set) → X (Some n) ≡ true → Sub (only n) X
+  only_sub n X h None e = absurd (false≢true e)
+  only_sub n X h (Some m) e = subst (λ z. X (Some z) ≡ true) (sym (eqb-true m n e)) h
+
   -- a new object or array
-  make_fine : (g : Env) (d : Ex) (n : ℕ) (t : Kind) (vs : List Value) → Makes L Made V g d n t → ArePlain vs → (s : State) (k : ToValue)
-      → Good s.cells s.statics → KV s.cells (V.value g.body d) k
+  pub make_fine : (g : Env) (d : Ex) (n : ℕ) (t : Kind) (vs : List Value) → Makes L Made V g d n t → ArePlain vs → (s : State) (k : ToValue)
+      → Good s.cells s.statics → KV s.cells (only n) k
       → Fine (make_cell L g.body d (record { site = Some n; kind = t; values = vs }) s k)
   make_fine g d n t vs mk free s k ok h =
       let c : Cell = record { site = Some n; kind = t; values = vs } in
       let new : CellIn s.cells c = record { made = mk.made; values = values_plain s.cells (Some n) t vs free } in
       look_fine (held g.body d) (Object (length s.cells)) (add_cell c s) _ (record { cell = c; there = get_last s.cells c; member = mk.looks }) (λ m.
       h (Object (length s.cells)) (record s { cells = s.cells ++ c ∷ []; met = m }) (good_add s.cells s.statics c ok new)
-      (record { cell = c; there = get_last s.cells c; member = mk.holds }))
+      (record { cell = c; there = get_last s.cells c; member = eq-eqb n n refl }))
 
-  made_fine : (later : Later) (g : Env) (d : Ex) (n c : ℕ) (vs : List Value) → Makes L Made V g d n (an_object c) → (s : State) (k : ToValue)
+  -- which the creation gives
+  pub gives_made : (g : Env) (d : Ex) (n : ℕ) (t : Kind) (h : List Cell) (k : ToValue) → Makes L Made V g d n t → KV h (V.value g.body d) k → KV h (only n) k
+  gives_made g d n t h k mk c v s r o = c v s r (of_sub s.cells v (only n) (V.value g.body d) (only_sub n (V.value g.body d) mk.holds) o)
+
+  pub made_fine : (later : Later) (g : Env) (d : Ex) (n c : ℕ) (vs : List Value) → Makes L Made V g d n (an_object c) → (s : State) (k : ToValue)
       → Good s.cells s.statics → KV s.cells (V.value g.body d) k → Fine (made_by L later g d n c None vs s k)
   made_fine later g d n c [] mk s k ok h =
-      step_fine s _ (λ m. make_fine g d n (an_object c) (L.fresh c) mk (inc.fresh c) (record s { left = m }) k ok h)
+      step_fine s _ (λ m. make_fine g d n (an_object c) (L.fresh c) mk (inc.fresh c) (record s { left = m }) k ok
+      (gives_made g d n (an_object c) s.cells k mk h))
   made_fine later g d n c (v ∷ vs) mk s k ok h = fine_stop Wrong s tt
-
-  pub make_object_fine : (later : Later) (g : Env) (d : Ex) (n c : ℕ) (vs : List Value) → Makes L Made V g d n (an_object c) → (s : State) (k : ToValue)
-      → Good s.cells s.statics → KV s.cells (V.value g.body d) k → Fine (make_object L later g d n c vs s k)
-  make_object_fine later g d n c vs mk s k ok h =
-      subst (λ j. Fine (made_by L later g d n c j vs s k)) (sym (inc.no_maker c)) (made_fine later g d n c vs mk s k ok h)
 
   pub make_array_fine : (g : Env) (d : Ex) (n : ℕ) (t : Ty) (size : ℤ) → Makes L Made V g d n (an_array t) → (s : State) (k : ToValue)
       → Good s.cells s.statics → KV s.cells (V.value g.body d) k → Fine (make_array L g d n t size s k)
   make_array_fine g d n t size mk s k ok h =
       some_fine (element_in t.base t.dim) s _ (λ u eu. fault_fine fault.NegativeSize (natural_of size) s _ (λ many em. step_fine s _ (λ m.
       make_fine g d n (an_array t) (defaults u many) mk (replicate_plain many (default_of u) (λ a e. default_plain u.base u.dim a e))
-      (record s { left = m }) k ok h)))
+      (record s { left = m }) k ok (gives_made g d n (an_array t) s.cells k mk h))))
 
   -- a cast and an instanceof
   cast_object_fine : (g : Env) (d e : Ex) (t : Ty) → Tests L Made V g d e t → Casts L Made V g d e t → (v : Value) (s : State) (k : ToValue)
@@ -317,6 +327,12 @@ module _ (L : Lang) (Made : Option ℕ → Kind → Type 0) (V : Family) (inc : 
   Ins h g [] no_ex = Unit {0}
   Ins h g (v ∷ vs) (ex_then e es) = Of h v (V.value g.body e) × Ins h g vs es
   Ins h g _ _ = ⊥
+
+  pub ins_kept : (h k : List Cell) (g : Env) (vs : List Value) (es : Exs) → Keeps h k → Ins h g vs es → Ins k g vs es
+  ins_kept h k g [] no_ex r p = tt
+  ins_kept h k g (v ∷ vs) (ex_then e es) r p = (of_kept h k v (V.value g.body e) r p.0, ins_kept h k g vs es r p.1)
+  ins_kept h k g [] (ex_then e es) r p = absurd p
+  ins_kept h k g (v ∷ vs) no_ex r p = absurd p
 
   pub ins_args : (h : List Cell) (g : Env) (vs : List Value) (es : Exs) (X : ℕ → Set) → Ins h g vs es → Passes L Made V g es X → ArgsIn h vs X
   ins_args h g [] no_ex X p q = tt

@@ -1,7 +1,7 @@
 -- What holds of each item of a list holds of those of each of its parts.
-use Rattle.std.proofs.Common.{zero, suc, List, [], ◌∷◌, ◌++◌, subst, arith, ⊎_elim}
+use Rattle.std.proofs.Common.{List, ◌∷◌, ◌++◌}
 use Rattle.std.specs.Prelude.{Contains}
-use Rattle.std.proofs.lemmas.List.Elements.{Contains-append_left, Contains-append_right, Contains-append_cases}
+use Rattle.std.proofs.lemmas.List.Elements.{Contains-append_left, Contains-append_right}
 use Rattle.flow_rules.proofs.Listed.{first, more}
 
 -- a predicate holds of each item

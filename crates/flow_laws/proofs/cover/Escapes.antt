@@ -8,7 +8,6 @@ use Rattle.java_core.specs.declared.Ty.{Ty}
 use Rattle.java_core.specs.Trees.{Sts}
 use Rattle.java_core.specs.Programs.{Plain, PlainMethod}
 use Rattle.java_core.specs.Classes.{lookup, super_method}
-use Rattle.java_core.specs.Makers.{HasNoMaker}
 use Rattle.java_core.specs.Types.{field_type, types_of, env_of}
 use Rattle.java_meaning.specs.Moment.{Value, Nothing, Object, Cell, Spot, held, bound, self_of, result_of, set_static, kept, touched, tested, ran, Met, End, Escaped, Body, Lang}
 use Rattle.java_meaning.specs.Values.{default_of}
@@ -29,7 +28,6 @@ use Rattle.java_meaning.specs.EachStatement.{InSts}
 use Rattle.flow_laws.specs.cover.Families.{Family, ArePlain, IsIncluded, AreIncluded, Begins, included}
 use Rattle.flow_laws.specs.cover.Watched.{Of, IsWatched}
 use Rattle.flow_laws.specs.cover.Covers.{Sets, has, IsClosed, operand_at, passes, at_point, at_cell, field_cell, held_in, point_sites, tested_by, called_on, sites_at, spot_set, is_seen, are_seen, labelled_with, labelled_body, watched, CoversEachRun}
-use Rattle.flow_laws.proofs.NoMaker.{no_slot}
 use Rattle.flow_laws.proofs.cover.Held.{default_plain, Stays}
 use Rattle.flow_laws.proofs.cover.Cover.{run_stays}
 use Rattle.flow_laws.proofs.cover.Kinded.{IsKinded}
@@ -142,11 +140,10 @@ module _ (P : Plain) (F : Facts) (S : Sets) where
           ends = optional_default h.0.result;
         })
 
-    pub code_included : HasNoMaker P → AreIncluded (eyed eyes) (MadeAs P F S) V
-    code_included none = record {
+    pub code_included : AreIncluded (eyed eyes) (MadeAs P F S) V
+    code_included = record {
       places = same_place P;
       fresh = λ c. map_plain (λ f. default_at P f) (layout P c) (λ f a e. optional_default (field_type P f) a e);
-      no_maker = no_slot P none;
       statics = map_plain (λ f. default_of f.ty) P.fields (λ f a e. default_no_object f.ty a e);
       bodies = λ c j b e. let z = then_some (labelled_body P F S) (lookup P c j) b e in body_included z.0 b z.2;
       static_bodies = body_included;
@@ -162,7 +159,7 @@ module _ (P : Plain) (F : Facts) (S : Sets) where
   module _ (closed : (ps : List Fact) (f : Fact) → Inclusion F ps f → AllByRecursion (λ p. has S p ≡ true) ps → has S f ≡ true)
       (facts : IsFactsOf P F) (kinded : IsKinded P F) (eyes : Eyes) where
     all_included : AreIncluded (eyed eyes) (MadeAs P F S) (family P F S)
-    all_included = code_included (family P F S) eyes (λ c h e. included_code (closed_body closed facts kinded eyes c h e)) facts.no_maker
+    all_included = code_included (family P F S) eyes (λ c h e. included_code (closed_body closed facts kinded eyes c h e))
 
 -- a run begins with words that have no site
 pub begins : (P : Plain) (F : Facts) (S : Sets) (V : Family) (eyes : Eyes) (m : ℕ)

@@ -1,9 +1,9 @@
 -- A program that makes an object and keeps it in a local: sets that lack its site let the run escape, and sets that have it do not.
 use Rattle.std.proofs.Common.{◌≡◌, ◌⊎◌, ⊎_elim, ℕ, List, [], ◌∷◌, Option, Some, None, refl, ap, ◌∙◌}
-use Rattle.std.specs.Prelude.{true, false, slice_get, codes}
+use Rattle.std.specs.Prelude.{true, false, slice_get, codes, ◌==◌, map}
 use Rattle.std.specs.Option.{option_map_or}
 use Rattle.java_core.specs.declared.TyBase.TheVariants.{Class, Str}
-use Rattle.java_core.specs.Trees.{Tag, at_place, no_ex, create, Sts, declare, no_st, st_then}
+use Rattle.java_core.specs.Trees.{Tag, at_place, no_ex, create, Sts, declare, no_st, st_then, act}
 use Rattle.java_core.specs.Programs.{Plain, PlainClass, PlainMethod, PlainLocal}
 use Rattle.java_meaning.specs.Moment.{Object, Cell, Spot, held, kept as kept_in, put_in, Ended, Escaped}
 use Rattle.java_meaning.specs.Meaning.{run_in}
@@ -15,6 +15,10 @@ use Rattle.flow_rules.specs.Facts.{numbers}
 use Rattle.flow_rules.specs.declared.items.Operand.{Operand}
 use Rattle.flow_rules.specs.Lists.{point_at, site_in}
 use Rattle.flow_laws.specs.cover.Covers.{Sets, operand_at, passes, at_point, at_cell, or_itself, held_in, sites_at, spot_set, is_seen, labelled_body, watched}
+use Rattle.java_core.specs.Makers.{maker_name}
+use Rattle.java_core.specs.Classes.{lookup}
+use Rattle.java_meaning.specs.Languages.{layout}
+use Rattle.flow_rules.specs.declared.items.PointItem.TheVariants as point
 
 abbrev start : Tag
 start = at_place (record { at = 0; line = 0 })
@@ -68,6 +72,53 @@ ends : (F : Facts) → (run_in (watched program F all) 0 [] 5).end ≡ Ended
 unfolding run_in labelled_body operand_at numbers rows_of row_number columns_of column_number bodies_of sites_of site_number points_of point_number
     parts_of type_in object main_class args kept code main program all
 ends F = refl
+
+-- class A { A() {} }: new A(); the creation is the flow point 0, and the constructor's `this` is 1
+made_class : PlainClass
+made_class = record { name = codes "A"; is_interface = false; is_abstract = false; parent = Some (record { 0 = 0 }); faces = []; tag = start }
+
+maker : PlainMethod
+maker = record {
+  owner = 1;
+  name = maker_name (codes "A");
+  is_static = false;
+  is_public = true;
+  slot = Some 0;
+  params = [];
+  locals = [];
+  result = None;
+  body = Some no_st;
+  tag = start;
+}
+
+making : Plain
+making =
+    record {
+      classes = object ∷ made_class ∷ main_class ∷ [];
+      fields = [];
+      methods = record main { owner = 2; locals = []; body = Some (st_then (act start (create start 0 1 no_ex)) no_st) } ∷ maker ∷ [];
+      slots = record { name = maker_name (codes "A"); params = []; result = None; first = 1 } ∷ [];
+      main = 0;
+    }
+
+made_points : map (λ p. p.item) (points_of making) ≡ point.Expr 0 0 ∷ point.This 1 ∷ []
+unfolding numbers rows_of row_number columns_of column_number bodies_of sites_of site_number points_of point_number parts_of type_in object main_class
+    made_class args kept code main maker making lookup layout
+made_points = refl
+
+-- the creation alone has the site
+own_alone : Sets
+own_alone = record { point = λ p s. p == 0; cell = λ c s. false }
+
+made_escapes : (F : Facts) → (run_in (watched making F own_alone) 0 [] 5).end ≡ Escaped
+unfolding run_in labelled_body operand_at numbers rows_of row_number columns_of column_number bodies_of sites_of site_number points_of point_number
+    parts_of type_in object main_class made_class args kept code main maker making own_alone lookup layout
+made_escapes F = refl
+
+made_ends : (F : Facts) → (run_in (watched making F all) 0 [] 5).end ≡ Ended
+unfolding run_in labelled_body operand_at numbers rows_of row_number columns_of column_number bodies_of sites_of site_number points_of point_number
+    parts_of type_in object main_class made_class args kept code main maker making all lookup layout
+made_ends F = refl
 
 -- sets without sites let no object of a creation pass at any spot; a creation that is no flow point is itself alone
 module _ (P : Plain) (F : Facts) where

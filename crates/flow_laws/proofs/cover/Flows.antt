@@ -206,27 +206,29 @@ module _ (P : Plain) (F : Facts) (S : Sets) where
           go (Some n) d h = new_goes p c o t n s q hn d (site_is ((numbers P).site n) s h) e
 
       -- a used creation
-      pub creation_used : (p : Place) (u : Bool) (o : Operand) → Contains (parts_of P m k) (a_creation p u o) → IsCreation P F u o → IsBase P F o → IsUsed o
+      pub creation_used : (p : Place) (u : Bool) (o : Operand) (j d : Option ℕ) (es : List Operand)
+          → Contains (parts_of P m k) (a_creation p u o j d es) → IsCreation P F u o → IsBase P F o → IsUsed o
       unfolding IsBase
-      creation_used p u o c kc base = record {
-        used = λ n s e d. let q = base n s e d in (
-          (site_type F s, kc.typed n s e d),
+      creation_used p u o j d es c kc base = record {
+        used = λ n s e f. let q = base n s e f in (
+          (site_type F s, kc.typed n s e f),
           record {
             number = q.0;
             there = q.1;
-            holds = new_goes (a_creation p u o) c o (point_at (numbers P) o)
-                n s q.0 (λ x w. w) e d q.1;
+            holds = new_goes (a_creation p u o j d es) c o (point_at (numbers P) o)
+                n s q.0 (λ x w. w) e f q.1;
           },
         );
       }
 
-      pub creation_looks : (p : Place) (u : Bool) (o : Operand) → Contains (parts_of P m k) (a_creation p u o) → (n s : ℕ) → o.created ≡ Some n
+      pub creation_looks : (p : Place) (u : Bool) (o : Operand) (j d : Option ℕ) (es : List Operand)
+          → Contains (parts_of P m k) (a_creation p u o j d es) → (n s : ℕ) → o.created ≡ Some n
           → (numbers P).site n ≡ Some s → or_itself P F S (point_at (numbers P) o) ((numbers P).site n) s ≡ true
-      creation_looks p u o c n s e d = go (point_at (numbers P) o) refl
+      creation_looks p u o j q es c n s e d = go (point_at (numbers P) o) refl
         where
           go : (z : Option ℕ) → point_at (numbers P) o ≡ z → or_itself P F S z ((numbers P).site n) s ≡ true
           go None g = subst (λ z. is_site z s ≡ true) (sym d) (eq-eqb s s refl)
-          go (Some q) g = new_goes (a_creation p u o) c o (point_at (numbers P) o) n s q (λ x w. w) e d g
+          go (Some r) g = new_goes (a_creation p u o j q es) c o (point_at (numbers P) o) n s r (λ x w. w) e d g
 
       -- a read of a field: the base's object may have the site z
       pub load_goes : (p : Place) (b : Operand) (f : ℕ) (o : Operand) → Contains (parts_of P m k) (a_load p b (Some f) o)

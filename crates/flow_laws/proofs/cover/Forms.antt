@@ -1,6 +1,6 @@
 -- From which form of a typed body each of its parts comes.
 use Rattle.std.proofs.Common.{◌≡◌, ℕ, List, [], ◌∷◌, ◌++◌, Option, Some, None, refl, sym, subst, arith, ⊎_elim}
-use Rattle.std.specs.Prelude.{Bool, true, false, Contains, slice_get}
+use Rattle.std.specs.Prelude.{Bool, true, false, Contains, slice_get, ◌||◌}
 use Rattle.std.proofs.lemmas.List.Elements.{Contains-append_cases}
 use Rattle.kaba_base.specs.declared.Place.{Place}
 use Rattle.java_core.specs.declared.Ty.{Ty}
@@ -16,6 +16,8 @@ use Rattle.flow_rules.specs.Operands.{object_field, call_slot, call_declaration,
 use Rattle.flow_laws.proofs.cover.Each.{left, right}
 use Rattle.flow_laws.proofs.cover.Labelled.{sts_same, typed_sts_same, formed_sts_same}
 use Rattle.flow_laws.proofs.cover.Walked.{walked}
+use Rattle.std.specs.Option.{is_some}
+use Rattle.java_core.specs.Makers.{maker_of, maker_slot}
 
 module _ (P : Plain) (m : ℕ) (k : PlainMethod) where
   open walked P m k use {
@@ -40,8 +42,8 @@ module _ (P : Plain) (m : ℕ) (k : PlainMethod) where
   own u (call t e x es) = a_call t.place (at e) (call_slot P (type e) x) (call_declaration P (type e) x) (operands es) (at (call t e x es)) ∷ []
   own u (static_call t d es) = a_static_call t.place d (operands es) (at (static_call t d es)) ∷ []
   own u (super_call t x es) = a_super_call t.place (super_method P k.owner x) (operands es) (at (super_call t x es)) ∷ []
-  own u (create t n c es) = a_creation t.place u (at (create t n c es)) ∷ []
-  own u (create_array t n v e) = a_creation t.place u (at (create_array t n v e)) ∷ []
+  own u (create t n c es) = a_creation t.place (u || is_some (maker_of P c)) (at (create t n c es)) (maker_slot P c) (maker_of P c) (operands es) ∷ []
+  own u (create_array t n v e) = a_creation t.place u (at (create_array t n v e)) None None [] ∷ []
   own u (cast t n v e) = a_test t.place (at e) (at (cast t n v e)) ∷ []
   own u (instance_of t n e c) = a_test t.place (at e) (test_operand m t n c) ∷ []
   own u (binary t o e d) = a_pair o (at e) (at d) ∷ []
@@ -92,8 +94,8 @@ module _ (P : Plain) (m : ℕ) (k : PlainMethod) where
         into) (all_from false es w q)
     ex_from u (create t i d no_ex) (t_create a b) f into c = from_ex u (create t i d no_ex) (t_create a b) f into c
     ex_from u (create t i d es) (t_make a b w v) (f_create x q) into c =
-        split (own u (create t i d es)) (tree_all false es) into c (λ way. from_ex u (create t i d es) (t_make a b w v) (f_create x q) into)
-        (all_from false es v q)
+        split (own u (create t i d es)) (tree_all (is_some (maker_of P d)) es) into c (λ way. from_ex u (create t i d es) (t_make a b w v) (f_create x q) into)
+        (all_from (is_some (maker_of P d)) es v q)
     ex_from u (create_array t i v e) (t_create_array a b) (f_create_array d q r) into c =
         split (own u (create_array t i v e)) (tree false e) into c (λ way. from_ex u (create_array t i v e) (t_create_array a b)
         (f_create_array d q r) into) (ex_from false e a r)

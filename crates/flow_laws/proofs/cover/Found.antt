@@ -125,7 +125,7 @@ array_apart p None y m c e = omega (arith, c.1)
 array_apart p (Some t) y m c e = mark_apart p (Some t) y m (when_from (not (t.dim == 0)) (mark p (Some t)) y c).1 e
 
 form_apart : (p : Part) (y : Column) (m : ℕ) → Contains (form_columns p) y → y.item ≡ column.Def m → ⊥
-form_apart (a_creation q u o) y m c e = array_apart q o.ty y m c e
+form_apart (a_creation q u o s d es) y m c e = array_apart q o.ty y m c e
 form_apart (a_test q b o) y m c e = mark_apart q o.ty y m c e
 form_apart _ y m c e = omega (arith, c.1)
 

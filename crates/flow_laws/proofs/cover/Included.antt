@@ -1,6 +1,6 @@
 -- The family of typed sets of a program's facts, and what reads and writes at the expressions of a body leave in them.
-use Rattle.std.proofs.Common.{◌≡◌, ℕ, zero, suc, List, Option, Some, None, refl, sym, ap, ◌∙◌, subst, arith}
-use Rattle.std.specs.Prelude.{◌==◌, ◌&&◌, Bool, true, false, slice_get, position, Contains}
+use Rattle.std.proofs.Common.{◌≡◌, ℕ, zero, suc, List, Option, Some, None, refl, sym, ap, ◌∙◌, subst, arith, []}
+use Rattle.std.specs.Prelude.{◌==◌, ◌&&◌, Bool, true, false, slice_get, position, Contains, ◌||◌}
 use Rattle.std.specs.Option.{option_map_or, option_and_then, is_some}
 use Rattle.std.specs.List.{AllByRecursion}
 use Rattle.std.proofs.lemmas.Option.{same_Some}
@@ -9,7 +9,7 @@ use Rattle.kaba_base.specs.declared.Place.{Place}
 use Rattle.java_core.specs.declared.Ty.{Ty}
 use Rattle.java_core.specs.declared.TyBase.{TyBase}
 use Rattle.java_core.specs.declared.TyBase.TheVariants.{Int, Boolean, Char, Str, Class}
-use Rattle.java_core.specs.Trees.{Ex, Exs, no_ex, ex_then, call, create, create_array, cast, instance_of}
+use Rattle.java_core.specs.Trees.{Ex, Exs, no_ex, ex_then, call, create, create_array, cast, instance_of, Tag}
 use Rattle.java_core.specs.Programs.{Plain, PlainMethod}
 use Rattle.java_core.specs.Classes.{below, member_field, slot_of}
 use Rattle.java_core.specs.Types.{class_type, element_in, field_in, is_subtype, is_sub_base, static}
@@ -25,7 +25,7 @@ use Rattle.flow_rules.specs.declared.items.ObjectType.{ObjectType}
 use Rattle.flow_rules.specs.declared.items.Operand.{Operand}
 use Rattle.flow_rules.specs.declared.items.ColumnItem.TheVariants as column
 use Rattle.flow_rules.specs.declared.items.PointItem.TheVariants as point
-use Rattle.flow_rules.specs.Operands.{object_in, object_of, object_field, call_slot, type_in}
+use Rattle.flow_rules.specs.Operands.{object_in, object_of, object_field, call_slot, type_in, operands_of}
 use Rattle.flow_rules.specs.Types.{field_object}
 use Rattle.flow_rules.specs.Parts.{Part, a_load, an_element, a_creation, a_store, an_element_store, is_accessed, parts, parts_of}
 use Rattle.flow_rules.specs.Lists.{point_at, site_in}
@@ -34,12 +34,13 @@ use Rattle.flow_rules.proofs.TypeLemmas.{class_is}
 use Rattle.flow_rules.proofs.Listed.{position_there}
 use Rattle.flow_laws.specs.cover.Families.{Sub, Family, Gives, Reads, Writes, ReadsElement, WritesElement}
 use Rattle.flow_laws.specs.cover.Covers.{Sets, has, passes, operand_at, at_point, point_sites, labelled_body, tested_by, called_on}
-use Rattle.flow_laws.proofs.cover.Kinded.{site_type, IsPoint, IsCreation, IsBase, IsKindedLoad, IsKindedStore, IsKindedPart, IsKinded}
+use Rattle.flow_laws.proofs.cover.Kinded.{site_type, IsPoint, IsCreation, IsBase, IsKindedLoad, IsKindedStore, IsKindedPart, IsKinded, IsKindedMaker}
 use Rattle.flow_laws.proofs.cover.SeenOperands.{at_seen, part_at}
 use Rattle.flow_laws.proofs.cover.Each.{here}
 use Rattle.flow_laws.proofs.cover.Flows.{when_object, value_sites, looks_in, field_sites, element_sites, is_at, IsUsed, HasTypes, used_at, creation_used, load_goes, element_goes, store_goes, element_store_goes}
 use Rattle.flow_laws.proofs.cover.Calls.{local_sites, result_sites}
 use Rattle.flow_laws.proofs.cover.Walked.{walked}
+use Rattle.java_core.specs.Makers.{maker_of, maker_slot}
 
 pub passes_map : (X Y : ℕ → Bool) (z : Option ℕ) → ((s : ℕ) → X s ≡ true → Y s ≡ true) → passes X z ≡ true → passes Y z ≡ true
 passes_map X Y None f h = refl
@@ -174,41 +175,60 @@ module _ (B : ClosedBody) where
   unfolding HasTypes
   plain_types o e n s d f = absurd (let z = sym e ∙ d in cc)
 
-  pub made_at : (p : Place) (u : Bool) (e : Ex) → Contains (parts_of P m k) (a_creation p u (seen e)) → Contains (parts_of P m k) (a_creation p u (at e))
-  made_at p u e c = part_at P m k stands (λ o z. a_creation p u o) e e c
+  -- a creation, and the constructor that it runs
+  pub made_at : (p : Place) (u : Bool) (e : Ex) (j d : Option ℕ) (es : List Operand) → Contains (parts_of P m k) (a_creation p u (seen e) j d es)
+      → Contains (parts_of P m k) (a_creation p u (at e) j d es)
+  made_at p u e j d es c = part_at P m k stands (λ o z. a_creation p u o j d es) e e c
 
-  pub creation : (p : Place) (u : Bool) (e : Ex) → Contains (parts_of P m k) (a_creation p u (at e)) → IsCreation P F u (at e)
+  pub creation : (p : Place) (u : Bool) (e : Ex) (j d : Option ℕ) (es : List Operand) → Contains (parts_of P m k) (a_creation p u (at e) j d es)
+      → IsCreation P F u (at e)
   unfolding IsKindedPart
-  creation p u e c = kinded.parts m k stands (a_creation p u (at e)) c
+  creation p u e j d es c = (kinded.parts m k stands (a_creation p u (at e) j d es) c).0
+
+  pub maker : (p : Place) (u : Bool) (e : Ex) (j d : Option ℕ) (es : List Operand) → Contains (parts_of P m k) (a_creation p u (at e) j d es)
+      → IsKindedMaker P F j es
+  unfolding IsKindedPart
+  maker p u e j d es c = (kinded.parts m k stands (a_creation p u (at e) j d es) c).1
+
+  -- the creations of the text, with what they run
+  pub create_at : (t : Tag) (u : Bool) (n c : ℕ) (es : Exs) → Stands (parts P (type_in P m k) m k u (create t n c es))
+      → Contains (parts_of P m k) (a_creation t.place (u || is_some (maker_of P c)) (at (create t n c es)) (maker_slot P c) (maker_of P c)
+      (operands_of P (type_in P m k) m k es))
+  create_at t u n c es st =
+      made_at t.place (u || is_some (maker_of P c)) (create t n c es) (maker_slot P c) (maker_of P c) (operands_of P (type_in P m k) m k es) (here _ _ st)
+
+  pub array_at : (t : Tag) (u : Bool) (n : ℕ) (v : Ty) (e : Ex) → Stands (parts P (type_in P m k) m k u (create_array t n v e))
+      → Contains (parts_of P m k) (a_creation t.place u (at (create_array t n v e)) None None [])
+  array_at t u n v e st = made_at t.place u (create_array t n v e) None None [] (here _ _ st)
 
   -- what an expression gives has a type, and is a point where it is used
   pub is_used : (e : Ex) → Stands (parts P (type_in P m k) m k true e) → IsUsed P F S (at e)
   unfolding IsBase
   is_used (create t n c es) st =
-      let w = made_at t.place true (create t n c es) (here _ _ st) in
-      let i = creation t.place true (create t n c es) w in
-      creation_used P F S closed facts m k stands t.place true (at (create t n c es)) w i (i.point refl)
+      let w = create_at t true n c es st in
+      let i = creation t.place true (create t n c es) _ _ _ w in
+      creation_used P F S closed facts m k stands t.place true (at (create t n c es)) _ _ _ w i (i.point refl)
   is_used (create_array t n u e) st =
-      let w = made_at t.place true (create_array t n u e) (here _ _ st) in
-      let i = creation t.place true (create_array t n u e) w in
-      creation_used P F S closed facts m k stands t.place true (at (create_array t n u e)) w i (i.point refl)
+      let w = array_at t true n u e st in
+      let i = creation t.place true (create_array t n u e) _ _ _ w in
+      creation_used P F S closed facts m k stands t.place true (at (create_array t n u e)) _ _ _ w i (i.point refl)
   is_used e st = plain_used (at e) (ap (λ z. z.created) (at_seen P m k stands e))
 
   pub base_used : (e : Ex) → Stands (parts P (type_in P m k) m k (is_accessed e) e) → IsBase P F (at e) → IsUsed P F S (at e)
   base_used (create t n c es) st b =
-      let w = made_at t.place true (create t n c es) (here _ _ st) in
-      creation_used P F S closed facts m k stands t.place true (at (create t n c es)) w (creation t.place true (create t n c es) w) b
+      let w = create_at t true n c es st in
+      creation_used P F S closed facts m k stands t.place true (at (create t n c es)) _ _ _ w (creation t.place true (create t n c es) _ _ _ w) b
   base_used (create_array t n u e) st b =
-      let w = made_at t.place false (create_array t n u e) (here _ _ st) in
-      creation_used P F S closed facts m k stands t.place false (at (create_array t n u e)) w (creation t.place false (create_array t n u e) w) b
+      let w = array_at t false n u e st in
+      creation_used P F S closed facts m k stands t.place false (at (create_array t n u e)) _ _ _ w (creation t.place false (create_array t n u e) _ _ _ w) b
   base_used e st b = plain_used (at e) (ap (λ z. z.created) (at_seen P m k stands e))
 
   pub has_types : (u : Bool) (e : Ex) → Stands (parts P (type_in P m k) m k u e) → HasTypes P F S (at e)
   unfolding HasTypes
-  has_types u (create t n c es) st = λ i s d f. let w = made_at t.place u (create t n c es) (here _ _ st) in
-      (site_type F s, (creation t.place u (create t n c es) w).typed i s d f)
-  has_types u (create_array t n v e) st = λ i s d f. let w = made_at t.place u (create_array t n v e) (here _ _ st) in
-      (site_type F s, (creation t.place u (create_array t n v e) w).typed i s d f)
+  has_types u (create t n c es) st = λ i s d f. let w = create_at t u n c es st in
+      (site_type F s, (creation t.place _ (create t n c es) _ _ _ w).typed i s d f)
+  has_types u (create_array t n v e) st = λ i s d f. let w = array_at t u n v e st in
+      (site_type F s, (creation t.place u (create_array t n v e) _ _ _ w).typed i s d f)
   has_types u e st = plain_types (at e) (ap (λ z. z.created) (at_seen P m k stands e))
 
   -- an expression's static type, as one of a row

@@ -1,6 +1,6 @@
 -- All that the expressions of a body do stays in the typed sets of a family that the inclusions of the facts close.
 use Rattle.std.proofs.Common.{[], ◌≡◌, ℕ, zero, suc, List, ◌++◌, Option, Some, None, refl, sym, ap, ◌∙◌, subst}
-use Rattle.std.specs.Prelude.{Bool, true, false, slice_get, Contains}
+use Rattle.std.specs.Prelude.{Bool, true, false, slice_get, Contains, ◌||◌}
 use Rattle.std.specs.Option.{option_map_or, option_and_then, is_some}
 use Rattle.std.proofs.lemmas.Option.{same_Some}
 use Rattle.std.proofs.lemmas.Bool.{false≢true, eq-eqb, and_from}
@@ -10,7 +10,7 @@ use Rattle.java_core.specs.declared.TyBase.{TyBase}
 use Rattle.java_core.specs.declared.TyBase.TheVariants.{Int, Boolean, Char, Str, Class}
 use Rattle.java_core.specs.Trees.{Tag, Ex, Exs, no_ex, ex_then, this, local, static_field, own_field, field, index, call, static_call, super_call, create, create_array, cast, instance_of, unary, binary}
 use Rattle.java_core.specs.Programs.{PlainMethod}
-use Rattle.java_core.specs.Classes.{lookup, super_method}
+use Rattle.java_core.specs.Classes.{lookup, super_method, slot_of_method}
 use Rattle.java_core.specs.Types.{types_of, class_type, field_type, is_subtype}
 use Rattle.java_meaning.specs.Moment.{Kind, an_object, an_array, own_type, held, bound, self_of, result_of, set_static, tested, ran, Body}
 use Rattle.java_meaning.specs.Languages.{body_with}
@@ -30,18 +30,19 @@ use Rattle.flow_rules.specs.Types.{field_object}
 use Rattle.flow_rules.specs.Parts.{a_load, an_element, a_creation, a_call, a_static_call, a_super_call, a_test, a_store, is_accessed, parts, parts_all, parts_of}
 use Rattle.flow_rules.specs.Lists.{site_in}
 use Rattle.flow_rules.specs.Facts.{numbers}
-use Rattle.flow_laws.specs.cover.Families.{Set, Sub, Gives, Passes, Enters, Calls, StaticCalls, SuperCalls, Makes, Tests, Casts, Included, IncludedAll}
+use Rattle.flow_laws.specs.cover.Families.{Set, Sub, Gives, Passes, Enters, Calls, StaticCalls, SuperCalls, Makes, Tests, Casts, Included, IncludedAll, MakerRuns}
 use Rattle.flow_laws.specs.cover.Covers.{is_site, passes, at_point, point_sites, labelled_with, labelled_body, tested_by, called_on}
-use Rattle.flow_laws.proofs.cover.Kinded.{site_type, HasPoint, IsKindedCall, IsKindedPart, FindsBody}
+use Rattle.flow_laws.proofs.cover.Kinded.{site_type, HasPoint, IsKindedCall, IsKindedPart, FindsBody, IsBase}
 use Rattle.flow_laws.proofs.cover.SeenOperands.{at_seen, part_at, plain}
 use Rattle.flow_laws.proofs.cover.Each.{left, right, past, here}
-use Rattle.flow_laws.proofs.cover.Flows.{when_object, value_in, value_sites, looks_in, IsUsed, HasTypes, creation_looks, cast_goes}
-use Rattle.flow_laws.proofs.cover.Calls.{local_is, local_object, local_sites, result_sites, call_goes, StaticGoes, static_goes, super_goes, super_self}
+use Rattle.flow_laws.proofs.cover.Flows.{when_object, value_in, value_sites, looks_in, IsUsed, HasTypes, creation_looks, cast_goes, creation_used}
+use Rattle.flow_laws.proofs.cover.Calls.{local_is, local_object, local_sites, result_sites, call_goes, StaticGoes, static_goes, super_goes, super_self, maker_goes}
 use Rattle.flow_laws.proofs.cover.Included.{ClosedBody, watch, sub_sites, passes_all, exs_at, site_as, tested_type, called_slot, same_number, tests_as, finds_as, strictly}
 use Rattle.std.proofs.lemmas.Option.{slice_get-map}
 use Rattle.flow_rules.proofs.TypeLemmas.{object_or}
 use Rattle.flow_laws.proofs.cover.Included as sets
 use Rattle.flow_laws.proofs.cover.Walked.{walked}
+use Rattle.java_core.specs.Makers.{maker_of, maker_slot}
 
 module _ (B : ClosedBody) where
   open B use {program as P, facts as F, sets as S, closed, are_facts as facts, kinded, number as m, method as k, stands}
@@ -86,13 +87,17 @@ module _ (B : ClosedBody) where
   value_seen : (e : Ex) (s : ℕ) → value_sites P F S (at e) s ≡ true → value_sites P F S (seen e) s ≡ true
   value_seen e s h = subst (λ z. value_sites P F S z s ≡ true) (at_seen P m k stands e) h
 
+  enter_args : (es : Exs) (b : Body) (c : ℕ) → b.env.body ≡ c → ((i : ℕ) (e : Ex) → exs_at es i ≡ Some e → (s : ℕ)
+      → value_sites P F S (at e) s ≡ true → local_sites P F S c i s ≡ true) → Passes L Made V g es (λ x. V.spot (bound b.env.body x))
+  enter_args es b c eb ha = subst (λ y. Passes L Made V g es (λ x. V.spot (bound y x))) (sym eb)
+      (pass_all es (λ x. V.spot (bound c x)) (λ i e h. sub_sites P (value_sites P F S (at e)) (local_sites P F S c i) (ha i e h)))
+
   enters : (d : Ex) (es : Exs) (b : Body) (c : ℕ) → b.env.body ≡ c → ((i : ℕ) (e : Ex) → exs_at es i ≡ Some e → (s : ℕ)
       → value_sites P F S (at e) s ≡ true → local_sites P F S c i s ≡ true)
       → ((s : ℕ) → result_sites P F S c s ≡ true → (looks_in P F S (at d).created (at d) s ≡ true) × (value_sites P F S (at d) s ≡ true))
       → Enters L Made V g d es b
   enters d es b c eb ha hr = record {
-    args = subst (λ y. Passes L Made V g es (λ x. V.spot (bound y x))) (sym eb)
-        (pass_all es (λ x. V.spot (bound c x)) (λ i e h. sub_sites P (value_sites P F S (at e)) (local_sites P F S c i) (ha i e h)));
+    args = enter_args es b c eb ha;
     result = subst (λ y. Gives L Made V g d (V.spot (result_of y))) (sym eb) (sets.gives B d (result_sites P F S c) hr);
   }
 
@@ -127,7 +132,8 @@ module _ (B : ClosedBody) where
             (and_from (point_sites P F S (at (called_on P F S d)) site.0) (finds_as P F S m d b.env.body site.0)
             (subst (λ y. point_sites P F S (at y) site.0 ≡ true) (sym ce)
             (subst (λ y. passes (point_sites P F S (at e)) y ≡ true) site.1 (sets.base_at B e (site_in (numbers P) o) ue v)))
-            (subst (λ y. option_map_or (λ j. same_number P F S (found_for F (site_class F site.0) j) ((numbers P).column (column.Def b.env.body))) y true ≡ true)
+            (subst (λ y. option_map_or (λ j. same_number P F S (found_for F (site_class F site.0) j) ((numbers P).column (column.Def b.env.body))) y
+            true ≡ true)
             (sym (cs ∙ sets.slot_seen B e x ∙ ej)) (same_numbers (found_for F (site_class F site.0) j) ((numbers P).column (column.Def b.env.body))
             finds_site.body.column.0 finds_site.found (ap (λ y. (numbers P).column (column.Def y)) f.body_is ∙ finds_site.column))));
         self = subst (λ z. strictly P F S (sites (self_of b.env.body)) z ≡ true) (sym site.1)
@@ -195,14 +201,15 @@ module _ (B : ClosedBody) where
       }
 
   -- creations
-  makes : (p : Place) (u : Bool) (d : Ex) (n : ℕ) (h : Kind) → Contains (parts_of P m k) (a_creation p u (at d)) → (at d).created ≡ Some n
+  makes : (p : Place) (u : Bool) (d : Ex) (n : ℕ) (h : Kind) (j c : Option ℕ) (es : List Operand)
+      → Contains (parts_of P m k) (a_creation p u (at d) j c es) → (at d).created ≡ Some n
       → (at d).ty ≡ object_of (own_type h) → Makes L Made V g d n h
-  makes p u d n h there ec et =
-      let i = sets.creation B p u d there in
+  makes p u d n h j c es there ec et =
+      let i = sets.creation B p u d j c es there in
       record {
         made = record { sited = λ t e. i.sited n t ec (et ∙ e); typed = λ s e. sym et ∙ i.typed n s ec e };
         looks = passes_all (sites (held m d)) ((numbers P).site n) (λ s e. subst (λ z. looks_in P F S z (at d) s ≡ true) (sym ec)
-            (creation_looks P F S closed facts m k stands p u (at d) there n s ec e));
+            (creation_looks P F S closed facts m k stands p u (at d) j c es there n s ec e));
         holds = passes_all (value_sites P F S (at d)) ((numbers P).site n) (λ s e. subst (λ z. value_in P F S z (at d) s ≡ true) (sym ec)
             (subst (λ z. is_site z s ≡ true) (sym e) (eq-eqb s s refl)));
       }
@@ -306,6 +313,49 @@ module _ (B : ClosedBody) where
   unfolding type_in
   array_seen t n u e = ap (λ z. z.ty) (at_seen P m k stands (create_array t n u e))
 
+  create_makes : (t : Tag) (u : Bool) (n c : ℕ) (es : Exs) → Stands (tree u (create t n c es)) → Makes L Made V g (create t n c es) n (an_object c)
+  create_makes t u n c es st = makes t.place _ (create t n c es) n (an_object c) _ _ _ (sets.create_at B t u n c es st)
+      (ap (λ z. z.created) (at_seen P m k stands (create t n c es))) (create_seen t n c es)
+
+  -- the constructor of a creation runs on it
+  maker_runs : (t : Tag) (u : Bool) (n c : ℕ) (es : Exs) → Stands (tree u (create t n c es)) → MakerRuns L Made V g (create t n c es) n c es
+  unfolding MakerRuns IsBase
+  maker_runs t u n c es st = λ j b ej eb.
+      let d : Ex = create t n c es in
+      let args = operands_of P (type_in P m k) m k es in
+      let own = then_some (slot_of_method P) (maker_of P c) j ej in
+      let ways : is_some (maker_of P c) ≡ true = ap is_some own.1 in
+      let used : u || is_some (maker_of P c) ≡ true = ap (λ z. u || z) ways ∙ or_true u in
+      let part = subst (λ z. Contains (parts_of P m k) (a_creation t.place true (at d) z (maker_of P c) args)) ej
+      (subst (λ z. Contains (parts_of P m k) (a_creation t.place z (at d) (maker_slot P c) (maker_of P c) args)) used (sets.create_at B t u n c es st)) in
+      let way : Stands (trees true es) = subst (λ z. Stands (trees z es)) ways (past _ _ st) in
+      let mk = create_makes t u n c es st in
+      let site = sets.object_site B (Some n) c mk.made in
+      let i = sets.creation B t.place true d (Some j) (maker_of P c) args part in
+      let ud = creation_used P F S closed facts m k stands t.place true (at d) (Some j) (maker_of P c) args part i (i.point refl) in
+      let base : value_sites P F S (at d) site.0 ≡ true = subst (λ z. passes (value_sites P F S (at d)) z ≡ true) site.1 mk.holds in
+      let look = then_some (labelled_body P F S) (lookup P c j) b eb in
+      let f = found look.0 b look.2 in
+      let finds = kinded.bodies c j look.0 f.method look.1 f.there f.has_body in
+      let finds_site : FindsBody P F (site_class F site.0) j look.0 f.method = subst (λ z. FindsBody P F z j look.0 f.method)
+      (sym (ap (λ z. z.class.0) site.2)) finds in
+      let goes = maker_goes P F S closed facts m k stands t.place true (at d) j (maker_of P c) args part ud site.0 base look.0 f.method f.there finds_site
+      (sets.maker B t.place true d (Some j) (maker_of P c) args part look.0 f.method f.there finds.slot)
+      (kinded.variables look.0 f.method f.there f.has_body) in
+      record {
+        receiver = subst (λ z. strictly P F S (sites (ran m d b.env.body)) z ≡ true) (sym site.1)
+            (and_from (point_sites P F S (at d) site.0) (finds_as P F S m d b.env.body site.0)
+            (subst (λ y. passes (point_sites P F S (at d)) y ≡ true) site.1 (sets.base_at B d (site_in (numbers P) (Some n)) ud mk.holds)) refl);
+        self = subst (λ z. strictly P F S (sites (self_of b.env.body)) z ≡ true) (sym site.1)
+            (subst (λ y. at_point P F S ((numbers P).point (point.This y)) site.0 ≡ true) (sym f.body_is) goes.self);
+        args = enter_args es b look.0 f.body_is (λ i a h s w. goes.args i (seen a) (operand_there es i a h)
+            (used_seen a (sets.is_used B a (argument_stands true es i a h way))) s (value_seen a s w));
+      }
+    where
+      or_true : (z : Bool) → z || true ≡ true
+      or_true true = refl
+      or_true false = refl
+
   -- all that an expression does stays in the sets
   mutual
     pub included : (u : Bool) (e : Ex) → Stands (tree u e) → Included L Made V g e
@@ -358,13 +408,13 @@ module _ (B : ClosedBody) where
           (super_call t x es) (here _ _ st)) (past _ _ st),
     )
     included u (create t n c es) st = (
-      included_all false es (past _ _ st),
-      makes t.place u (create t n c es) n (an_object c) (sets.made_at B t.place u (create t n c es) (here _ _ st))
-          (ap (λ z. z.created) (at_seen P m k stands (create t n c es))) (create_seen t n c es),
+      included_all (is_some (maker_of P c)) es (past _ _ st),
+      create_makes t u n c es st,
+      maker_runs t u n c es st,
     )
     included u (create_array t n v e) st = (
       included false e (past _ _ st),
-      makes t.place u (create_array t n v e) n (an_array v) (sets.made_at B t.place u (create_array t n v e) (here _ _ st))
+      makes t.place u (create_array t n v e) n (an_array v) None None [] (sets.array_at B t u n v e st)
           (ap (λ z. z.created) (at_seen P m k stands (create_array t n v e))) (array_seen t n v e),
     )
     included u (cast t n v e) st = (

@@ -1,5 +1,5 @@
 -- What typing and the choice of the points give of each part of a body.
-use Rattle.std.proofs.Common.{◌≡◌, ℕ, Some, None, List, length}
+use Rattle.std.proofs.Common.{◌≡◌, ℕ, Some, None, List, length, Option}
 use Rattle.std.specs.Prelude.{◌<◌, Bool, true, slice_get, Contains}
 use Rattle.std.specs.Option.{is_some}
 use Rattle.java_core.specs.Programs.{Plain, PlainMethod}
@@ -54,10 +54,14 @@ module _ (P : Plain) (F : Facts) where
     pub base : IsBase b
     pub takes : (t : ObjectType) → o.ty ≡ Some t → (u : ObjectType) × (field_object P f ≡ Some u)
 
+  -- what a call takes has the types of the method's parameters
+  abbrev pub AreKinded : PlainMethod → List Operand → Type 0
+  AreKinded k es = (i : ℕ) (a : Operand) (t : ObjectType) → slice_get es i ≡ Some a → a.ty ≡ Some t → (u : ObjectType) × (variable_object k i ≡ Some u)
+      × (i < length k.params)
+
   -- what a call gives and takes has the types of the method's parameters and result
   pub record IsKindedCall (k : PlainMethod) (es : List Operand) (o : Operand) : Type 0 where
-    pub args : (i : ℕ) (a : Operand) (t : ObjectType) → slice_get es i ≡ Some a → a.ty ≡ Some t → (u : ObjectType) × (variable_object k i ≡ Some u)
-        × (i < length k.params)
+    pub args : AreKinded k es
     pub result : (t : ObjectType) → object_if k.result ≡ Some t → IsPoint o
 
   pub record IsKindedReturn (m : ℕ) (k : PlainMethod) : Type 0 where
@@ -66,11 +70,16 @@ module _ (P : Plain) (F : Facts) where
     pub number : ℕ
     pub point : (numbers P).point (point.Result m) ≡ Some number
 
+  -- what a constructor of the slot takes
+  abbrev pub IsKindedMaker : Option ℕ → List Operand → Type 0
+  IsKindedMaker None es = Unit {0}
+  IsKindedMaker (Some j) es = (c : ℕ) (h : PlainMethod) → slice_get P.methods c ≡ Some h → h.slot ≡ Some j → AreKinded h es
+
   unfoldable pub IsKindedPart : ℕ → PlainMethod → Part → Type 0
   IsKindedPart m k (a_load p b None o) = Unit {0}
   IsKindedPart m k (a_load p b (Some f) o) = IsKindedLoad b f o
   IsKindedPart m k (an_element p b o) = (t : ObjectType) → b.ty ≡ Some t → IsPoint o
-  IsKindedPart m k (a_creation p u o) = IsCreation u o
+  IsKindedPart m k (a_creation p u o s d es) = IsCreation u o × IsKindedMaker s es
   IsKindedPart m k (a_call p b None d es o) = Unit {0}
   IsKindedPart m k (a_call p b (Some j) d es o) = (c : ℕ) (h : PlainMethod) → slice_get P.methods c ≡ Some h → h.slot ≡ Some j → IsKindedCall h es o
   IsKindedPart m k (a_static_call p c es o) = (h : PlainMethod) → slice_get P.methods c ≡ Some h → IsKindedCall h es o

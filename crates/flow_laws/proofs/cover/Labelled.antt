@@ -253,7 +253,8 @@ module _ (P : Plain) (k : PlainMethod) where
     formed_sts_same pair_no_st f_no_st = f_no_st
     formed_sts_same {scope = sc} (pair_st_then h i) (f_st_then a b) = f_st_then (formed_st_same h a) (rw (same_scope sc h) (formed_sts_same i b))
 
-    formed_arms_same : {l : Bool} {scope : List ℕ} {xs ys : IfArms} → PairedArms Retagged SameTarget xs ys → FormedArms P k l scope ys → FormedArms P k l scope xs
+    formed_arms_same : {l : Bool} {scope : List ℕ} {xs ys : IfArms} → PairedArms Retagged SameTarget xs ys → FormedArms P k l scope ys
+        → FormedArms P k l scope xs
     formed_arms_same pair_no_other f_no_other = f_no_other
     formed_arms_same (pair_otherwise h) (f_otherwise a) = f_otherwise (formed_sts_same h a)
     formed_arms_same (pair_arm h i j) (f_arm a b c) = f_arm (formed_same h a) (formed_sts_same i b) (formed_arms_same j c)

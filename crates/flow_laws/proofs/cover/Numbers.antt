@@ -1,7 +1,7 @@
 -- The numbers of a body's creations, casts and `instanceof`: each part that is one has its own, and those of a program differ.
 use Rattle.std.proofs.Common.{◌≡◌, ℕ, zero, suc, ◌+◌, List, [], ◌∷◌, ◌++◌, Option, Some, None, length, refl, sym, ap, ◌∙◌, subst, arith}
 use Rattle.std.specs.Prelude.{Bool, true, false, Contains, slice_get}
-use Rattle.std.specs.Option.{option_to_list}
+use Rattle.std.specs.Option.{option_to_list, is_some}
 use Rattle.std.specs.List.{flat_map}
 use Rattle.std.proofs.lemmas.Option.{same_Some, slice_get_within}
 use Rattle.std.proofs.lemmas.Grind.{flat_map-append}
@@ -17,6 +17,7 @@ use Rattle.flow_rules.specs.Parts.{Part, a_creation, a_test, is_accessed, parts,
 use Rattle.flow_rules.specs.Operands.{type_in}
 use Rattle.flow_rules.proofs.Listed.{at_contains, flat_has, at_left}
 use Rattle.flow_laws.proofs.cover.StatementParts.{of_sts}
+use Rattle.java_core.specs.Makers.{maker_of}
 
 -- the number of what has a row of its own
 abbrev pub number_in : Option RowItem → List ℕ
@@ -26,7 +27,7 @@ number_in (Some (row.Test n)) = n ∷ []
 number_in _ = []
 
 abbrev pub part_number : Part → List ℕ
-part_number (a_creation p u o) = option_to_list o.created
+part_number (a_creation p u o s d es) = option_to_list o.created
 part_number (a_test p e o) = number_in o.row
 part_number _ = []
 
@@ -60,7 +61,7 @@ module _ (P : Plain) (type : Ex → Option ObjectType) (m : ℕ) (k : PlainMetho
         (all_numbers (n + size e + 1) true es)
     ex_numbers n u (static_call t d es) = all_numbers (n + 1) false es
     ex_numbers n u (super_call t x es) = all_numbers (n + 1) false es
-    ex_numbers n u (create t i c es) = ap (λ z. i ∷ z) (all_numbers (n + 1) false es)
+    ex_numbers n u (create t i c es) = ap (λ z. i ∷ z) (all_numbers (n + 1) (is_some (maker_of P c)) es)
     ex_numbers n u (create_array t i v e) = ap (λ z. i ∷ z) (ex_numbers (n + 1) false e)
     ex_numbers n u (cast t i v e) = ap (λ z. i ∷ z) (ex_numbers (n + 1) true e)
     ex_numbers n u (instance_of t i e c) = join (in_ex true (label n e)) _ (numbers e) (i ∷ []) (ex_numbers n true e) refl

@@ -1,15 +1,15 @@
 -- Each part of a typed expression is kinded.
-use Rattle.std.proofs.Common.{◌≡◌, ℕ, List, [], ◌∷◌, Option, Some, None, length, refl, sym, ap, ◌∙◌, subst, arith}
-use Rattle.std.specs.Prelude.{◌<◌, Bool, true, slice_get, Contains}
+use Rattle.std.proofs.Common.{◌≡◌, ℕ, List, [], ◌∷◌, Option, Some, None, length, refl, sym, ap, ◌∙◌, subst, arith, option_and_then}
+use Rattle.std.specs.Prelude.{◌<◌, Bool, true, slice_get, Contains, ◌||◌}
 use Rattle.std.specs.Option.{option_map, is_some}
 use Rattle.std.proofs.lemmas.Option.{same_Some}
 use Rattle.kaba_base.specs.declared.Place.{Place}
 use Rattle.java_core.specs.declared.Ty.{Ty}
 use Rattle.java_core.specs.Trees.{Tag, Ex, Exs, own_field, field, index, call, static_call, super_call, create, create_array, cast, instance_of, binary}
 use Rattle.java_core.specs.Programs.{PlainMethod}
-use Rattle.java_core.specs.Classes.{super_method, slot_of}
+use Rattle.java_core.specs.Classes.{super_method, slot_of, slot_of_method}
 use Rattle.java_core.specs.Types.{a_value, types_of, class_of, element_of, Signature, signature_of_method, call_signature, super_signature, static}
-use Rattle.java_core.specs.Typing.{TypedArgs, t_index, t_call, t_static_call, t_super_call}
+use Rattle.java_core.specs.Typing.{TypedArgs, t_index, t_call, t_static_call, t_super_call, t_create, t_make}
 use Rattle.java_core.specs.Formed.{IsStaticMethod, f_field, f_index, f_static_call, f_create_array}
 use Rattle.flow_rules.specs.declared.items.ObjectType.{ObjectType}
 use Rattle.flow_rules.specs.declared.items.Operand.{Operand}
@@ -23,7 +23,7 @@ use Rattle.java_core.specs.declared.BinOp.{BinOp}
 use Rattle.flow_rules.specs.Numbered.{own_row, number_if, row_number}
 use Rattle.flow_rules.specs.Facts.{numbers}
 use Rattle.java_meaning.proofs.Moves.{then_some}
-use Rattle.flow_laws.proofs.cover.Kinded.{HasPoint, IsCreation, IsBase, IsKindedPart}
+use Rattle.flow_laws.proofs.cover.Kinded.{HasPoint, IsCreation, IsBase, IsKindedPart, IsKindedMaker}
 use Rattle.flow_laws.proofs.cover.HasRows.{field_row_of, in_slot, return_row, this_point_of}
 use Rattle.flow_laws.proofs.cover.Types.{element_typed, class_apart, class_dim, slot_called}
 use Rattle.flow_rules.proofs.Listed.{one_from}
@@ -32,16 +32,20 @@ use Rattle.flow_laws.proofs.cover.Forms.{own}
 use Rattle.flow_laws.proofs.cover.TypedParts as typed_parts
 use Rattle.flow_laws.proofs.cover.TypedParts.{TypedBody}
 use Rattle.flow_laws.proofs.cover.Walked.{walked}
+use Rattle.java_core.specs.Makers.{maker_of, maker_slot}
+use Rattle.flow_laws.proofs.cover.Makers.{maker_at, maker_signature}
 
 module _ (B : TypedBody) where
   open B use {program as P, facts as F, formed, number as m, method as k}
   open walked P m k use {env as g, type as T, operand as O, Stands, IsTyped, IsFormed as IsFormedEx, tree}
 
-  creation_there : (u : Bool) (t : Tag) (n c : ℕ) (es : Exs) → Stands (tree u (create t n c es)) → IsCreation P F u (O (create t n c es))
-  creation_there u t n c es st = typed_parts.is_creation B t.place u (O (create t n c es)) n (point.Expr m t.label) (here _ _ st) refl refl refl
+  creation_there : (u : Bool) (t : Tag) (n c : ℕ) (es : Exs) → Stands (tree u (create t n c es))
+      → IsCreation P F (u || is_some (maker_of P c)) (O (create t n c es))
+  creation_there u t n c es st = typed_parts.is_creation B t.place (u || is_some (maker_of P c)) (O (create t n c es)) _ _ _ n (point.Expr m t.label)
+      (here _ _ st) refl refl refl
 
   array_there : (u : Bool) (t : Tag) (n : ℕ) (v : Ty) (e : Ex) → Stands (tree u (create_array t n v e)) → IsCreation P F u (O (create_array t n v e))
-  array_there u t n v e st = typed_parts.is_creation B t.place u (O (create_array t n v e)) n (point.Expr m t.label) (here _ _ st) refl refl refl
+  array_there u t n v e st = typed_parts.is_creation B t.place u (O (create_array t n v e)) _ _ _ n (point.Expr m t.label) (here _ _ st) refl refl refl
 
   array_field : (t : Tag) (n : ℕ) (v : Ty) (e : Ex) (x : List ℕ) (f : ℕ) → 0 < v.dim → object_field P (T (create_array t n v e)) x ≡ Some f → ⊥
   array_field t n v e x f d h =
@@ -169,9 +173,27 @@ module _ (B : TypedBody) where
       (r.0, ap (λ z. number_if (row_number P) z) er ∙ r.1) in
       (w.number, w.point)
 
-  creation_kind : (q : Place) (u : Bool) (o : Operand) → IsCreation P F u o → IsKindedPart P F m k (a_creation q u o)
+  -- a constructor's arguments have the types of its parameters
+  maker_kind : (c d : ℕ) (es : Exs) (sig : Signature) → maker_of P c ≡ Some d → signature_of_method P d ≡ Some sig → TypedArgs P g es sig.params
+      → IsKindedMaker P F (maker_slot P c) (operands_of P (type_in P m k) m k es)
+  maker_kind c d es sig made called args = go (maker_slot P c) refl
+    where
+      go : (z : Option ℕ) → maker_slot P c ≡ z → IsKindedMaker P F z (operands_of P (type_in P m k) m k es)
+      go None h = tt
+      go (Some j) h = λ q f ef sf.
+          let w = maker_at P formed c d j made h in
+          let i = in_slot P formed q f ef j sf in
+          method_args es sig.params f args (maker_signature P c d j w sig called ∙ ap (λ z. z.params) (same_Some w.slot i.slot (sym w.slot_stands
+          ∙ i.stands)) ∙ sym i.params)
+
+  create_kind : (c : ℕ) (t : Tag) (n : ℕ) (es : Exs) → IsTyped (create t n c es) → IsKindedMaker P F (maker_slot P c) (operands_of P (type_in P m k) m k es)
+  create_kind c t n es (t_create a b) = subst (λ z. IsKindedMaker P F z []) (ap (option_and_then (slot_of_method P)) (sym b)) tt
+  create_kind c t n es (t_make a b s w) = maker_kind c _ es _ b s w
+
+  creation_kind : (q : Place) (u : Bool) (o : Operand) (j d : Option ℕ) (es : List Operand) → IsCreation P F u o → IsKindedMaker P F j es
+      → IsKindedPart P F m k (a_creation q u o j d es)
   unfolding IsKindedPart
-  creation_kind q u o i = i
+  creation_kind q u o j d es i h = (i, h)
 
   pair_kind : (o : BinOp) (a b : Operand) → IsKindedPart P F m k (a_pair o a b)
   unfolding IsKindedPart
@@ -191,8 +213,10 @@ module _ (B : TypedBody) where
   form_kind u sc (call t e x es) (t_call te sig args) fo st p c = only _ p c (call_kind t e x es _ sig args (here _ _ (right (tree true e) _ st)))
   form_kind u sc (static_call t d es) (t_static_call sig args) (f_static_call s fes) st p c = only _ p c (static_kind t d es _ sig args s (here _ _ st))
   form_kind u sc (super_call t x es) (t_super_call found has sig args) fo st p c = only _ p c (super_kind t x es _ _ found sig args (here _ _ st))
-  form_kind u sc (create t n d es) ty fo st p c = only _ p c (creation_kind t.place u (O (create t n d es)) (creation_there u t n d es st))
-  form_kind u sc (create_array t n v e) ty fo st p c = only _ p c (creation_kind t.place u (O (create_array t n v e)) (array_there u t n v e st))
+  form_kind u sc (create t n d es) ty fo st p c = only _ p c (creation_kind t.place _ (O (create t n d es)) _ _ _ (creation_there u t n d es st)
+      (create_kind d t n es ty))
+  form_kind u sc (create_array t n v e) ty fo st p c =
+      only _ p c (creation_kind t.place u (O (create_array t n v e)) None None [] (array_there u t n v e st) tt)
   form_kind u sc (cast t n v e) ty fo st p c = only _ p c (test_kind t e (O (cast t n v e)) (row.Cast n) refl refl (here _ _ st))
   form_kind u sc (instance_of t n e d) ty fo st p c =
       only _ p c (test_kind t e _ (row.Test n) refl refl (here _ [] (right (tree true e) _ st)))

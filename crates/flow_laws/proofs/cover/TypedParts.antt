@@ -1,6 +1,6 @@
 -- The rows and points of a typed body's expressions: where a value has a type of a row, it has the row, and a point where it is used.
 use Rattle.std.proofs.Common.{◌≡◌, ℕ, zero, suc, List, [], ◌∷◌, ◌++◌, Option, Some, None, length, refl, sym, ap, ◌∙◌, subst}
-use Rattle.std.specs.Prelude.{◌<◌, ◌==◌, ◌&&◌, not, get_or, if◌then◌else◌, Bool, true, false, slice_get, Contains}
+use Rattle.std.specs.Prelude.{◌<◌, ◌==◌, ◌&&◌, not, get_or, if◌then◌else◌, Bool, true, false, slice_get, Contains, ◌||◌}
 use Rattle.std.specs.Option.{option_map, option_and_then, is_some}
 use Rattle.std.specs.Str.{bytes_eq}
 use Rattle.std.proofs.lemmas.Option.{same_Some, slice_get_within, get_or_from_slice_get}
@@ -44,6 +44,7 @@ use Rattle.flow_laws.proofs.cover.Types.{fits_object, of_element, class_apart, o
 use Rattle.flow_laws.proofs.cover.Found.{nearest_some}
 use Rattle.flow_laws.proofs.cover.Walked.{walked}
 use Rattle.flow_laws.proofs.cover.Each.{left, here}
+use Rattle.java_core.specs.Makers.{maker_of, maker_slot}
 
 -- a body of a formed program, with the facts of the program
 pub record TypedBody : Type 0 where
@@ -236,9 +237,10 @@ module _ (B : TypedBody) where
       (r.0, ap (λ z. number_if (row_number P) (option_map row.Return z)) (slot_found e x ∙ c.found) ∙ r.1)
   row_listed u sc (static_call t d es) (t_static_call sig args) (f_static_call s fes) st o h = static_listed t d es _ o sig s h
   row_listed u sc (super_call t x es) (t_super_call found has sig args) fo st o h = super_listed t x es _ _ o found sig h
-  row_listed u sc (create t n c es) ty fo st o h = own_row_there (a_creation t.place u (O (create t n c es))) t.place (row.New n)
+  row_listed u sc (create t n c es) ty fo st o h = own_row_there (a_creation t.place (u || is_some (maker_of P c)) (O (create t n c es)) (maker_slot P c)
+      (maker_of P c) (operands_of P (type_in P m k) m k es)) t.place (row.New n)
       (T (create t n c es)) o (here _ _ st) (λ x d. d) h
-  row_listed u sc (create_array t n v e) ty fo st o h = own_row_there (a_creation t.place u (O (create_array t n v e))) t.place (row.New n)
+  row_listed u sc (create_array t n v e) ty fo st o h = own_row_there (a_creation t.place u (O (create_array t n v e)) None None []) t.place (row.New n)
       (T (create_array t n v e)) o (here _ _ st) (λ x d. d) h
   row_listed u sc (cast t n v e) ty fo st o h = own_row_there (a_test t.place (O e) (O (cast t n v e))) t.place (row.Cast n) (T (cast t n v e)) o
       (here _ _ st) (λ x d. d) h
@@ -276,23 +278,23 @@ module _ (B : TypedBody) where
       let n = form_point P m k stands body p c x.0 (h x.0 x.1) er.0 x.3 in
       record { type = t; typed = et; number = n.0; point = ap (λ z. point_in (numbers P) z) ei ∙ ap (λ z. point_number P z) (sym x.2) ∙ n.1 }
 
-  pub is_creation : (q : Place) (u : Bool) (o : Operand) (n : ℕ) (i : PointItem) → Contains (parts_of P m k) (a_creation q u o) → o.created ≡ Some n
-      → o.row ≡ Some (row.New n) → o.point ≡ Some i → IsCreation P F u o
+  pub is_creation : (q : Place) (u : Bool) (o : Operand) (a d : Option ℕ) (es : List Operand) (n : ℕ) (i : PointItem)
+      → Contains (parts_of P m k) (a_creation q u o a d es) → o.created ≡ Some n → o.row ≡ Some (row.New n) → o.point ≡ Some i → IsCreation P F u o
   unfolding numbers
-  is_creation q u o n i c ec er ep =
+  is_creation q u o a d args n i c ec er ep =
       let listed : (t : ObjectType) → o.ty ≡ Some t → (r : ℕ) × (number_if (row_number P) o.row ≡ Some r) = λ t et.
-      let r = own_row_there (a_creation q u o) q (row.New n) o.ty t c (λ x d. subst (λ z. Contains (own_row q z o.ty) x) (sym er) d) et in
+      let r = own_row_there (a_creation q u o a d args) q (row.New n) o.ty t c (λ x d. subst (λ z. Contains (own_row q z o.ty) x) (sym er) d) et in
       (r.0, ap (λ z. number_if (row_number P) z) er ∙ r.1) in
       record {
         sited = λ j t ej et.
             let r = listed t et in
             let x : Site = record { number = j; place = q; ty = t; row = r.0 } in
-            site_there P m k stands (a_creation q u o) c x (subst (λ z. Contains (site_if q z o.ty (number_if (row_number P) o.row)) x) (sym ej)
+            site_there P m k stands (a_creation q u o a d args) c x (subst (λ z. Contains (site_if q z o.ty (number_if (row_number P) o.row)) x) (sym ej)
             (subst (λ z. Contains (site_if q (Some j) z (number_if (row_number P) o.row)) x) (sym et)
             (subst (λ z. Contains (site_if q (Some j) (Some t) z) x) (sym r.1) (one x))));
-        typed = λ j s ej es. creation_type P F formed B.are_facts m k stands q u o j s c ej es;
+        typed = λ j s ej es. creation_type P F formed B.are_facts m k stands q u o a d args j s c ej es;
         point = λ eu j s ej es.
-            let et = creation_type P F formed B.are_facts m k stands q u o j s c ej es in
-            let w = is_point (a_creation q u o) q o i (site_type F s) c (λ x d. when_has u _ x eu d) ep et (listed (site_type F s) et) in
+            let et = creation_type P F formed B.are_facts m k stands q u o a d args j s c ej es in
+            let w = is_point (a_creation q u o a d args) q o i (site_type F s) c (λ x d. when_has u _ x eu d) ep et (listed (site_type F s) et) in
             (w.number, w.point);
       }

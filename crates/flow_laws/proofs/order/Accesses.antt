@@ -1,5 +1,5 @@
 -- The accesses of a program's facts: each names a field or a declaration, of a class at or above the row's.
-use Rattle.std.proofs.Common.{◌≡◌, ℕ, List, Option, Some, None, refl, sym, ap, subst, arith, inl, inr}
+use Rattle.std.proofs.Common.{◌≡◌, ℕ, List, Option, Some, None, refl, sym, ap, subst, arith, inl, inr, Bool}
 use Rattle.std.specs.Prelude.{◌⊎◌, Contains, All, slice_get}
 use Rattle.kaba_base.specs.declared.Place.{Place}
 use Rattle.java_core.specs.Programs.{Plain, PlainMethod}
@@ -13,7 +13,7 @@ use Rattle.fact_model.specs.declared.facts.ColKind.TheVariants.{Fld, Dcl}
 use Rattle.flow_rules.specs.declared.items.Operand.{Operand}
 use Rattle.flow_rules.specs.declared.items.ColumnItem.{ColumnItem}
 use Rattle.flow_rules.specs.declared.items.ColumnItem.TheVariants as column
-use Rattle.flow_rules.specs.Parts.{Part, a_load, a_call, a_store, parts_of}
+use Rattle.flow_rules.specs.Parts.{Part, a_load, a_call, a_store, parts_of, a_creation}
 use Rattle.flow_rules.specs.Numbered.{column_number}
 use Rattle.flow_rules.specs.Lists.{row_at, accessed, accesses_of}
 use Rattle.flow_rules.specs.Facts.{numbers, column_info, IsFactsOf}
@@ -34,6 +34,7 @@ pub data IsAccess : Operand → ColumnItem → Part → Type 0 where
   a_read : {p : Place} {b o : Operand} {f : ℕ} → IsAccess b (column.Fld f) (a_load p b (Some f) o)
   a_write : {p : Place} {b o : Operand} {f : ℕ} → IsAccess b (column.Fld f) (a_store p b (Some f) o)
   a_use : {p : Place} {b o : Operand} {s : Option ℕ} {d : ℕ} {es : List Operand} → IsAccess b (column.Dcl d) (a_call p b s (Some d) es o)
+  a_make : {p : Place} {u : Bool} {o : Operand} {s : Option ℕ} {d : ℕ} {es : List Operand} → IsAccess o (column.Dcl d) (a_creation p u o s (Some d) es)
 
 module _ (P : Plain) where
   pub record HasAccess (x : AccessInfo) (p : Part) : Type 0 where
@@ -51,6 +52,8 @@ module _ (P : Plain) where
       { base = b; member = column.Fld f; access = a_write; row_is = z.0; column_is = z.1 }
   access_of (a_call p b s (Some d) es o) x c = let z = accessed_from (row_at (numbers P) b) (column_number P (column.Dcl d)) x c in record
       { base = b; member = column.Dcl d; access = a_use; row_is = z.0; column_is = z.1 }
+  access_of (a_creation p u o s (Some d) es) x c = let z = accessed_from (row_at (numbers P) o) (column_number P (column.Dcl d)) x c in record
+      { base = o; member = column.Dcl d; access = a_make; row_is = z.0; column_is = z.1 }
   access_of _ x c = absurd (omega (arith, c.1))
 
   module _ (F : Facts) (facts : IsFactsOf P F) where
@@ -71,6 +74,7 @@ module _ (P : Plain) where
     member_kind b _ _ a_read = inl refl
     member_kind b _ _ a_write = inl refl
     member_kind b _ _ a_use = inr refl
+    member_kind b _ _ a_make = inr refl
 
     pub access_kinds : All (λ x. (column_kind F x.column.0 ≡ Fld) ⊎ (column_kind F x.column.0 ≡ Dcl)) F.accesses.items
     access_kinds = all_of (λ x. (column_kind F x.column.0 ≡ Fld) ⊎ (column_kind F x.column.0 ≡ Dcl)) F.accesses.items
@@ -85,6 +89,7 @@ module _ (P : Plain) where
       base_above m k e b _ _ (a_read {f = f}) h = (h.1 f refl).0
       base_above m k e b _ _ (a_write {f = f}) h = (h f refl).0
       base_above m k e b _ _ (a_use {d = d}) h = h.2 d refl
+      base_above m k e b _ _ (a_make {d = d}) h = h.3 d refl
 
       pub accesses_below : All (λ x. IsBelow F (row_class F x.row.0) (column_class F x.column.0)) F.accesses.items
       accesses_below = all_of (λ x. IsBelow F (row_class F x.row.0) (column_class F x.column.0)) F.accesses.items

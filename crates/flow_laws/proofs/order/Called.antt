@@ -20,7 +20,7 @@ use Rattle.flow_rules.specs.declared.items.ColumnItem.{ColumnItem}
 use Rattle.flow_rules.specs.declared.items.ColumnItem.TheVariants as column
 use Rattle.flow_rules.specs.Ordered.{by_place}
 use Rattle.flow_rules.specs.Types.{slot_object}
-use Rattle.flow_rules.specs.Parts.{Part, a_call}
+use Rattle.flow_rules.specs.Parts.{Part, a_call, a_creation, nothing}
 use Rattle.flow_rules.specs.Lists.{Placed, PlainCall, point_at, calls_of}
 use Rattle.flow_rules.specs.Numbered.{column_number, columns_of, point_number}
 use Rattle.flow_rules.specs.Facts.{numbers, gathered, body_seen, call_seen, body_if, column_body, param_points, IsFactsOf}
@@ -30,8 +30,9 @@ use Rattle.flow_laws.proofs.order.Columns.{numbered_column}
 use Rattle.flow_laws.proofs.order.Classes.{at_each, below_subclass}
 use Rattle.flow_laws.proofs.order.Tests.{gathered_from}
 use Rattle.flow_laws.proofs.order.Operands.{param_object}
-use Rattle.flow_laws.proofs.order.Sound.{IsSound}
-use Rattle.flow_laws.proofs.order.Fitted.{IsFitted, AreValues, part_fitted}
+use Rattle.flow_laws.proofs.order.Sound.{IsSound, none_sound}
+use Rattle.flow_laws.proofs.order.Fitted.{IsFitted, AreValues, part_fitted, IsFittedReceiver, IsFittedCall}
+use Rattle.kaba_base.specs.declared.Place.{Place}
 
 -- what stands in a list of numbers that may be there
 index_some : (xs : List (Option ℕ)) (i n : ℕ) → slice_index_or xs i None ≡ Some n → slice_get xs i ≡ Some (Some n)
@@ -57,26 +58,25 @@ module _ (P : Plain) (formed : IsFormed P) (typed : IsTyped P) (F : Facts) (fact
     pub values : AreValues P formed typed F facts number method stands args (param_object P call.slot)
     pub gives : own.ty ≡ slot_object P call.slot
 
-  call_part : (m : ℕ) (k : PlainMethod) (e : slice_get P.methods m ≡ Some k) (p : Part) (y : Placed PlainCall) (call : CallInfo)
-      → IsFitted P formed typed F facts m k e p → Contains (calls_of (numbers P) p) y → y.item ≡ call_seen call → IsCall call
-  call_part m k e (a_call w b (Some s) d es o) y call f c i = go (point_at (numbers P) b) refl c
+  -- a call that the facts list, of a receiver, a slot and arguments that fit
+  fitted_call : (m : ℕ) (k : PlainMethod) (e : slice_get P.methods m ≡ Some k) (w : Place) (b : Operand) (s : ℕ) (es : List Operand) (o : Operand)
+      → IsFittedReceiver P formed typed F facts m k e b → IsFittedCall P formed typed F facts m k e es o (param_object P s) (slot_object P s)
+      → IsSound P formed typed F facts m k e o → (y : Placed PlainCall) (call : CallInfo)
+      → Contains (option_map_or (λ r. record {
+        place = w;
+        item = record { receiver = r; slot = s; args = map (point_at (numbers P)) es; result = point_at (numbers P) o };
+      } ∷ []) (point_at (numbers P) b) []) y → y.item ≡ call_seen call → IsCall call
+  fitted_call m k e w b s es o fb fc go y call c i = step (point_at (numbers P) b) refl c
     where
-      go : (r : Option ℕ) → point_at (numbers P) b ≡ r
+      step : (r : Option ℕ) → point_at (numbers P) b ≡ r
           → Contains (option_map_or (λ r. record {
             place = w;
-            item = record {
-              receiver = r;
-              slot = s;
-              args = map (point_at (numbers P)) es;
-              result =
-                  point_at (numbers P) o;
-            };
+            item = record { receiver = r; slot = s; args = map (point_at (numbers P)) es; result = point_at (numbers P) o };
           } ∷ []) r []) y → IsCall call
-      go None a c = absurd (omega (arith, c.1))
-      go (Some r) a c =
+      step None a c = absurd (omega (arith, c.1))
+      step (Some r) a c =
           let z = ap (λ y. y.item) (one_from _ y c) ∙ i in
           let same : s ≡ call.slot = ap (λ y. y.slot) z in
-          let h = f.1 s refl in
           record {
             number = m;
             method = k;
@@ -87,12 +87,18 @@ module _ (P : Plain) (formed : IsFormed P) (typed : IsTyped P) (F : Facts) (fact
             receiver = a ∙ ap (λ y. Some y.receiver) z;
             args_are = sym (ap (λ y. y.args) z);
             result = sym (ap (λ y. y.result) z);
-            base_good = h.0.good;
-            own_good = f.0;
-            object = h.0.object;
-            values = subst (λ s. AreValues P formed typed F facts m k e es (param_object P s)) same h.1.args;
-            gives = h.1.result ∙ ap (slot_object P) same;
+            base_good = fb.good;
+            own_good = go;
+            object = fb.object;
+            values = subst (λ s. AreValues P formed typed F facts m k e es (param_object P s)) same fc.args;
+            gives = fc.result ∙ ap (slot_object P) same;
           }
+
+  call_part : (m : ℕ) (k : PlainMethod) (e : slice_get P.methods m ≡ Some k) (p : Part) (y : Placed PlainCall) (call : CallInfo)
+      → IsFitted P formed typed F facts m k e p → Contains (calls_of (numbers P) p) y → y.item ≡ call_seen call → IsCall call
+  call_part m k e (a_call w b (Some s) d es o) y call f c i = let h = f.1 s refl in fitted_call m k e w b s es o h.0 h.1 f.0 y call c i
+  call_part m k e (a_creation w u b (Some s) d es) y call f c i =
+      let h = f.2 s refl in fitted_call m k e w b s es nothing h.0 h.1 (none_sound P formed typed F facts m k e nothing refl refl refl) y call c i
   call_part m k e _ y call f c i = absurd (omega (arith, c.1))
 
   pub call_of : (call : CallInfo) → Contains F.calls.items call → IsCall call

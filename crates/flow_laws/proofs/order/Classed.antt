@@ -1,6 +1,6 @@
 -- The row that types an expression of a body has the class of its static type; only an index has a row of more brackets.
-use Rattle.std.proofs.Common.{◌≡◌, ℕ, ◌-◌, Option, Some, None, refl, sym, ap, ◌∙◌, subst, arith}
-use Rattle.std.specs.Prelude.{◌<◌, ◌≤◌, Bool, true, Contains, slice_get, option_and_then}
+use Rattle.std.proofs.Common.{◌≡◌, ℕ, ◌-◌, Option, Some, None, refl, sym, ap, ◌∙◌, subst, arith, []}
+use Rattle.std.specs.Prelude.{◌<◌, ◌≤◌, Bool, true, Contains, slice_get, option_and_then, ◌||◌}
 use Rattle.std.specs.Option.{option_map, is_some}
 use Rattle.std.proofs.lemmas.Option.{same_Some}
 use Rattle.java_core.specs.Trees.{Ex, this, local, static_field, own_field, field, index, call, static_call, super_call, create, create_array, cast}
@@ -28,10 +28,11 @@ use Rattle.flow_laws.proofs.order.Sites.{own_typed}
 use Rattle.flow_laws.proofs.order.Fits.{with_elements, element_some}
 use Rattle.flow_laws.proofs.order.Bodies.{this_type}
 use Rattle.flow_laws.proofs.order.Operands.{field_type, return_type, result_type, super_type, variable_type}
+use Rattle.java_core.specs.Makers.{maker_of, maker_slot}
 
 module _ (P : Plain) (formed : IsFormed P) (typed : IsTyped P) (F : Facts) (facts : IsFactsOf P F) (m : ℕ)
     (k : PlainMethod) (stands : slice_get P.methods m ≡ Some k) where
-  open walked P m k use {env as g, type, operand as at, tree, Stands, IsTyped as Typed}
+  open walked P m k use {env as g, type, operand as at, operands, tree, Stands, IsTyped as Typed}
 
   -- a type, whose class is that of the row's type, which has as many brackets or more
   pub record Classed (x : Row) (t : Option ObjectType) : Type 0 where
@@ -133,10 +134,11 @@ module _ (P : Plain) (formed : IsFormed P) (typed : IsTyped P) (F : Facts) (fact
   typing u (static_call t d es) a w = static_typing d
   typing u (super_call t x es) a w = super_typing (super_method P k.owner x)
   typing u (create t i c es) a w =
-      as_type _ (create t i c es) (own_typing (a_creation t.place u (at (create t i c es))) _
+      as_type _ (create t i c es) (own_typing (a_creation t.place (u || is_some (maker_of P c)) (at (create t i c es)) (maker_slot P c) (maker_of P c)
+      (operands es)) _
       (here _ _ w) refl)
   typing u (create_array t i v e) a w =
-      as_type _ (create_array t i v e) (own_typing (a_creation t.place u (at (create_array t i v e))) _
+      as_type _ (create_array t i v e) (own_typing (a_creation t.place u (at (create_array t i v e)) None None []) _
       (here _ _ w) refl)
   typing u (cast t i v e) a w =
       as_type _ (cast t i v e)

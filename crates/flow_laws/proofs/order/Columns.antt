@@ -43,7 +43,7 @@ module _ (P : Plain) where
   array_mark_stands p (Some t) x c = stands_as _ _ (ap (λ z. z.item) (one_from _ x (when_from (not (t.dim == 0)) _ x c).1)) (for_mark t.class)
 
   form_stands : (p : Part) (x : Column) → Contains (form_columns p) x → Stands P x.item
-  form_stands (a_creation p u o) x c = array_mark_stands p o.ty x c
+  form_stands (a_creation p u o s d es) x c = array_mark_stands p o.ty x c
   form_stands (a_test p e o) x c = mark_stands p o.ty x c
   form_stands _ x c = absurd (omega (arith, c.1))
 

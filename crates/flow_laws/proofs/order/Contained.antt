@@ -107,7 +107,8 @@ module _ (P : Plain) (formed : IsFormed P) (typed : IsTyped P) (F : Facts) (fact
   cell_contains c s (of_array x i e n q) w =
       let p = site_part P formed typed (cell_at F c).site.0 x e in
       let y = row_there P formed typed F facts (row.New x.number) x.row p.row_number_is in
-      let t = own_type P formed typed (a_creation p.of.place p.of.used p.of.operand) p.of.operand (row.New x.number) x.ty x.row y.here
+      let t = own_type P formed typed (a_creation p.of.place p.of.used p.of.operand p.of.slot p.of.declaration p.of.arguments) p.of.operand
+      (row.New x.number) x.ty x.row y.here
       p.of.is_part refl
       p.row_is p.of.type y.stands y.item in
       let z = index_at F.sites.items (cell_at F c).site.0 _ (site_info x) (subst (λ w. slice_get w (cell_at F c).site.0 ≡ Some (site_info x))

@@ -1,14 +1,14 @@
 -- What typing gives of each part of a body: what is put somewhere has a type at or below that of the place.
-use Rattle.std.proofs.Common.{◌≡◌, ℕ, zero, suc, List, [], ◌∷◌, ◌++◌, Option, Some, length, refl, sym, ap, ◌∙◌, subst, arith}
-use Rattle.std.specs.Prelude.{◌<◌, nat_lt, Bool, true, false, Contains, slice_get, option_and_then}
+use Rattle.std.proofs.Common.{◌≡◌, ℕ, zero, suc, List, [], ◌∷◌, ◌++◌, Option, Some, length, refl, sym, ap, ◌∙◌, subst, arith, None}
+use Rattle.std.specs.Prelude.{◌<◌, nat_lt, Bool, true, false, Contains, slice_get, option_and_then, ◌||◌}
 use Rattle.std.proofs.lemmas.Option.{same_Some}
 use Rattle.std.proofs.lemmas.List.{length-map}
 use Rattle.java_core.specs.declared.Ty.{Ty}
 use Rattle.java_core.specs.Trees.{Tag, Ex, Exs, no_ex, ex_then, this, local, static_field, own_field, field, index, call, static_call, super_call, create, create_array, cast, instance_of, binary, Target, to_local, to_static, to_own, to_field, to_element, no_target}
 use Rattle.java_core.specs.Programs.{Plain, PlainMethod}
-use Rattle.java_core.specs.Classes.{IsSubclass, super_method, has_body, slot_of}
+use Rattle.java_core.specs.Classes.{IsSubclass, super_method, has_body, slot_of, slot_of_method, same_class}
 use Rattle.java_core.specs.Types.{Static, a_value, or_nothing, types_of, class_of, class_type, fits_in, field_in, field_type, Signature, call_signature, super_signature, signature_of_method, static, target_type}
-use Rattle.java_core.specs.Typing.{IsTyped, TypedTarget, t_this, t_field, t_local, t_static_field, t_index, t_call, t_static_call, t_super_call, t_cast, t_instance_of, t_binary, TypedArgs, t_ex_then, t_to_field, t_to_element}
+use Rattle.java_core.specs.Typing.{IsTyped, TypedTarget, t_this, t_field, t_local, t_static_field, t_index, t_call, t_static_call, t_super_call, t_cast, t_instance_of, t_binary, TypedArgs, t_ex_then, t_to_field, t_to_element, t_create, t_make}
 use Rattle.java_core.specs.Formed.{IsFormed, IsOwnField, FormedTarget, f_to_own, f_own_field, f_create, f_create_array, f_cast, f_instance_of}
 use Rattle.java_meaning.proofs.Moves.{then_some}
 use Rattle.java_meaning.proofs.Calls.{mapped_some}
@@ -22,7 +22,7 @@ use Rattle.flow_rules.specs.declared.items.ColumnItem.{ColumnItem}
 use Rattle.flow_rules.specs.declared.items.ColumnItem.TheVariants as column
 use Rattle.flow_rules.specs.Operands.{object_of, object_if, object_static, object_field, class_at, call_slot, call_declaration, this_operand, test_operand, type_in}
 use Rattle.flow_rules.specs.Types.{field_object, slot_object, method_object, variable_object, element_object, object_type}
-use Rattle.flow_rules.specs.Parts.{Part, a_load, an_element, a_creation, a_call, a_static_call, a_super_call, a_test, a_pair, a_set, a_store, an_element_store, a_return, is_accessed, parts_assign, parts_of}
+use Rattle.flow_rules.specs.Parts.{Part, a_load, an_element, a_creation, a_call, a_static_call, a_super_call, a_test, a_pair, a_set, a_store, an_element_store, a_return, is_accessed, parts_assign, parts_of, nothing}
 use Rattle.flow_rules.specs.Lists.{is_comparison}
 use Rattle.flow_rules.specs.Facts.{owner_of, IsFactsOf}
 use Rattle.flow_rules.proofs.TypeLemmas.{class_is, object_field_is, object_or}
@@ -36,6 +36,9 @@ use Rattle.flow_laws.proofs.order.Above.{field_above, object_field_above, call_a
 use Rattle.flow_laws.proofs.order.Fits.{known_type, known_cast, IsUnder, ArePaired, class_dim, fits_in_under, takes_paired, related_paired, cast_paired}
 use Rattle.flow_laws.proofs.order.Classed.{static_as, as_object, many_dims}
 use Rattle.flow_laws.proofs.order.Sound.{is_apart, variable_apart, item_type, IsSound, sound, test_sound}
+use Rattle.java_core.specs.Makers.{maker_of, maker_slot}
+use Rattle.std.specs.Option.{is_some, option_map_or}
+use Rattle.flow_laws.proofs.cover.Makers.{own_maker, maker_at, maker_signature}
 
 module _ (P : Plain) (formed : IsFormed P) (typed : IsTyped P) (F : Facts) (facts : IsFactsOf P F) (m : ℕ)
     (k : PlainMethod) (stands : slice_get P.methods m ≡ Some k) where
@@ -85,7 +88,8 @@ module _ (P : Plain) (formed : IsFormed P) (typed : IsTyped P) (F : Facts) (fact
   abbrev pub IsFitted : Part → Type 0
   IsFitted (a_load p b f o) = IsGood o × ((j : ℕ) → f ≡ Some j → IsBase b (column.Fld j) × (o.ty ≡ field_object P j))
   IsFitted (an_element p b o) = IsGood b × IsGood o × (o.ty ≡ element_object b.ty)
-  IsFitted (a_creation p u o) = IsGood o × IsKnown o
+  IsFitted (a_creation p u o s d es) = IsGood o × IsKnown o × ((j : ℕ) → s ≡ Some j → IsFittedReceiver o × IsFittedCall es nothing (param_object P j)
+      (slot_object P j)) × ((c : ℕ) → d ≡ Some c → IsBase o (column.Dcl c))
   IsFitted (a_call p b s d es o) = IsGood o × ((j : ℕ) → s ≡ Some j → IsFittedReceiver b × IsFittedCall es o (param_object P j) (slot_object P j))
       × ((c : ℕ) → d ≡ Some c → IsBase b (column.Dcl c))
   IsFitted (a_static_call p d es o) = IsGood o × IsFittedCall es o (is_variable_of d) (method_object P d)
@@ -187,6 +191,34 @@ module _ (P : Plain) (formed : IsFormed P) (typed : IsTyped P) (F : Facts) (fact
     above = λ t i. object_field_above P formed t x j (ap (λ t. object_field P t x) (sym i) ∙ h);
   }
 
+  -- a creation is of its class
+  is_new : (t : Tag) (i d : ℕ) (es : Exs) → (at (create t i d es)).ty ≡ Some (record { class = record { 0 = d }; dim = 0 })
+  unfolding type_in
+  is_new t i d es = refl
+
+  -- the constructor of a class takes what its slot says
+  maker_values : (c d j : ℕ) (es : Exs) (s : Signature) → maker_of P c ≡ Some d → signature_of_method P d ≡ Some s → TypedArgs P g es s.params
+      → maker_slot P c ≡ Some j → Stands (tree_all (is_some (maker_of P c)) es) → IsFittedCall (operands es) nothing (param_object P j) (slot_object P j)
+  maker_values c d j es s e called t h w =
+      let k = maker_at P formed c d j e h in
+      record {
+        args = λ i a v. subst (λ z. IsValue a z) (ap (λ us. object_if (slice_get us i)) (maker_signature P c d j k s called)
+            ∙ sym (ap (λ o. object_if (option_and_then (λ z. slice_get z.params i) o)) k.slot_stands)) (args_values _ es s.params t w i a v).1;
+        result = sym (ap (λ o. object_if (option_and_then (λ z. z.result) o)) k.slot_stands ∙ ap object_if k.result);
+      }
+
+  made_values : (t : Tag) (i c : ℕ) (es : Exs) (j : ℕ) → Typed (create t i c es) → maker_slot P c ≡ Some j
+      → Stands (tree_all (is_some (maker_of P c)) es) → IsFittedCall (operands es) nothing (param_object P j) (slot_object P j)
+  made_values t i c es j (t_create a b) h w =
+      absurd (let z = sym (ap (option_and_then (slot_of_method P)) b) ∙ h in cc)
+  made_values t i c es j (t_make a b s v) h w = maker_values c _ j es _ b s v h w
+
+  -- and is its own
+  maker_above : (c d : ℕ) → maker_of P c ≡ Some d → IsSubclass P c (owner_of P (column.Dcl d))
+  maker_above c d e =
+      let k = own_maker P c d e in
+      subst (λ z. IsSubclass P c z) (sym k.owner ∙ sym (ap (λ y. option_map_or (λ k. k.owner) y 0) k.stands)) same_class
+
   is : (q p : Part) → Contains (q ∷ []) p → IsFitted q → IsFitted p
   is q p c n = subst (λ z. IsFitted z) (one_from q p c) n
 
@@ -248,14 +280,25 @@ module _ (P : Plain) (formed : IsFormed P) (typed : IsTyped P) (F : Facts) (fact
         )),
       )
   form_fitted u (create t i d es) p a (f_create x y) w c =
-      is (a_creation t.place u (at (create t i d es))) p c (
+      let new = is_new t i d es in
+      is (a_creation t.place (u || is_some (maker_of P d)) (at (create t i d es)) (maker_slot P d) (maker_of P d) (operands es)) p c (
         good_at u (create t i d es) a w,
         (λ s h. subst (λ z. z.class.0 < length P.classes) (same_Some _ s (of_object (create t i d es) ∙ h)) x),
+        (λ j h. (
+          record { good = good_at u (create t i d es) a w; object = λ y e. ap (λ z. z.dim) (same_Some y _ (sym e ∙ new)) },
+          made_values t i d es j a h (past _ _ w),
+        )),
+        (λ j h. record {
+          good = good_at u (create t i d es) a w;
+          above = λ y e. subst (λ z. IsSubclass P z.class.0 (owner_of P (column.Dcl j))) (same_Some _ y (sym new ∙ e)) (maker_above d j h);
+        }),
       )
   form_fitted u (create_array t i v e) p a (f_create_array x y z) w c =
-      is (a_creation t.place u (at (create_array t i v e))) p c (
+      is (a_creation t.place u (at (create_array t i v e)) None None []) p c (
         good_at u (create_array t i v e) a w,
         (λ s h. known_type P v s x (of_object (create_array t i v e) ∙ h)),
+        (λ j h. absurd (cc)),
+        (λ j h. absurd (cc)),
       )
   form_fitted u (cast t i v e) p (t_cast a b) (f_cast x y) w c =
       is (a_test t.place (at e) (at (cast t i v e))) p c (

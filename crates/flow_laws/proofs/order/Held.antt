@@ -169,7 +169,7 @@ module _ (P : Plain) (formed : IsFormed P) (typed : IsTyped P) (F : Facts) (fact
 
     part_new : (p : Part) (x : NewInfo) → Fitted p → Contains (news_of (numbers P) m p) x → IsHeld (in_point x.point x.site.0)
     unfolding numbers
-    part_new (a_creation w u o) x h c = new_goes o o.ty (point_at (numbers P) o) x (self_value o h.0) (takes_operand o h.0) c
+    part_new (a_creation w u o s d es) x h c = new_goes o o.ty (point_at (numbers P) o) x (self_value o h.0) (takes_operand o h.0) c
     part_new (a_set v o) x h c = new_goes o v.ty (point_at (numbers P) v) x h.2 (takes_operand v h.0) c
     part_new (a_return o) x h c = new_goes o (object_if k.result) (point_number P (point.Result m)) x h takes_result c
     part_new (a_static_call w d es o) x h c = args_new d es x h.1.args c

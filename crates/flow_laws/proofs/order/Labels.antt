@@ -10,6 +10,8 @@ use Rattle.flow_rules.specs.Labels.{size, sizes, label, label_all, label_if, siz
 use Rattle.flow_rules.specs.Parts.{Part, a_load, an_element, a_creation, a_call, a_static_call, a_super_call, a_test, is_accessed, parts, parts_all, parts_set, parts_return, parts_assign, parts_sts, parts_body, parts_of}
 use Rattle.flow_rules.specs.Operands.{type_in}
 use Rattle.flow_laws.proofs.cover.StatementParts.{of_sts}
+use Rattle.std.specs.Option.{is_some}
+use Rattle.java_core.specs.Makers.{maker_of}
 
 -- the label of what an expression gives
 abbrev pub label_in : Option PointItem → Option ℕ
@@ -19,7 +21,7 @@ label_in _ = None
 abbrev pub part_label : Part → Option ℕ
 part_label (a_load p b f o) = label_in o.point
 part_label (an_element p b o) = label_in o.point
-part_label (a_creation p u o) = label_in o.point
+part_label (a_creation p u o s d es) = label_in o.point
 part_label (a_call p b s d es o) = label_in o.point
 part_label (a_static_call p m es o) = label_in o.point
 part_label (a_super_call p m es o) = label_in o.point
@@ -83,7 +85,7 @@ module _ (P : Plain) (type : Ex → Option ObjectType) (m : ℕ) (k : PlainMetho
         join (ex_labels n true e) (with {l = n + size e} refl (omega arith) (upto (omega arith) (all_labels (n + size e + 1) true es)))
     ex_labels n u (static_call t d es) = with {l = n} refl (omega arith) (upto (omega arith) (all_labels (n + 1) false es))
     ex_labels n u (super_call t x es) = with {l = n} refl (omega arith) (upto (omega arith) (all_labels (n + 1) false es))
-    ex_labels n u (create t i c es) = with {l = n} refl (omega arith) (upto (omega arith) (all_labels (n + 1) false es))
+    ex_labels n u (create t i c es) = with {l = n} refl (omega arith) (upto (omega arith) (all_labels (n + 1) (is_some (maker_of P c)) es))
     ex_labels n u (create_array t i v e) = with {l = n} refl (omega arith) (upto (omega arith) (ex_labels (n + 1) false e))
     ex_labels n u (cast t i v e) = with {l = n} refl (omega arith) (upto (omega arith) (ex_labels (n + 1) true e))
     ex_labels n u (instance_of t i e c) = join (ex_labels n true e) (with {l = n + size e} refl (omega arith) (none (omega arith)))

@@ -16,9 +16,11 @@ use Rattle.fact_model.specs.declared.facts.ColKind.TheVariants as kind
 use Rattle.flow_rules.specs.declared.items.ColumnItem.{ColumnItem}
 use Rattle.flow_rules.specs.declared.items.ColumnItem.TheVariants as column
 use Rattle.flow_rules.specs.Numbered.{column_number}
-use Rattle.flow_rules.specs.Facts.{column_info, kind_of, owner_of, slot_in, name_in, IsFactsOf}
+use Rattle.flow_rules.specs.Facts.{column_info, kind_of, owner_of, slot_in, name_in, column_name, IsFactsOf}
 use Rattle.flow_laws.proofs.order.Columns.{Stands, for_field, for_declaration, for_body, for_mark, HasItem, item_of, slot_below}
 use Rattle.flow_laws.proofs.order.Classes.{below_subclass}
+use Rattle.flow_laws.proofs.order.Fixed.{column_named, column_same}
+use Rattle.flow_laws.proofs.order.Names.{method_word}
 
 module _ (P : Plain) (formed : IsFormed P) where
   -- an instance method of the program, of a slot
@@ -29,11 +31,11 @@ module _ (P : Plain) (formed : IsFormed P) where
     pub slot : method.slot ≡ Some x
     pub in_slot : IsInSlot P x method
     pub owner : owner_of P i ≡ method.owner
-    pub name : name_in P i ≡ method.name
+    pub name : name_in P i ≡ column_name P method
 
   method_member : (i : ColumnItem) (m x : ℕ) (k : PlainMethod) → slice_get P.methods m ≡ Some k
       → slot_in P i ≡ option_and_then (λ k. k.slot) (slice_get P.methods m) → owner_of P i ≡ option_map_or (λ k. k.owner) (slice_get P.methods m) 0
-      → name_in P i ≡ option_map_or (λ k. k.name) (slice_get P.methods m) [] → slot_in P i ≡ Some x → IsMember i x
+      → name_in P i ≡ option_map_or (column_name P) (slice_get P.methods m) [] → slot_in P i ≡ Some x → IsMember i x
   method_member i m x k e s o n h =
       let a : k.slot ≡ Some x = sym (ap (λ y. option_and_then (λ k. k.slot) y) e) ∙ sym s ∙ h in
       record {
@@ -43,7 +45,7 @@ module _ (P : Plain) (formed : IsFormed P) where
         slot = a;
         in_slot = ((formed.methods m k e).slots x).0 a;
         owner = o ∙ ap (λ y. option_map_or (λ k. k.owner) y 0) e;
-        name = n ∙ ap (λ y. option_map_or (λ k. k.name) y []) e;
+        name = n ∙ ap (λ y. option_map_or (column_name P) y []) e;
       }
 
   pub member_of : (i : ColumnItem) (x : ℕ) → Stands P i → slot_in P i ≡ Some x → IsMember i x
@@ -127,7 +129,7 @@ module _ (P : Plain) (formed : IsFormed P) where
     pub record HasMember (c x : ℕ) : Type 0 where
       pub at : HasItem P F facts c
       pub member : IsMember at.item x
-      pub name : name_of F c ≡ member.method.name
+      pub name : name_of F c ≡ column_name P member.method
       pub owner : column_class F c ≡ member.method.owner
 
     pub slot_member : (c x : ℕ) → column_slot F c ≡ Some x → HasMember c x
@@ -140,8 +142,10 @@ module _ (P : Plain) (formed : IsFormed P) where
     names c d x h k =
         let a = slot_member c x h in
         let b = slot_member d x k in
-        a.name ∙ a.member.in_slot.name ∙ ap (λ z. z.name) (same_Some _ _ (sym a.member.in_slot.stands ∙ b.member.in_slot.stands))
-        ∙ sym b.member.in_slot.name ∙ sym b.name
+        a.name
+        ∙ column_same P formed a.member.number b.member.number a.member.method b.member.method a.member.stands b.member.stands
+        (a.member.in_slot.name ∙ ap (λ z. z.name) (same_Some _ _ (sym a.member.in_slot.stands ∙ b.member.in_slot.stands)) ∙ sym b.member.in_slot.name)
+        ∙ sym b.name
 
     slots : (a c d x y : ℕ) → column_slot F c ≡ Some x → column_slot F d ≡ Some y → IsBelow F a (column_class F c) → IsBelow F a (column_class F d)
         → name_of F c ≡ name_of F d → x ≡ y
@@ -157,7 +161,7 @@ module _ (P : Plain) (formed : IsFormed P) where
         (formed.one_slot a p.member.number q.member.number u v p.member.stands q.member.stands
         (subst (λ z. IsSubclass P a z) p.owner (below_subclass P F facts s))
         (subst (λ z. IsSubclass P a z) q.owner (below_subclass P F facts t))
-        (sym p.name ∙ n ∙ q.name))
+        (column_named P formed (method_word P formed) p.member.number q.member.number u v p.member.stands q.member.stands (sym p.name ∙ n ∙ q.name)))
 
     pub members_in_order : AreMembersInOrder F
     members_in_order = record {

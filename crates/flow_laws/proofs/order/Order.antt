@@ -53,7 +53,7 @@ in_order P formed typed F facts named =
       sites = sites_in_order P formed typed F facts;
       tests = tests_in_order P formed typed F facts;
       members = members_in_order P formed F facts;
-      names = names_in_order P formed facts.no_maker F facts named;
+      names = names_in_order P formed F facts named;
     }
 
 over_none : (limit n : ℕ) (what : Counted) (rest : Option TooMany) → over limit n what rest ≡ None → (n ≤ limit) × (rest ≡ None)

@@ -25,7 +25,7 @@ abbrev pub HasNumber : Option RowItem → Type 0
 HasNumber i = (n : ℕ) × (number_in i ≡ n ∷ [])
 
 abbrev pub IsNumbered : Part → Type 0
-IsNumbered (a_creation p u o) = HasNumber o.row × (o.row ≡ option_map row.New o.created)
+IsNumbered (a_creation p u o s d es) = HasNumber o.row × (o.row ≡ option_map row.New o.created)
 IsNumbered (a_test p e o) = HasNumber o.row
 IsNumbered _ = Unit {0}
 

@@ -133,11 +133,11 @@ module _ (P : Plain) (formed : IsFormed P) (typed : IsTyped P) (F : Facts) (fact
     unfolding numbers
     creation_object o r n g h c d =
         let w = g.created n c in
-        let t = own_typed P formed typed (a_creation w.place w.used o) o h.item r h.at.here
+        let t = own_typed P formed typed (a_creation w.place w.used o w.slot w.declaration w.arguments) o h.item r h.at.here
         (record { number = m; method = k; stands = stands; part = w.part }) refl h.row_is h.at.stands h.at.item in
         let i : h.item ≡ row.New n = same_Some _ _ (sym h.row_is ∙ w.row_is) in
         let a = ap (row_number P) (sym i) ∙ h.number in
-        let s = made_site P formed typed F facts m k w.place w.used o n r h.type stands w.part c h.stated w.row_is a in
+        let s = made_site P formed typed F facts m k w.place w.used o w.slot w.declaration w.arguments n r h.type stands w.part c h.stated w.row_is a in
         object_as r h.item h.at ∙ ap is_object_item i ∙ ap (λ q. is_object_site (option_map (λ s. record { 0 = s }) q)) s.1
         ∙ eq-eqb (site_info_at F s.0).dim 0 (site_dim P formed typed F facts n r s.0 h.at.here h.at.stands (h.at.item ∙ i) a s.1
         ∙ ap (λ y. y.dim) (same_Some _ _ (sym t ∙ h.stated)) ∙ d)

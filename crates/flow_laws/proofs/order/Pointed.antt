@@ -69,7 +69,7 @@ module _ (P : Plain) (formed : IsFormed P) (typed : IsTyped P) (F : Facts) (fact
     pub given_sound : (p : Part) (o : Operand) → IsFitted P formed typed F facts m k stands p → given_by p ≡ Some o → IsGood o
     given_sound (a_load w b f q) o h e = subst (λ z. IsGood z) (same_Some q o e) h.0
     given_sound (an_element w b q) o h e = subst (λ z. IsGood z) (same_Some q o e) h.1
-    given_sound (a_creation w u q) o h e = subst (λ z. IsGood z) (same_Some q o e) h.0
+    given_sound (a_creation w u q s d es) o h e = subst (λ z. IsGood z) (same_Some q o e) h.0
     given_sound (a_call w b s d es q) o h e = subst (λ z. IsGood z) (same_Some q o e) h.0
     given_sound (a_static_call w d es q) o h e = subst (λ z. IsGood z) (same_Some q o e) h.0
     given_sound (a_super_call w d es q) o h e = subst (λ z. IsGood z) (same_Some q o e) h.0
@@ -83,12 +83,13 @@ module _ (P : Plain) (formed : IsFormed P) (typed : IsTyped P) (F : Facts) (fact
         let z = (numbered_sites P).at n s e in
         let p = site_part P formed typed s z.0 z.1 in
         let y = row_there P formed typed F facts (row.New z.0.number) z.0.row p.row_number_is in
-        let t = own_type P formed typed (a_creation p.of.place p.of.used p.of.operand) p.of.operand (row.New z.0.number) z.0.ty z.0.row
+        let t = own_type P formed typed (a_creation p.of.place p.of.used p.of.operand p.of.slot p.of.declaration p.of.arguments) p.of.operand
+        (row.New z.0.number) z.0.ty z.0.row
         y.here p.of.is_part
         refl p.row_is p.of.type y.stands y.item in
         let i = index_at F.sites.items s _ (site_info z.0) (subst (λ y. slice_get y s ≡ Some (site_info z.0)) (sym facts.sites)
         (at_map (site_info) (sites_of P) s z.0 z.1)) in
-        own_typed P formed typed (a_creation w.place w.used o) o (row.New n) z.0.row y.here
+        own_typed P formed typed (a_creation w.place w.used o w.slot w.declaration w.arguments) o (row.New n) z.0.row y.here
         (record { number = m; method = k; stands = stands; part = w.part }) refl w.row_is y.stands (y.item ∙ ap row.New z.2)
         ∙ ap Some t ∙ ap (λ i. Some (record { class = i.class; dim = i.dim })) (sym i)
 

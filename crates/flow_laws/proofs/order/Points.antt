@@ -30,7 +30,7 @@ use Rattle.flow_laws.proofs.cover.HasNumbers.{in_body}
 abbrev pub given_by : Part → Option Operand
 given_by (a_load p b f o) = Some o
 given_by (an_element p b o) = Some o
-given_by (a_creation p u o) = Some o
+given_by (a_creation p u o s d es) = Some o
 given_by (a_call p b s d es o) = Some o
 given_by (a_static_call p m es o) = Some o
 given_by (a_super_call p m es o) = Some o
@@ -58,7 +58,7 @@ given_from q w o a e c = let z = own_from w o.point o.row o.ty a c in record { o
 form_from : (p : Part) (a : PointAt) → Contains (form_points p) a → IsGiven a p
 form_from (a_load p b f o) a c = given_from (a_load p b f o) p o a refl c
 form_from (an_element p b o) a c = given_from (an_element p b o) p o a refl c
-form_from (a_creation p u o) a c = given_from (a_creation p u o) p o a refl (when_from u _ a c).1
+form_from (a_creation p u o s d es) a c = given_from (a_creation p u o s d es) p o a refl (when_from u _ a c).1
 form_from (a_call p b s d es o) a c = given_from (a_call p b s d es o) p o a refl c
 form_from (a_static_call p m es o) a c = given_from (a_static_call p m es o) p o a refl c
 form_from (a_super_call p m es o) a c = given_from (a_super_call p m es o) p o a refl c

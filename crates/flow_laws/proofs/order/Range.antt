@@ -54,6 +54,7 @@ use Rattle.flow_laws.proofs.order.Pointed.{point_item_of}
 use Rattle.flow_laws.proofs.order.Called.{call_of, entry_of}
 use Rattle.flow_laws.proofs.order.Held.{created_from, moved_from}
 use Rattle.flow_laws.proofs.order.Contained.{IsCellOf, of_field, of_array, cell_is}
+use Rattle.flow_laws.proofs.order.Makes.{make_site}
 
 module _ (P : Plain) (formed : IsFormed P) (typed : IsTyped P) (F : Facts) (facts : IsFactsOf P F) where
   row_bound : (i : RowItem) (r : ℕ) → row_number P i ≡ Some r → r < length F.rows.items
@@ -106,7 +107,7 @@ module _ (P : Plain) (formed : IsFormed P) (typed : IsTyped P) (F : Facts) (fact
   -- what a creation, a cast or an `instanceof` gives has a class of the program
   own_known : (m : ℕ) (k : PlainMethod) (e : slice_get P.methods m ≡ Some k) (p : Part) (o : Operand) (t : ObjectType)
       → IsFitted P formed typed F facts m k e p → own_of p ≡ Some o → o.ty ≡ Some t → t.class.0 < length F.classes.items
-  own_known m k e (a_creation w u q) o t f h y = known_bound t (f.1 t (ap (λ z. z.ty) (same_Some q o h) ∙ y))
+  own_known m k e (a_creation w u q s d es) o t f h y = known_bound t (f.1 t (ap (λ z. z.ty) (same_Some q o h) ∙ y))
   own_known m k e (a_test w d q) o t f h y = known_bound t (f.4 t (ap (λ z. z.ty) (same_Some q o h) ∙ y))
   own_known m k e _ o t f h y = absurd (cc)
 
@@ -174,7 +175,7 @@ module _ (P : Plain) (formed : IsFormed P) (typed : IsTyped P) (F : Facts) (fact
 
   part_marks : (m : ℕ) (k : PlainMethod) (e : slice_get P.methods m ≡ Some k) (p : Part) (x : Column)
       → IsFitted P formed typed F facts m k e p → Contains (form_columns p) x → Marks x
-  part_marks m k e (a_creation w u o) x f c = as_array_mark w o.ty x (λ t h. known_bound t (f.1 t h)) c
+  part_marks m k e (a_creation w u o s d es) x f c = as_array_mark w o.ty x (λ t h. known_bound t (f.1 t h)) c
   part_marks m k e (a_test w d o) x f c = as_mark w o.ty x (λ t h. known_bound t (f.4 t h)) c
   part_marks m k e _ x f c = absurd (omega (arith, c.1))
 
@@ -229,8 +230,8 @@ module _ (P : Plain) (formed : IsFormed P) (typed : IsTyped P) (F : Facts) (fact
       subst (λ s. IsRow F s.row × IsClass F s.class) w.2 (
         row_bound (row.New w.0.number) w.0.row p.row_number_is,
         own_known a.number a.method a.stands
-            (a_creation p.of.place p.of.used p.of.operand) p.of.operand w.0.ty
-            (fitted_at a.number a.method a.stands (a_creation p.of.place p.of.used p.of.operand) a.part)
+            (a_creation p.of.place p.of.used p.of.operand p.of.slot p.of.declaration p.of.arguments) p.of.operand w.0.ty
+            (fitted_at a.number a.method a.stands (a_creation p.of.place p.of.used p.of.operand p.of.slot p.of.declaration p.of.arguments) a.part)
             refl p.of.type,
       ))
 
@@ -287,7 +288,7 @@ module _ (P : Plain) (formed : IsFormed P) (typed : IsTyped P) (F : Facts) (fact
 
   part_news : (m : ℕ) (p : Part) (x : NewInfo) → Contains (news_of (numbers P) m p) x → IsPoint F x.point × IsSite F x.site
   unfolding numbers
-  part_news m (a_creation w u o) x c = new_bound o (point_at (numbers P) o) x (operand_bound o) c
+  part_news m (a_creation w u o s d es) x c = new_bound o (point_at (numbers P) o) x (operand_bound o) c
   part_news m (a_set v o) x c = new_bound o (point_at (numbers P) v) x (operand_bound v) c
   part_news m (a_return o) x c = new_bound o (point_number P (point.Result m)) x (point_bound (point.Result m)) c
   part_news m (a_static_call w d es o) x c = let z = each_from_zero (λ i o. created (numbers P) o (point_number P (point.Local d i))) es x c in
@@ -422,5 +423,5 @@ module _ (P : Plain) (formed : IsFormed P) (typed : IsTyped P) (F : Facts) (fact
         (row_bound (row.This z.number) x.row.0 z.row_is, column_bound (column.Def z.runs) x.column.0 z.column_is));
     ties = all_of (λ x. IsRow F x.lower × IsRow F x.upper) F.ties.items (λ x c. let t = tie_fits P formed typed F facts x c in (t.lower, t.upper));
     tests = tests;
-    makes = all_of (λ x. IsSite F x.site) F.makes.items (λ x c. absurd (omega (arith, (subst (λ y. Contains y x) facts.makes c).1)));
+    makes = all_of (λ x. IsSite F x.site) F.makes.items (λ x c. let z = make_site P F facts x c in site_index x.site.0 z.0 z.1);
   }

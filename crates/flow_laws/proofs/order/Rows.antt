@@ -49,7 +49,7 @@ own_in p (Some i) t x c = let z = row_in i p t x c in (ap Some (sym z.0), z.1)
 
 -- what a creation, a cast or an `instanceof` gives
 abbrev pub own_of : Part → Option Operand
-own_of (a_creation p u o) = Some o
+own_of (a_creation p u o s d es) = Some o
 own_of (a_test p e o) = Some o
 own_of _ = None
 
@@ -61,7 +61,7 @@ pub record IsOwn (x : Row) (p : Part) : Type 0 where
   pub type : operand.ty ≡ Some x.ty
 
 form_own : (p : Part) (x : Row) → Contains (form_rows p) x → IsOwn x p
-form_own (a_creation p u o) x c = let z = own_in p o.row o.ty x c in record { operand = o; own = refl; row_is = z.0; type = z.1 }
+form_own (a_creation p u o s d es) x c = let z = own_in p o.row o.ty x c in record { operand = o; own = refl; row_is = z.0; type = z.1 }
 form_own (a_test p e o) x c = let z = own_in p o.row o.ty x c in record { operand = o; own = refl; row_is = z.0; type = z.1 }
 form_own _ x c = absurd (omega (arith, c.1))
 

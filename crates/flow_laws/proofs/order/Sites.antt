@@ -1,5 +1,5 @@
 -- Creations, casts and `instanceof`: each has its row, which has its type, and each creation its site.
-use Rattle.std.proofs.Common.{◌≡◌, ℕ, [], ◌∷◌, Option, Some, None, length, refl, sym, ap, ◌∙◌, subst, arith}
+use Rattle.std.proofs.Common.{◌≡◌, ℕ, [], ◌∷◌, Option, Some, None, length, refl, sym, ap, ◌∙◌, subst, arith, List}
 use Rattle.std.specs.Prelude.{◌<◌, nat_lt, Bool, Contains, slice_get}
 use Rattle.std.specs.Option.{option_map, option_to_list}
 use Rattle.std.specs.List.{flat_map}
@@ -32,7 +32,7 @@ use Rattle.flow_laws.proofs.order.Points.{given_by}
 use Rattle.flow_laws.proofs.order.Rows.{own_of, IsOwn, Types, for_field, for_this, for_result, for_variable, for_part, row_types, item_row, row_of, all_results, all_variables}
 
 pub numbered_own : (p : Part) (o : Operand) → IsNumbered p → own_of p ≡ Some o → HasNumber o.row
-numbered_own (a_creation p u q) o a e = subst (λ z. HasNumber z.row) (same_Some q o e) a.0
+numbered_own (a_creation p u q s d es) o a e = subst (λ z. HasNumber z.row) (same_Some q o e) a.0
 numbered_own (a_test p d q) o a e = subst (λ z. HasNumber z.row) (same_Some q o e) a
 numbered_own _ o a e = absurd (cc)
 
@@ -41,7 +41,7 @@ created_number None i e = ap number_in (sym e)
 created_number (Some n) i e = ap number_in (sym e)
 
 pub number_own : (p : Part) (o : Operand) → IsNumbered p → own_of p ≡ Some o → part_number p ≡ number_in o.row
-number_own (a_creation p u q) o a e = created_number q.created q.row a.1 ∙ ap (λ z. number_in z.row) (same_Some q o e)
+number_own (a_creation p u q s d es) o a e = created_number q.created q.row a.1 ∙ ap (λ z. number_in z.row) (same_Some q o e)
 number_own (a_test p d q) o a e = ap (λ z. number_in z.row) (same_Some q o e)
 number_own _ o a e = absurd (cc)
 
@@ -99,7 +99,7 @@ module _ (P : Plain) (formed : IsFormed P) (typed : IsTyped P) where
   pub site_part : (s : ℕ) (x : Site) → slice_get (sites_of P) s ≡ Some x → IsSitePart x
   site_part s x e =
       let z = site_created P s x e in
-      let row_is = (part_numbered (a_creation z.place z.used z.operand) z.is_part).1 ∙ ap (option_map row.New) z.created in
+      let row_is = (part_numbered (a_creation z.place z.used z.operand z.slot z.declaration z.arguments) z.is_part).1 ∙ ap (option_map row.New) z.created in
       record { of = z; row_is = row_is; row_number_is = sym (ap (number_if (row_number P)) row_is) ∙ z.numbered }
 
   module _ (F : Facts) (facts : IsFactsOf P F) where
@@ -128,7 +128,8 @@ module _ (P : Plain) (formed : IsFormed P) (typed : IsTyped P) where
         let z = site_of s h in
         let p = site_part s z.site z.stands in
         let w = item_row P F facts (row.New z.site.number) z.site.row p.row_number_is in
-        let t = own_type (a_creation p.of.place p.of.used p.of.operand) p.of.operand (row.New z.site.number) z.site.ty z.site.row w.0 p.of.is_part refl p.row_is
+        let t = own_type (a_creation p.of.place p.of.used p.of.operand p.of.slot p.of.declaration p.of.arguments) p.of.operand (row.New z.site.number)
+        z.site.ty z.site.row w.0 p.of.is_part refl p.row_is
         p.of.type w.1 w.2 in
         ap (λ i. i.class.0) z.info ∙ sym (ap (λ i. row_class F i.row.0) z.info ∙ ap (λ i. i.class.0) w.3 ∙ ap (λ y. y.class.0) t)
 
@@ -139,23 +140,25 @@ module _ (P : Plain) (formed : IsFormed P) (typed : IsTyped P) where
         let z = (numbered_sites P).at n s b in
         let p = site_part s z.0 z.1 in
         let same : z.0.row ≡ r = same_Some _ _ (sym p.row_number_is ∙ ap (λ i. row_number P (row.New i)) z.2 ∙ a) in
-        let t = own_type (a_creation p.of.place p.of.used p.of.operand) p.of.operand (row.New z.0.number) z.0.ty z.0.row x p.of.is_part refl p.row_is p.of.type
+        let t = own_type (a_creation p.of.place p.of.used p.of.operand p.of.slot p.of.declaration p.of.arguments) p.of.operand (row.New z.0.number)
+        z.0.ty z.0.row x p.of.is_part refl p.row_is p.of.type
         (subst (λ i. slice_get (rows_of P) i ≡ Some x) (sym same) e) (h ∙ ap row.New (sym z.2)) in
         ap (λ i. i.dim) (index_at F.sites.items s _ (site_info z.0) (subst (λ y. slice_get y s ≡ Some (site_info z.0)) (sym facts.sites)
         (at_map (site_info) (sites_of P) s z.0 z.1))) ∙ sym (ap (λ y. y.dim) t)
 
     -- a creation has a site
-    pub made_site : (m : ℕ) (k : PlainMethod) (w : Place) (u : Bool) (o : Operand) (n r : ℕ) (t : ObjectType) → slice_get P.methods m ≡ Some k
-        → Contains (parts_of P m k) (a_creation w u o) → o.created ≡ Some n → o.ty ≡ Some t → o.row ≡ Some (row.New n)
+    pub made_site : (m : ℕ) (k : PlainMethod) (w : Place) (u : Bool) (o : Operand) (j d : Option ℕ) (es : List Operand) (n r : ℕ)
+        (t : ObjectType) → slice_get P.methods m ≡ Some k → Contains (parts_of P m k) (a_creation w u o j d es) → o.created ≡ Some n → o.ty ≡ Some t
+        → o.row ≡ Some (row.New n)
         → row_number P (row.New n) ≡ Some r
         → (s : ℕ) × (site_number P n ≡ Some s)
     unfolding bodies_of
-    made_site m k w u o n r t e c a b d h =
+    made_site m k w u o j q es n r t e c a b d h =
         let x : Site = record { number = n; place = w; ty = t; row = r } in
         let b0 : BodyParts = record { number = m; slot = k.slot; parts = parts_of P m k } in
         (numbered_sites P).there x (flat_has (λ b. flat_map (form_sites (row_number P)) b.parts) (bodies_of P) b0 x
         (each_has (body_at P) 0 P.methods m k b0 e m (omega arith) (first b0 []))
-        (flat_has (form_sites (row_number P)) (parts_of P m k) (a_creation w u o) x c
+        (flat_has (form_sites (row_number P)) (parts_of P m k) (a_creation w u o j q es) x c
         (subst (λ z. Contains (site_if w z o.ty (number_if (row_number P) o.row)) x) (sym a)
         (subst (λ z. Contains (site_if w (Some n) z (number_if (row_number P) o.row)) x) (sym b)
         (subst (λ z. Contains (site_if w (Some n) (Some t) z) x) (sym (ap (number_if (row_number P)) d ∙ h)) (first x []))))))

@@ -1,6 +1,6 @@
 -- What the operands of a typed body are: the row of each has the class of its type, and its flow point has the type itself.
 use Rattle.std.proofs.Common.{◌≡◌, ℕ, List, [], ◌∷◌, Option, Some, None, length, refl, sym, ap, ◌∙◌, arith, ⊎_elim}
-use Rattle.std.specs.Prelude.{◌<◌, ◌==◌, if◌then◌else◌, nat_lt, Bool, true, false, Contains, slice_get, option_and_then}
+use Rattle.std.specs.Prelude.{◌<◌, ◌==◌, if◌then◌else◌, nat_lt, Bool, true, false, Contains, slice_get, option_and_then, ◌||◌}
 use Rattle.std.specs.Option.{option_map, is_some}
 use Rattle.std.proofs.lemmas.Option.{same_Some}
 use Rattle.std.proofs.lemmas.Bool.{false≢true, eqb-true, eq-eqb}
@@ -32,6 +32,7 @@ use Rattle.flow_laws.proofs.order.Points.{given_by}
 use Rattle.flow_laws.proofs.order.Rows.{own_of}
 use Rattle.flow_laws.proofs.order.Tests.{label_given}
 use Rattle.flow_laws.proofs.order.Classed.{Typing, own_typing, operand_typing, many_dims, as_object}
+use Rattle.java_core.specs.Makers.{maker_of, maker_slot}
 
 abbrev pub part_type : Part → Option ObjectType
 part_type p = option_and_then (λ o. o.ty) (given_by p)
@@ -90,7 +91,7 @@ module _ (P : Plain) where
 
 module _ (P : Plain) (formed : IsFormed P) (typed : IsTyped P) (F : Facts) (facts : IsFactsOf P F) (m : ℕ)
     (k : PlainMethod) (stands : slice_get P.methods m ≡ Some k) where
-  open walked P m k use {type, operand as at, tree, Stands, IsTyped as Typed}
+  open walked P m k use {type, operand as at, operands, tree, Stands, IsTyped as Typed}
 
   abbrev IsTypingOf : Option RowItem → Option ObjectType → Type 0
   IsTypingOf i t = Typing P formed typed F facts m k stands i t
@@ -103,7 +104,10 @@ module _ (P : Plain) (formed : IsFormed P) (typed : IsTyped P) (F : Facts) (fact
     pub row_is : o.row ≡ Some (row.New n)
     pub place : Place
     pub used : Bool
-    pub part : Contains (parts_of P m k) (a_creation place used o)
+    pub slot : Option ℕ
+    pub declaration : Option ℕ
+    pub arguments : List Operand
+    pub part : Contains (parts_of P m k) (a_creation place used o slot declaration arguments)
 
   pub record IsSound (o : Operand) : Type 0 where
     pub classed : IsTypingOf o.row o.ty
@@ -125,7 +129,7 @@ module _ (P : Plain) (formed : IsFormed P) (typed : IsTyped P) (F : Facts) (fact
   unfolding IsOwn
   nothing_own o a j r x b c d = absurd (let z = sym a ∙ b in cc)
 
-  none_sound : (o : Operand) → o.row ≡ None → o.point ≡ None → o.created ≡ None → IsSound o
+  pub none_sound : (o : Operand) → o.row ≡ None → o.point ≡ None → o.created ≡ None → IsSound o
   unfolding Typing
   none_sound o a b c = record {
     classed = λ j r x d e f. absurd (let z = sym a ∙ d in cc);
@@ -219,10 +223,26 @@ module _ (P : Plain) (formed : IsFormed P) (typed : IsTyped P) (F : Facts) (fact
   sound u (super_call t x es) a w = form_sound _ (at (super_call t x es)) _ (here _ _ w) refl refl (typing_at u (super_call t x es) a w)
       (apart_own row.Return (super_slot P k.owner x) (at (super_call t x es)) refl (λ i. refl)) (no_creation (at (super_call t x es)) refl)
   sound u (create t i c es) a w = form_sound _ (at (create t i c es)) _ (here _ _ w) refl refl (typing_at u (create t i c es) a w)
-      (made_own _ refl) (λ j d. record { row_is = ap (λ z. Some (row.New z)) (same_Some i j d); place = t.place; used = u; part = here _ _ w })
+      (made_own _ refl) (λ j d. record {
+        row_is = ap (λ z. Some (row.New z)) (same_Some i j d);
+        place = t.place;
+        used = u || is_some (maker_of P c);
+        slot = maker_slot P c;
+        declaration = maker_of P c;
+        arguments = operands es;
+        part = here _ _ w;
+      })
   sound u (create_array t i v e) a w = form_sound _ (at (create_array t i v e)) _ (here _ _ w) refl refl
       (typing_at u (create_array t i v e) a w) (made_own _ refl)
-      (λ j d. record { row_is = ap (λ z. Some (row.New z)) (same_Some i j d); place = t.place; used = u; part = here _ _ w })
+      (λ j d. record {
+        row_is = ap (λ z. Some (row.New z)) (same_Some i j d);
+        place = t.place;
+        used = u;
+        slot = None;
+        declaration = None;
+        arguments = [];
+        part = here _ _ w;
+      })
   sound u (cast t i v e) a w = form_sound _ (at (cast t i v e)) _ (here _ _ w) refl refl (typing_at u (cast t i v e) a w)
       (apart_own row.Cast (Some i) (at (cast t i v e)) refl (λ i. refl)) (no_creation (at (cast t i v e)) refl)
   sound u e a w = none_sound _ refl refl refl

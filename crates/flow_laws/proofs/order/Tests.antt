@@ -48,7 +48,7 @@ use Rattle.flow_laws.proofs.order.Sites.{part_labelled}
 pub label_given : (p : Part) (o : Operand) → given_by p ≡ Some o → part_label p ≡ label_in o.point
 label_given (a_load p b f q) o e = ap (λ z. label_in z.point) (same_Some q o e)
 label_given (an_element p b q) o e = ap (λ z. label_in z.point) (same_Some q o e)
-label_given (a_creation p u q) o e = ap (λ z. label_in z.point) (same_Some q o e)
+label_given (a_creation p u q s d es) o e = ap (λ z. label_in z.point) (same_Some q o e)
 label_given (a_call p b s d es q) o e = ap (λ z. label_in z.point) (same_Some q o e)
 label_given (a_static_call p m es q) o e = ap (λ z. label_in z.point) (same_Some q o e)
 label_given (a_super_call p m es q) o e = ap (λ z. label_in z.point) (same_Some q o e)
@@ -258,9 +258,9 @@ module _ (P : Plain) (formed : IsFormed P) (typed : IsTyped P) (F : Facts) (fact
   casts : All (HasCast F) F.tests.items
   casts = all_of (HasCast F) F.tests.items (λ x c. cast_of x (test_of x c))
 
-  array_part : (w : Place) (u : Bool) (o : Operand) (t : ObjectType) (x : Column) → o.ty ≡ Some t → 0 < t.dim
-      → x ≡ record { item = column.Is t.class; place = w } → Contains (form_columns (a_creation w u o)) x
-  array_part w u o t x e h d = subst (λ z. Contains (array_mark w z) x) (sym e)
+  array_part : (w : Place) (u : Bool) (o : Operand) (s d : Option ℕ) (es : List Operand) (t : ObjectType) (x : Column) → o.ty ≡ Some t → 0 < t.dim
+      → x ≡ record { item = column.Is t.class; place = w } → Contains (form_columns (a_creation w u o s d es)) x
+  array_part w u o s q es t x e h d = subst (λ z. Contains (array_mark w z) x) (sym e)
       (when_has (not (t.dim == 0)) _ x (rw (ne_eqb t.dim 0 (λ z. absurd (omega (arith, h, z)))) refl)
       (subst (λ z. Contains (record { item = column.Is t.class; place = w } ∷ []) z) (sym d) (first _ [])))
 
@@ -270,8 +270,10 @@ module _ (P : Plain) (formed : IsFormed P) (typed : IsTyped P) (F : Facts) (fact
       let p = site_part P formed typed s z.site z.stands in
       let col : Column = record { item = column.Is z.site.ty.class; place = p.of.place } in
       subst (λ c. HasMark F c) (sym (ap (λ i. i.class.0) z.info))
-      (marked p.of.is_part.number p.of.is_part.method (a_creation p.of.place p.of.used p.of.operand) col z.site.ty.class p.of.is_part.stands p.of.is_part.part
-      (array_part p.of.place p.of.used p.of.operand z.site.ty col p.of.type (subst (λ n. 0 < n) (ap (λ i. i.dim) z.info) d) refl) refl)
+      (marked p.of.is_part.number p.of.is_part.method
+      (a_creation p.of.place p.of.used p.of.operand p.of.slot p.of.declaration p.of.arguments) col z.site.ty.class p.of.is_part.stands p.of.is_part.part
+      (array_part p.of.place p.of.used p.of.operand p.of.slot p.of.declaration p.of.arguments z.site.ty col p.of.type
+      (subst (λ n. 0 < n) (ap (λ i. i.dim) z.info) d) refl) refl)
 
   -- the cells of a site name it
   abbrev all_fields : List FieldCell

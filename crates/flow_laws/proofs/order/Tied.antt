@@ -19,7 +19,7 @@ use Rattle.flow_rules.specs.declared.items.RowItem.{RowItem}
 use Rattle.flow_rules.specs.declared.items.RowItem.TheVariants as row
 use Rattle.flow_rules.specs.Operands.{object_if, variable_row, result_in}
 use Rattle.flow_rules.specs.Types.{field_object, variable_object, element_object}
-use Rattle.flow_rules.specs.Parts.{Part, a_call, a_static_call, a_super_call, a_test, a_pair, a_set, a_store, an_element_store, a_return}
+use Rattle.flow_rules.specs.Parts.{Part, a_call, a_static_call, a_super_call, a_test, a_pair, a_set, a_store, an_element_store, a_return, a_creation}
 use Rattle.flow_rules.specs.Lists.{tied, row_at, row_in, is_this, is_comparison, same_type, left_is_lower, narrower, is_left_lower, param_row, pair_ties, test_ties, slot_ties, method_ties, ties_of}
 use Rattle.flow_rules.specs.Numbered.{row_number}
 use Rattle.flow_rules.specs.Facts.{numbers, IsFactsOf}
@@ -366,6 +366,7 @@ module _ (P : Plain) (formed : IsFormed P) (typed : IsTyped P) (F : Facts) (fact
     part_tied (a_store w b (Some j) o) x f c = store_tie j o x (f j refl).1 c
     part_tied (an_element_store w b o) x f c = element_tie b o x f.0 f.1 f.2 c
     part_tied (a_call w b (Some s) d es o) x f c = args_tie s es x (f.1 s refl).1.args c
+    part_tied (a_creation w u o (Some s) d es) x f c = args_tie s es x (f.2 s refl).1.args c
     part_tied (a_static_call w d es o) x f c = params_tie d es x f.1.args c
     part_tied (a_super_call w (Some d) es o) x f c = params_tie d es x (f.1 d refl).1.args c
     part_tied (a_pair o l r) x f c = let z = when_from (is_comparison o) (pair_ties (numbers P) P l r l.ty r.ty) x c in pair_ties_tied l r x f.0 f.1

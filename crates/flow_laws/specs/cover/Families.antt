@@ -105,6 +105,16 @@ module _ (L : Lang) (Made : Option ℕ → Kind → Type 0) (V : Family) where
       pub looks : V.spot (held g.body d) (Some n) ≡ true
       pub holds : value_of d (Some n) ≡ true
 
+    -- the constructor's body b runs for the creation d on the object that is made, on these arguments
+    pub record RunsMaker (d : Ex) (n : ℕ) (es : Exs) (b : Body) : Type 0 where
+      pub receiver : V.spot (ran g.body d b.env.body) (Some n) ≡ true
+      pub self : V.spot (self_of b.env.body) (Some n) ≡ true
+      pub args : Passes es (λ x. V.spot (bound b.env.body x))
+
+    -- the creation d of this number runs the constructor of the class, where it has one
+    unfoldable pub MakerRuns : Ex → ℕ → ℕ → Exs → Type 0
+    MakerRuns d n c es = (j : ℕ) (b : Body) → L.maker c ≡ Some j → L.body c j ≡ Some b → RunsMaker d n es b
+
     -- d tests what e gives against a type
     unfoldable pub Tests : Ex → Ex → Ty → Type 0
     Tests d e t = (o : Option ℕ) (k : Kind) → Made o k → value_of e o ≡ true → V.spot (tested g.body d (L.is_sub (own_type k) t)) o ≡ true
@@ -132,7 +142,7 @@ module _ (L : Lang) (Made : Option ℕ → Kind → Type 0) (V : Family) where
       Included (call t e x es) = Included e × IncludedAll es × Calls (call t e x es) e x es
       Included (static_call t m es) = IncludedAll es × StaticCalls (static_call t m es) m es
       Included (super_call t x es) = IncludedAll es × SuperCalls (super_call t x es) x es
-      Included (create t n c es) = IncludedAll es × Makes (create t n c es) n (an_object c)
+      Included (create t n c es) = IncludedAll es × Makes (create t n c es) n (an_object c) × MakerRuns (create t n c es) n c es
       Included (create_array t n u e) = Included e × Makes (create_array t n u e) n (an_array u)
       Included (cast t n u e) = Included e × Tests (cast t n u e) e u × Casts (cast t n u e) e u
       Included (instance_of t n e c) = Included e × Tests (instance_of t n e c) e (class_type c)
@@ -173,11 +183,10 @@ module _ (L : Lang) (Made : Option ℕ → Kind → Type 0) (V : Family) where
     pub rest : ArePlain b.rest
     pub ends : (a : ℕ) → b.ends ≡ Object a → ⊥
 
-  -- all bodies stay in the sets, and no field begins with an object; no class has a constructor
+  -- all bodies stay in the sets, and no field begins with an object
   pub record AreIncluded : Type 0 where
     pub places : (c f h i : ℕ) → L.index c f ≡ Some i → L.index c h ≡ Some i → f ≡ h
     pub fresh : (c : ℕ) → ArePlain (L.fresh c)
-    pub no_maker : (c : ℕ) → L.maker c ≡ None
     pub statics : ArePlain L.statics
     pub bodies : (c j : ℕ) (b : Body) → L.body c j ≡ Some b → IsIncluded b
     pub static_bodies : (m : ℕ) (b : Body) → L.static_body m ≡ Some b → IsIncluded b
