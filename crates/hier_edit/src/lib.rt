@@ -2,13 +2,16 @@
 #![tactic(auto)]
 
 ghost use Rattle.std.specs.Prelude.{◌≡◌, ◌≢◌, ◌⊎◌, Ok, Err, IfErr, IfOk, OnErr, OnOk};
+ghost use Rattle.std.specs.Bool.{OnTrue};
 ghost use Rattle.hier_rules.specs.Words.{InRange, AreSets, IsHierarchyOf, NamesSome, MeetsEdit};
 ghost use Rattle.hier_model.specs.Edits.{changed};
+ghost use Rattle.hier_model.specs.Places.{with_places, JoinsNodes};
+ghost use Rattle.hier_rules.specs.After.{IsAfterEdit};
 ghost use Rattle.hier_edit.specs.Applied.{applied, tested, fault_of};
 ghost use Rattle.hier_edit.specs.declared.ApplyFault.TheVariants as ApplyFault;
 
 use fact_model::{Facts, PointsTo};
-use hier_model::{ChangeFault, Edit, Hier};
+use hier_model::{ChangeFault, Edit, Hier, Places};
 use hier_rules::{Asked, Broken, Nodes, Rule, first_broken_after};
 use kaba_base::{ColId, NodeId};
 use std::alloc::Global;
@@ -46,10 +49,37 @@ fn fault_of(fault: ChangeFault) -> ApplyFault
     }
 }
 
+/// Whether the hierarchy after an edit of one that met its obligations meets them too; if not, why the edit is refused.
+fn judge(
+    alloc: Global,
+    hier: &Hier,
+    edit: &Edit,
+    facts: &Facts,
+    sets: &PointsTo,
+) -> Result<(), ApplyFault>
+    requires range { InRange facts.now }
+    requires sets { AreSets facts.now sets.now }
+    requires some { NamesSome edit.now }
+    requires hierarchy { IsHierarchyOf facts.now hier.now }
+    requires after { IsAfterEdit facts.now sets.now hier.now edit.now }
+    ensures meets { OnOk result (MeetsEdit facts.now sets.now hier.now) }
+    ensures refused { IfErr result (λ fault. fault ≢ ApplyFault.Memory → tested facts.now sets.now hier.now ≡ Err fault) }
+{
+    let asked = Asked {
+        facts,
+        pt: sets,
+        hier,
+    };
+    match first_broken_after(alloc, &asked, edit) {
+        Ok(None) => Ok(()),
+        Ok(Some(broken)) => Err(ApplyFault::Breaks(broken)),
+        Err(_) => Err(ApplyFault::Memory),
+    }
+}
+
 /// The hierarchy after an edit of one that met its obligations, where it meets them.
 fn tested(
     alloc: Global,
-    before: &Hier,
     made: Hier,
     edit: &Edit,
     facts: &Facts,
@@ -57,24 +87,16 @@ fn tested(
 ) -> Result<Hier, ApplyFault>
     requires range { InRange facts.now }
     requires sets { AreSets facts.now sets.now }
-    requires before { IsHierarchyOf facts.now before.now }
-    requires meets { MeetsEdit facts.now sets.now before.now }
     requires some { NamesSome edit.now }
     requires hierarchy { IsHierarchyOf facts.now made }
-    requires after { changed facts.now before.now edit.now ≡ Ok made }
+    requires after { IsAfterEdit facts.now sets.now made edit.now }
     ensures value { (result ≡ Err ApplyFault.Memory) ⊎ (result ≡ tested facts.now sets.now made) }
     ensures meets { IfOk result (MeetsEdit facts.now sets.now) }
     ensures fits { IfOk result (IsHierarchyOf facts.now) }
 {
-    let asked = Asked {
-        facts,
-        pt: sets,
-        hier: &made,
-    };
-    match first_broken_after(alloc, before, &asked, edit) {
-        Ok(None) => Ok(made),
-        Ok(Some(broken)) => Err(ApplyFault::Breaks(broken)),
-        Err(_) => Err(ApplyFault::Memory),
+    match judge(alloc, &made, edit, facts, sets) {
+        Ok(()) => Ok(made),
+        Err(fault) => Err(fault),
     }
 }
 
@@ -100,7 +122,7 @@ pub fn edited(
     ensures fits { IfOk result (IsHierarchyOf facts.now) }
 {
     match hier.changed(alloc, facts, edit) {
-        Ok(changed) => tested(alloc, hier, changed, edit, facts, sets),
+        Ok(changed) => tested(alloc, changed, edit, facts, sets),
         Err(fault) => Err(fault_of(fault)),
     }
 }
@@ -108,9 +130,8 @@ pub fn edited(
 /// Makes an edit of a hierarchy that meets the obligations B1 to B8 where the hierarchy after it meets them
 /// too (after Streckenbach and Snelting, 2004).
 ///
-/// The changed hierarchy is made beside the old one, and takes its place when nothing can fail any more:
-/// after a refusal, and where memory is short, the hierarchy is the one before. The refusals are those of
-/// `edited`.
+/// After a refusal, and where memory is short, the hierarchy is the one before. The refusals are those of
+/// `edited`. A merge, and a node put under another, copy no name and not the table.
 pub fn apply(
     alloc: Global,
     hier: &mut Hier,
@@ -129,11 +150,82 @@ pub fn apply(
     ensures kept { OnErr result (hier.new ≡ hier.old) }
     ensures is { IsHierarchyOf facts.now hier.new }
 {
+    if is_join(edit) {
+        return join(alloc, hier, facts, sets, edit);
+    }
     match edited(alloc, hier, facts, sets, edit) {
         Ok(made) => {
             *hier = made;
             Ok(())
         }
         Err(fault) => Err(fault),
+    }
+}
+
+/// Whether an edit is a merge, or puts a node under another.
+fn is_join(edit: &Edit) -> bool
+    ensures { OnTrue result (JoinsNodes edit.now) }
+{
+    match edit {
+        Edit::Merge(_) | Edit::Under(_, _) => true,
+        _ => false,
+    }
+}
+
+/// Makes such an edit, as `apply` does.
+fn join(
+    alloc: Global,
+    hier: &mut Hier,
+    facts: &Facts,
+    sets: &PointsTo,
+    edit: &Edit,
+) -> Result<(), ApplyFault>
+    requires range { InRange facts.now }
+    requires sets { AreSets facts.now sets.now }
+    requires hierarchy { IsHierarchyOf facts.now hier.old }
+    requires meets { MeetsEdit facts.now sets.now hier.old }
+    requires some { NamesSome edit.now }
+    requires join { JoinsNodes edit.now }
+    ensures accepted { OnOk result (applied facts.now sets.now hier.old edit.now ≡ Ok hier.new) }
+    ensures meets { OnOk result (MeetsEdit facts.now sets.now hier.new) }
+    ensures refused { IfErr result (λ fault. fault ≢ ApplyFault.Memory → applied facts.now sets.now hier.old edit.now ≡ Err fault) }
+    ensures kept { OnErr result (hier.new ≡ hier.old) }
+    ensures is { IsHierarchyOf facts.now hier.new }
+{
+    match hier.joined(alloc, facts, edit) {
+        Ok(places) => put(alloc, hier, places, edit, facts, sets),
+        Err(fault) => Err(fault_of(fault)),
+    }
+}
+
+/// Puts what a join made anew into the hierarchy, where that then meets its obligations.
+fn put(
+    alloc: Global,
+    hier: &mut Hier,
+    places: Places,
+    edit: &Edit,
+    facts: &Facts,
+    sets: &PointsTo,
+) -> Result<(), ApplyFault>
+    requires range { InRange facts.now }
+    requires sets { AreSets facts.now sets.now }
+    requires before { IsHierarchyOf facts.now hier.old }
+    requires met { MeetsEdit facts.now sets.now hier.old }
+    requires some { NamesSome edit.now }
+    requires hierarchy { IsHierarchyOf facts.now (with_places hier.old places) }
+    requires after { changed facts.now hier.old edit.now ≡ Ok (with_places hier.old places) }
+    ensures made { OnOk result (hier.new ≡ with_places hier.old places) }
+    ensures meets { OnOk result (MeetsEdit facts.now sets.now hier.new) }
+    ensures refused { IfErr result (λ fault. fault ≢ ApplyFault.Memory → tested facts.now sets.now (with_places hier.old places) ≡ Err fault) }
+    ensures kept { OnErr result (hier.new ≡ hier.old) }
+    ensures is { IsHierarchyOf facts.now hier.new }
+{
+    let former = hier.exchange(places);
+    match judge(alloc, hier, edit, facts, sets) {
+        Ok(()) => Ok(()),
+        Err(fault) => {
+            let _made = hier.exchange(former);
+            Err(fault)
+        }
     }
 }

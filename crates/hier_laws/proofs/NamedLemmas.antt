@@ -18,6 +18,7 @@ use Rattle.fact_model.specs.Classes.{IsBelow, below}
 use Rattle.fact_model.specs.InRange.{InRange}
 use Rattle.fact_model.specs.InOrder.{InOrder, name_of}
 use Rattle.fact_model.specs.declared.facts.Facts.{Facts}
+use Rattle.fact_model.specs.declared.facts.MakerNames.{MakerNames}
 use Rattle.fact_model.specs.declared.facts.ClassInfo.{ClassInfo}
 use Rattle.fact_model.specs.declared.facts.ColumnInfo.{ColumnInfo}
 use Rattle.fact_model.specs.declared.facts.ColKind.{ColKind}
@@ -31,12 +32,13 @@ use Rattle.fact_model.proofs.FreeLemmas.{free_name-free}
 use Rattle.fact_model.specs.FreeNames.{is_taken, free_name}
 use Rattle.hier_model.specs.Names.{is_field, is_strictly_above, is_namesake_above, is_shared, class_name, joined, named_member, member_names, naming_class, named_type, type_names}
 use Rattle.hier_laws.specs.Starts.{AreNamed}
-use Rattle.hier_rules.specs.Names.{is_reserved, is_variable, known_names}
+use Rattle.hier_rules.specs.Names.{is_makers_holder, is_makers_local, is_holder_name, is_reserved, is_variable, known_names}
 use Rattle.fact_model.specs.declared.sets.PointsTo.{PointsTo}
 use Rattle.fact_model.specs.declared.sets.Table.{Table}
 use Rattle.fact_model.specs.Closures.{IsPlainClass}
 use Rattle.hier_laws.proofs.GivenLemmas.{given}
-use Rattle.hier_laws.proofs.WordLemmas.{not_taken, taken_left, has_mark, made_mark, known_unmarked, word_parts, made_name, decimal_parts}
+use Rattle.fact_model.proofs.MarkedNames.{not_taken, taken_left, has_mark, word_parts, decimal_parts}
+use Rattle.hier_laws.proofs.WordLemmas.{made_mark, known_unmarked, made_name}
 
 pub field_is : (k : ColKind) → is_field k ≡ true → k ≡ Fld
 field_is Fld e = refl
@@ -265,13 +267,20 @@ module _ (F : Facts) where
     holder_word : (k : ClassInfo) → Contains F.classes.items k → k.holder ≡ true → Contains F.words.items k.name
     holder_word k c h = All-contains (λ (k : ClassInfo). k.holder ≡ true → Contains F.words.items k.name) F.classes.items k O.names.holders c h
 
+    -- what holds of no makers' names that the facts have
+    no_makers : (p : MakerNames → Bool) (o : Option MakerNames) → ((m : MakerNames) → o ≡ Some m → p m ≡ true → ⊥) → option_map_or p o false ≡ false
+    no_makers p None none = refl
+    no_makers p (Some m) none = ⊎_elim (λ h. absurd (none m refl h)) (λ h. h) (cases_Bool (p m))
+
     -- a name that is none of the words and has an underscore is not reserved
     marked_free : (name : List ℕ) → ((x : List ℕ) → Contains F.words.items x → name ≢ x) → has_mark name ≡ true → is_reserved F name ≡ false
     marked_free name none mark =
-        or_from (list_any (λ (k : ClassInfo). k.holder && bytes_eq k.name name) F.classes.items) (list_any (λ k. bytes_eq k name) known_names)
+        or_from (is_holder_name F name) (list_any (λ k. bytes_eq k name) known_names)
+        (or_from (list_any (λ (k : ClassInfo). k.holder && bytes_eq k.name name) F.classes.items) (is_makers_holder F.makers name)
         (no_any (λ (k : ClassInfo). k.holder && bytes_eq k.name name) F.classes.items (λ k c h.
         let p = and_parts k.holder (bytes_eq k.name name) h in
         none k.name (holder_word k c p.0) (sym ((bytes_eq-Decides k.name name).0 p.1))))
+        (no_makers (λ m. bytes_eq m.holder name) F.makers (λ m e h. none m.holder (O.names.makers m e).holder (sym ((bytes_eq-Decides m.holder name).0 h)))))
         (known_unmarked name mark)
 
     pub type_unreserved : (os : List (Option ClassId)) (n k : ℕ) → k < n → is_reserved F (get_or (type_names F (member_names F C) os n) k []) ≡ false
@@ -279,9 +288,12 @@ module _ (F : Facts) where
 
     pub type_no_variable : (os : List (Option ClassId)) (n k : ℕ) → k < n → is_variable F (get_or (type_names F (member_names F C) os n) k []) ≡ false
     type_no_variable os n k lt =
-        no_any (λ v. bytes_eq v (get_or (type_names F (member_names F C) os n) k [])) F.vars.items (λ v c h.
-        type_no_word os n k v lt (All-contains (Contains F.words.items) F.vars.items v O.names.vars c)
-        (sym ((bytes_eq-Decides v (get_or (type_names F (member_names F C) os n) k [])).0 h)))
+        let name = get_or (type_names F (member_names F C) os n) k [] in
+        or_from (list_any (λ v. bytes_eq v name) F.vars.items) (is_makers_local F.makers name)
+        (no_any (λ v. bytes_eq v name) F.vars.items (λ v c h.
+        type_no_word os n k v lt (All-contains (Contains F.words.items) F.vars.items v O.names.vars c) (sym ((bytes_eq-Decides v name).0 h))))
+        (no_makers (λ m. bytes_eq m.local name) F.makers (λ m e h.
+        type_no_word os n k m.local lt (O.names.makers m e).local (sym ((bytes_eq-Decides m.local name).0 h))))
 
     -- a field's name is not reserved
     pub field_unreserved : (c : ℕ) → is_field (column_kind F c) ≡ true → is_reserved F (new_name c) ≡ false
@@ -303,12 +315,14 @@ module _ (F : Facts) where
         old c f =
             let kind = field_is (column_kind F c) f in
             let others = O.names.others c (field_below c f) kind in
-            or_from (list_any (λ (k : ClassInfo). k.holder && bytes_eq k.name (name_of F c)) F.classes.items)
-            (list_any (λ k. bytes_eq k (name_of F c)) known_names)
+            or_from (is_holder_name F (name_of F c)) (list_any (λ k. bytes_eq k (name_of F c)) known_names)
+            (or_from (list_any (λ (k : ClassInfo). k.holder && bytes_eq k.name (name_of F c)) F.classes.items) (is_makers_holder F.makers (name_of F c))
             (no_any (λ (k : ClassInfo). k.holder && bytes_eq k.name (name_of F c)) F.classes.items (λ k has h.
             let p = and_parts k.holder (bytes_eq k.name (name_of F c)) h in
             All-contains (λ (k : ClassInfo). k.holder ≡ true → name_of F c ≢ k.name) F.classes.items k (O.names.fields c (field_below c f) kind) has
             p.0 (sym ((bytes_eq-Decides k.name (name_of F c)).0 p.1))))
+            (no_makers (λ m. bytes_eq m.holder (name_of F c)) F.makers (λ m e h.
+            (O.names.makers m e).fields c (field_below c f) kind (sym ((bytes_eq-Decides m.holder (name_of F c)).0 h)))))
             (no_any (λ k. bytes_eq k (name_of F c)) known_names (λ k has h. known c k has ((bytes_eq-Decides k (name_of F c)).0 h) others))
 
     -- a method keeps its name

@@ -19,3 +19,4 @@ pub mod RestoreLemmas
 pub mod ChangeSteps
 pub mod UndoLemmas
 pub mod WorkedUndo
+pub mod PlacesLemmas

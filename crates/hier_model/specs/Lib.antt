@@ -9,3 +9,4 @@ pub mod Differences
 pub mod Kinds
 pub mod Alike
 pub mod Restored
+pub mod Places

@@ -1,19 +1,16 @@
 //! What an edit makes of a hierarchy.
 
-ghost use Rattle.std.specs.Prelude.{◌≡◌, ◌<◌, ◌&&◌, ◌⊎◌, not, true, length, IfOk, All, Err};
+ghost use Rattle.std.specs.Prelude.{◌≡◌, ◌<◌, ◌&&◌, ◌⊎◌, not, length, IfOk, Err};
 ghost use Rattle.std.specs.Bool.{OnTrue};
-ghost use Rattle.kaba_order.specs.Orders.{is_live};
 ghost use Rattle.fact_model.specs.InRange.{InRange, IsCol};
 ghost use Rattle.fact_model.specs.Items.{column_kind};
 ghost use Rattle.hier_model.specs.Hierarchies.{IsHierarchyOf};
-ghost use Rattle.hier_model.specs.Edits.{changed, merged_as, moved, merged_order, is_placed, is_used, is_mark, NamesSome};
+ghost use Rattle.hier_model.specs.Edits.{changed, moved, is_placed, is_used, is_mark, NamesSome};
+ghost use Rattle.hier_model.specs.Places.{with_places};
 
-use crate::moves::{
-    copy_names, has_column, has_row, is_mark, merged_columns, merged_rows, moved_rows,
-    renamed_members,
-};
-use crate::orders::{Merged, dropped_order, first_unknown, merged_order, under_order};
-use crate::origins::merged_origins;
+use crate::moves::{copy_names, has_column, has_row, is_mark, moved_rows, renamed_members};
+use crate::orders::dropped_order;
+use crate::places::Places;
 use crate::{ChangeFault, Edit, Hier, column_at};
 use fact_model::Facts;
 use kaba_base::{ColId, Name, NodeId};
@@ -51,37 +48,22 @@ impl Hier {
         requires some { 0 < length set.now.items }
         ensures { (result ≡ Err ChangeFault.Memory) ⊎ (result ≡ changed facts.now self.now (Edit.Merge set.now)) }
     {
-        if let Some(n) = first_unknown(&self.order, set) {
-            return Err(ChangeFault::UnknownNode(n));
-        }
-        let made = merged_order(alloc, &self.order, set)?;
-        let hier = self.merged(alloc, facts, set, made)?;
+        let places = self.merged_places(alloc, facts, set)?;
+        let hier = self.with_places(alloc, places)?;
         Ok(hier)
     }
 
-    /// The hierarchy in which the nodes of a list are one, in an order where they are.
-    fn merged(
-        &self,
-        alloc: Global,
-        facts: &Facts,
-        set: &[NodeId],
-        made: Merged,
-    ) -> Result<Hier, AllocError>
-        requires range { InRange facts.now }
-        requires hierarchy { IsHierarchyOf facts.now self.now }
-        requires live { All (λ s. is_live self.now.order s.0 ≡ true) set.now }
-        requires node_live { is_live self.now.order made.node.0 ≡ true }
-        requires order { made.order ≡ merged_order self.now.order set.now made.node.0 }
-        ensures { IfOk result (λ h. h ≡ merged_as facts.now self.now set.now made.node.0) }
+    /// The hierarchy with what a join made anew, and with the same names and the same table.
+    fn with_places(&self, alloc: Global, places: Places) -> Result<Hier, AllocError>
+        ensures { IfOk result (λ h. h ≡ with_places self.now places) }
     {
-        let least = made.node;
         Ok(Hier {
-            order: made.order,
-            columns: merged_columns(alloc, &self.columns, set, least)?,
-            rows: merged_rows(alloc, &self.rows, set, least)?,
+            order: places.order,
+            columns: places.columns,
+            rows: places.rows,
             types: copy_names(alloc, &self.types)?,
             members: copy_names(alloc, &self.members)?,
-            origins: merged_origins(alloc, facts, &self.origins, set, least)?,
+            origins: places.origins,
             table: copy_rows(alloc, &self.table)?,
         })
     }
@@ -112,14 +94,8 @@ impl Hier {
         requires hierarchy { IsHierarchyOf facts.now self.now }
         ensures { (result ≡ Err ChangeFault.Memory) ⊎ (result ≡ changed facts.now self.now (Edit.Under n p)) }
     {
-        if !self.order.is_live(n) {
-            return Err(ChangeFault::UnknownNode(n));
-        }
-        if !self.order.is_live(p) {
-            return Err(ChangeFault::UnknownNode(p));
-        }
-        let order = under_order(alloc, &self.order, n, p)?;
-        let hier = self.with_order(alloc, order)?;
+        let places = self.places_under(alloc, facts, n, p)?;
+        let hier = self.with_places(alloc, places)?;
         Ok(hier)
     }
 

@@ -13,3 +13,4 @@ pub mod FoundLemmas
 pub mod AfterLemmas
 pub mod LocalLemmas
 pub mod JoinLemmas
+pub mod MetLemmas

@@ -9,23 +9,24 @@ use Rattle.kaba_base.proofs.TestLemmas.{same_truth, refuted}
 use Rattle.kaba_bits.specs.Sets.{row, or_else, first_below, when}
 use Rattle.kaba_bits.proofs.SetLemmas.{bit-below}
 use Rattle.kaba_bits.proofs.FirstLemmas.{first_below_None, first_below_clear, or_else-None, when-None}
-use Rattle.kaba_order.specs.Orders.{Ordered, is_le, is_live, is_among, is_below_some, is_above_some, merged_to, stays, IsLeastMerged}
+use Rattle.kaba_order.specs.Orders.{Ordered, differ, is_le, is_live, is_among, is_below_some, is_above_some, merged_to, stays, IsLeastMerged}
 use Rattle.kaba_order.proofs.MergeLemmas.{has_any_some, stays-merged}
 use Rattle.kaba_order.proofs.MergeSteps.{has_any_among}
 use Rattle.fact_model.specs.Items.{site_row, site_class, row_class, column_class}
-use Rattle.fact_model.specs.Classes.{finds}
+use Rattle.fact_model.specs.Classes.{below, finds}
 use Rattle.fact_model.specs.declared.facts.Facts.{Facts}
 use Rattle.fact_model.specs.declared.facts.SuperInfo.{SuperInfo}
 use Rattle.fact_model.specs.declared.sets.PointsTo.{PointsTo}
 use Rattle.hier_model.specs.Hierarchies.{Hierarchy, IsHierarchyOf, node, place_of_column, place_of_row, is_offered, any_below, is_above as stands_over}
 use Rattle.hier_model.proofs.AnyLemmas.{any_below_some, any_below_has}
-use Rattle.hier_rules.specs.declared.broken.Rule.TheVariants.{B4, B5}
-use Rattle.hier_rules.specs.Asked.{is_super, is_called, slots_of, is_other_body, is_pair}
-use Rattle.hier_rules.specs.Instances.{of_both}
-use Rattle.hier_rules.specs.Obligations.{is_below, is_strictly_above, column_le, is_above, place_of_site, is_nearer, has_nearer, wrong_body, wrong_need, first_wrong_need, is_between, has_between, wrong_super, first_wrong_super, first_unoffered, first_untied, first_two_bodies, first_wrong_outcome}
+use Rattle.hier_rules.specs.declared.broken.Rule.TheVariants.{B4, B5, B7}
+use Rattle.hier_rules.specs.Asked.{is_super, meets, is_called, slots_of, is_other_body, is_pair}
+use Rattle.hier_rules.specs.Instances.{of_both, of_row}
+use Rattle.hier_rules.specs.Obligations.{is_below, is_strictly_above, column_le, is_above, place_of_site, is_nearer, has_nearer, wrong_body, wrong_need, first_wrong_need, is_between, has_between, wrong_super, first_wrong_super, first_unoffered, first_untied, first_two_bodies, row_le, wrong_outcome, first_wrong_outcome}
 use Rattle.hier_rules.specs.Names.{first_misnamed}
 use Rattle.hier_rules.specs.First.{first_changed_run, MeetsEdit}
 use Rattle.hier_rules.specs.After.{AreKeptOutside}
+use Rattle.hier_rules.proofs.NeedLemmas.{none_anywhere}
 
 -- above the nodes that are at or below no root, all is as it was
 pub record IsLocal (roots : List NodeId) (H K : Hierarchy) : Type 0 where
@@ -36,6 +37,8 @@ pub record IsLocal (roots : List NodeId) (H K : Hierarchy) : Type 0 where
       → is_le K.order a p.0 ≡ true → place_of_column K c ≡ Some p
   pub rows : (r : ℕ) → is_live K.order (place_of_row K r) ≡ true → is_below_some K.order roots (place_of_row K r) ≡ false
       → place_of_row H r ≡ place_of_row K r
+  pub over : (a t : ℕ) → is_live K.order a ≡ true → is_below_some K.order roots a ≡ false
+      → is_le K.order a (place_of_row K t) ≡ is_le H.order a (place_of_row H t)
 
 none_if : {B : Type 0} (t u : Bool) (v w : B) → (t ≡ true → u ≡ true) → when u w ≡ None → when t v ≡ None
 none_if true u v w f h = absurd (false≢true (sym (when-None u w h) ∙ f refl))
@@ -148,6 +151,16 @@ module _ (F : Facts) (pt : PointsTo) (H K : Hierarchy) (fit : IsHierarchyOf F K)
         at true None h = refl
         at true (Some d) h = body_none d h
 
+    outcome_none : (p t : ℕ) → wrong_outcome F pt H p t s ≡ None → wrong_outcome F pt K p t s ≡ None
+    outcome_none p t h =
+        let a = place_of_site F K s in
+        let r = site_row F s in
+        let same : place_of_site F H s ≡ a = L.rows r live out in
+        let stays : row_le K r t ≡ row_le H r t = L.over a t live out ∙ ap (λ n. is_le H.order n (place_of_row H t)) (sym same) in
+        let wrong : Bool → Bool = λ b. meets F pt p t s && differ b (below F (site_class F s) (row_class F t)) in
+        none_if (wrong (row_le K r t)) (wrong (row_le H r t)) (of_row B7 (place_of_site F K s) (place_of_row K t) r)
+        (of_row B7 (place_of_site F H s) (place_of_row H t) r) (λ k. subst (λ b. wrong b ≡ true) stays k) h
+
   module _ (r : ℕ) (live : is_live K.order (place_of_row K r) ≡ true) (out : is_below_some K.order roots (place_of_row K r) ≡ false) where
     same_place : place_of_row H r ≡ place_of_row K r
     same_place = L.rows r live out
@@ -193,6 +206,11 @@ module _ (F : Facts) (pt : PointsTo) (H K : Hierarchy) (fit : IsHierarchyOf F K)
         supers = λ r lr live out. first_below_clear (wrong_super F K r) C (λ c lc.
             super_none r live out c (first_below_None (wrong_super F H r) C c
             (first_below_None (λ r. first_below C (wrong_super F H r)) (length F.rows.items) r e.0 lr) lc));
+        outcomes = λ p t s lt ls live out.
+            let g = or_else-None (first_two_bodies F H) (first_wrong_outcome F pt H) e.1 in
+            outcome_none s live out p t (first_below_None (wrong_outcome F pt H p t) (length F.sites.items) s
+            (first_below_None (λ t. first_below (length F.sites.items) (wrong_outcome F pt H p t)) (length F.rows.items) t
+            (none_anywhere F pt H g.1 p) lt) ls);
       }
 
 -- where no super call is in the method of a row
@@ -220,10 +238,11 @@ module _ (H K : Hierarchy) where
   pub under_local : (n : NodeId) (p : ℕ) → ((a b : ℕ) → is_le K.order a b ≡ (is_le H.order a b || (is_le H.order a n.0 && is_le H.order p b)))
       → K.columns ≡ H.columns → K.rows ≡ H.rows → IsLocal (n ∷ []) H K
   under_local n p pairs columns rows = record {
-    le = λ a b live out. pairs a b ∙ (ap (λ t. is_le H.order a b || (t && is_le H.order p b)) (apart a out) ∙ or_false (is_le H.order a b));
+    le = λ a b live out. same a b out;
     stood = λ a c q live out e h. subst (λ (xs : List (Option NodeId)). get_or xs c None ≡ Some q) columns e;
     stands = λ a c q live out e h. subst (λ (xs : List (Option NodeId)). get_or xs c None ≡ Some q) (sym columns) e;
     rows = λ r live out. ap (λ (xs : List NodeId). (get_or xs r (node 0)).0) (sym rows);
+    over = λ a t live out. ap (λ (xs : List NodeId). is_le K.order a (get_or xs t (node 0)).0) rows ∙ same a (place_of_row H t) out;
   }
     where
       apart : (a : ℕ) → is_below_some K.order (n ∷ []) a ≡ false → is_le H.order a n.0 ≡ false
@@ -236,6 +255,9 @@ module _ (H K : Hierarchy) where
           (pairs a n.0 ∙ or_left (is_le H.order a n.0) (is_le H.order a n.0 && is_le H.order p n.0) t))))
           (λ f. f)
           (cases_Bool (is_le H.order a n.0))
+
+      same : (a b : ℕ) → is_below_some K.order (n ∷ []) a ≡ false → is_le K.order a b ≡ is_le H.order a b
+      same a b out = pairs a b ∙ (ap (λ t. is_le H.order a b || (t && is_le H.order p b)) (apart a out) ∙ or_false (is_le H.order a b))
 
   -- nodes made one: nothing changes above what is not at or below that
   module _ (set : List NodeId) (m : ℕ) (among : is_among set m ≡ true) (made : IsLeastMerged H.order set m K.order)
@@ -280,6 +302,14 @@ module _ (H K : Hierarchy) where
             absurd (false≢true (sym (not_among a s.0 out (held a s.0 live s.2)) ∙ s.1)))
             (or_cases (is_le H.order a b) (is_below_some H.order set a && is_above_some H.order set b) y.0)
 
+    over_row : (a x : ℕ) → is_live K.order a ≡ true → is_below_some K.order set a ≡ false → is_le K.order a (merged_to set m x) ≡ is_le H.order a x
+    over_row a x live out =
+        same_truth (is_le K.order a (merged_to set m x)) (is_le H.order a x)
+        (λ h.
+        let k = subst (λ y. is_le K.order a y ≡ true) (ap (λ t. cond t m x) (not_among a x out h)) h in
+        sym (merged_same a x live out) ∙ k)
+        (λ h. held a x live h)
+
     pub merged_local : IsLocal set H K
     merged_local = record {
       le = merged_same;
@@ -297,6 +327,7 @@ module _ (H K : Hierarchy) where
           absurd (false≢true (sym out ∙ has_any_among (row K.order.le (place_of_row K r)) set m among self)))
           (λ f. sym (rows r ∙ ap (λ b. cond b m x) f))
           (cases_Bool (is_among set x));
+      over = λ a t live out. ap (is_le K.order a) (rows t) ∙ over_row a (place_of_row H t) live out;
     }
       where
         stood_at : (a c : ℕ) (p : NodeId) → is_below_some K.order set a ≡ false → is_le K.order a p.0 ≡ true

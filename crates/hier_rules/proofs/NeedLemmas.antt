@@ -3,9 +3,10 @@ use Rattle.std.proofs.Common.{◌≡◌, ℕ, ◌<◌, ◌↔◌, ◌&&◌, cond
 use Rattle.std.specs.Option.{option_and_then}
 use Rattle.std.specs.List.{list_any}
 use Rattle.std.specs.List.Sorted.{IsNonDecreasing}
-use Rattle.std.proofs.lemmas.Bool.{cases_Bool, or_cases}
+use Rattle.std.proofs.lemmas.Bool.{cases_Bool, cases_lt, or_cases, false_from_ne_true}
 use Rattle.std.proofs.lemmas.List.Elements.{Contains-get_or}
 use Rattle.kaba_bits.specs.Sets.{bit, row, first_below}
+use Rattle.kaba_bits.proofs.FirstLemmas.{first_below_None}
 use Rattle.fact_model.specs.Items.{site_class}
 use Rattle.fact_model.specs.Classes.{finds}
 use Rattle.fact_model.specs.declared.facts.Facts.{Facts}
@@ -16,7 +17,7 @@ use Rattle.fact_model.specs.declared.sets.PointsTo.{PointsTo}
 use Rattle.hier_model.specs.Hierarchies.{Hierarchy}
 use Rattle.hier_rules.specs.declared.broken.Broken.{Broken}
 use Rattle.hier_rules.specs.Asked.{is_called, slots_of, is_element, is_asked, places_of}
-use Rattle.hier_rules.specs.Obligations.{wrong_body, wrong_need, first_wrong_of_place}
+use Rattle.hier_rules.specs.Obligations.{wrong_body, wrong_need, first_wrong_of_place, first_wrong_outcome}
 use Rattle.hier_rules.proofs.KeyLemmas.{AreKeys, key_found, key_none, bound_above}
 use Rattle.hier_rules.proofs.OutcomeLemmas.{not_asked}
 
@@ -43,15 +44,23 @@ module _ (F : Facts) (pt : PointsTo) (H : Hierarchy) where
     pub call_none : ((j : ℕ) → j < length slots → value (get_or slots j 0) ≡ None) → first_below (slots_of F) (wrong_need F pt H s) ≡ None
     call_none none = key_none (wrong_need F pt H s) (slots_of F) slots call_keys (λ j l. valued j l ∙ none j l)
 
-  module _ (places : List ℕ) (sorted : IsNonDecreasing places) (has : (p : ℕ) → Contains places p ↔ (is_asked F p ≡ true)) where
-    asked_below : (p : ℕ) → is_asked F p ≡ true → p < places_of F
-    asked_below p h =
-        ⊎_elim
-        (λ a. let lt = bound_above (λ (x : TestInfo). x.place.at) (λ x. true) F.tests.items p a in omega (arith, lt))
-        (λ b. let lt = bound_above (λ (x : StoreInfo). x.place.at) (λ x. is_element x.column) F.stores.items p b in omega (arith, lt))
-        (or_cases (list_any (λ (x : TestInfo). eqb x.place.at p) F.tests.items) (list_any (λ (x : StoreInfo). is_element x.column && eqb x.place.at p)
-        F.stores.items) h)
+  -- what is asked is asked at a place; where all places are right, nothing is wrong anywhere
+  asked_below : (p : ℕ) → is_asked F p ≡ true → p < places_of F
+  asked_below p h =
+      ⊎_elim
+      (λ a. let lt = bound_above (λ (x : TestInfo). x.place.at) (λ x. true) F.tests.items p a in omega (arith, lt))
+      (λ b. let lt = bound_above (λ (x : StoreInfo). x.place.at) (λ x. is_element x.column) F.stores.items p b in omega (arith, lt))
+      (or_cases (list_any (λ (x : TestInfo). eqb x.place.at p) F.tests.items) (list_any (λ (x : StoreInfo). is_element x.column && eqb x.place.at p)
+      F.stores.items) h)
 
+  pub none_anywhere : first_wrong_outcome F pt H ≡ None → (p : ℕ) → first_wrong_of_place F pt H p ≡ None
+  none_anywhere none p =
+      ⊎_elim
+      (λ lt. first_below_None (first_wrong_of_place F pt H) (places_of F) p none lt)
+      (λ past. not_asked F pt H p (false_from_ne_true (is_asked F p) (λ h. omega (arith, past, asked_below p h))))
+      (cases_lt p (places_of F))
+
+  module _ (places : List ℕ) (sorted : IsNonDecreasing places) (has : (p : ℕ) → Contains places p ↔ (is_asked F p ≡ true)) where
     place_keys : AreKeys (first_wrong_of_place F pt H) (places_of F) places
     place_keys = record {
       sorted = sorted;

@@ -1,6 +1,6 @@
 -- Mirror. What the search for unordered class nodes makes.
 use Rattle.std.specs.Prelude.{◌≡◌, ℕ, suc, zero, ◌+◌, ◌<◌, ◌==◌, ◌&&◌, nat_lt, not, cond, length, List, Bool, slice_index_or}
-use Rattle.kaba_bits.specs.Sets.{bit, row, HasWidth}
+use Rattle.kaba_bits.specs.Sets.{bit}
 use Rattle.fact_model.specs.declared.facts.Facts.{Facts}
 use Rattle.hier_model.specs.Hierarchies.{Hierarchy, IsHierarchyOf, any_below}
 use Rattle.hier_model.specs.Classes.{AreClassNodes}
@@ -33,12 +33,6 @@ module _ (F : Facts) (H : Hierarchy) where
   -- whether class nodes are above a node, and none of them has one fewer above it
   abbrev pub is_loose : ℕ → Bool
   is_loose n = nat_lt 0 (class_count n) && not (any_below (length H.order.live) (is_next n))
-
-  -- for each node the set of the class nodes strictly above it
-  pub record AreOver (over : List (List Bool)) : Type 0 where
-    pub len : length over ≡ length H.order.live
-    pub widths : HasWidth (length H.order.live) over
-    pub exact : (n x : ℕ) → n < length H.order.live → bit (row over n) x ≡ is_over n x
 
   -- for each node how many class nodes are strictly above it
   pub record AreCounts (counts : List ℕ) : Type 0 where

@@ -2,12 +2,14 @@
 -- column.
 use Rattle.std.specs.Prelude.{ℕ, ◌==◌, ◌&&◌, ◌||◌, Bool, true, false, not, List, [], ◌∷◌, length, codes, Option, None}
 use Rattle.std.specs.List.{list_any}
+use Rattle.std.specs.Option.{option_map_or}
 use Rattle.std.specs.Str.{bytes_eq}
 use Rattle.kaba_base.specs.Words.{is_name}
 use Rattle.kaba_bits.specs.Sets.{or_else, first_below, when}
 use Rattle.kaba_order.specs.Orders.{is_live}
 use Rattle.fact_model.specs.Items.{column_kind, column_slot}
 use Rattle.fact_model.specs.declared.facts.Facts.{Facts}
+use Rattle.fact_model.specs.declared.facts.MakerNames.{MakerNames}
 use Rattle.fact_model.specs.declared.facts.ColKind.{ColKind}
 use Rattle.fact_model.specs.declared.facts.ColKind.TheVariants.{Fld, Dcl, Def, Is}
 use Rattle.hier_model.specs.Hierarchies.{Hierarchy, stands_at, is_offered, type_name, member_name, any_below}
@@ -28,13 +30,24 @@ is_member Is = false
 abbrev pub known_names : List (List ℕ)
 known_names = codes "Object" ∷ codes "String" ∷ codes "System" ∷ []
 
--- whether a name is that of a class with static members, or Object, String or System
-abbrev pub is_reserved : Facts → List ℕ → Bool
-is_reserved F name = list_any (λ k. k.holder && bytes_eq k.name name) F.classes.items || list_any (λ k. bytes_eq k name) known_names
+-- whether a name is that of the holder of the methods that make objects, and whether it is that of the local in each of these
+abbrev pub is_makers_holder : Option MakerNames → List ℕ → Bool
+is_makers_holder makers name = option_map_or (λ m. bytes_eq m.holder name) makers false
 
--- whether a name is that of a variable, a parameter or a field of the text
+abbrev pub is_makers_local : Option MakerNames → List ℕ → Bool
+is_makers_local makers name = option_map_or (λ m. bytes_eq m.local name) makers false
+
+-- whether a name is that of a class with static members, or of the holder of the methods that make objects
+abbrev pub is_holder_name : Facts → List ℕ → Bool
+is_holder_name F name = list_any (λ k. k.holder && bytes_eq k.name name) F.classes.items || is_makers_holder F.makers name
+
+-- whether a name is that of a holder, or Object, String or System
+abbrev pub is_reserved : Facts → List ℕ → Bool
+is_reserved F name = is_holder_name F name || list_any (λ k. bytes_eq k name) known_names
+
+-- whether a name is that of a variable, a parameter or a field of the text, or of the local in the methods that make objects
 abbrev pub is_variable : Facts → List ℕ → Bool
-is_variable F name = list_any (λ v. bytes_eq v name) F.vars.items
+is_variable F name = list_any (λ v. bytes_eq v name) F.vars.items || is_makers_local F.makers name
 
 -- the slot of a method's declaration or body
 abbrev pub method_slot : ColKind → Option ℕ → Option ℕ

@@ -1,13 +1,14 @@
 -- Mirror. What an edit touched, and what holds outside of it.
-use Rattle.std.specs.Prelude.{◌≡◌, ℕ, ◌<◌, ◌&&◌, false, Bool, List, length, None}
+use Rattle.std.specs.Prelude.{◌≡◌, ℕ, ◌<◌, ◌==◌, ◌&&◌, ◌||◌, false, Bool, List, length, None}
+use Rattle.std.specs.List.{list_any}
 use Rattle.kaba_base.specs.declared.NodeId.{NodeId}
-use Rattle.kaba_bits.specs.Sets.{bit, first_below}
+use Rattle.kaba_bits.specs.Sets.{bit, row, first_below}
 use Rattle.kaba_order.specs.Orders.{Ordered, is_live, is_below_some}
 use Rattle.fact_model.specs.declared.facts.Facts.{Facts}
 use Rattle.fact_model.specs.declared.sets.PointsTo.{PointsTo}
 use Rattle.hier_model.specs.Hierarchies.{Hierarchy, place_of_row}
-use Rattle.hier_rules.specs.Asked.{slots_of}
-use Rattle.hier_rules.specs.Obligations.{place_of_site, wrong_need, wrong_super}
+use Rattle.hier_rules.specs.Asked.{slots_of, is_element}
+use Rattle.hier_rules.specs.Obligations.{place_of_site, wrong_need, wrong_super, wrong_outcome}
 
 -- the set of the live nodes that are at or below some node of a list
 pub record IsTouched (o : Ordered) (roots : List NodeId) (low : List Bool) : Type 0 where
@@ -23,3 +24,13 @@ pub record NeedsHold (F : Facts) (pt : PointsTo) (H : Hierarchy) (low : List Boo
 pub record SupersHold (F : Facts) (H : Hierarchy) (low : List Bool) : Type 0 where
   pub width : length low ≡ length H.order.live
   pub each : (r : ℕ) → r < length F.rows.items → bit low (place_of_row H r) ≡ false → first_below (length F.columns.items) (wrong_super F H r) ≡ None
+
+-- no site at a node outside a set meets a target with another outcome
+pub record OutcomesHold (F : Facts) (pt : PointsTo) (H : Hierarchy) (low : List Bool) : Type 0 where
+  pub width : length low ≡ length H.order.live
+  pub each : (p t s : ℕ) → t < length F.rows.items → s < length F.sites.items → bit low (place_of_site F H s) ≡ false → wrong_outcome F pt H p t s ≡ None
+
+-- whether a site is in the operand of a test, or in the value of a store of an element, at a place
+abbrev pub is_at_place : Facts → PointsTo → ℕ → ℕ → Bool
+is_at_place F pt p s = list_any (λ x. (x.place.at == p) && bit (row pt.points.items x.from) s) F.tests.items
+    || list_any (λ x. is_element x.column && (x.place.at == p) && bit (row pt.points.items x.value) s) F.stores.items

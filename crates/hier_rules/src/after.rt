@@ -1,39 +1,35 @@
 //! What an edit can have broken of a hierarchy that met its obligations.
 
-ghost use Rattle.std.specs.Prelude.{◌≡◌, ◌<◌, length, All, IfOk, Ok};
-ghost use Rattle.hier_rules.specs.Words.{or_else, IsObligationInput, IsHierarchyOf, NamesSome, MeetsEdit};
-ghost use Rattle.hier_model.specs.Edits.{changed};
+ghost use Rattle.std.specs.Prelude.{◌≡◌, ◌<◌, length, All, IfOk};
+ghost use Rattle.hier_rules.specs.Words.{or_else, IsObligationInput, NamesSome};
 ghost use Rattle.hier_rules.specs.First.{first_changed_run, first_of_edit};
 ghost use Rattle.hier_rules.specs.Names.{first_confused};
-ghost use Rattle.hier_rules.specs.After.{AreApartOutside, AreKeptOutside};
+ghost use Rattle.hier_rules.specs.After.{IsAfterEdit, AreApartOutside, AreKeptOutside};
 
 use crate::bodies::first_two_bodies_among;
 use crate::broken::Broken;
 use crate::clashes::first_confused;
 use crate::first_of_edit;
+use crate::met::first_wrong_outcome_among;
 use crate::names::first_misnamed;
-use crate::outcomes::first_wrong_outcome;
 use crate::places::Asked;
 use crate::touched::{first_wrong_need_among, first_wrong_super_among, touched};
-use hier_model::{Edit, Hier};
+use hier_model::Edit;
 use kaba_base::NodeId;
 use std::alloc::{AllocError, Global};
 
 /// The first instance of the first broken obligation of B2 to B8 in the hierarchy after an edit of one that met them; `None`
 /// where all hold. What the edit cannot have broken is not asked: a merge, and a node put under another, only add to what
 /// is offered, and change no name, so that of them B4 to B7 and the last part of B8 are asked, and B6 at the merged nodes
-/// alone, and B4 and B5 at or below the joined nodes alone; of a name only B8. An error comes only for want of memory.
+/// alone, and B4, B5 and B7 at or below the joined nodes alone; of a name only B8. An error comes only for want of memory.
 pub fn first_broken_after(
     alloc: Global,
-    before: &Hier,
     asked: &Asked,
     edit: &Edit,
 ) -> Result<Option<Broken>, AllocError>
     requires asked { IsObligationInput asked.now }
-    requires before { IsHierarchyOf asked.now.facts.now before.now }
-    requires meets { MeetsEdit asked.now.facts.now asked.now.pt.now before.now }
     requires some { NamesSome edit.now }
-    requires after { changed asked.now.facts.now before.now edit.now ≡ Ok asked.now.hier.now }
+    requires after { IsAfterEdit asked.now.facts.now asked.now.pt.now asked.now.hier.now edit.now }
     ensures first { IfOk result (λ b. b ≡ first_of_edit asked.now.facts.now asked.now.pt.now asked.now.hier.now) }
 {
     match edit {
@@ -47,7 +43,8 @@ pub fn first_broken_after(
 }
 
 /// The first instance against B4 to B7, and then against the last part of B8, where a node outside a list has no two bodies
-/// of one slot, and no need and no super call is broken but at or below the nodes of another. An error comes only for want of memory.
+/// of one slot, and no need, no super call and no outcome is broken but at or below the nodes of another. An error comes only
+/// for want of memory.
 fn first_after_join(
     alloc: Global,
     asked: &Asked,
@@ -71,7 +68,7 @@ fn first_after_join(
     if let Some(found) = first_two_bodies_among(asked, joined) {
         return Ok(Some(found));
     }
-    match first_wrong_outcome(alloc, asked)? {
+    match first_wrong_outcome_among(alloc, asked, &low)? {
         Some(found) => Ok(Some(found)),
         None => first_confused(alloc, asked),
     }

@@ -2,18 +2,18 @@
 
 ghost use Rattle.std.specs.Prelude.{◌≡◌, ℕ, ◌+◌, ◌<◌, ◌==◌, ◌&&◌, ◌||◌, true, false, length, IfOk};
 ghost use Rattle.std.specs.Bool.{OnFalse};
-ghost use Rattle.hier_rules.specs.Words.{bit, first_below, is_le, InRange};
+ghost use Rattle.hier_rules.specs.Words.{bit, row, first_below, is_le, InRange};
 ghost use Rattle.hier_model.specs.Hierarchies.{IsHierarchyOf, any_below};
 ghost use Rattle.hier_rules.specs.Instances.{of_three};
 ghost use Rattle.hier_rules.specs.Obligations.{is_class_above, unchained, first_unchained};
-ghost use Rattle.hier_rules.specs.Chains.{HasClassNodes, AreOver, AreCounts, AreLooseNodes, is_over, class_count, is_next, is_loose};
+ghost use Rattle.hier_rules.specs.Chains.{HasClassNodes, AreCounts, AreLooseNodes, is_over, class_count, is_next, is_loose};
 
 use crate::broken::{Broken, Nodes, Rule};
 use crate::places::{is_le, node_count};
 use fact_model::Facts;
 use hier_model::Hier;
 use kaba_base::NodeId;
-use kaba_bits::{BitRow, row_at};
+use kaba_bits::BitRow;
 use std::alloc::{AllocError, Global};
 
 /// An instance at three nodes.
@@ -56,32 +56,21 @@ fn is_class_above(nodes: &ClassNodes, n: u32, x: u32) -> bool
     nodes.classes.has(n) && nodes.classes.has(x) && class_le(nodes, n, x)
 }
 
-/// The class nodes strictly above a node, if it is a class node. An error comes only for want of memory.
-fn over_row(alloc: Global, nodes: &ClassNodes, n: u32) -> Result<BitRow, AllocError>
+/// Makes a set that of the class nodes strictly above a node, if it is a class node, and else empty.
+fn fill_over(nodes: &ClassNodes, n: u32, over: &mut BitRow)
     requires nodes { HasClassNodes nodes.now }
     requires node { n < length nodes.now.hier.now.order.live }
-    ensures width { IfOk result (λ r. length r ≡ length nodes.now.hier.now.order.live) }
-    ensures exact { IfOk result (λ r. (x : ℕ) → bit r x ≡ is_over nodes.now.facts.now nodes.now.hier.now n x) }
+    requires width { length over.old ≡ length nodes.now.hier.now.order.live }
+    ensures width { length over.new ≡ length nodes.now.hier.now.order.live }
+    ensures exact { (x : ℕ) → bit over.new x ≡ is_over nodes.now.facts.now nodes.now.hier.now n x }
 {
+    over.clear();
     if !nodes.classes.has(n) {
-        return BitRow::new(alloc, node_count(nodes.hier));
+        return;
     }
-    let mut over = nodes.hier.order().above(NodeId(n)).copy(alloc)?;
+    over.or_into(nodes.hier.order().above(NodeId(n)));
     over.and_into(nodes.classes);
     over.remove(n);
-    Ok(over)
-}
-
-/// The same for each node. An error comes only for want of memory.
-fn over_rows(alloc: Global, nodes: &ClassNodes) -> Result<Vec<BitRow>, AllocError>
-    requires nodes { HasClassNodes nodes.now }
-    ensures { IfOk result (λ v. AreOver nodes.now.facts.now nodes.now.hier.now v.items) }
-{
-    let mut over = Vec::new(alloc);
-    for n in 0..node_count(nodes.hier) {
-        over.push(over_row(alloc, nodes, n)?)?;
-    }
-    Ok(over)
 }
 
 /// How many class nodes are strictly above a node.
@@ -90,18 +79,36 @@ fn class_count(nodes: &ClassNodes, over: &BitRow, n: u32) -> u32
     requires over { (x : ℕ) → bit over.now x ≡ is_over nodes.now.facts.now nodes.now.hier.now n x }
     ensures { result ≡ class_count nodes.now.facts.now nodes.now.hier.now n }
 {
+    if over.is_empty() {
+        return 0;
+    }
     over.count()
 }
 
-/// The same for each node. An error comes only for want of memory.
-fn class_counts(alloc: Global, nodes: &ClassNodes, over: &[BitRow]) -> Result<Vec<u32>, AllocError>
+/// The same, by a set that is made on the way.
+fn count_over(nodes: &ClassNodes, n: u32, over: &mut BitRow) -> u32
     requires nodes { HasClassNodes nodes.now }
-    requires over { AreOver nodes.now.facts.now nodes.now.hier.now over.now }
+    requires node { n < length nodes.now.hier.now.order.live }
+    requires width { length over.old ≡ length nodes.now.hier.now.order.live }
+    ensures width { length over.new ≡ length nodes.now.hier.now.order.live }
+    ensures count { result ≡ class_count nodes.now.facts.now nodes.now.hier.now n }
+{
+    if !nodes.classes.has(n) {
+        return 0;
+    }
+    fill_over(nodes, n, over);
+    class_count(nodes, over, n)
+}
+
+/// The same for each node. An error comes only for want of memory.
+fn class_counts(alloc: Global, nodes: &ClassNodes) -> Result<Vec<u32>, AllocError>
+    requires nodes { HasClassNodes nodes.now }
     ensures { IfOk result (λ v. AreCounts nodes.now.facts.now nodes.now.hier.now v.items) }
 {
+    let mut over = BitRow::new(alloc, node_count(nodes.hier))?;
     let mut counts = Vec::new(alloc);
     for n in 0..node_count(nodes.hier) {
-        counts.push(class_count(nodes, row_at(over, n as usize), n))?;
+        counts.push(count_over(nodes, n, &mut over))?;
     }
     Ok(counts)
 }
@@ -113,19 +120,46 @@ fn is_one_fewer(a: u32, b: u32) -> bool
     a < b && b - a == 1
 }
 
-/// Whether one of the class nodes strictly above a node has one fewer above it.
-fn has_next(nodes: &ClassNodes, over: &BitRow, counts: &[u32], n: u32) -> bool
+/// Whether a node at or above a class node is another class node, with one fewer above it.
+fn is_next(nodes: &ClassNodes, counts: &[u32], n: u32, z: u32) -> bool
     requires nodes { HasClassNodes nodes.now }
     requires counts { AreCounts nodes.now.facts.now nodes.now.hier.now counts.now }
     requires node { n < length nodes.now.hier.now.order.live }
-    requires width { length over.now ≡ length nodes.now.hier.now.order.live }
-    requires over { (x : ℕ) → bit over.now x ≡ is_over nodes.now.facts.now nodes.now.hier.now n x }
+    requires other { z < length nodes.now.hier.now.order.live }
+    requires lower { bit nodes.now.classes.now n ≡ true }
+    requires upper { is_le nodes.now.hier.now.order n z ≡ true }
+    ensures { result ≡ is_next nodes.now.facts.now nodes.now.hier.now n z }
+{
+    nodes.classes.has(z) && z != n && is_one_fewer(counts[z as usize], counts[n as usize])
+}
+
+/// Whether one of the class nodes strictly above a node has one fewer above it.
+fn has_next(nodes: &ClassNodes, counts: &[u32], n: u32) -> bool
+    requires nodes { HasClassNodes nodes.now }
+    requires counts { AreCounts nodes.now.facts.now nodes.now.hier.now counts.now }
+    requires node { n < length nodes.now.hier.now.order.live }
     ensures { result ≡ any_below (length nodes.now.hier.now.order.live) (is_next nodes.now.facts.now nodes.now.hier.now n) }
 {
-    let _width = over.width();
+    if !nodes.classes.has(n) {
+        return false;
+    }
+    has_next_in(nodes, counts, n, nodes.hier.order().above(NodeId(n)))
+}
+
+/// The same of a class node, by the nodes at or above it.
+fn has_next_in(nodes: &ClassNodes, counts: &[u32], n: u32, above: &BitRow) -> bool
+    requires nodes { HasClassNodes nodes.now }
+    requires counts { AreCounts nodes.now.facts.now nodes.now.hier.now counts.now }
+    requires node { n < length nodes.now.hier.now.order.live }
+    requires lower { bit nodes.now.classes.now n ≡ true }
+    requires above { above.now ≡ row nodes.now.hier.now.order.le n }
+    requires width { length above.now ≡ length nodes.now.hier.now.order.live }
+    ensures { result ≡ any_below (length nodes.now.hier.now.order.live) (is_next nodes.now.facts.now nodes.now.hier.now n) }
+{
+    let _width = above.width();
     let mut at = 0;
-    'scan: while let Some(z) = over.next(at) {
-        if is_one_fewer(counts[z as usize], counts[n as usize]) {
+    'scan: while let Some(z) = above.next(at) {
+        if is_next(nodes, counts, n, z) {
             return true;
         }
         at = z + 1;
@@ -134,54 +168,54 @@ fn has_next(nodes: &ClassNodes, over: &BitRow, counts: &[u32], n: u32) -> bool
 }
 
 /// Whether class nodes are above a node, and none of them has one fewer above it.
-fn is_loose(nodes: &ClassNodes, over: &[BitRow], counts: &[u32], n: u32) -> bool
+fn is_loose(nodes: &ClassNodes, counts: &[u32], n: u32) -> bool
     requires nodes { HasClassNodes nodes.now }
-    requires over { AreOver nodes.now.facts.now nodes.now.hier.now over.now }
     requires counts { AreCounts nodes.now.facts.now nodes.now.hier.now counts.now }
     requires node { n < length nodes.now.hier.now.order.live }
     ensures { result ≡ is_loose nodes.now.facts.now nodes.now.hier.now n }
 {
-    0 < counts[n as usize] && !has_next(nodes, row_at(over, n as usize), counts, n)
+    0 < counts[n as usize] && !has_next(nodes, counts, n)
 }
 
 /// Adds a node, if it is loose.
-fn add_loose(nodes: &ClassNodes, over: &[BitRow], counts: &[u32], n: u32, loose: &mut BitRow)
+fn add_loose(nodes: &ClassNodes, counts: &[u32], n: u32, loose: &mut BitRow)
     requires nodes { HasClassNodes nodes.now }
-    requires over { AreOver nodes.now.facts.now nodes.now.hier.now over.now }
     requires counts { AreCounts nodes.now.facts.now nodes.now.hier.now counts.now }
     requires node { n < length nodes.now.hier.now.order.live }
     requires width { length loose.old ≡ length nodes.now.hier.now.order.live }
     ensures width { length loose.new ≡ length loose.old }
     ensures added { (x : ℕ) → bit loose.new x ≡ (bit loose.old x || ((n == x) && is_loose nodes.now.facts.now nodes.now.hier.now n)) }
 {
-    if is_loose(nodes, over, counts, n) {
+    if is_loose(nodes, counts, n) {
         loose.set(n);
     }
 }
 
 /// The loose nodes. An error comes only for want of memory.
-fn loose_nodes(alloc: Global, nodes: &ClassNodes, over: &[BitRow]) -> Result<BitRow, AllocError>
+fn loose_nodes(alloc: Global, nodes: &ClassNodes) -> Result<BitRow, AllocError>
     requires nodes { HasClassNodes nodes.now }
-    requires over { AreOver nodes.now.facts.now nodes.now.hier.now over.now }
     ensures { IfOk result (λ v. AreLooseNodes nodes.now.facts.now nodes.now.hier.now v) }
 {
-    let counts = class_counts(alloc, nodes, over)?;
+    let counts = class_counts(alloc, nodes)?;
     let mut loose = BitRow::new(alloc, node_count(nodes.hier))?;
     for n in 0..node_count(nodes.hier) {
-        add_loose(nodes, over, &counts, n, &mut loose);
+        add_loose(nodes, &counts, n, &mut loose);
     }
     Ok(loose)
 }
 
 /// Whether a loose class node may be at or above a node: if not, none is.
-fn may_have_loose(nodes: &ClassNodes, over: &BitRow, loose: &BitRow, n: u32) -> bool
+fn may_have_loose(nodes: &ClassNodes, loose: &BitRow, n: u32) -> bool
+    requires nodes { HasClassNodes nodes.now }
     requires loose { AreLooseNodes nodes.now.facts.now nodes.now.hier.now loose.now }
     requires node { n < length nodes.now.hier.now.order.live }
-    requires width { length over.now ≡ length nodes.now.hier.now.order.live }
-    requires over { (x : ℕ) → bit over.now x ≡ is_over nodes.now.facts.now nodes.now.hier.now n x }
-    ensures { OnFalse result ((m : ℕ) → is_class_above nodes.now.facts.now nodes.now.hier.now n m ≡ true → is_loose nodes.now.facts.now nodes.now.hier.now m ≡ false) }
+    ensures { OnFalse result ((m : ℕ) → is_class_above nodes.now.facts.now nodes.now.hier.now n m ≡ true
+        → is_loose nodes.now.facts.now nodes.now.hier.now m ≡ false) }
 {
-    loose.has(n) || over.meets(loose)
+    if !nodes.classes.has(n) {
+        return false;
+    }
+    nodes.hier.order().above(NodeId(n)).meets(loose)
 }
 
 /// The first instance against B9. An error comes only for want of memory. The time is in proportion to a 64th of the square
@@ -203,27 +237,19 @@ pub fn first_unchained(
         hier,
         classes: &classes,
     };
-    let over = over_rows(alloc, &nodes)?;
-    let loose = loose_nodes(alloc, &nodes, &over)?;
-    first_found_below!(n < node_count(hier); first_unchained_above(&nodes, row_at(&over, n as usize), &loose, n))
+    let loose = loose_nodes(alloc, &nodes)?;
+    first_found_below!(n < node_count(hier); first_unchained_above(&nodes, &loose, n))
 }
 
 /// The first two class nodes at or above a node that are not ordered: none, where no loose one is at or above it.
-fn first_unchained_above(
-    nodes: &ClassNodes,
-    over: &BitRow,
-    loose: &BitRow,
-    n: u32,
-) -> Option<Broken>
+fn first_unchained_above(nodes: &ClassNodes, loose: &BitRow, n: u32) -> Option<Broken>
     requires nodes { HasClassNodes nodes.now }
     requires loose { AreLooseNodes nodes.now.facts.now nodes.now.hier.now loose.now }
     requires node { n < length nodes.now.hier.now.order.live }
-    requires width { length over.now ≡ length nodes.now.hier.now.order.live }
-    requires over { (x : ℕ) → bit over.now x ≡ is_over nodes.now.facts.now nodes.now.hier.now n x }
     ensures { result ≡ first_below (length nodes.now.hier.now.order.live) (λ x. first_below (length nodes.now.hier.now.order.live)
         (unchained nodes.now.facts.now nodes.now.hier.now n x)) }
 {
-    if !may_have_loose(nodes, over, loose, n) {
+    if !may_have_loose(nodes, loose, n) {
         return None;
     }
     first_unchained_at(nodes, n)

@@ -47,6 +47,7 @@ mod bodies;
 mod broken;
 mod chains;
 mod clashes;
+mod met;
 mod names;
 mod outcomes;
 mod pairs;

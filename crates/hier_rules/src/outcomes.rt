@@ -18,7 +18,7 @@ use kaba_bits::{BitRow, row_at};
 use std::alloc::{AllocError, Global};
 
 /// Whether a store is one of an element.
-fn is_element(column: Option<ColId>) -> bool
+pub fn is_element(column: Option<ColId>) -> bool
     ensures { result ≡ is_element column }
 {
     column.is_none()
@@ -55,7 +55,7 @@ fn all_places(alloc: Global, facts: &Facts) -> Result<Vec<u32>, AllocError>
 }
 
 /// The same, rising. An error comes only for want of memory.
-fn asked_places(alloc: Global, facts: &Facts) -> Result<Vec<u32>, AllocError>
+pub fn asked_places(alloc: Global, facts: &Facts) -> Result<Vec<u32>, AllocError>
     ensures sorted { IfOk result (λ v. IsNonDecreasing v.items) }
     ensures places { IfOk result (λ v. (p : ℕ) → Contains v.items p ↔ (is_asked facts.now p ≡ true)) }
 {
@@ -277,7 +277,11 @@ fn first_wrong_at(
 
 /// The first target at a place that a site meets with another outcome. An error comes only for want of memory.
 #[tactic(auto, using(kaba_bits::proofs::FirstLemmas::first_below_found))]
-fn first_wrong_target(alloc: Global, asked: &Asked, p: u32) -> Result<Option<Broken>, AllocError>
+pub fn first_wrong_target(
+    alloc: Global,
+    asked: &Asked,
+    p: u32,
+) -> Result<Option<Broken>, AllocError>
     requires { IsObligationInput asked.now }
     ensures { IfOk result (λ b. b ≡ first_wrong_of_place asked.now.facts.now asked.now.pt.now asked.now.hier.now p) }
 {

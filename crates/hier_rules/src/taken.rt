@@ -5,10 +5,10 @@ ghost use Rattle.hier_rules.specs.Words.{list_any, bytes_eq, AreTaken, IsObligat
 ghost use Rattle.fact_model.specs.declared.facts.ClassInfo.{ClassInfo};
 ghost use Rattle.fact_model.specs.FreeNames.{is_taken};
 ghost use Rattle.fact_model.specs.Taken.{texts};
-ghost use Rattle.hier_rules.specs.Names.{known_names, is_reserved, is_variable, is_named};
+ghost use Rattle.hier_rules.specs.Names.{known_names, is_makers_holder, is_makers_local, is_holder_name, is_reserved, is_variable, is_named};
 
 use crate::places::{Asked, is_live, node_count};
-use fact_model::{ClassInfo, Facts};
+use fact_model::{ClassInfo, Facts, MakerNames};
 use indexmap::IndexSet;
 use kaba_base::{Name, NodeId};
 use std::alloc::{AllocError, Global};
@@ -20,9 +20,9 @@ pub struct Taken {
     pub types: IndexSet<String>,
     /// Those that two such types have.
     pub twice: IndexSet<String>,
-    /// Those of classes with static members, and those that the language has.
+    /// Those of classes with static members and of the holder of the methods that make objects, and those that the language has.
     pub reserved: IndexSet<String>,
-    /// Those of variables, parameters and fields of the text.
+    /// Those of variables, parameters and fields of the text, and of the local in the methods that make objects.
     pub variables: IndexSet<String>,
 }
 
@@ -68,13 +68,50 @@ fn add_holder(
 }
 
 /// The names of classes with static members. An error comes only for want of memory.
-fn holder_names(alloc: Global, facts: &Facts) -> Result<IndexSet<String>, AllocError>
+fn static_holders(alloc: Global, facts: &Facts) -> Result<IndexSet<String>, AllocError>
     ensures { IfOk result (λ s. (x : List ℕ) → is_taken (texts s.keys) x ≡ list_any (λ k. k.holder && bytes_eq k.name x) facts.now.classes.items) }
 {
     let mut names = IndexSet::new(alloc);
     for class in &facts.classes {
         add_holder(alloc, &mut names, class)?;
     }
+    Ok(names)
+}
+
+/// Adds the name of the holder of the methods that make objects, where there is one.
+fn add_makers_holder(
+    alloc: Global,
+    set: &mut IndexSet<String>,
+    makers: &Option<MakerNames>,
+) -> Result<(), AllocError>
+    ensures { OnOk result ((x : List ℕ) → is_taken (texts set.new.keys) x ≡ (is_taken (texts set.old.keys) x || is_makers_holder makers.now x)) }
+{
+    if let Some(makers) = makers {
+        add_name(alloc, set, &makers.holder)?;
+    }
+    Ok(())
+}
+
+/// Adds the name of the local in the methods that make objects, where there are some.
+fn add_makers_local(
+    alloc: Global,
+    set: &mut IndexSet<String>,
+    makers: &Option<MakerNames>,
+) -> Result<(), AllocError>
+    ensures { OnOk result ((x : List ℕ) → is_taken (texts set.new.keys) x ≡ (is_taken (texts set.old.keys) x || is_makers_local makers.now x)) }
+{
+    if let Some(makers) = makers {
+        add_name(alloc, set, &makers.local)?;
+    }
+    Ok(())
+}
+
+/// The names of holders. An error comes only for want of memory.
+fn holder_names(alloc: Global, facts: &Facts) -> Result<IndexSet<String>, AllocError>
+    ensures { IfOk result (λ s. (x : List ℕ) → is_taken (texts s.keys) x ≡ is_holder_name facts.now x) }
+{
+    let mut names = static_holders(alloc, facts)?;
+    add_makers_holder(alloc, &mut names, &facts.makers)?;
     Ok(names)
 }
 
@@ -89,7 +126,7 @@ fn known_names(alloc: Global) -> Result<Vec<Name>, AllocError>
     Ok(names)
 }
 
-/// The names of classes with static members and those that the language has. An error comes only for want of memory.
+/// The names of holders and those that the language has. An error comes only for want of memory.
 fn reserved_names(alloc: Global, facts: &Facts) -> Result<IndexSet<String>, AllocError>
     ensures { IfOk result (λ s. (x : List ℕ) → is_taken (texts s.keys) x ≡ is_reserved facts.now x) }
 {
@@ -99,12 +136,14 @@ fn reserved_names(alloc: Global, facts: &Facts) -> Result<IndexSet<String>, Allo
     Ok(names)
 }
 
-/// The names of variables, parameters and fields of the text. An error comes only for want of memory.
+/// The names of variables, parameters and fields of the text, and of the local in the methods that make objects. An
+/// error comes only for want of memory.
 fn variable_names(alloc: Global, facts: &Facts) -> Result<IndexSet<String>, AllocError>
     ensures { IfOk result (λ s. (x : List ℕ) → is_taken (texts s.keys) x ≡ is_variable facts.now x) }
 {
     let mut names = IndexSet::new(alloc);
     add_names(alloc, &mut names, &facts.vars)?;
+    add_makers_local(alloc, &mut names, &facts.makers)?;
     Ok(names)
 }
 

@@ -1,5 +1,5 @@
-use Rattle.std.proofs.Common.{map, None, ap, ◌∙◌}
-use Rattle.std.specs.Prelude.{slice_set, slice_index_or}
+use Rattle.std.proofs.Common.{map, refl, ap, ◌∙◌}
+use Rattle.std.specs.Prelude.{slice_set, slice_index_or, None}
 use Rattle.std.specs.Option.{option_map}
 use Rattle.hier_model.specs.Hierarchies.{Hierarchy}
 use Rattle.hier_model.specs.Edits.{merged_node, merged_origin}
@@ -14,9 +14,7 @@ returns c =
     same_parts _ _ _ _ _ _ _ _ _ _ _ _ _ _ c.requires.order
     (c.in_ok-merged_columns.ensures ∙ ap (map (option_map (merged_node set m))) (c.deref.ensures.value ∙ ap (λ (h : Hierarchy). h.columns) view))
     (c.in_ok-merged_rows.ensures ∙ ap (map (merged_node set m)) (c.deref-2.ensures.value ∙ ap (λ (h : Hierarchy). h.rows) view))
-    (c.in_ok-copy_names.ensures ∙ (c.deref-3.ensures.value ∙ ap (λ (h : Hierarchy). h.types) view))
-    (c.in_ok-copy_names-2.ensures ∙ (c.deref-4.ensures.value ∙ ap (λ (h : Hierarchy). h.members) view))
+    refl refl
     (c.in_ok-merged_origins.ensures
     ∙ ap (λ os. slice_set os m (merged_origin c.args.facts.now (map (λ n. slice_index_or os n.0 None) set)))
-    (c.deref-5.ensures.value ∙ ap (λ (h : Hierarchy). h.origins) view))
-    (c.in_ok-copy_rows.ensures ∙ (c.deref-6.ensures.value ∙ ap (λ (h : Hierarchy). h.table) view))
+    (c.deref-3.ensures.value ∙ ap (λ (h : Hierarchy). h.origins) view)) refl

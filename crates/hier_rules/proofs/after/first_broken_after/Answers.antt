@@ -9,43 +9,43 @@ pub first_after_join-requires-clause-others : goal.first_after_join-requires-cla
 first_after_join-requires-clause-others c =
     let F = c.args.asked.now.facts.now in
     let K = c.args.asked.now.hier.now in
-    let after = merge_after F c.args.before.now c.requires.before c.args.asked.now.pt.now c.requires.meets K c.args.edit.now c.requires.after
+    let after = merge_after F c.requires.after.before c.requires.after.fits c.args.asked.now.pt.now c.requires.after.meets K c.args.edit.now c.requires.after.made
     c.in-Merge.set c.in-Merge.is c.requires.some in
     subst (AreApartOutside F K) (sym c.deref.ensures.value) after.1
 
 pub first_after_join-requires-in-Under-clause-others : goal.first_after_join-requires-in-Under-clause-others
 first_after_join-requires-in-Under-clause-others c =
-    (under_after c.args.asked.now.facts.now c.args.before.now c.requires.before c.args.asked.now.pt.now c.requires.meets c.args.asked.now.hier.now
-    c.args.edit.now c.requires.after c.in-Under.n c.in-Under.field-1 c.in-Under.is).1
+    (under_after c.args.asked.now.facts.now c.requires.after.before c.requires.after.fits c.args.asked.now.pt.now c.requires.after.meets c.args.asked.now.hier.now
+    c.args.edit.now c.requires.after.made c.in-Under.n c.in-Under.field-1 c.in-Under.is).1
 
 pub first_after_join-requires-clause-kept : goal.first_after_join-requires-clause-kept
 first_after_join-requires-clause-kept c =
-    let kept = merge_kept c.args.asked.now.facts.now c.args.before.now c.requires.before c.args.asked.now.pt.now c.requires.meets c.args.asked.now.hier.now
-    c.args.edit.now c.requires.after c.requires.asked.hier c.in-Merge.set c.in-Merge.is c.requires.some in
+    let kept = merge_kept c.args.asked.now.facts.now c.requires.after.before c.requires.after.fits c.args.asked.now.pt.now c.requires.after.meets c.args.asked.now.hier.now
+    c.args.edit.now c.requires.after.made c.requires.asked.hier c.in-Merge.set c.in-Merge.is c.requires.some in
     subst (AreKeptOutside c.args.asked.now.facts.now c.args.asked.now.pt.now c.args.asked.now.hier.now) (sym c.deref-in-Merge.ensures.value) kept.0
 
 pub first_after_join-requires-clause-roots : goal.first_after_join-requires-clause-roots
 first_after_join-requires-clause-roots c =
-    let kept = merge_kept c.args.asked.now.facts.now c.args.before.now c.requires.before c.args.asked.now.pt.now c.requires.meets c.args.asked.now.hier.now
-    c.args.edit.now c.requires.after c.requires.asked.hier c.in-Merge.set c.in-Merge.is c.requires.some in
+    let kept = merge_kept c.args.asked.now.facts.now c.requires.after.before c.requires.after.fits c.args.asked.now.pt.now c.requires.after.meets c.args.asked.now.hier.now
+    c.args.edit.now c.requires.after.made c.requires.asked.hier c.in-Merge.set c.in-Merge.is c.requires.some in
     subst (All (λ s. s.0 < length c.args.asked.now.hier.now.order.live)) (sym c.deref-in-Merge.ensures.value) kept.1
 
 pub first_after_join-requires-in-Under-clause-kept : goal.first_after_join-requires-in-Under-clause-kept
 first_after_join-requires-in-Under-clause-kept c =
-    (under_kept c.args.asked.now.facts.now c.args.before.now c.requires.before c.args.asked.now.pt.now c.requires.meets c.args.asked.now.hier.now
-    c.args.edit.now c.requires.after c.requires.asked.hier c.in-Under.n c.in-Under.field-1 c.in-Under.is).0
+    (under_kept c.args.asked.now.facts.now c.requires.after.before c.requires.after.fits c.args.asked.now.pt.now c.requires.after.meets c.args.asked.now.hier.now
+    c.args.edit.now c.requires.after.made c.requires.asked.hier c.in-Under.n c.in-Under.field-1 c.in-Under.is).0
 
 pub first_after_join-requires-in-Under-clause-roots : goal.first_after_join-requires-in-Under-clause-roots
 first_after_join-requires-in-Under-clause-roots c =
-    let lt = (under_kept c.args.asked.now.facts.now c.args.before.now c.requires.before c.args.asked.now.pt.now c.requires.meets c.args.asked.now.hier.now
-    c.args.edit.now c.requires.after c.requires.asked.hier c.in-Under.n c.in-Under.field-1 c.in-Under.is).1 in
+    let lt = (under_kept c.args.asked.now.facts.now c.requires.after.before c.requires.after.fits c.args.asked.now.pt.now c.requires.after.meets c.args.asked.now.hier.now
+    c.args.edit.now c.requires.after.made c.requires.asked.hier c.in-Under.n c.in-Under.field-1 c.in-Under.is).1 in
     one_in c.in-Under.n lt
 
 pub returns-in-Merge : goal.returns-in-Merge
 returns-in-Merge c =
     let F = c.args.asked.now.facts.now in
     let K = c.args.asked.now.hier.now in
-    let after = merge_after F c.args.before.now c.requires.before c.args.asked.now.pt.now c.requires.meets K c.args.edit.now c.requires.after
+    let after = merge_after F c.requires.after.before c.requires.after.fits c.args.asked.now.pt.now c.requires.after.meets K c.args.edit.now c.requires.after.made
     c.in-Merge.set c.in-Merge.is c.requires.some in
     record { first = subst (λ o. IfOk c.first_after_join.result (λ b. b ≡ o)) (sym after.0) c.first_after_join.ensures }
 
@@ -53,7 +53,7 @@ pub returns-in-Under : goal.returns-in-Under
 returns-in-Under c =
     let F = c.args.asked.now.facts.now in
     let K = c.args.asked.now.hier.now in
-    let after = under_after F c.args.before.now c.requires.before c.args.asked.now.pt.now c.requires.meets K c.args.edit.now c.requires.after
+    let after = under_after F c.requires.after.before c.requires.after.fits c.args.asked.now.pt.now c.requires.after.meets K c.args.edit.now c.requires.after.made
     c.in-Under.n c.in-Under.field-1 c.in-Under.is in
     record { first = subst (λ o. IfOk c.first_after_join-in-Under.result (λ b. b ≡ o)) (sym after.0) c.first_after_join-in-Under.ensures }
 
@@ -61,7 +61,7 @@ pub returns-in-TypeName : goal.returns-in-TypeName
 returns-in-TypeName c =
     let F = c.args.asked.now.facts.now in
     let K = c.args.asked.now.hier.now in
-    let after = type_after F c.args.before.now c.requires.before c.args.asked.now.pt.now c.requires.meets K c.args.edit.now c.requires.after
+    let after = type_after F c.requires.after.before c.requires.after.fits c.args.asked.now.pt.now c.requires.after.meets K c.args.edit.now c.requires.after.made
     c.in-TypeName.field-0 c.in-TypeName.field-1 c.in-TypeName.is in
     record { first = subst (λ o. IfOk c.first_misnamed.result (λ b. b ≡ o)) (sym after) c.first_misnamed.ensures }
 
@@ -69,6 +69,6 @@ pub returns-in-MemberName : goal.returns-in-MemberName
 returns-in-MemberName c =
     let F = c.args.asked.now.facts.now in
     let K = c.args.asked.now.hier.now in
-    let after = member_after F c.args.before.now c.requires.before c.args.asked.now.pt.now c.requires.meets K c.args.edit.now c.requires.after
+    let after = member_after F c.requires.after.before c.requires.after.fits c.args.asked.now.pt.now c.requires.after.meets K c.args.edit.now c.requires.after.made
     c.in-MemberName.field-0 c.in-MemberName.field-1 c.in-MemberName.is in
     record { first = subst (λ o. IfOk c.first_misnamed-in-MemberName.result (λ b. b ≡ o)) (sym after) c.first_misnamed-in-MemberName.ensures }

@@ -1,10 +1,11 @@
-use Rattle.std.proofs.Common.{◌≡◌, true, None, All, sym, ap, ◌∙◌, subst, inr}
+use Rattle.std.proofs.Common.{◌≡◌, true, None, Result, Ok, All, sym, ap, ◌∙◌, subst, inr}
 use Rattle.kaba_base.specs.declared.NodeId.{NodeId}
 use Rattle.kaba_order.specs.Orders.{is_live}
 use Rattle.hier_model.specs.Hierarchies.{Hierarchy}
 use Rattle.hier_model.specs.Edits.{first_unknown, first_between, least_of, merged_as}
+use Rattle.hier_model.specs.Places.{with_places}
 use Rattle.hier_model.proofs.FitLemmas.{all_live, merge_made}
-use Rattle.hier_model.proofs.Hier.merge.Goals as goal
+use Rattle.hier_model.proofs.Hier.merged_places.Goals as goal
 
 pub merged_order-requires-clause-live : goal.merged_order-requires-clause-live
 merged_order-requires-clause-live c =
@@ -27,5 +28,5 @@ returns c =
     ∙ ap (first_unknown c.self.inside.order) (sym c.deref.ensures.value) ∙ sym c.in_default.ensures in
     let apart : first_between H.order set ≡ None = ap (λ (h : Hierarchy). first_between h.order set) (sym c.self.view_is) ∙ c.in_ok-made.ensures.none in
     let node : c.in_ok-made.made.node.0 ≡ least_of H.order set = c.in_ok-made.ensures.node ∙ ap (λ (h : Hierarchy). least_of h.order set) c.self.view_is in
-    inr (merge_made F c.requires.range H c.requires.hierarchy set c.in_ok-hier.hier none apart
-    (c.in_ok-hier.ensures ∙ ap (λ l. merged_as F H l c.in_ok-made.made.node.0) c.deref-2.ensures.value ∙ ap (merged_as F H set) node))
+    inr (merge_made F c.requires.range H c.requires.hierarchy set (with_places H c.in_ok-places.places) none apart
+    (c.in_ok-places.ensures ∙ ap (λ l. merged_as F H l c.in_ok-made.made.node.0) c.deref-2.ensures.value ∙ ap (merged_as F H set) node))

@@ -1,7 +1,7 @@
 use Rattle.std.proofs.Common.{◌≡◌, true, sym, ◌∙◌, subst}
 use Rattle.kaba_order.specs.Orders.{Ordered, is_live}
 use Rattle.hier_model.proofs.ClassLemmas.{class_live}
-use Rattle.hier_rules.proofs.chains.over_row.Goals as goal
+use Rattle.hier_rules.proofs.chains.fill_over.Goals as goal
 
 pub above-requires : goal.above-requires
 above-requires c =

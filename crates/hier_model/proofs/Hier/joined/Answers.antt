@@ -1,0 +1,13 @@
+use Rattle.std.proofs.Common.{subst}
+use Rattle.hier_model.specs.Edits.{NamesSome}
+use Rattle.hier_model.specs.declared.edits.Edit.TheVariants as edit
+use Rattle.hier_model.proofs.PlacesLemmas.{fits_placed}
+use Rattle.hier_model.proofs.Hier.joined.Goals as goal
+
+pub returns-in-Merge-clause-fits : goal.returns-in-Merge-clause-fits
+returns-in-Merge-clause-fits c = fits_placed c.args.facts.now c.requires.range c.args.self.now c.requires.hierarchy (edit.Merge c.in-Merge.set)
+    (subst NamesSome c.in-Merge.is c.requires.some) c.merged_places.result c.merged_places.ensures
+
+pub returns-in-Under-clause-fits : goal.returns-in-Under-clause-fits
+returns-in-Under-clause-fits c = fits_placed c.args.facts.now c.requires.range c.args.self.now c.requires.hierarchy (edit.Under c.in-Under.n c.in-Under.p)
+    tt c.places_under.result c.places_under.ensures
