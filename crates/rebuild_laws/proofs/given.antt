@@ -1,5 +1,5 @@
 pub mod Rest
 pub mod Apart
-pub mod Written
+pub mod Made
 pub mod Given
 pub mod Needed

@@ -6,7 +6,6 @@ pub mod Methods
 pub mod Declared
 pub mod Bodies
 pub mod Statics
-pub mod NoMaker
 pub mod Concrete
 mod WorkedParts
 mod FormedOld

@@ -2,6 +2,7 @@ pub mod Retagged
 pub mod Seen
 pub mod Related
 pub mod Found
+pub mod Makers
 pub mod Statics
 pub mod Laid
 pub mod Twin

@@ -1,5 +1,6 @@
 pub mod Ties
 pub mod Shapes
+pub mod Makes
 pub mod Walk
 pub mod Statements
 pub mod Points

@@ -1,9 +1,11 @@
 pub mod Retyped
 pub mod Asked
+pub mod Retypes
 pub mod Finding
 pub mod Walk
 pub mod Statements
 pub mod Served
+pub mod Making
 pub mod Bodies
 pub mod Typed
 pub mod Tables

@@ -19,19 +19,22 @@
 //!
 //! The crate has definitions and lemmas alone. `specs/twins/Twins.antt` says when a body of one language
 //! is the twin of a body of the other, form by form, and what ties the two languages;
-//! `proofs/twins/SameRun.antt` has the theorem, by induction on the steps that are left and on the trees,
-//! and `proofs/twins/TrySame.antt` two small programs that meet what it asks.
+//! `proofs/twins/SameRun.antt` has the theorem, by induction on the depth of calls and loops and on the trees;
+//! `proofs/twins/Calls.antt` has its calls and creations, also that of a class with a constructor beside the call of a
+//! method that makes the object (`proofs/twins/MadeCode.antt`), and `proofs/twins/TrySame.antt` and
+//! `proofs/twins/TryMake.antt` two small programs each that meet what it asks.
 //!
 //! A program that rebuilds another over its hierarchy has the same run: it prints the same, ends
 //! the same way, and takes as many steps.
 //!
 //! Code is written only in the law. `proofs/runs/Ties.antt` says what the parts of a body ask for this,
 //! and `proofs/runs/Walk.antt` and `proofs/runs/Statements.antt` that a copy of a body whose parts have it
-//! is the body's twin (crate `rebuild_laws`); `proofs/runs/Tied.antt`, `proofs/runs/Outcomes.antt` and
+//! is the body's twin (crate `rebuild_laws`), `proofs/runs/Makes.antt` so for a creation of a class with a
+//! constructor; `proofs/runs/Tied.antt`, `proofs/runs/Outcomes.antt` and
 //! `proofs/runs/Creations.antt` that they have it where the hierarchy breaks no obligation;
 //! `proofs/runs/Rebuilt.antt` has the two programs, and `proofs/runs/Whole.antt` the law.
 //!
-//! Two programs without constructors that are one but for places, order, modifiers and `this.` have the same run.
+//! Two programs that are one but for places, order, modifiers and `this.` have the same run.
 //!
 //! `proofs/one/Found.antt` says what the look-ups of the two find, `proofs/one/Statics.antt` what types expressions have,
 //! `proofs/one/Laid.antt` what new objects hold, `proofs/one/Twin.antt` that their bodies are twins;
@@ -62,9 +65,9 @@ pub fn same_run()
     ensures { RebuiltRunsTheSame }
 {}
 
-/// Two formed programs without constructors that are one but for places, modifiers without meaning, `this.` written or
-/// left away, and the order of types and members have the same run, where the first is typed: for all words and every
-/// bound on the steps they end the same way, with the same output and as many steps left.
+/// Two formed programs that are one but for places, modifiers without meaning, `this.` written or left away, and the
+/// order of types and members have the same run, where the first is typed: for all words and every bound on the steps
+/// they end the same way, with the same output and as many steps left.
 pub fn one_run()
     ensures { OneRunsTheSame }
 {}

@@ -9,7 +9,7 @@ use Rattle.java_meaning.specs.Watched.{SameTarget, RetaggedSts}
 use Rattle.java_core.proofs.Retagging.{static_same}
 use Rattle.java_meaning.proofs.Pairs.{joined_sts}
 use Rattle.rebuild_model.specs.Renaming.{Renaming}
-use Rattle.rebuild_model.specs.Matches.{Matches, MatchesAll, MatchesTarget, MatchesSts, m_number, m_character, m_text, m_truth, m_null, m_this, m_local, m_static_field, m_own_field, m_field, m_length, m_index, m_call, m_string_call, m_static_call, m_super_call, m_create, m_create_array, m_cast, m_instance_of, m_unary, m_binary, m_no_ex, m_ex_then, m_to_local, m_to_static, m_to_own, m_to_field, m_to_element}
+use Rattle.rebuild_model.specs.Matches.{Matches, MatchesAll, MatchesTarget, MatchesSts, m_number, m_character, m_text, m_truth, m_null, m_this, m_local, m_static_field, m_own_field, m_field, m_length, m_index, m_call, m_string_call, m_static_call, m_super_call, m_create, m_make, m_create_array, m_cast, m_instance_of, m_unary, m_binary, m_no_ex, m_ex_then, m_to_local, m_to_static, m_to_own, m_to_field, m_to_element}
 
 module _ (P W : Plain) (R : Renaming) (g : Env) where
   mutual
@@ -30,7 +30,8 @@ module _ (P W : Plain) (R : Renaming) (g : Env) where
     matches (s_call h i) (m_string_call m s n) = m_string_call (matches h m) (ap is_string (static_same P g h) ∙ s) (matches_all i n)
     matches (s_static_call i) (m_static_call is n) = m_static_call is (matches_all i n)
     matches (s_super_call i) (m_super_call is n) = m_super_call is (matches_all i n)
-    matches (s_create i) (m_create at n) = m_create at (matches_all i n)
+    matches (s_create i) (m_create none at n) = m_create none at (matches_all i n)
+    matches (s_create i) (m_make has is n) = m_make has is (matches_all i n)
     matches (s_create_array h) (m_create_array m) = m_create_array (matches h m)
     matches (s_cast h) (m_cast m) = m_cast (matches h m)
     matches (s_instance_of h) (m_instance_of m at) = m_instance_of (matches h m) at

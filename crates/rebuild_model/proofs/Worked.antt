@@ -129,4 +129,4 @@ hierarchy = record {
 }
 
 abbrev pub places : Places
-places = record { type_of = λ n. suc n; holder_of = λ c. 3 }
+places = record { type_of = λ n. suc n; holder_of = λ c. 3; makers = 0 }

@@ -1,14 +1,14 @@
 -- Two texts of one program: class A { int f; int m() { return f; } } and a main that makes an A, holds it in x and calls m; and the same with
 -- Main before A, m public, and `this.f` for f. They are one. With a main that makes an Object they are not.
-use Rattle.std.proofs.Common.{◌≡◌, ℕ, zero, suc, List, [], ◌∷◌, Option, Some, None, refl, sym, subst, ◌∙◌}
+use Rattle.std.proofs.Common.{◌≡◌, ℕ, zero, suc, [], ◌∷◌, Some, None, refl, sym, subst, ◌∙◌}
 use Rattle.std.specs.Prelude.{false, slice_get, codes}
 use Rattle.std.proofs.lemmas.Option.{same_Some}
-use Rattle.java_core.specs.Trees.{Sts, create, own_field, field, this, declare, return, no_ex, no_st, st_then}
-use Rattle.java_core.specs.Programs.{Plain, PlainClass, PlainField, PlainMethod, PlainLocal}
+use Rattle.java_core.specs.Trees.{Sts, own_field, field, this, return, no_st, st_then}
+use Rattle.java_core.specs.Programs.{Plain, PlainClass, PlainField, PlainMethod}
 use Rattle.java_meaning.specs.Paired.{pair_some, pair_declare, pair_act, pair_return, pair_no_st, pair_st_then}
 use Rattle.rebuild_model.specs.OneBodies.{IsOneClass, one_int, one_string, one_class, IsOneType, OneSts, o_own_written, o_local, o_call, o_create, o_no_ex}
-use Rattle.rebuild_model.specs.OnePrograms.{none_related, one_related, neither, both, HasRelated, AreMatched, IsOneClassAs, IsOneFieldAs, IsOneVariable, IsOneMethodAs, AreOne}
-use Rattle.rebuild_model.proofs.Worked.{place, an_int, class, object, object_of, the_field, method, method_of, main, main_code, slot}
+use Rattle.rebuild_model.specs.OnePrograms.{none_related, one_related, neither, both, HasRelated, AreMatched, IsOneClassAs, IsOneFieldAs, IsOneMethodAs, AreOne}
+use Rattle.rebuild_model.proofs.Worked.{place, an_int, class, object, the_field, method, method_of, main, main_code, slot}
 
 abbrev by_name : Sts
 by_name = st_then (return (place 30) (Some (own_field (place 30) 0))) no_st

@@ -1,12 +1,13 @@
 -- The relation of a rebuilding holds of the worked program and its rebuilt one.
 use Rattle.std.proofs.Common.{◌≡◌, ◌≢◌, ◌↔◌, ◌⊎◌, inl, inr, ℕ, zero, suc, true, false, List, [], ◌∷◌, Some, None, refl, sym, ap, ◌∙◌, subst, arith, ⊎_elim, lit≤}
-use Rattle.std.specs.Option.{option_map_or}
+use Rattle.std.specs.Option.{is_some, option_map_or}
 use Rattle.std.specs.Prelude.{◌||◌, ◌&&◌, ◌==◌, not, Bool, Contains, codes, slice_get, position}
 use Rattle.std.proofs.Math.Dec.{eqb-suc-zero}
-use Rattle.std.proofs.lemmas.Bool.{eqb-true}
+use Rattle.std.proofs.lemmas.Bool.{false≢true, eqb-true}
 use Rattle.java_core.specs.Trees.{Tag, no_ex, local, this, call, own_field, field, return, no_st, st_then}
 use Rattle.java_core.specs.Programs.{PlainClass, PlainField, PlainMethod}
 use Rattle.java_core.specs.Classes.{IsSubclass, same_class, through, supers_of, member_field, field_of, below, declaration_of, search_order}
+use Rattle.java_core.specs.Makers.{maker_of}
 use Rattle.java_core.specs.Types.{Env, types_of, env_of}
 use Rattle.java_meaning.specs.Paired.{pair_some, pair_declare, pair_act, pair_return, pair_no_st, pair_st_then}
 use Rattle.kaba_order.specs.Orders.{is_live, is_le}
@@ -18,12 +19,12 @@ use Rattle.flow_rules.specs.declared.items.ColumnItem.{ColumnItem}
 use Rattle.flow_rules.specs.declared.items.ColumnItem.TheVariants as column
 use Rattle.flow_rules.specs.Operands.{type_in}
 use Rattle.flow_rules.specs.Parts.{parts_of}
-use Rattle.flow_rules.specs.Numbered.{rows_of, columns_of, row_number, column_number, same_column}
-use Rattle.flow_rules.specs.Facts.{numbers, is_holder}
+use Rattle.flow_rules.specs.Numbered.{bodies_of, rows_of, columns_of, sites_of, row_number, column_number, same_column}
+use Rattle.flow_rules.specs.Facts.{numbers, is_holder, makers_of}
 use Rattle.rebuild_model.specs.Renaming.{renaming_of, retyped, retyped_if}
 use Rattle.rebuild_model.specs.Matches.{Matches, MatchesSts, IsStaticMethod, m_create, m_no_ex, m_call, m_local, m_own_field}
 use Rattle.rebuild_model.specs.Members.{HasTypes, new_types, is_headed, is_filled, StandsAt, IsField, IsBody, IsOfSlot, IsHead, IsFiller, IsStaticMethodOf}
-use Rattle.rebuild_model.specs.Rebuilds.{IsNodeType, IsHolderType, AreTypes, AreMembers, AreStatics, Rebuilds}
+use Rattle.rebuild_model.specs.Rebuilds.{IsNodeType, IsHolderType, AreTypes, AreMembers, IsMakeMethod, AreStatics, Rebuilds}
 use Rattle.rebuild_model.proofs.Worked.{place, an_int, class, object, the_field, method, main, slot, main_code, old, new, listed, the_columns, the_sites, hierarchy, places}
 
 pub column_f : (numbers old).column (column.Fld 0) ≡ Some 0
@@ -82,6 +83,28 @@ main_locals : types_of (main 3 1 (main_code 2)).locals ≡ new_types (renaming_o
     (main 2 1 (main_code 1)).locals
 unfolding renaming_of numbers rows_of row_number columns_of column_number parts_of type_in field_of member_field declaration_of search_order
 main_locals = refl
+
+-- no class of either has a constructor
+no_maker : (c : ℕ) → maker_of old c ≡ None
+no_maker zero = refl
+no_maker (suc zero) = refl
+no_maker (suc (suc zero)) = refl
+no_maker (suc (suc (suc c))) = refl
+
+pub no_new_maker : (c : ℕ) → maker_of new c ≡ None
+no_new_maker zero = refl
+no_new_maker (suc zero) = refl
+no_new_maker (suc (suc zero)) = refl
+no_new_maker (suc (suc (suc zero))) = refl
+no_new_maker (suc (suc (suc (suc c)))) = refl
+
+-- so no method makes objects
+no_makers : makers_of old ≡ None
+unfolding sites_of bodies_of rows_of row_number parts_of type_in field_of member_field declaration_of search_order
+no_makers = refl
+
+no_makers_there : is_some (makers_of old) ≡ true → ⊥
+no_makers_there h = false≢true (sym (ap is_some no_makers) ∙ h)
 
 found_m : declaration_of old 1 (codes "m") ≡ Some 0
 unfolding declaration_of search_order
@@ -177,11 +200,12 @@ module _ (others : Facts) where
   }
 
   all_types : (k : ℕ) (c : PlainClass) → slice_get new.classes k ≡ Some c
-      → (k ≡ 0) ⊎ (((n : ℕ) × (is_live hierarchy.order n ≡ true) × (k ≡ suc n)) ⊎ ((h : ℕ) × (is_holder old h ≡ true) × (k ≡ 3)))
+      → (k ≡ 0) ⊎ (((n : ℕ) × (is_live hierarchy.order n ≡ true) × (k ≡ suc n)) ⊎ (((h : ℕ) × (is_holder old h ≡ true) × (k ≡ 3))
+      ⊎ ((is_some (makers_of old) ≡ true) × (k ≡ 0))))
   all_types zero c e = inl refl
   all_types (suc zero) c e = inr (inl (0, refl, refl))
   all_types (suc (suc zero)) c e = inr (inl (1, refl, refl))
-  all_types (suc (suc (suc zero))) c e = inr (inr (2, refl, refl))
+  all_types (suc (suc (suc zero))) c e = inr (inr (inl (2, refl, refl)))
   all_types (suc (suc (suc (suc k)))) c e = absurd (cc e)
 
   no_third : (n : ℕ) → is_live hierarchy.order n ≡ true → suc n ≢ 3
@@ -193,9 +217,12 @@ module _ (others : Facts) where
   types = record {
     nodes = node_types;
     holders = λ c h. subst (λ x. IsHolderType old facts hierarchy new places x) (is_second c h) main_holder;
+    makers = λ m e. absurd (cc (sym no_makers ∙ e));
     nodes_once = λ n m ln lm e. cc e;
     holders_once = λ c d hc hd e. sym (is_second c hc) ∙ is_second d hd;
     apart = λ n c l h. no_third n l;
+    makers_no_node = λ n l h. absurd (no_makers_there h);
+    makers_no_holder = λ c d h. absurd (no_makers_there h);
     all = all_types;
   }
 
@@ -276,7 +303,7 @@ module _ (others : Facts) where
 
   main_matches : MatchesSts old new (renaming_of old hierarchy places) (env_of 1 (main 2 1 (main_code 1))) (main_code 1) (main_code 2)
   main_matches =
-      pair_st_then (pair_declare (pair_some (m_create made_row m_no_ex)))
+      pair_st_then (pair_declare (pair_some (m_create refl made_row m_no_ex)))
       (pair_st_then (pair_act (call_matches (codes "m") name_m)) pair_no_st)
 
   new_main : IsStaticMethodOf old facts hierarchy new places 1 2
@@ -345,10 +372,10 @@ module _ (others : Facts) where
   }
 
   static_methods_are : (g : ℕ) (k : PlainMethod) → slice_get new.methods g ≡ Some k → k.is_static ≡ true
-      → (m : ℕ) × IsStaticMethodOf old facts hierarchy new places m g
+      → ((m : ℕ) × IsStaticMethodOf old facts hierarchy new places m g) ⊎ IsMakeMethod old facts hierarchy new places g
   static_methods_are zero k e i = absurd (cc (ap (λ o. option_map_or (λ (m : PlainMethod). m.is_static) o false) e ∙ i))
   static_methods_are (suc zero) k e i = absurd (cc (ap (λ o. option_map_or (λ (m : PlainMethod). m.is_static) o false) e ∙ i))
-  static_methods_are (suc (suc zero)) k e i = (1, new_main)
+  static_methods_are (suc (suc zero)) k e i = inl (1, new_main)
   static_methods_are (suc (suc (suc g))) k e i = absurd (cc e)
 
   static_method_is : (m : ℕ) (k : PlainMethod) → slice_get old.methods m ≡ Some k → k.is_static ≡ true
@@ -367,8 +394,17 @@ module _ (others : Facts) where
     each_field = λ f k e i. absurd (no_static_field 1 f k e i);
     methods = static_methods_are;
     each_method = static_method_is;
+    each_make = λ s z. absurd (cc (sym (no_maker z.site.ty.class.0) ∙ z.has));
   }
 
   -- the relation holds of them
   unfoldable pub rebuilds : Rebuilds old facts hierarchy new
-  rebuilds = record { places = places; types = types; order = ordered; members = members; statics = statics; main = main_same }
+  rebuilds = record {
+    places = places;
+    types = types;
+    order = ordered;
+    members = members;
+    statics = statics;
+    main = main_same;
+    makerless = no_new_maker;
+  }

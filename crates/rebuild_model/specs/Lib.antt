@@ -1,4 +1,5 @@
 pub mod Renaming
+pub mod Makes
 pub mod Matches
 pub mod Members
 pub mod Rebuilds

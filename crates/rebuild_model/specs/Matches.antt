@@ -1,7 +1,7 @@
 -- Believed. When a body is another with new names and types: in the same form, statement by statement and expression by
 -- expression. Labels, places and the
 -- numbers of creations are free.
-use Rattle.std.specs.Prelude.{◌≡◌, ℕ, ℤ, Bool, true, List, Option, Some, slice_get}
+use Rattle.std.specs.Prelude.{◌≡◌, ℕ, ℤ, Bool, true, List, Option, Some, None, slice_get}
 use Rattle.std.specs.Option.{is_some}
 use Rattle.java_core.specs.declared.Ty.{Ty}
 use Rattle.java_core.specs.declared.UnOp.{UnOp}
@@ -9,10 +9,12 @@ use Rattle.java_core.specs.declared.BinOp.{BinOp}
 use Rattle.java_core.specs.Trees.{Tag, Ex, Exs, no_ex, ex_then, number, character, text, truth, null, this, local, static_field, own_field, field, index, call, static_call, super_call, create, create_array, cast, instance_of, unary, binary, Target, to_local, to_static, to_own, to_field, to_element, St, Sts, IfArms}
 use Rattle.java_core.specs.Programs.{Plain, PlainField, PlainMethod}
 use Rattle.java_core.specs.Classes.{declaration_of, super_method}
+use Rattle.java_core.specs.Makers.{maker_of}
 use Rattle.java_core.specs.Types.{Env, class_of, element_of, is_string, field_in, static}
 use Rattle.java_meaning.specs.Paired.{PairedIf, PairedSt, PairedSts, PairedArms}
 use Rattle.flow_rules.specs.declared.items.RowItem.TheVariants as row
 use Rattle.rebuild_model.specs.Renaming.{Renaming, retyped}
+use Rattle.rebuild_model.specs.Makes.{IsMake}
 
 -- the member g of the new program is the static member f of the old one: it has its name, and stands in the holder of its class
 pub record IsCopied {A : Type 0} (static_of : A → Bool) (owner_of : A → ℕ) (name_of : A → List ℕ) (holder_of : ℕ → ℕ) (olds news : List A) (f g : ℕ)
@@ -63,7 +65,11 @@ module _ (P W : Plain) (R : Renaming) where
         m_super_call : {t u : Tag} {x : List ℕ} {m : ℕ} {es ds : Exs} → super_method P g.self x ≡ Some m → MatchesAll es ds
             → Matches (super_call t x es) (super_call u (R.method_name m) ds)
         -- the class of a creation, a cast and an `instanceof` is that of the node of its own row
-        m_create : {t u : Tag} {n j c k : ℕ} {es ds : Exs} → R.row_type (row.New n) ≡ Some k → MatchesAll es ds → Matches (create t n c es) (create u j k ds)
+        m_create : {t u : Tag} {n j c k : ℕ} {es ds : Exs} → maker_of P c ≡ None → R.row_type (row.New n) ≡ Some k → MatchesAll es ds
+            → Matches (create t n c es) (create u j k ds)
+        -- where the class has a constructor, the method that makes its objects is called
+        m_make : {t u : Tag} {n c m k : ℕ} {es ds : Exs} → maker_of P c ≡ Some m → IsMake P W R n m k → MatchesAll es ds
+            → Matches (create t n c es) (static_call u k ds)
         m_create_array : {t u : Tag} {n j : ℕ} {v : Ty} {e d : Ex} → Matches e d
             → Matches (create_array t n v e) (create_array u j (retyped (R.row_type (row.New n)) v) d)
         m_cast : {t u : Tag} {n j : ℕ} {v : Ty} {e d : Ex} → Matches e d → Matches (cast t n v e) (cast u j (retyped (R.row_type (row.Cast n)) v) d)

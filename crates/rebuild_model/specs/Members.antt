@@ -19,6 +19,7 @@ use Rattle.flow_rules.specs.Ordered.{each}
 use Rattle.flow_rules.specs.Operands.{variable_row, result_in}
 use Rattle.flow_rules.specs.Facts.{numbers}
 use Rattle.rebuild_model.specs.Renaming.{Places, Renaming, renaming_of, retyped, retyped_if}
+use Rattle.rebuild_model.specs.Makes.{slot_types, HasOldSlot}
 use Rattle.rebuild_model.specs.Matches.{IsStaticField, IsStaticMethod, MatchesSts}
 
 -- whether objects are created at a node
@@ -41,10 +42,6 @@ is_filled F H n x = is_made_at F H n && (offers_slot F H n x && not (offers_body
 abbrev pub new_types : Renaming → ℕ → PlainMethod → ℕ → List PlainLocal → List Ty
 new_types R m k n vs = each (λ i v. retyped (R.row_type (variable_row m k i)) v.ty ∷ []) n vs
 
--- the types of the parameters of a slot
-abbrev pub slot_types : Renaming → ℕ → List Ty → List Ty
-slot_types R s ts = each (λ i t. retyped (R.row_type (row.Param s i)) t ∷ []) 0 ts
-
 -- a method takes and gives what an old one does, in the types of its rows
 pub record HasTypes (R : Renaming) (m : ℕ) (old new : PlainMethod) : Type 0 where
   pub params : types_of new.params ≡ new_types R m old 0 old.params
@@ -63,15 +60,6 @@ pub record HasCode (P W : Plain) (R : Renaming) (m : ℕ) (old new : PlainMethod
   pub new_code : new.body ≡ Some written
   pub locals : types_of new.locals ≡ new_types R m old (length old.params) old.locals
   pub matches : MatchesSts P W R (env_of m old) code written
-
--- an old method of a slot
-pub record HasOldSlot (P : Plain) (m : ℕ) : Type 0 where
-  pub old : PlainMethod
-  pub old_stands : slice_get P.methods m ≡ Some old
-  pub slot : ℕ
-  pub of_slot : old.slot ≡ Some slot
-  pub signature : PlainSlot
-  pub slot_stands : slice_get P.slots slot ≡ Some signature
 
 module _ (P : Plain) (F : Facts) (H : Hierarchy) (W : Plain) (T : Places) where
   -- an item has a column, which stands at the node n

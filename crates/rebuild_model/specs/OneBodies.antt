@@ -1,6 +1,6 @@
 -- Believed. When two bodies of two programs are one but for places, the numbers of creations, and `this.` written or
 -- left away: form by form, with types, fields and methods of the same names.
-use Rattle.std.specs.Prelude.{◌≡◌, ℕ, ℤ, Bool, List, Option, Some, None, slice_get}
+use Rattle.std.specs.Prelude.{◌≡◌, ℕ, ℤ, Bool, List, Option, Some, slice_get}
 use Rattle.std.specs.Option.{option_map}
 use Rattle.kaba_base.specs.declared.ClassId.{ClassId}
 use Rattle.java_core.specs.declared.Ty.{Ty}

@@ -2,8 +2,6 @@
 -- numbers of creations, and the order of types and members.
 use Rattle.std.specs.Prelude.{◌≡◌, ℕ, false, List, [], ◌∷◌, length, Option, Some, None, slice_get}
 use Rattle.kaba_base.specs.declared.ClassId.{ClassId}
-use Rattle.java_core.specs.declared.Ty.{Ty}
-use Rattle.java_core.specs.Trees.{Sts}
 use Rattle.java_core.specs.Programs.{Plain, PlainClass, PlainField, PlainLocal, PlainMethod}
 use Rattle.rebuild_model.specs.OneBodies.{IsOneClass, IsOneType, IsOneMethod, OneSts}
 

@@ -1,14 +1,19 @@
 -- Believed. When a program is another one over a new class hierarchy (after Streckenbach and Snelting, 2004, who write
 -- the program of a hierarchy).
-use Rattle.std.specs.Prelude.{◌≡◌, ◌≢◌, ◌↔◌, ◌⊎◌, ℕ, true, false, not, [], Some, None, slice_get}
+use Rattle.std.specs.Prelude.{◌≡◌, ◌≢◌, ◌↔◌, ◌⊎◌, ◌==◌, ℕ, true, false, not, [], Some, None, slice_get}
+use Rattle.std.specs.Option.{is_some}
 use Rattle.java_core.specs.Programs.{Plain, PlainClass, PlainField, PlainMethod}
 use Rattle.java_core.specs.Classes.{IsSubclass}
+use Rattle.java_core.specs.Makers.{maker_of, HasNoMaker}
 use Rattle.kaba_order.specs.Orders.{is_live, is_le}
 use Rattle.fact_model.specs.declared.facts.Facts.{Facts}
 use Rattle.hier_model.specs.Hierarchies.{Hierarchy, type_name, is_class_node}
 use Rattle.flow_rules.specs.declared.items.ColumnItem.TheVariants as column
-use Rattle.flow_rules.specs.Facts.{is_holder}
+use Rattle.flow_rules.specs.declared.items.Site.{Site}
+use Rattle.flow_rules.specs.Numbered.{sites_of}
+use Rattle.flow_rules.specs.Facts.{is_holder, PlainMakers, makers_of}
 use Rattle.rebuild_model.specs.Renaming.{Places, renaming_of}
+use Rattle.rebuild_model.specs.Makes.{IsMake}
 use Rattle.rebuild_model.specs.Matches.{IsStaticMethod}
 use Rattle.rebuild_model.specs.Members.{is_made_at, is_headed, is_filled, StandsAt, IsField, IsBody, IsOfSlot, IsHead, IsFiller, IsStaticFieldOf, IsStaticMethodOf}
 
@@ -34,15 +39,36 @@ module _ (P : Plain) (F : Facts) (H : Hierarchy) (W : Plain) where
     pub parent : class.parent ≡ Some (record { 0 = 0 })
     pub faces : class.faces ≡ []
 
-  -- each type but Object is that of one live node, or of one class with static members
+  -- the holder of the methods that make objects bears its name, and has no supertype but Object
+  pub record IsMakersType (T : Places) (makers : PlainMakers) : Type 0 where
+    pub class : PlainClass
+    pub stands : slice_get W.classes T.makers ≡ Some class
+    pub no_object : T.makers ≢ 0
+    pub name : class.name ≡ makers.holder
+    pub parent : class.parent ≡ Some (record { 0 = 0 })
+    pub faces : class.faces ≡ []
+
+  -- a creation of an object of a class with a constructor, by its number among the sites
+  pub record IsMadeSite (s : ℕ) : Type 0 where
+    pub site : Site
+    pub stands : slice_get (sites_of P) s ≡ Some site
+    pub object : (site.ty.dim == 0) ≡ true
+    pub maker : ℕ
+    pub has : maker_of P site.ty.class.0 ≡ Some maker
+
+  -- each type but Object is that of one live node, or of one class with static members, or the holder of the methods that make objects
   pub record AreTypes (T : Places) : Type 0 where
     pub nodes : (n : ℕ) → is_live H.order n ≡ true → IsNodeType T n
     pub holders : (c : ℕ) → is_holder P c ≡ true → IsHolderType T c
+    pub makers : (m : PlainMakers) → makers_of P ≡ Some m → IsMakersType T m
     pub nodes_once : (n m : ℕ) → is_live H.order n ≡ true → is_live H.order m ≡ true → T.type_of n ≡ T.type_of m → n ≡ m
     pub holders_once : (c d : ℕ) → is_holder P c ≡ true → is_holder P d ≡ true → T.holder_of c ≡ T.holder_of d → c ≡ d
     pub apart : (n c : ℕ) → is_live H.order n ≡ true → is_holder P c ≡ true → T.type_of n ≢ T.holder_of c
+    pub makers_no_node : (n : ℕ) → is_live H.order n ≡ true → is_some (makers_of P) ≡ true → T.type_of n ≢ T.makers
+    pub makers_no_holder : (c : ℕ) → is_holder P c ≡ true → is_some (makers_of P) ≡ true → T.holder_of c ≢ T.makers
     pub all : (k : ℕ) (class : PlainClass) → slice_get W.classes k ≡ Some class
-        → (k ≡ 0) ⊎ (((n : ℕ) × (is_live H.order n ≡ true) × (k ≡ T.type_of n)) ⊎ ((c : ℕ) × (is_holder P c ≡ true) × (k ≡ T.holder_of c)))
+        → (k ≡ 0) ⊎ (((n : ℕ) × (is_live H.order n ≡ true) × (k ≡ T.type_of n)) ⊎ (((c : ℕ) × (is_holder P c ≡ true) × (k ≡ T.holder_of c))
+        ⊎ ((is_some (makers_of P) ≡ true) × (k ≡ T.makers))))
 
   -- the instance members are the fields, bodies, heads and fillers of the nodes, and no others
   pub record AreMembers (T : Places) : Type 0 where
@@ -60,12 +86,21 @@ module _ (P : Plain) (F : Facts) (H : Hierarchy) (W : Plain) where
         → is_filled F H n s ≡ true
         → (g : ℕ) × (new : PlainMethod) × (slice_get W.methods g ≡ Some new) × IsOfSlot P F H W T n m new
 
-  -- the static members are the old ones, in the holders of their classes
+  -- the method g makes the objects of a creation whose class has a constructor
+  pub record IsMakeMethod (T : Places) (g : ℕ) : Type 0 where
+    pub number : ℕ
+    pub at : IsMadeSite number
+    pub is : IsMake P W (renaming_of P H T) at.site.number at.maker g
+
+  -- the static members are the old ones, in the holders of their classes, and the methods that make objects, one for each creation of a class with a
+  -- constructor
   pub record AreStatics (T : Places) : Type 0 where
     pub fields : (g : ℕ) (new : PlainField) → slice_get W.fields g ≡ Some new → new.is_static ≡ true → (f : ℕ) × IsStaticFieldOf P F H W T f g
     pub each_field : (f : ℕ) (old : PlainField) → slice_get P.fields f ≡ Some old → old.is_static ≡ true → (g : ℕ) × IsStaticFieldOf P F H W T f g
-    pub methods : (g : ℕ) (new : PlainMethod) → slice_get W.methods g ≡ Some new → new.is_static ≡ true → (m : ℕ) × IsStaticMethodOf P F H W T m g
+    pub methods : (g : ℕ) (new : PlainMethod) → slice_get W.methods g ≡ Some new → new.is_static ≡ true
+        → ((m : ℕ) × IsStaticMethodOf P F H W T m g) ⊎ IsMakeMethod T g
     pub each_method : (m : ℕ) (old : PlainMethod) → slice_get P.methods m ≡ Some old → old.is_static ≡ true → (g : ℕ) × IsStaticMethodOf P F H W T m g
+    pub each_make : (s : ℕ) (z : IsMadeSite s) → (g : ℕ) × IsMake P W (renaming_of P H T) z.site.number z.maker g
 
   -- the program W is P over the hierarchy H: its types, their order, its members and where it begins
   pub record Rebuilds : Type 0 where
@@ -77,3 +112,5 @@ module _ (P : Plain) (F : Facts) (H : Hierarchy) (W : Plain) where
     pub members : AreMembers places
     pub statics : AreStatics places
     pub main : IsStaticMethod P W (renaming_of P H places) P.main W.main
+    -- no class of it has a constructor
+    pub makerless : HasNoMaker W

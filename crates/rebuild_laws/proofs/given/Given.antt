@@ -6,7 +6,6 @@ use Rattle.std.proofs.lemmas.Option.{same_Some}
 use Rattle.java_core.specs.Programs.{Plain, PlainMethod}
 use Rattle.java_core.specs.Classes.{slot_of_method}
 use Rattle.java_core.specs.Formed.{IsFormed}
-use Rattle.fact_model.specs.Items.{column_kind}
 use Rattle.fact_model.specs.declared.facts.Facts.{Facts}
 use Rattle.fact_model.specs.declared.facts.ColumnInfo.{ColumnInfo}
 use Rattle.fact_model.specs.declared.sets.PointsTo.{PointsTo}
@@ -21,7 +20,6 @@ use Rattle.rebuild_model.specs.Rebuilds.{Rebuilds}
 use Rattle.rebuild_laws.specs.looks.Known.{AreItemColumns, KnownOfBoth}
 use Rattle.rebuild_laws.proofs.looks.Slots.{method_of_slot}
 use Rattle.rebuild_laws.proofs.given.Apart.{names_apart}
-use Rattle.rebuild_laws.proofs.given.Written.{method_member, member_written}
 
 module _ (P : Plain) (formed : IsFormed P) where
   -- an instance method has a slot
@@ -69,6 +67,4 @@ module _ (P : Plain) (formed : IsFormed P) where
       placed = hierarchy.placed.columns;
       names = hierarchy.names;
       apart = names_apart F pt H hierarchy.sized.order none;
-      no_maker = facts.no_maker;
-      written = λ n c at kind. member_written F pt H none hierarchy.placed.columns n c at (method_member (column_kind F c) kind);
     }

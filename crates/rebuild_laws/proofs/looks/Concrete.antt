@@ -14,12 +14,11 @@ use Rattle.kaba_order.specs.Orders.{is_le, is_live}
 use Rattle.fact_model.specs.declared.facts.Facts.{Facts}
 use Rattle.hier_model.specs.Hierarchies.{Hierarchy, is_class_node, offers_slot}
 use Rattle.flow_rules.specs.declared.items.ColumnItem.TheVariants as column
-use Rattle.flow_rules.specs.Facts.{is_holder}
 use Rattle.rebuild_model.specs.Members.{is_made_at, offers_body, is_headed}
 use Rattle.rebuild_laws.specs.looks.Known.{KnownOfBoth}
 use Rattle.java_core.proofs.Upwards.{above_object, along}
 use Rattle.rebuild_laws.proofs.looks.Along.{nearest_below}
-use Rattle.rebuild_laws.proofs.looks.Nodes.{subclass_of, le_of, no_holder, offers_own, class_node, made_class, member_class}
+use Rattle.rebuild_laws.proofs.looks.Nodes.{subclass_of, le_of, no_holder, no_makers, offers_own, class_node, made_class, member_class}
 use Rattle.rebuild_laws.proofs.looks.Slots.{method_of_slot, same_name, OffersSlot, slot_below, asked_slot, OffersBody, body_asked, asked_body}
 use Rattle.rebuild_laws.proofs.looks.Methods.{Sort, a_body, a_head, a_filler, IsNewMethod, new_method}
 use Rattle.rebuild_laws.proofs.looks.Declared.{new_body, of_slot}
@@ -155,12 +154,12 @@ module _ {P : Plain} {F : Facts} {H : Hierarchy} {W : Plain} (K : KnownOfBoth P 
       let class = no_not (is_class_node F H n) (sym (ap not t.kind) ∙ both.0) in
       no_not (is_made_at F H n) (sym (ap not (t.abstract class)) ∙ both.1)
 
-  -- an instance method of a slot has a node's type above which no holder stands, and is none of Object
-  of_holder : (c q m : ℕ) → is_holder P c ≡ true → Offers W (T.holder_of c) q m → ⊥
-  of_holder c q m holder o =
+  -- an instance method of a slot has a node's type, below which no holder stands, and is none of Object
+  of_alone : (c q m : ℕ) → ((n : ℕ) → is_live H.order n ≡ true → IsSubclass W c (T.type_of n) → ⊥) → Offers W c q m → ⊥
+  of_alone c q m none o =
       let instance = (((K.new.methods m o.method o.stands).slots q).0 o.slot).instance in
       let x = new_method K m o.method o.stands instance in
-      no_holder K c x.node holder x.live (subst (λ z. IsSubclass W (T.holder_of c) z) x.owner (below-subclass W (T.holder_of c) o.method.owner o.above))
+      none x.node x.live (subst (λ z. IsSubclass W c z) x.owner (below-subclass W c o.method.owner o.above))
 
   of_object : (c q m : ℕ) → c ≡ 0 → Offers W c q m → ⊥
   of_object c q m e o = (K.new.methods m o.method o.stands).no_object (above_object W K.new e (below-subclass W c o.method.owner o.above))
@@ -177,6 +176,9 @@ module _ {P : Plain} {F : Facts} {H : Hierarchy} {W : Plain} (K : KnownOfBoth P 
           (λ more. ⊎_elim
           (λ n. subst (λ z. (d : ℕ) × (nearest_declaration W z q ≡ Some d) × (has_body W d ≡ true)) (sym n.2)
           (has_one n.0 q m n.1 (made_there n.0 n.1 (subst (λ z. is_concrete W z ≡ true) n.2 h)) (subst (λ z. Offers W z q m) n.2 o)))
-          (λ d. absurd (of_holder d.0 q m d.1 (subst (λ z. Offers W z q m) d.2 o)))
+          (λ rest. ⊎_elim
+          (λ d. absurd (of_alone (T.holder_of d.0) q m (λ n live. no_holder K d.0 n d.1 live) (subst (λ z. Offers W z q m) d.2 o)))
+          (λ d. absurd (of_alone T.makers q m (λ n live. no_makers K n d.0 live) (subst (λ z. Offers W z q m) d.1 o)))
+          rest)
           more)
           (K.rebuilt.types.all c k e)

@@ -15,7 +15,8 @@ use Rattle.flow_rules.specs.declared.items.RowItem.TheVariants as row
 use Rattle.flow_rules.specs.declared.items.ColumnItem.{ColumnItem}
 use Rattle.flow_rules.specs.declared.items.ColumnItem.TheVariants as column
 use Rattle.rebuild_model.specs.Renaming.{retyped_if}
-use Rattle.rebuild_model.specs.Members.{is_made_at, offers_body, is_headed, slot_types, StandsAt, IsBody, IsOfSlot}
+use Rattle.rebuild_model.specs.Makes.{slot_types}
+use Rattle.rebuild_model.specs.Members.{is_made_at, offers_body, is_headed, StandsAt, IsBody, IsOfSlot}
 use Rattle.rebuild_laws.specs.looks.Known.{KnownOfBoth, Offers, sides}
 use Rattle.rebuild_laws.proofs.looks.Nodes.{subclass_of, le_of, stands_once, stands_live, offers_own}
 use Rattle.rebuild_laws.proofs.looks.Slots.{HasSlot, method_of_slot, IsMethodItem, a_declaration, a_body, same_name, OffersSlot, offers_item, slot_below, slots_apart, slot_item, asked_slot, OffersBody, body_asked}

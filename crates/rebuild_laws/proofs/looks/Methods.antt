@@ -15,7 +15,8 @@ use Rattle.flow_rules.specs.declared.items.ColumnItem.TheVariants as column
 use Rattle.flow_rules.specs.Ordered.{each}
 use Rattle.flow_rules.specs.Operands.{variable_row, variable_in, result_in}
 use Rattle.rebuild_model.specs.Renaming.{Renaming, retyped, retyped_if}
-use Rattle.rebuild_model.specs.Members.{is_made_at, offers_body, is_headed, is_filled, new_types, slot_types, HasTypes, HasSlotTypes, StandsAt, IsBody, IsOfSlot, IsHead, IsFiller}
+use Rattle.rebuild_model.specs.Makes.{slot_types}
+use Rattle.rebuild_model.specs.Members.{is_made_at, offers_body, is_headed, is_filled, new_types, HasTypes, HasSlotTypes, StandsAt, IsBody, IsOfSlot, IsHead, IsFiller}
 use Rattle.rebuild_laws.specs.looks.Known.{KnownOfBoth, sides}
 use Rattle.rebuild_laws.proofs.looks.Nodes.{stands_live, offers_own}
 use Rattle.rebuild_laws.proofs.looks.Slots.{OffersSlot, offers_item, slot_asked}

@@ -1,13 +1,14 @@
 -- The types of nodes in a program that rebuilds another: their order, which of them are classes, and that no holder stands between them.
-use Rattle.std.proofs.Common.{◌≡◌, ℕ, ◌&&◌, eqb, [], ◌∷◌, Option, Some, None, Contains, refl, sym, ap, ◌∙◌, subst, ⊎_elim, arith}
-use Rattle.std.specs.Prelude.{true, not, length}
+use Rattle.std.proofs.Common.{◌≡◌, ◌≢◌, ℕ, ◌&&◌, eqb, [], ◌∷◌, Option, Some, None, Contains, refl, sym, ap, ◌∙◌, subst, ⊎_elim, arith}
+use Rattle.std.specs.Prelude.{true, not, length, slice_get}
+use Rattle.std.specs.Option.{is_some}
 use Rattle.std.proofs.lemmas.Bool.{false≢true, and_from, and_parts, or_left, or_right, eqb-true}
 use Rattle.std.proofs.lemmas.Option.{same_Some}
 use Rattle.std.specs.Cmp.{both_ways}
 use Rattle.kaba_base.specs.declared.NodeId.{NodeId}
 use Rattle.kaba_base.specs.declared.ClassId.{ClassId}
 use Rattle.kaba_base.proofs.ListLemmas.{contains_cases}
-use Rattle.java_core.specs.Programs.{Plain}
+use Rattle.java_core.specs.Programs.{Plain, PlainClass}
 use Rattle.java_core.specs.Classes.{supers_of, IsSubclass, same_class, through, below, is_concrete}
 use Rattle.java_core.proofs.Subclasses.{below-subclass, subclass-below}
 use Rattle.java_core.proofs.Upwards.{IsMemberClass, above_object}
@@ -16,7 +17,7 @@ use Rattle.fact_model.specs.Items.{site_at, site_row, column_kind}
 use Rattle.fact_model.specs.declared.facts.Facts.{Facts}
 use Rattle.hier_model.specs.Hierarchies.{Hierarchy, place_of_column, place_of_row, is_above, is_offered, is_of_class, has_class_member, has_object, is_class_node}
 use Rattle.hier_model.proofs.AnyLemmas.{any_below_some, any_below_has}
-use Rattle.flow_rules.specs.Facts.{numbers, kind_of, is_holder}
+use Rattle.flow_rules.specs.Facts.{numbers, kind_of, is_holder, PlainMakers, makers_of}
 use Rattle.flow_rules.specs.declared.items.ColumnItem.{ColumnItem}
 use Rattle.rebuild_model.specs.Members.{is_made_at, StandsAt}
 use Rattle.rebuild_laws.specs.looks.Known.{KnownOfBoth, Offers}
@@ -103,18 +104,34 @@ module _ {P : Plain} {F : Facts} {H : Hierarchy} {W : Plain} (K : KnownOfBoth P 
       let t = K.rebuilt.types.nodes n live in
       record { class = t.class; stands = t.stands; no_interface = t.kind ∙ ap not c; no_object = t.no_object }
 
-  -- a holder stands below no node
-  pub no_holder : (c m : ℕ) → is_holder P c ≡ true → is_node m → IsSubclass W (T.holder_of c) (T.type_of m) → ⊥
-  no_holder c m holder live up = go (T.holder_of c) (T.type_of m) refl refl up
+  -- a class right below Object that is no node's is below no node's
+  alone : (h m : ℕ) (class : PlainClass) → slice_get W.classes h ≡ Some class → class.parent ≡ Some (record { 0 = 0 }) → class.faces ≡ []
+      → T.type_of m ≢ h → is_node m → IsSubclass W h (T.type_of m) → ⊥
+  alone h m class stands parent faces apart live up = go h (T.type_of m) refl refl up
     where
-      object : (k : ClassId) → Contains (supers_of W (T.holder_of c)) k → k.0 ≡ 0
-      object k h =
-          let t = K.rebuilt.types.holders c holder in
-          let supers : supers_of W (T.holder_of c) ≡ record { 0 = 0 } ∷ [] = rw (t.stands, t.parent, t.faces) refl in
-          let one : Contains (record { 0 = 0 } ∷ []) k = subst (λ z. Contains z k) supers h in
+      object : (k : ClassId) → Contains (supers_of W h) k → k.0 ≡ 0
+      object k i =
+          let supers : supers_of W h ≡ record { 0 = 0 } ∷ [] = rw (stands, parent, faces) refl in
+          let one : Contains (record { 0 = 0 } ∷ []) k = subst (λ z. Contains z k) supers i in
           ⊎_elim (λ e. sym (ap (λ (z : ClassId). z.0) e)) (λ r. absurd (omega (arith, r.1))) (contains_cases (record { 0 = 0 }) [] k one)
 
-      go : (x y : ℕ) → x ≡ T.holder_of c → y ≡ T.type_of m → IsSubclass W x y → ⊥
-      go x y e f same_class = K.rebuilt.types.apart m c live holder (sym f ∙ e)
+      go : (x y : ℕ) → x ≡ h → y ≡ T.type_of m → IsSubclass W x y → ⊥
+      go x y e f same_class = apart (sym f ∙ e)
       go x y e f (through {c = k} direct rest) =
           (K.rebuilt.types.nodes m live).no_object (sym f ∙ above_object W K.new (object k (subst (λ z. Contains (supers_of W z) k) e direct)) rest)
+
+  -- a holder stands below no node
+  pub no_holder : (c m : ℕ) → is_holder P c ≡ true → is_node m → IsSubclass W (T.holder_of c) (T.type_of m) → ⊥
+  no_holder c m holder live up =
+      let t = K.rebuilt.types.holders c holder in
+      alone (T.holder_of c) m t.class t.stands t.parent t.faces (K.rebuilt.types.apart m c live holder) live up
+
+  -- nor does that of the methods that make objects
+  pub no_makers : (m : ℕ) → is_some (makers_of P) ≡ true → is_node m → IsSubclass W T.makers (T.type_of m) → ⊥
+  no_makers m makers live up = go (makers_of P) refl makers
+    where
+      go : (o : Option PlainMakers) → makers_of P ≡ o → is_some o ≡ true → ⊥
+      go None e h = false≢true h
+      go (Some k) e h =
+          let t = K.rebuilt.types.makers k e in
+          alone T.makers m t.class t.stands t.parent t.faces (K.rebuilt.types.makers_no_node m live makers) live up

@@ -3,7 +3,6 @@ use Rattle.std.proofs.Common.{◌≡◌, ℕ, zero, suc, ◌<◌, Some, None, re
 use Rattle.std.specs.Prelude.{true, codes}
 use Rattle.std.proofs.lemmas.Bool.{false≢true}
 use Rattle.std.proofs.lemmas.Option.{same_Some}
-use Rattle.kaba_base.specs.Words.{is_name}
 use Rattle.kaba_base.specs.declared.NodeId.{NodeId}
 use Rattle.java_core.specs.Classes.{slot_of_method, slot_of, lookup, declaration_of, search_order, member_field, field_of}
 use Rattle.kaba_bits.specs.Sets.{HasWidth}
@@ -22,7 +21,6 @@ use Rattle.rebuild_model.specs.Members.{StandsAt}
 use Rattle.rebuild_model.proofs.Worked.{old, new, hierarchy}
 use Rattle.rebuild_model.proofs.WorkedRebuilds.{facts, column_f, column_m, column_body, no_field, no_declaration, no_body, name_m, rebuilds}
 use Rattle.rebuild_laws.specs.looks.Known.{AreItemColumns, KnownOfBoth, Offers}
-use Rattle.java_meaning.proofs.Small.{named}
 use Rattle.rebuild_laws.proofs.looks.FormedOld as of_old
 use Rattle.rebuild_laws.proofs.looks.FormedNew as of_new
 use Rattle.rebuild_laws.proofs.looks.Bodies.{number, runs_body}
@@ -190,12 +188,6 @@ module _ (others : Facts) where
   of_f (suc (suc zero)) e = absurd (cc e)
   of_f (suc (suc (suc c))) e = absurd (cc e)
 
-  written : (c : ℕ) → is_method (column_kind F c) ≡ true → is_name (member_name hierarchy c) ≡ true
-  written zero h = absurd (false≢true h)
-  written (suc zero) h = (named (codes "m") refl).named
-  written (suc (suc zero)) h = (named (codes "m") refl).named
-  written (suc (suc (suc c))) h = absurd (false≢true h)
-
   pub worked_known : KnownOfBoth old (facts others) hierarchy new
   worked_known = record {
     old = of_old.formed;
@@ -209,8 +201,6 @@ module _ (others : Facts) where
       fields = λ n c d k l a b same. sym (of_f c k) ∙ of_f d l;
       slots = λ n c d x y k l e f a b same. sym (of_m c x e).0 ∙ (of_m d y f).0;
     };
-    no_maker = of_old.none;
-    written = λ n c at k. written c k;
   }
 
   -- the object of node 1, called by the type of node 0, runs the body of m: by the theorem, and as the look-up computes

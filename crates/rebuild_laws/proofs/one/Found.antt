@@ -14,7 +14,6 @@ use Rattle.java_core.specs.declared.TyBase.TheVariants.{Class}
 use Rattle.java_core.specs.Trees.{Sts}
 use Rattle.java_core.specs.Programs.{Plain, PlainClass, PlainField, PlainMethod, PlainLocal, PlainSlot}
 use Rattle.java_core.specs.Classes.{parent_of, faces_of, supers_of, reaches, below, nearest, nearest_of, is_field_of, own_field_of, field_of, is_static_field, if_instance, when_instance, member_field, is_method_of, own_method, faces_above, chain, search_order, declaration_of, slot_of_method, slot_of, is_slot, has_slot, own_body, lookup, super_method}
-use Rattle.java_core.specs.Makers.{HasNoMaker}
 use Rattle.java_core.specs.Types.{types_of}
 use Rattle.java_core.specs.Formed.{HasNoTwice, IsInSlot, IsFormed}
 use Rattle.java_core.proofs.SearchOrder.{slot_is}
@@ -29,8 +28,6 @@ pub record Ones : Type 0 where
   pub second : Plain
   pub formed : IsFormed first
   pub formed_second : IsFormed second
-  pub no_maker : HasNoMaker first
-  pub no_maker_second : HasNoMaker second
   pub one : AreOne first second
 
 -- a name that no two items of a list have

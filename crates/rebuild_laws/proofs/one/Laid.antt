@@ -115,14 +115,16 @@ module _ (K : Ones) where
         ∙ ap₂ (λ y z. y || z) (up (λ c d o. laid n c d o) (parents K c d o)) (owned c d o)
         ∙ sym (has_append g (option_map_or (λ (p : ClassId). layout_in Q n p.0) (parent_of Q d) []) (own_fields Q d))
       where
-        up : ((c d : ℕ) → OneClass K c d → has f (layout_in P n c) ≡ has g (layout_in Q n d)) → {o p : Option ClassId} → BothRelated (λ (c d : ClassId). OneClass K c.0 d.0) o p
+        up : ((c d : ℕ) → OneClass K c d → has f (layout_in P n c) ≡ has g (layout_in Q n d)) → {o p : Option ClassId}
+            → BothRelated (λ (c d : ClassId). OneClass K c.0 d.0) o p
             → has f (option_map_or (λ (p : ClassId). layout_in P n p.0) o []) ≡ has g (option_map_or (λ (p : ClassId). layout_in Q n p.0) p [])
         up rec neither = refl
         up rec (both {x = x} {y = y} r) = rec x.0 y.0 r
 
     indexed : (c d : ℕ) → OneClass K c d → is_some (index_of P c f) ≡ is_some (index_of Q d g)
     unfolding layout
-    indexed c d o = placed f (layout P c) ∙ laid (length P.classes) c d o ∙ ap (λ n. has g (layout_in Q n d)) K.one.classes.as_many ∙ sym (placed g (layout Q d))
+    indexed c d o = placed f (layout P c) ∙ laid (length P.classes) c d o ∙ ap (λ n. has g (layout_in Q n d)) K.one.classes.as_many
+        ∙ sym (placed g (layout Q d))
 
     pub fresh_values : (c d : ℕ) → OneClass K c d → value_at (language_of P) c f (fresh_of P c) ≡ value_at (language_of Q) d g (fresh_of Q d)
     fresh_values c d o = go (index_of P c f) (index_of Q d g) refl refl (indexed c d o)

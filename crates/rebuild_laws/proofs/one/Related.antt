@@ -209,7 +209,8 @@ module _ {T : ℕ → ℕ → Type 0} where
       go (Some i) None e d =
           let x = position-passes p xs i e in
           let y = m.each i x.0 x.1 in
-          let z = passes-position q ys y.number y.item y.stands (sym (agree i y.number x.0 y.item x.1 y.stands y.related) ∙ x.2) in absurd (let w = sym d ∙ z.1 in cc)
+          let z = passes-position q ys y.number y.item y.stands (sym (agree i y.number x.0 y.item x.1 y.stands y.related) ∙ x.2) in absurd
+          (let w = sym d ∙ z.1 in cc)
       go (Some i) (Some j) e d =
           let x = position-passes p xs i e in
           let y = m.each i x.0 x.1 in

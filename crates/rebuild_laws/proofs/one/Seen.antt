@@ -8,7 +8,6 @@ use Rattle.java_core.specs.declared.Ty.{Ty}
 use Rattle.java_core.specs.Trees.{Ex, Exs, no_ex, ex_then, number, character, text, truth, null, this, local, static_field, own_field, field, index, call, static_call, super_call, create, create_array, cast, instance_of, unary, binary, Target, to_local, to_static, to_own, to_field, to_element, no_target, St, Sts, IfArms, declare, block, assign, act, print, choose, loop, return, break, continue, no_st, st_then, no_other, otherwise, arm}
 use Rattle.java_core.specs.Programs.{Plain, PlainMethod}
 use Rattle.java_core.specs.Classes.{lookup, super_method}
-use Rattle.java_core.specs.Makers.{HasNoMaker}
 use Rattle.java_core.specs.Types.{Env, field_type, types_of}
 use Rattle.java_meaning.specs.EachStatement.{OfOption, InSt, InSts, InArms}
 use Rattle.java_meaning.specs.Moment.{Value, Number, Truth, CodeUnit, Nothing, Text, Object, Kind, Cell, Spot, bound, End, Escaped, unnoted, Body, Lang}
@@ -22,9 +21,8 @@ use Rattle.java_meaning.proofs.Layouts.{places as same_place}
 use Rattle.java_meaning.proofs.WatchedPrograms.{watched_runs}
 use Rattle.rebuild_laws.proofs.one.Retagged.{sts_itself}
 use Rattle.flow_laws.specs.cover.Families.{Family, ArePlain, Included, IncludedAll, Passes, Sets, Assigns, included, IsIncluded, AreIncluded}
-use Rattle.flow_laws.specs.cover.Families.{Reads, Writes, ReadsElement, WritesElement, Calls, StaticCalls, SuperCalls, Tests, Casts}
+use Rattle.flow_laws.specs.cover.Families.{Reads, Writes, ReadsElement, WritesElement, Calls, StaticCalls, SuperCalls, MakerRuns, Tests, Casts}
 use Rattle.flow_laws.specs.cover.Watched.{Of, IsWatched}
-use Rattle.flow_laws.proofs.NoMaker.{no_slot}
 use Rattle.flow_laws.proofs.cover.Held.{default_plain, Stays}
 use Rattle.flow_laws.proofs.cover.Cover.{run_stays}
 
@@ -107,7 +105,7 @@ module _ (P : Plain) (g : Env) where
   passes_all (ex_then e es) = ((λ o h. refl), passes_all es)
 
   mutual
-    unfolding Reads ReadsElement Calls StaticCalls SuperCalls Tests Casts
+    unfolding Reads ReadsElement Calls StaticCalls SuperCalls MakerRuns Tests Casts
 
     in_ex : (e : Ex) → In e
     in_ex (number t n) = tt
@@ -138,7 +136,11 @@ module _ (P : Plain) (g : Env) where
         enters = record { args = passes_all es; result = record { looks = λ o h. refl; holds = λ o h. refl } };
       }),
     )
-    in_ex (create t n c es) = (in_exs es, record { made = tt; looks = refl; holds = refl })
+    in_ex (create t n c es) = (
+      in_exs es,
+      record { made = tt; looks = refl; holds = refl },
+      (λ j b ej eb. record { receiver = refl; self = refl; args = passes_all es }),
+    )
     in_ex (create_array t n u e) = (in_ex e, record { made = tt; looks = refl; holds = refl })
     in_ex (cast t n u e) = (in_ex e, (λ o k m v. refl), (λ o k m v s. (refl, refl)))
     in_ex (instance_of t n e c) = (in_ex e, (λ o k m v. refl))
@@ -199,9 +201,8 @@ module _ (P : Plain) where
         ends = optional_default h.0.result;
       })
 
-  all_in : HasNoMaker P → AreIncluded (seen P) Anything everything
-  all_in none = record {
-    no_maker = no_slot P none;
+  all_in : AreIncluded (seen P) Anything everything
+  all_in = record {
     places = same_place P;
     fresh = λ c. map_plain (λ f. default_at P f) (layout P c) (λ f a e. optional_default (field_type P f) a e);
     statics = map_plain (λ f. default_of f.ty) P.fields (λ f a e. default_no_object f.ty a e);
@@ -213,9 +214,9 @@ module _ (P : Plain) where
   stays_not : (e : End) → Stays e → e ≢ Escaped
   stays_not e s d = subst (λ z. Stays z) d s
 
-  pub never_escapes : HasNoMaker P → (words : List (List ℕ)) (n : ℕ) → (run_in (seen P) P.main words n).end ≢ Escaped
-  never_escapes none words n =
-      stays_not _ (run_stays (seen P) Anything everything (all_in none) (watches P) P.main (record { made = tt; words = λ b e. refl }) words n)
+  pub never_escapes : (words : List (List ℕ)) (n : ℕ) → (run_in (seen P) P.main words n).end ≢ Escaped
+  never_escapes words n =
+      stays_not _ (run_stays (seen P) Anything everything all_in (watches P) P.main (record { made = tt; words = λ b e. refl }) words n)
 
   -- the bodies are those of the program
   bodies_same : (m : ℕ) → RetaggedBody (body_of P m) (body_of P m)
@@ -225,6 +226,6 @@ module _ (P : Plain) where
       go None = s_no_body
       go (Some b) = s_body (sts_itself b.code)
 
-  pub seen_is_run : HasNoMaker P → (words : List (List ℕ)) (n : ℕ) → unnoted (run_in (seen P) P.main words n) ≡ run P words n
+  pub seen_is_run : (words : List (List ℕ)) (n : ℕ) → unnoted (run_in (seen P) P.main words n) ≡ run P words n
   unfolding EscapesOrIs
-  seen_is_run none words n = ⊎_elim (λ e. absurd (never_escapes none words n e)) (λ e. e) (watched_runs P (body_of P) presence bodies_same words n)
+  seen_is_run words n = ⊎_elim (λ e. absurd (never_escapes words n e)) (λ e. e) (watched_runs P (body_of P) presence bodies_same words n)

@@ -4,7 +4,7 @@ use Rattle.std.specs.Prelude.{true, slice_get}
 use Rattle.std.specs.Option.{is_some, option_map, option_and_then}
 use Rattle.std.proofs.lemmas.Option.{same_Some}
 use Rattle.java_core.specs.declared.Ty.{Ty}
-use Rattle.java_core.specs.Trees.{Ex, Exs, this, call, cast, instance_of, Target, St, Sts, IfArms, Tag}
+use Rattle.java_core.specs.Trees.{Ex, Exs, this, call, create, cast, instance_of, Target, St, Sts, IfArms, Tag}
 use Rattle.java_core.specs.Programs.{Plain, PlainField, PlainMethod}
 use Rattle.java_core.specs.Classes.{slot_of, member_field}
 use Rattle.java_core.specs.Types.{Env, StringMethod, class_type, field_in, static}
@@ -17,10 +17,11 @@ use Rattle.java_meaning.specs.Languages.{body_with, body_of, slot_in, language_o
 use Rattle.java_meaning.proofs.Calls.{mapped_some}
 use Rattle.rebuild_model.specs.OneBodies.{One, OneAll, OneTarget, OneIf, OneSt, OneSts, OneArms, o_number, o_character, o_text, o_truth, o_null, o_this, o_local, o_static_field, o_own_field, o_own_written, o_written_own, o_field, o_index, o_call, o_static_call, o_super_call, o_create, o_create_array, o_cast, o_instance_of, o_unary, o_binary, o_no_ex, o_ex_then, o_to_local, o_to_static, o_to_own, o_to_own_written, o_to_written_own, o_to_field, o_to_element}
 use Rattle.rebuild_model.specs.OnePrograms.{BothRelated, neither, both}
-use Rattle.rebuild_laws.specs.twins.Twins.{Link, BothPair, SameNew, SameStatic, SameField, SameCall, SameTest, SameStore, Same, SameAll, SameTarget, SameIf, SameSt, SameSts, SameArms}
+use Rattle.rebuild_laws.specs.twins.Twins.{Link, BothPair, SameNew, SameStatic, SameField, SameCall, SameMaker, neither_makes, both_make, SameTest, SameStore, Same, SameAll, SameTarget, SameIf, SameSt, SameSts, SameArms}
 use Rattle.rebuild_laws.specs.twins.Twins.{same_number, same_character, same_text, same_truth, same_null, same_this, same_local, same_static_field, same_own_field, same_own, same_written, same_field, same_index, same_call, same_static_call, same_super_call, same_create, same_create_array, same_cast, same_instance_of, same_unary, same_binary, same_no_ex, same_ex_then, same_to_local, same_to_static, same_to_own, same_to_both, same_to_written, same_to_field, same_to_element}
 use Rattle.rebuild_laws.proofs.one.Related.{from_first, then_both}
 use Rattle.rebuild_laws.proofs.one.Found.{Ones, OneClass, FieldPair, field_pair, field_second, MethodPair, method_pair, super_methods, SlotPair, slots_both, lookups}
+use Rattle.rebuild_laws.proofs.one.Makers.{maker_slots}
 use Rattle.rebuild_laws.proofs.one.Statics.{OneType, one_shape, one_subtype, OneStatic, classes_of, elements, fields_in, class_one, EnvPair, found_second, found_first, statics}
 use Rattle.rebuild_laws.proofs.one.Laid.{fresh_values}
 use Rattle.rebuild_laws.proofs.one.Seen.{seen}
@@ -173,6 +174,14 @@ module _ (K : Ones) where
       texts = λ m e. text_one x m r e;
     }
 
+    makers_in : (a : Ex) (n c d : ℕ) → OneClass K c d → {x y : Option ℕ} → L.maker c ≡ x → M.maker d ≡ y → BothRelated (SlotPair K) x y
+        → SameMaker L M link Made BodyPair g h a n c d
+    makers_in a n c d o e f neither = neither_makes e f
+    makers_in a n c d o e f (both {x = i} {y = j} p) = both_make e f (λ b eb may. found_bodies (lookups K i j p c d o) b eb)
+
+    maker_one : (a : Ex) (n c d : ℕ) → OneClass K c d → SameMaker L M link Made BodyPair g h a n c d
+    maker_one a n c d o = makers_in a n c d o refl refl (maker_slots K c d o)
+
     test_one : (a : Ex) (t u : Ty) → OneType K t u → SameTest L M link Made BodyPair g h a t u
     test_one a t u p = λ o k l made may. one_subtype K (own_type k) t (own_type l) u (own_one made) p
 
@@ -206,7 +215,8 @@ module _ (K : Ones) where
           same_call (ex_same p a.0 b.0) (all_same ps a.1 b.1) (call_one (call t e x es) e d x (slots_in x e d (statics K g h E p a.0 b.0)))
       ex_same (o_static_call {m = m} {n = n} p ps) a b = same_static_call (all_same ps a.1 b.1) (bodies m n (method_pair K m n p))
       ex_same (o_super_call {x = x} ps) a b = same_super_call (all_same ps a b) (found_bodies (super_methods K x g.self h.self E.self))
-      ex_same (o_create {n = n} {c = c} {d = d} o ps) a b = same_create (all_same ps a b) (new_one n c d o)
+      ex_same (o_create {t = t} {n = n} {c = c} {d = d} {es = es} o ps) a b =
+          same_create (all_same ps a b) (new_one n c d o) (maker_one (create t n c es) n c d o)
       ex_same (o_create_array {v = v} {w = w} p q) a b = same_create_array (ex_same q a.1 b.1) (record { made = one_array p; shape = one_shape K v w p })
       ex_same (o_cast {t = t} {n = n} {v = v} {w = w} {e = e} p q) a b =
           same_cast (ex_same q a b) (one_shape K v w p) (λ z. test_one (cast t n v e) v w p)

@@ -14,7 +14,6 @@ use Rattle.java_meaning.specs.Languages.{body_with, statics_of, language_of, run
 use Rattle.java_meaning.proofs.FormedBodies.{stands_sts}
 use Rattle.java_meaning.proofs.Layouts.{places}
 use Rattle.java_meaning.proofs.TypedPrograms.{never_wrong}
-use Rattle.flow_laws.proofs.NoMaker.{no_slot}
 use Rattle.rebuild_model.specs.OneBodies.{one_string}
 use Rattle.rebuild_model.specs.OnePrograms.{AreRelated, BothRelated, neither, both}
 use Rattle.rebuild_laws.specs.twins.Twins.{shape_of, SameBody, AreTwins}
@@ -100,8 +99,6 @@ module _ (K : Ones) where
     passes = λ p v h. refl;
     passes_all = λ b vs h. refl;
     words = one_array (record { base = one_string; dim = refl });
-    old_makers = no_slot P K.no_maker;
-    new_makers = no_slot Q K.no_maker_second;
     old_places = places P;
     new_places = places Q;
     fields_apart = λ o f g hf hg e. apart f g hf hg e;
@@ -116,26 +113,18 @@ module _ (K : Ones) where
   runs_alike : IsTyped P → (words : List (List ℕ)) (n : ℕ) → unnoted (run_in L P.main words n) ≡ unnoted (run Q words n)
   runs_alike typed words n = use_alike (run_in L P.main words n) (run Q words n)
       (same_run L M (link K) (Made K) (BodyPair K) twins P.main Q.main (bodies K P.main Q.main (method_pair K P.main Q.main K.one.main)) words n)
-      (λ e. never_wrong P K.formed typed words n (sym (ap (λ o. o.end) (seen_is_run P K.no_maker words n)) ∙ e))
-      (never_escapes P K.no_maker words n)
+      (λ e. never_wrong P K.formed typed words n (sym (ap (λ o. o.end) (seen_is_run P words n)) ∙ e))
+      (never_escapes P words n)
 
   runs_same : IsTyped P → HasSameRun P Q
   runs_same typed = record {
-    end = λ words n. ap (λ o. o.end) (sym (seen_is_run P K.no_maker words n) ∙ runs_alike typed words n);
-    out = λ words n. ap (λ o. o.out) (sym (seen_is_run P K.no_maker words n) ∙ runs_alike typed words n);
-    left = λ words n. ap (λ o. o.left) (sym (seen_is_run P K.no_maker words n) ∙ runs_alike typed words n);
+    end = λ words n. ap (λ o. o.end) (sym (seen_is_run P words n) ∙ runs_alike typed words n);
+    out = λ words n. ap (λ o. o.out) (sym (seen_is_run P words n) ∙ runs_alike typed words n);
+    left = λ words n. ap (λ o. o.left) (sym (seen_is_run P words n) ∙ runs_alike typed words n);
   }
 
 pub one_runs_the_same : OneRunsTheSame
 unfolding OneRunsTheSame
-one_runs_the_same P Q formed typed formed_second none none_second one =
+one_runs_the_same P Q formed typed formed_second one =
     runs_same
-    (record {
-      first = P;
-      second = Q;
-      formed = formed;
-      formed_second = formed_second;
-      no_maker = none;
-      no_maker_second = none_second;
-      one = one;
-    }) typed
+    (record { first = P; second = Q; formed = formed; formed_second = formed_second; one = one }) typed

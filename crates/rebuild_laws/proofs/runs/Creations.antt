@@ -1,6 +1,6 @@
 -- Creations make objects with the same values in the fields that they keep, and arrays of the same elements.
 use Rattle.std.proofs.Common.{◌≡◌, ℕ, ◌<◌, Option, Some, None, length, refl, sym, ap, ◌∙◌, subst}
-use Rattle.std.specs.Prelude.{Bool, true, false, ◌==◌, slice_get, Contains}
+use Rattle.std.specs.Prelude.{Bool, true, false, ◌==◌, List, slice_get, Contains}
 use Rattle.std.specs.Option.{option_map, option_map_or, is_some}
 use Rattle.std.specs.Str.{bytes_eq}
 use Rattle.std.proofs.lemmas.Option.{same_Some, slice_get_within}
@@ -152,13 +152,13 @@ module _ {P : Plain} {F : Facts} {H : Hierarchy} {W : Plain} (K : KnownOfBoth P 
     abbrev Made : Option ℕ → Kind → Kind → Type 0
     Made o a b = MadeAs K t o a b
 
-    pub created : (w : Place) (u : Bool) (o : Operand) → Contains (parts_of P m k) (a_creation w u o)
+    pub created : (w : Place) (u : Bool) (o : Operand) (j d : Option ℕ) (args : List Operand) → Contains (parts_of P m k) (a_creation w u o j d args)
         → CreationTied P W F (solved pt) R (has K t) (new_field K t) new_static Made Pair o
     unfolding IsKindedPart numbers
-    created w u o i =
-        let kind : IsCreation P F u o = method_parts P F K.old typed slots facts m k stands (a_creation w u o) i in
+    created w u o j d args i =
+        let kind : IsCreation P F u o = (method_parts P F K.old typed slots facts m k stands (a_creation w u o j d args) i).0 in
         let type : (n s : ℕ) → o.created ≡ Some n → site_number P n ≡ Some s
-        → o.ty ≡ Some (site_type F s) = λ n s ec es. creation_type P F K.old facts m k stands w u o n s i ec es in
+        → o.ty ≡ Some (site_type F s) = λ n s ec es. creation_type P F K.old facts m k stands w u o j d args n s i ec es in
         let row_is : (n r s : ℕ) → row_number P (row.New n) ≡ Some r → site_number P n ≡ Some s
         → site_row F s ≡ r = λ n r s er es. created_row P K.old typed F facts n r (record { 0 = s }) er es in
         record {

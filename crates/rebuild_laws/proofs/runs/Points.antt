@@ -1,10 +1,12 @@
 -- The row of the flow point of an operand is the operand's own.
 use Rattle.std.proofs.Common.{◌≡◌, ℕ, ◌<◌, List, [], ◌∷◌, Option, Some, None, length, refl, sym, ap, ◌∙◌}
-use Rattle.std.specs.Prelude.{Bool, true, false, slice_get, Contains}
+use Rattle.std.specs.Prelude.{◌||◌, Bool, true, false, slice_get, Contains}
+use Rattle.std.specs.Option.{is_some}
 use Rattle.std.proofs.lemmas.Option.{same_Some}
 use Rattle.java_core.specs.Trees.{Ex, this, local, static_field, own_field, field, index, call, static_call, super_call, create, create_array, cast}
 use Rattle.java_core.specs.Programs.{Plain, PlainMethod}
 use Rattle.java_core.specs.Classes.{super_method}
+use Rattle.java_core.specs.Makers.{maker_of, maker_slot}
 use Rattle.java_core.specs.Typing.{IsTyped}
 use Rattle.java_core.specs.Formed.{IsFormed}
 use Rattle.fact_model.specs.Items.{point_row}
@@ -111,9 +113,12 @@ module _ (P : Plain) (formed : IsFormed P) (typed : IsTyped P) (F : Facts) (fact
     at_operand u (super_call t x es) st =
         let p = a_super_call t.place (super_method P k.owner x) (operands_of P (type_in P m k) m k es) (O (super_call t x es)) in given_at p
         (O (super_call t x es)) t.label (here p (tree_all false es) st) refl refl
-    at_operand u (create t n c es) st = let p = a_creation t.place u (O (create t n c es)) in given_at p (O (create t n c es)) t.label
-        (here p (tree_all false es) st) refl refl
-    at_operand u (create_array t n v e) st = let p = a_creation t.place u (O (create_array t n v e)) in given_at p (O (create_array t n v e)) t.label
+    at_operand u (create t n c es) st =
+        let p = a_creation t.place (u || is_some (maker_of P c)) (O (create t n c es)) (maker_slot P c) (maker_of P c)
+        (operands_of P (type_in P m k) m k es) in
+        given_at p (O (create t n c es)) t.label (here p (tree_all (is_some (maker_of P c)) es) st) refl refl
+    at_operand u (create_array t n v e) st = let p = a_creation t.place u (O (create_array t n v e)) None None [] in given_at p
+        (O (create_array t n v e)) t.label
         (here p (tree false e) st) refl refl
     at_operand u (cast t n v e) st = let p = a_test t.place (O e) (O (cast t n v e)) in given_at p (O (cast t n v e)) t.label
         (here p (tree true e) st) refl refl

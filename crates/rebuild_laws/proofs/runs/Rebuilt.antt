@@ -4,6 +4,7 @@ use Rattle.std.specs.Prelude.{Bool, true, false, map, slice_get, option_and_then
 use Rattle.std.specs.Option.{option_map, option_map_or, is_some}
 use Rattle.std.proofs.lemmas.Option.{same_Some, slice_get-map}
 use Rattle.std.proofs.lemmas.Bool.{false≢true, and_parts}
+use Rattle.kaba_base.specs.declared.Place.{Place}
 use Rattle.java_core.specs.declared.Ty.{Ty}
 use Rattle.java_core.specs.Programs.{Plain, PlainField, PlainMethod, PlainLocal}
 use Rattle.java_core.specs.Classes.{is_static_field}
@@ -19,6 +20,7 @@ use Rattle.fact_model.specs.declared.facts.Facts.{Facts}
 use Rattle.fact_model.specs.declared.sets.PointsTo.{PointsTo}
 use Rattle.fact_model.specs.declared.sets.Table.{Table}
 use Rattle.hier_model.specs.Hierarchies.{Hierarchy}
+use Rattle.flow_rules.specs.declared.items.Operand.{Operand}
 use Rattle.flow_rules.specs.declared.items.ColumnItem.TheVariants as column
 use Rattle.flow_rules.specs.declared.items.RowItem.TheVariants as row
 use Rattle.flow_rules.specs.Labels.{label_sts}
@@ -38,7 +40,6 @@ use Rattle.rebuild_laws.specs.looks.Known.{KnownOfBoth, Offers, sides}
 use Rattle.rebuild_laws.proofs.looks.Fields as fields
 use Rattle.rebuild_laws.proofs.looks.Fields.{one_old_field}
 use Rattle.flow_laws.proofs.NoMaker.{no_slot}
-use Rattle.rebuild_laws.proofs.looks.NoMaker.{no_maker_new}
 use Rattle.rebuild_laws.proofs.looks.Statics.{static_fields, static_methods}
 use Rattle.rebuild_laws.proofs.types.Asked.{SeesNew}
 use Rattle.rebuild_laws.proofs.types.Bodies.{have_slots, copied_locals, this_class}
@@ -50,9 +51,9 @@ use Rattle.rebuild_laws.proofs.twins.SameRun.{same_run}
 use Rattle.rebuild_laws.proofs.twins.States.{Alike}
 use Rattle.rebuild_laws.proofs.twins.Shapes.{same_default, same_defaults}
 use Rattle.rebuild_laws.proofs.runs.Ties as ties
-use Rattle.rebuild_laws.proofs.runs.Ties.{Ties, StaticsTied}
+use Rattle.rebuild_laws.proofs.runs.Ties.{CreationTied, Ties, StaticsTied}
 use Rattle.rebuild_laws.proofs.runs.Sited.{IsGiven, MadeAs, has, has_in, new_field, new_field_is, node_of, has_offered, words_made, some_test}
-use Rattle.rebuild_laws.proofs.runs.Tied.{IsCopyOf, body_is, field_tied, call_tied, super_tied, access_of}
+use Rattle.rebuild_laws.proofs.runs.Tied.{IsCopyOf, body_is, field_tied, call_tied, maker_tied, super_tied, access_of}
 use Rattle.rebuild_laws.proofs.runs.Outcomes.{test_same, store_same}
 use Rattle.rebuild_laws.proofs.runs.Creations.{created}
 use Rattle.rebuild_laws.proofs.runs.Points.{at_operand, at_this}
@@ -189,13 +190,23 @@ module _ {P : Plain} {F : Facts} {H : Hierarchy} {W : Plain} (K : KnownOfBoth P 
     methods = method_copied;
   }
 
+  made : (m : ℕ) (k : PlainMethod) (e : slice_get P.methods m ≡ Some k) (w : Place) (u : Bool) (o : Operand) (s d : Option ℕ) (es : List Operand)
+      → Contains (parts_of P m k) (a_creation w u o s d es) → CreationTied P W F (solved pt) R (has K t) (new_field K t) new_static Made Pair o
+  made m k e w u o s d es i = created K pt t X new_static Pair m k e (have_slots K typed facts pt t A O S B table none hierarchy) w u o s d es i
+
   -- what each part of a body gives
   tied : (m : ℕ) (k : PlainMethod) (e : slice_get P.methods m ≡ Some k) (c : ℕ) (p : Part) → Contains (parts_of P m k) p
       → Ties P W F (solved pt) R (has K t) (new_field K t) new_static Made Pair m c p
   tied m k e c (a_load w b (Some f) o) i = field_tied K facts pt t A O S B table none new_static b f
       (access_of K facts pt t A O S B table none new_static m k e (a_load w b (Some f) o) i)
-  tied m k e c (a_creation w u o) i = created K pt t X new_static Pair m k e
-      (have_slots K typed facts pt t A O S B table none hierarchy) w u o i
+  tied m k e c (a_creation w u o (Some s) (Some d) es) i = (
+    made m k e w u o (Some s) (Some d) es i,
+    maker_tied K facts pt t A O S B table none new_static m k e w u o s d es i
+        (has_slot K typed facts pt t A O S B table none hierarchy o s d
+        (access_of K facts pt t A O S B table none new_static m k e (a_creation w u o (Some s) (Some d) es) i)),
+  )
+  tied m k e c (a_creation w u o (Some s) None es) i = (made m k e w u o (Some s) None es i, tt)
+  tied m k e c (a_creation w u o None d es) i = (made m k e w u o None d es i, tt)
   tied m k e c (a_call w b (Some s) (Some d) es o) i = call_tied K facts pt t A O S B table none new_static m k e w b s d es o i
       (has_slot K typed facts pt t A O S B table none hierarchy b s d
       (access_of K facts pt t A O S B table none new_static m k e (a_call w b (Some s) (Some d) es o) i))
@@ -255,6 +266,7 @@ module _ {P : Plain} {F : Facts} {H : Hierarchy} {W : Plain} (K : KnownOfBoth P 
           copied = λ u sc e d te fe st me. (again copied u sc e d te fe st me).type;
           at = at_operand P K.old typed F facts m k p.stands;
           at_this = at_this P K.old typed F facts m k p.stands;
+          bare = no_slot W K.rebuilt.makerless;
           kinded = method_parts P F K.old typed slots facts m k p.stands;
           ties = tied m k p.stands p.new.owner;
         };
@@ -327,8 +339,6 @@ module _ {P : Plain} {F : Facts} {H : Hierarchy} {W : Plain} (K : KnownOfBoth P 
     passes = λ p v h. refl;
     passes_all = λ b vs h. refl;
     words = words_made K t;
-    old_makers = no_slot P K.no_maker;
-    new_makers = no_slot W (no_maker_new K);
     old_places = places P;
     new_places = places W;
     fields_apart = kept_apart;

@@ -1,6 +1,6 @@
 -- What is met at the parts of a body is met in the same way in the program that rebuilds it.
 use Rattle.std.proofs.Common.{◌≡◌, ℕ, List, [], ◌∷◌, Option, Some, None, length, refl, sym, ap, ◌∙◌, subst}
-use Rattle.std.specs.Prelude.{true, false, ◌==◌, ◌&&◌, slice_get, option_and_then, Contains, map}
+use Rattle.std.specs.Prelude.{Bool, true, false, ◌==◌, ◌&&◌, slice_get, option_and_then, Contains, map}
 use Rattle.std.specs.Option.{option_map, option_map_or, is_some}
 use Rattle.std.proofs.lemmas.Option.{same_Some}
 use Rattle.std.proofs.lemmas.Bool.{and_from, eq-eqb}
@@ -37,10 +37,9 @@ use Rattle.hier_rules.specs.First.{first_broken}
 use Rattle.flow_rules.specs.declared.items.ObjectType.{ObjectType}
 use Rattle.flow_rules.specs.declared.items.Operand.{Operand}
 use Rattle.flow_rules.specs.declared.items.ColumnItem.TheVariants as column
-use Rattle.flow_rules.specs.declared.items.RowItem.{RowItem}
 use Rattle.flow_rules.specs.declared.items.RowItem.TheVariants as row
 use Rattle.flow_rules.specs.Ordered.{by_place}
-use Rattle.flow_rules.specs.Parts.{Part, a_call, a_super_call, parts_of}
+use Rattle.flow_rules.specs.Parts.{Part, a_creation, a_call, a_super_call, parts_of}
 use Rattle.flow_rules.specs.Lists.{Placed, PlainCall, both, accessed, point_at, row_at, site_in, accesses_of, calls_of, supers_of}
 use Rattle.flow_rules.specs.Facts.{numbers, call_seen, gathered, IsFactsOf}
 use Rattle.flow_laws.specs.cover.Covers.{solved, labelled_with, labelled_body}
@@ -58,7 +57,7 @@ use Rattle.rebuild_laws.proofs.looks.Fields.{finds_field}
 use Rattle.rebuild_laws.proofs.given.Rest.{half}
 use Rattle.rebuild_laws.proofs.given.Needed as needed
 use Rattle.rebuild_laws.proofs.given.Needed.{need_offers, needed_body, super_offers, super_body}
-use Rattle.rebuild_laws.proofs.types.Asked.{new_class, HasSlot}
+use Rattle.rebuild_laws.proofs.types.Asked.{HasSlot}
 use Rattle.rebuild_laws.proofs.types.Served.{row_of_class, row_in_is}
 use Rattle.rebuild_laws.proofs.runs.Ties as ties
 use Rattle.rebuild_laws.proofs.runs.Ties.{type_at, type_over, FieldTied, CallTied}
@@ -75,9 +74,6 @@ module _ {P : Plain} {F : Facts} {H : Hierarchy} {W : Plain} (K : KnownOfBoth P 
     (facts : IsFactsOf P F) (pt : PointsTo) (t : Table)
     (A : InRange F) (O : InOrder F) (S : AreSets F pt) (B : IsTable F t) (table : H.table ≡ t.rows.items) (none : first_broken F pt H ≡ None) where
   open sides K use {places as T, renaming as R}
-
-  abbrev C : Option RowItem → Option ℕ
-  C i = new_class P W R i
 
   abbrev Made : Option ℕ → Kind → Kind → Type 0
   Made o k l = MadeAs K t o k l
@@ -209,28 +205,45 @@ module _ {P : Plain} {F : Facts} {H : Hierarchy} {W : Plain} (K : KnownOfBoth P 
           (place_has (λ y. y.place.at) (gathered P (λ b. calls_of (numbers P))) x (gathered_has P (λ b. calls_of (numbers P)) x m k p stands c d))))
 
       -- a site at the receiver of a call is called
-      called_there : (w : Place) (b : Operand) (s : ℕ) (d : Option ℕ) (es : List Operand) (o : Operand) → InBody (a_call w b (Some s) d es o) → (q i : ℕ)
-          → point_at (numbers P) b ≡ Some q → bit (bits pt.points.items q) i ≡ true → is_called F pt i s ≡ true
-      called_there w b s d es o c q i e held =
-          let x : Placed PlainCall = record
-          { place = w; item = record { receiver = q; slot = s; args = map (point_at (numbers P)) es; result = point_at (numbers P) o } } in
-          let y = call_of (a_call w b (Some s) d es o) c x
-          (subst (λ z. Contains (option_map_or
-          (λ r. record { place = w; item = record { receiver = r; slot = s; args = map (point_at (numbers P)) es; result = point_at (numbers P) o } } ∷
-          []) z []) x) (sym e) (one x)) in
-          list_any-from_Any (λ (z : CallInfo). bit (bits pt.points.items z.receiver) i && (z.slot == s)) F.calls.items (
+      listed_call : (p : Part) → InBody p → (x : Placed PlainCall) → Contains (calls_of (numbers P) p) x → (i : ℕ)
+          → bit (bits pt.points.items x.item.receiver) i ≡ true → is_called F pt i x.item.slot ≡ true
+      listed_call p c x d i held =
+          let y = call_of p c x d in
+          list_any-from_Any (λ (z : CallInfo). bit (bits pt.points.items z.receiver) i && (z.slot == x.item.slot)) F.calls.items (
             y.1.0,
             y.0,
             y.1.1,
             y.1.2,
-            and_from (bit (bits pt.points.items y.0.receiver) i) (y.0.slot == s)
-                (ap (λ z. bit (bits pt.points.items z) i) (ap (λ z. z.receiver) y.2) ∙ held) (eq-eqb y.0.slot s (ap (λ z. z.slot) y.2)),
+            and_from (bit (bits pt.points.items y.0.receiver) i) (y.0.slot == x.item.slot)
+                (ap (λ z. bit (bits pt.points.items z) i) (ap (λ z. z.receiver) y.2) ∙ held)
+                (eq-eqb y.0.slot x.item.slot (ap (λ z. z.slot) y.2)),
           )
 
-      pub call_tied : (w : Place) (b : Operand) (s d : ℕ) (es : List Operand) (o : Operand) → InBody (a_call w b (Some s) (Some d) es o)
-          → HasSlot P W R b s d → At b → CallTied P W F (solved pt) R (has K t) (new_field K t) new_static Made Pair b s d
+      abbrev a_plain_call : Place → ℕ → List Operand → Option ℕ → ℕ → Placed PlainCall
+      a_plain_call w s es o r = record { place = w; item = record { receiver = r; slot = s; args = map (point_at (numbers P)) es; result = o } }
+
+      called_there : (w : Place) (b : Operand) (s : ℕ) (d : Option ℕ) (es : List Operand) (o : Operand) → InBody (a_call w b (Some s) d es o) → (q i : ℕ)
+          → point_at (numbers P) b ≡ Some q → bit (bits pt.points.items q) i ≡ true → is_called F pt i s ≡ true
+      called_there w b s d es o c q i e held =
+          let x = a_plain_call w s es (point_at (numbers P) o) in
+          listed_call (a_call w b (Some s) d es o) c (x q)
+          (subst (λ z. Contains (option_map_or (λ r. x r ∷ []) z []) (x q)) (sym e) (one (x q))) i held
+
+      -- and so is one of a creation, where its class has a constructor
+      made_there : (w : Place) (u : Bool) (o : Operand) (s : ℕ) (d : Option ℕ) (es : List Operand) → InBody (a_creation w u o (Some s) d es) → (q i : ℕ)
+          → point_at (numbers P) o ≡ Some q → bit (bits pt.points.items q) i ≡ true → is_called F pt i s ≡ true
+      made_there w u o s d es c q i e held =
+          let x = a_plain_call w s es None in
+          listed_call (a_creation w u o (Some s) d es) c (x q)
+          (subst (λ z. Contains (option_map_or (λ r. x r ∷ []) z []) (x q)) (sym e) (one (x q))) i held
+
+      abbrev IsCalledAt : Operand → ℕ → Type 0
+      IsCalledAt b s = (q i : ℕ) → point_at (numbers P) b ≡ Some q → bit (bits pt.points.items q) i ≡ true → is_called F pt i s ≡ true
+
+      slot_tied : (b : Operand) (s d : ℕ) → IsCalledAt b s → HasSlot P W R b s d → At b
+          → CallTied P W F (solved pt) R (has K t) (new_field K t) new_static Made Pair b s d
       unfolding labelled_body lookup numbers
-      call_tied w b s d es o c slot here = record {
+      slot_tied b s d calls slot here = record {
         bodies = λ i v old new x of hv made ex may.
             let q = slot of v hv in
             let j = q.number in
@@ -246,7 +259,7 @@ module _ {P : Plain} {F : Facts} {H : Hierarchy} {W : Plain} (K : KnownOfBoth P 
             let f = finds_some P F K.old facts (length P.classes) (site_class F at.site) s found.0 (ap (λ z. lookup P z s) (sym at.old) ∙ found.1) in
             let finds_it : finds F (site_class F at.site) s ≡ Some f.0 = ap (λ z. finds_within F z (site_class F at.site) s) (same_length P F facts) ∙ f.1 in
             let need = and_from (is_called F pt at.site s) (is_slot (finds F (site_class F at.site) s) f.0)
-            (called_there w b s (Some d) es o c m.point at.site m.point_is m.held) (ap (λ z. is_slot z f.0) finds_it ∙ eq-eqb f.0 f.0 refl) in
+            (calls m.point at.site m.point_is m.held) (ap (λ z. is_slot z f.0) finds_it ∙ eq-eqb f.0 f.0 refl) in
             let ran = needed_body K pt t A O S B table none at.site s f.0 found.0 need f.2 (place_of_row H a.number) d j le of
             (ap (λ z. slot_of W z (R.method_name d)) a.class ∙ q.found) in
             let offers = need_offers K pt t A O S B table none at.site s f.0 found.0 need f.2 in
@@ -257,6 +270,14 @@ module _ {P : Plain} {F : Facts} {H : Hierarchy} {W : Plain} (K : KnownOfBoth P 
                   (ap (λ z. option_and_then (body_of W) (lookup W z j)) at.new ∙ ap (λ z. option_and_then (body_of W) z) ran);
             };
       }
+
+      pub call_tied : (w : Place) (b : Operand) (s d : ℕ) (es : List Operand) (o : Operand) → InBody (a_call w b (Some s) (Some d) es o)
+          → HasSlot P W R b s d → At b → CallTied P W F (solved pt) R (has K t) (new_field K t) new_static Made Pair b s d
+      call_tied w b s d es o c slot here = slot_tied b s d (called_there w b s (Some d) es o c) slot here
+
+      pub maker_tied : (w : Place) (u : Bool) (o : Operand) (s d : ℕ) (es : List Operand) → InBody (a_creation w u o (Some s) (Some d) es)
+          → HasSlot P W R o s d → At o → CallTied P W F (solved pt) R (has K t) (new_field K t) new_static Made Pair o s d
+      maker_tied w u o s d es c slot here = slot_tied o s d (made_there w u o s (Some d) es c) slot here
 
       pub super_tied : (w : Place) (d : ℕ) (es : List Operand) (o : Operand) → InBody (a_super_call w (Some d) es o) → (c : ℕ) (x : Body)
           → R.row_type (row.This m) ≡ Some c → ((f : PlainMethod) → slice_get P.methods d ≡ Some f → f.is_static ≡ false)

@@ -1,9 +1,10 @@
 -- What each part of a body gives the twin of the body: what is met there is met in the same way over the new classes.
-use Rattle.std.specs.Prelude.{◌≡◌, ℕ, ◌<◌, length, Bool, true, false, Option, Some, option_and_then, slice_get, List, Contains}
+use Rattle.std.specs.Prelude.{◌≡◌, ℕ, ◌<◌, length, Bool, true, false, Option, Some, None, option_and_then, slice_get, List, Contains}
 use Rattle.java_core.specs.declared.Ty.{Ty}
 use Rattle.java_core.specs.declared.TyBase.TheVariants.{Class}
 use Rattle.java_core.specs.Programs.{Plain, PlainField, PlainMethod}
 use Rattle.java_core.specs.Classes.{member_field, slot_of, slot_of_method, super_method, is_static_field}
+use Rattle.java_core.specs.Makers.{maker_slot}
 use Rattle.java_core.specs.Trees.{Ex}
 use Rattle.java_core.specs.Types.{Env, env_of, is_subtype, static}
 use Rattle.java_core.specs.Typing.{Typed}
@@ -97,6 +98,12 @@ module _ (P W : Plain) (F : Facts) (S : Sets) (R : Renaming) (has : Option ℕ �
     pub object : (n k : ℕ) (t : ObjectType) → o.created ≡ Some n → o.ty ≡ Some t → t.dim ≡ 0 → R.row_type (row.New n) ≡ Some k → SameNewAt n t.class.0 k
     pub array : (n : ℕ) (v : Ty) → o.created ≡ Some n → o.ty ≡ object_of v → 0 < v.dim → SameArrayAt n v (retyped (R.row_type (row.New n)) v)
 
+  -- where the class of a creation has a constructor, of the slot s and declared by d, it is called on the object
+  abbrev pub MakerTied : Operand → Option ℕ → Option ℕ → Type 0
+  MakerTied o (Some s) (Some d) = IsAt o → CallTied o s d
+  MakerTied o (Some s) None = Unit {0}
+  MakerTied o None d = Unit {0}
+
   -- a test of an operand
   pub record TestTied (e o : Operand) : Type 0 where
     pub same : (q : Option ℕ) (a b : Kind) (t : ObjectType) (w : ℕ) → Made q a b → may_at e q ≡ true → o.ty ≡ Some t → class_at o ≡ Some w
@@ -115,7 +122,7 @@ module _ (P W : Plain) (F : Facts) (S : Sets) (R : Renaming) (has : Option ℕ �
   -- what the part of the body m gives; c is the class of the new body
   abbrev pub Ties : ℕ → ℕ → Part → Type 0
   Ties m c (a_load p b (Some f) o) = FieldTiedIf b f
-  Ties m c (a_creation p u o) = CreationTied o
+  Ties m c (a_creation p u o s d es) = CreationTied o × MakerTied o s d
   Ties m c (a_call p b (Some s) (Some d) es o) = IsAt b → CallTied b s d
   Ties m c (a_super_call p (Some d) es o) = (x : Body) → R.row_type (row.This m) ≡ Some c
       → ((f : PlainMethod) → slice_get P.methods d ≡ Some f → f.is_static ≡ false) → labelled_body P F S d ≡ Some x
@@ -142,5 +149,7 @@ module _ (P W : Plain) (F : Facts) (S : Sets) (R : Renaming) (has : Option ℕ �
     pub at : (u : Bool) (e : Ex) → ((p : Part) → Contains (parts P (type_in P m k) m k u e) p → Contains (parts_of P m k) p)
         → IsAt (operand_of P (type_in P m k) m k e)
     pub at_this : IsAt (this_operand m k)
+    -- no class of the new program has a constructor
+    pub bare : (c : ℕ) → maker_slot W c ≡ None
     pub kinded : (p : Part) → Contains (parts_of P m k) p → IsKindedPart P F m k p
     pub ties : (p : Part) → Contains (parts_of P m k) p → Ties m h.self p

@@ -1,6 +1,6 @@
 -- A copy of a typed expression over new classes is its twin, where the parts of the body are tied: by induction on the expression.
-use Rattle.std.proofs.Common.{◌≡◌, ℕ, zero, suc, ◌<◌, List, [], ◌∷◌, ◌++◌, Option, Some, None, refl, sym, ap, ◌∙◌, subst}
-use Rattle.std.specs.Prelude.{Bool, true, false, if◌then◌else◌, option_and_then}
+use Rattle.std.proofs.Common.{◌≡◌, ℕ, zero, suc, ◌<◌, List, [], ◌∷◌, ◌++◌, Option, Some, None, length, refl, sym, ap, ◌∙◌, subst}
+use Rattle.std.specs.Prelude.{◌||◌, Bool, true, false, if◌then◌else◌, option_and_then}
 use Rattle.std.specs.Option.{option_map, option_map_or, is_some}
 use Rattle.std.proofs.lemmas.Option.{same_Some}
 use Rattle.std.proofs.lemmas.Bool.{false≢true}
@@ -9,9 +9,10 @@ use Rattle.java_core.specs.declared.Ty.{Ty}
 use Rattle.java_core.specs.declared.TyBase.{TyBase}
 use Rattle.java_core.specs.declared.TyBase.TheVariants.{Int, Boolean, Char, Str, Class}
 use Rattle.java_core.specs.Trees.{Tag, Ex, Exs, no_ex, ex_then, number, character, text, truth, null, this, local, static_field, own_field, field, index, call, static_call, super_call, create, create_array, cast, instance_of, unary, binary}
-use Rattle.java_core.specs.Programs.{Plain}
+use Rattle.java_core.specs.Programs.{Plain, PlainMethod}
+use Rattle.java_core.specs.Makers.{maker_of, maker_slot}
 use Rattle.java_core.specs.Classes.{member_field, slot_of, slot_of_method, declaration_of, super_method}
-use Rattle.java_core.specs.Types.{Env, env_of, class_in, class_of, element_of, is_string, is_length, is_subtype, field_in, field_type, value_type, or_nothing, StringMethod, string_method, Signature, signature_of_slot, signature_of_string, object_signature, call_signature, static}
+use Rattle.java_core.specs.Types.{Env, env_of, class_in, class_of, element_of, is_string, is_length, is_subtype, field_in, field_type, value_type, or_nothing, StringMethod, string_method, Signature, signature_of_slot, signature_of_method, signature_of_string, object_signature, call_signature, static}
 use Rattle.java_core.specs.Typing.{TypedArgs, t_field, t_index, t_call, t_static_call, t_super_call, t_create, t_make, t_create_array, t_cast, t_instance_of, t_unary, t_binary, t_ex_then, can_cast}
 use Rattle.java_core.specs.Formed.{FormedExs, f_own_field, f_field, f_index, f_call, f_static_call, f_super_call, f_create, f_create_array, f_cast, f_instance_of, f_unary, f_binary, f_ex_then}
 use Rattle.java_meaning.specs.Moment.{Kind, own_type, Body, Lang}
@@ -35,15 +36,17 @@ use Rattle.flow_laws.proofs.cover.Types.{class_apart}
 use Rattle.flow_laws.proofs.cover.TypedParts as typed_parts
 use Rattle.flow_laws.proofs.cover.TypedParts.{TypedBody}
 use Rattle.rebuild_model.specs.Renaming.{Renaming, retyped}
-use Rattle.rebuild_model.specs.Matches.{MatchesAll, m_number, m_character, m_text, m_truth, m_null, m_this, m_local, m_static_field, m_own_field, m_field, m_length, m_index, m_call, m_string_call, m_static_call, m_super_call, m_create, m_create_array, m_cast, m_instance_of, m_unary, m_binary, m_no_ex, m_ex_then}
+use Rattle.rebuild_model.specs.Makes.{IsMake}
+use Rattle.rebuild_model.specs.Matches.{MatchesAll, m_number, m_character, m_text, m_truth, m_null, m_this, m_local, m_static_field, m_own_field, m_field, m_length, m_index, m_call, m_string_call, m_static_call, m_super_call, m_create, m_make, m_create_array, m_cast, m_instance_of, m_unary, m_binary, m_no_ex, m_ex_then}
 use Rattle.rebuild_laws.proofs.types.Retyped.{retyped_static, class_new, class_typed}
 use Rattle.rebuild_laws.proofs.types.Walk.{copying}
 use Rattle.rebuild_laws.proofs.types.Finding.{access_found, found_instance}
-use Rattle.rebuild_laws.specs.twins.Twins.{Link, spot_of, SameField, SameLength, SameCall, SameTest, Same, SameAll}
-use Rattle.rebuild_laws.specs.twins.Twins.{same_number, same_character, same_text, same_truth, same_null, same_this, same_local, same_static_field, same_own_field, same_field, same_index, same_call, same_static_call, same_super_call, same_create, same_create_array, same_cast, same_instance_of, same_unary, same_binary, same_no_ex, same_ex_then}
+use Rattle.rebuild_laws.specs.twins.Twins.{Link, spot_of, many, SameField, SameLength, SameCall, neither_makes, SameMake, SameTest, Same, SameAll}
+use Rattle.rebuild_laws.specs.twins.Twins.{same_number, same_character, same_text, same_truth, same_null, same_this, same_local, same_static_field, same_own_field, same_field, same_index, same_call, same_static_call, same_super_call, same_create, same_make, same_create_array, same_cast, same_instance_of, same_unary, same_binary, same_no_ex, same_ex_then}
 use Rattle.rebuild_laws.proofs.runs.Ties as tied
 use Rattle.rebuild_laws.proofs.runs.Ties.{type_at, type_over, FieldTied, CallTied, CreationTied, TestTied, Ties, BodyTied}
 use Rattle.rebuild_laws.proofs.runs.Shapes.{shape_kept, cast_class, classless}
+use Rattle.rebuild_laws.proofs.runs.Makes.{args_many, maker_takes, make_twin}
 use Rattle.flow_laws.proofs.cover.Walked.{walked}
 use Rattle.flow_laws.proofs.cover.Each.{left, right, past, here}
 
@@ -86,7 +89,7 @@ module _ (A : TwinBody) where
 
 module _ (A : TwinBody) where
   open A use {body as B, written as W, renaming as R, sets as S, has, new_field, new_static, Made, Pair, env as h, tie}
-  open B use {program as P, facts as F, number as m, method as k, stands}
+  open B use {program as P, facts as F, formed, are_facts, number as m, method as k, stands}
   open copying B W R use {class_at as C, IsCopy}
   open twin_words A use {lang as L, written as M, link as K, Twin, HasField as Field, IsTied as Tied}
   open walked P m k use {env as g, type, row_at, operand as O, operands, tree, tree_all, Stands, IsTyped, IsFormed as IsFormedEx, static as old}
@@ -206,9 +209,9 @@ module _ (A : TwinBody) where
       → (q : ℕ) × (point_at (numbers P) (O e) ≡ Some q)
   unfolding IsKindedPart
   pointed (create t n c es) st i s e d =
-      (tie.kinded (a_creation t.place true (O (create t n c es))) (here _ _ st)).point refl i s e d
+      (tie.kinded (a_creation t.place true (O (create t n c es)) (maker_slot P c) (maker_of P c) (operands es)) (here _ _ st)).0.point refl i s e d
   pointed (create_array t n v e) st i s h d =
-      (tie.kinded (a_creation t.place true (O (create_array t n v e))) (here _ _ st)).point refl i s h d
+      (tie.kinded (a_creation t.place true (O (create_array t n v e)) None None []) (here _ _ st)).0.point refl i s h d
   pointed _ st i s e d = absurd (cc)
 
   -- calls
@@ -294,6 +297,24 @@ module _ (A : TwinBody) where
   unfolding type_in
   object_made t n c es a tie e = tie.object n a (record { class = record { 0 = c }; dim = 0 }) refl refl refl e
 
+  asked_creation : (u : Bool) (t : Tag) (n c : ℕ) (es : Exs) → Stands (tree u (create t n c es))
+      → Tied (a_creation t.place (u || is_some (maker_of P c)) (O (create t n c es)) (maker_slot P c) (maker_of P c) (operands es))
+  asked_creation u t n c es st =
+      asked (a_creation t.place (u || is_some (maker_of P c)) (O (create t n c es)) (maker_slot P c) (maker_of P c) (operands es)) _ st
+
+  -- of a class with a constructor
+  make_copy : (u : Bool) (t : Tag) (n c : ℕ) (es : Exs) (f q : ℕ) → maker_of P c ≡ Some f → (is : IsMake P W R n f q) → Stands (tree u (create t n c es))
+      → many es ≡ length is.was.signature.params → SameMake L M K Made Pair g h (create t n c es) n c q es
+  make_copy u t n c es f q maker is st as_many =
+      let d : Ex = create t n c es in
+      let all = asked_creation u t n c es st in
+      let slot : maker_slot P c ≡ Some is.was.slot = ap (option_and_then (slot_of_method P)) maker
+      ∙ ap (option_and_then (λ (k : PlainMethod). k.slot)) is.was.old_stands ∙ is.was.of_slot in
+      let call = subst (λ z. tied.MakerTied P W F S R has new_field new_static Made Pair (O d) z (Some f)) slot
+      (subst (λ z. tied.MakerTied P W F S R has new_field new_static Made Pair (O d) (maker_slot P c) z) maker all.1) in
+      make_twin P W F S R has new_field new_static Made Pair formed are_facts g h d (O d) n c f q es maker is (tie.bare is.class) as_many
+      (object_made t n c es is.class all.0 is.row) refl (λ b may. at_operand d (Some n) may) (call (tie.at u d st))
+
   array_made : (t : Tag) (n : ℕ) (v : Ty) (e : Ex) → CreationTied P W F S R has new_field new_static Made Pair (O (create_array t n v e)) → 0 < v.dim
       → tied.SameArrayAt P W F S R has new_field new_static Made Pair n v (retyped (R.row_type (row.New n)) v)
   unfolding type_in
@@ -349,13 +370,18 @@ module _ (A : TwinBody) where
         (asked (a_super_call t.place (super_method P k.owner x) (operands es) (O (super_call t x es))) _ st) in
         same_super_call (twins false sc es ds _ args fes (past _ _ st) mes) (λ y ey. q y (tie.self inst) (typed_parts.super_instance B k.owner x f here)
         (ap (λ z. option_and_then (labelled_body P F S) z) (sym here) ∙ ey))
-    twin u sc (create t n c no_ex) d (t_create v w) fo st (m_create {k = a} at m_no_ex) =
-        same_create same_no_ex (object_made t n c no_ex a (asked (a_creation t.place u (O (create t n c no_ex))) [] st) at)
-    twin u sc (create t n c es) d (t_make v w called args) (f_create x fes) st (m_create {k = a} {ds = ds} at mes) =
-        same_create (twins false sc es ds _ args fes (past _ (tree_all false es) st) mes)
-        (object_made t n c es a (asked (a_creation t.place u (O (create t n c es))) (tree_all false es) st) at)
+    twin u sc (create t n c no_ex) d (t_create v w) fo st (m_create {k = a} none at m_no_ex) =
+        same_create same_no_ex (object_made t n c no_ex a (asked_creation u t n c no_ex st).0 at)
+        (neither_makes (ap (option_and_then (slot_of_method P)) none) (tie.bare a))
+    twin u sc (create t n c es) d (t_make v w called args) fo st (m_create none at mes) = absurd (let z = sym none ∙ w in cc)
+    twin u sc (create t n c no_ex) d (t_create v w) fo st (m_make maker is mes) = absurd (let z = sym w ∙ maker in cc)
+    twin u sc (create t n c es) d (t_make v w called args) (f_create x fes) st (m_make {m = f} {k = q} {ds = ds} maker is mes) =
+        same_make (twins (is_some (maker_of P c)) sc es ds _ args fes (past _ _ st) mes)
+        (make_copy u t n c es f q maker is st
+        (args_many P g args ∙ ap length (maker_takes P formed f is.was _ (ap (signature_of_method P) (same_Some _ _ (sym maker ∙ w)) ∙ called))))
     twin u sc (create_array t n v e) d (t_create_array te num) (f_create_array ty deep fe) st (m_create_array {d = b} me) =
-        same_create_array (twin false sc e b te fe (past _ _ st) me) (array_made t n v e (asked (a_creation t.place u (O (create_array t n v e))) _ st) deep)
+        same_create_array (twin false sc e b te fe (past _ _ st) me)
+        (array_made t n v e (asked (a_creation t.place u (O (create_array t n v e)) None None []) _ st).0 deep)
     twin u sc (cast t n v e) d (t_cast te can) (f_cast ct fe) st (m_cast {d = b} me) =
         let inner = past _ _ st in
         same_cast (twin true sc e b te fe inner me) (shape_kept (R.row_type (row.Cast n)) v)

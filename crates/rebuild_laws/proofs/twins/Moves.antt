@@ -10,7 +10,7 @@ use Rattle.java_core.specs.Trees.{Ex}
 use Rattle.java_core.specs.Types.{Env, class_type, element_in}
 use Rattle.java_meaning.specs.Moment.{Value, Number, Truth, CodeUnit, Nothing, Text, Object, Kind, an_object, an_array, Cell, own_type, Spot, held, set_static, kept, put_in, touched, tested, Met, State, Faulted, Wrong, Escaped, Outcome, stop, Body, Lang, with_some, or_fault, on_bool, look, look_all}
 use Rattle.java_meaning.specs.Values.{int_of, convert, number_of, natural_of, cast_number, defaults}
-use Rattle.java_meaning.specs.Meaning.{ToValue, add_cell, set_value, write_static, read_field, write_field, names_length, read_member, element_type, place_in, read_element, on_fitting, write_element, make_cell, made_by, make_object, Later, make_array, is_number_type, cast_object, cast_to, test_class}
+use Rattle.java_meaning.specs.Meaning.{ToValue, add_cell, set_value, write_static, read_field, write_field, names_length, read_member, element_type, place_in, read_element, on_fitting, write_element, make_cell, made_by, Later, make_array, is_number_type, cast_object, cast_to, test_class}
 use Rattle.java_meaning.proofs.Moves.{then_some}
 use Rattle.flow_laws.specs.cover.Families.{Set}
 use Rattle.flow_laws.specs.cover.Watched.{Of}
@@ -64,6 +64,15 @@ module _ (L M : Lang) (K : Link) (Made : Option ℕ → Kind → Kind → Type 0
       go true e = h e
       go false e = subst (λ z. Alike (on_bool z (record s { met = L.note p v s.cells s.met }) k (stop Escaped)) q) (sym e)
           (escaped_first (record s { met = L.note p v s.cells s.met }) q)
+
+  -- and what goes on with it
+  pub first_look : (p : Spot) (v : Value) (s : State) (k : State → Outcome) (q : Outcome)
+      → ((m : List Met) → Of s.cells v (K.may p) → Alike (k (record s { met = m })) q) → Alike (look L p v s k) q
+  first_look p v s k q h = go (L.sees p v s.cells) refl
+    where
+      go : (b : Bool) → L.sees p v s.cells ≡ b → Alike (on_bool b (record s { met = L.note p v s.cells s.met }) k (stop Escaped)) q
+      go true e = h (L.note p v s.cells s.met) (twins.sees p v s.cells e)
+      go false e = escaped_first (record s { met = L.note p v s.cells s.met }) q
 
   pub looks_all : (b c : ℕ) (vs ws : List Value) (s t : State) (k j : State → Outcome) → R s t
       → ((m n : List Met) → R (record s { met = m }) (record t { met = n }) → L.sees_all b vs s.cells ≡ true
@@ -253,33 +262,34 @@ module _ (L M : Lang) (K : Link) (Made : Option ℕ → Kind → Kind → Type 0
           r1 there refl (record { made = made; values = same_elements shape }))
           (keeps_set s.cells at (cell o (an_array a) xs) (cell o (an_array a) (slice_set xs n (convert w u))) there refl))))))
 
-  -- a new object or array
-  cell_made : (b c : ℕ) (d a : Ex) (x y : Cell) (s t : State) (go on : ToValue) → R s t → SameCell L M K Made x y
-      → KV L M K Made s.cells (K.may (held b d)) go on
+  -- a new object or array, and what goes on with it
+  pub cell_there : (b c : ℕ) (d a : Ex) (x y : Cell) (s t : State) (go on : ToValue) → R s t → SameCell L M K Made x y
+      → ((m n : List Met) → R (record (add_cell x s) { met = m }) (record (add_cell y t) { met = n })
+      → Of (add_cell x s).cells (Object (length s.cells)) (K.may (held b d))
+      → Alike (go (Object (length s.cells)) (record (add_cell x s) { met = m })) (on (Object (length s.cells)) (record (add_cell y t) { met = n })))
       → Alike (make_cell L b d x s go) (make_cell M c a y t on)
-  cell_made b c d a x y s t go on r same q =
+  cell_there b c d a x y s t go on r same q =
       let at = length s.cells in let at2 = length t.cells in
       looks (held b d) (held c a) (Object at) (Object at2) (add_cell x s) (add_cell y t) (λ s1. go (Object at) s1) (λ t1. on (Object at2) t1)
       (with_added L M K Made s t x y r same) (λ m n r1 o.
       subst (λ z. Alike (go (Object at) (record (add_cell x s) { met = m })) (on (Object z) (record (add_cell y t) { met = n }))) (same_length L M K Made s t r)
-      (q (Object at) _ _ r1 (keeps_add s.cells x) o))
+      (q m n r1 o))
 
-  both_made : (later next : Later) (g h : Env) (d a : Ex) (n m c k : ℕ) (vs : List Value) → SameNew L M K Made Pair n c k → (s t : State) (go on : ToValue)
+  cell_made : (b c : ℕ) (d a : Ex) (x y : Cell) (s t : State) (go on : ToValue) → R s t → SameCell L M K Made x y
+      → KV L M K Made s.cells (K.may (held b d)) go on
+      → Alike (make_cell L b d x s go) (make_cell M c a y t on)
+  cell_made b c d a x y s t go on r same q =
+      cell_there b c d a x y s t go on r same (λ m n r1 o. q (Object (length s.cells)) _ _ r1 (keeps_add s.cells x) o)
+
+  -- a creation without a constructor
+  pub bare_made : (later next : Later) (g h : Env) (d a : Ex) (n m c k : ℕ) (vs : List Value) → SameNew L M K Made Pair n c k → (s t : State) (go on : ToValue)
       → R s t → KV L M K Made s.cells (K.may (held g.body d)) go on
       → Alike (made_by L later g d n c None vs s go) (made_by M next h a m k None vs t on)
-  both_made later next g h d a n m c k [] new s t go on r q = steps L M K Made s t _ _ r (λ l r1.
+  bare_made later next g h d a n m c k [] new s t go on r q = steps L M K Made s t _ _ r (λ l r1.
       cell_made g.body h.body d a (cell (Some n) (an_object c) (L.fresh c)) (cell (Some m) (an_object k) (M.fresh k)) (record s { left = l })
       (record t { left = l }) go on r1
       (record { made = new.made; values = same_fields new.values }) q)
-  both_made later next g h d a n m c k (v ∷ vs) new s t go on r q = wrong_first s (stop Wrong t)
-
-  pub object_made : (later next : Later) (g h : Env) (d a : Ex) (n m c k : ℕ) (vs : List Value) → SameNew L M K Made Pair n c k → (s t : State)
-      (go on : ToValue) → R s t → KV L M K Made s.cells (K.may (held g.body d)) go on
-      → Alike (make_object L later g d n c vs s go) (make_object M next h a m k vs t on)
-  object_made later next g h d a n m c k vs new s t go on r q =
-      subst (λ i. Alike (made_by L later g d n c i vs s go) (make_object M next h a m k vs t on)) (sym (twins.old_makers c))
-      (subst (λ i. Alike (made_by L later g d n c None vs s go) (made_by M next h a m k i vs t on)) (sym (twins.new_makers k))
-      (both_made later next g h d a n m c k vs new s t go on r q))
+  bare_made later next g h d a n m c k (v ∷ vs) new s t go on r q = wrong_first s (stop Wrong t)
 
   pub array_made : (g h : Env) (d a : Ex) (n m : ℕ) (v w : Ty) (size : ℤ) → SameArray L M K Made Pair n v w → (s t : State) (go on : ToValue) → R s t
       → KV L M K Made s.cells (K.may (held g.body d)) go on

@@ -1,5 +1,5 @@
 -- Types of one shape: values flow into both in the same way.
-use Rattle.std.proofs.Common.{◌≡◌, ℕ, zero, suc, List, [], ◌∷◌, Option, Some, None, refl, sym, ap, ◌∙◌}
+use Rattle.std.proofs.Common.{◌≡◌, ℕ, zero, suc, List, [], ◌∷◌, Option, Some, None, length, refl, sym, ap, ◌∙◌, subst, arith}
 use Rattle.std.specs.Prelude.{ℤ, map, slice_get}
 use Rattle.std.specs.Option.{option_map}
 use Rattle.std.proofs.lemmas.Option.{same_Some, slice_get-map}
@@ -82,3 +82,48 @@ defaults_shape (t ∷ ts) = ap (λ z. z ∷ map default_of (map shape_of ts)) (d
 
 pub same_defaults : (ts us : List Ty) → map shape_of ts ≡ map shape_of us → map default_of ts ≡ map default_of us
 same_defaults ts us e = sym (defaults_shape ts) ∙ ap (map default_of) e ∙ defaults_shape us
+
+-- there are arguments where there are as many values as types
+pub arguments_there : (ts : List Ty) (vs : List Value) → length vs ≡ length ts
+    → (us : List Value) × (arguments ts vs ≡ Some us) × (length us ≡ length ts)
+arguments_there [] [] e = ([], refl, refl)
+arguments_there [] (v ∷ vs) e = absurd (omega (arith, e))
+arguments_there (t ∷ ts) [] e = absurd (omega (arith, e))
+arguments_there (t ∷ ts) (v ∷ vs) e =
+    let h : suc (length vs) ≡ suc (length ts) = e in
+    let z = arguments_there ts vs (omega (arith, h)) in
+    (convert t v ∷ z.0, ap (λ w. and_argument (convert t v) w) z.1, ap suc z.2)
+
+-- a value that was converted stays as it is
+convert_widened : (b : TyBase) (d c : ℕ) → convert (record { base = b; dim = d }) (widened b d c) ≡ widened b d c
+convert_widened Int zero c = refl
+convert_widened Int (suc d) c = refl
+convert_widened Boolean d c = refl
+convert_widened Char d c = refl
+convert_widened Str d c = refl
+convert_widened (Class k) d c = refl
+
+convert_twice : (v : Value) (t : Ty) → convert t (convert t v) ≡ convert t v
+convert_twice (CodeUnit c) t = convert_widened t.base t.dim c
+convert_twice (Number n) t = refl
+convert_twice (Truth b) t = refl
+convert_twice Nothing t = refl
+convert_twice (Text a) t = refl
+convert_twice (Object a) t = refl
+
+again : (ts : List Ty) (vs us : List Value) → arguments ts vs ≡ Some us → arguments ts us ≡ Some us
+again [] [] us e = subst (λ z. arguments [] z ≡ Some z) (same_Some [] us e) refl
+again [] (v ∷ vs) us e = absurd (cc)
+again (t ∷ ts) [] us e = absurd (cc)
+again (t ∷ ts) (v ∷ vs) us e = go (arguments ts vs) e (λ ws d. again ts vs ws d)
+  where
+    go : (o : Option (List Value)) → and_argument (convert t v) o ≡ Some us → ((ws : List Value) → o ≡ Some ws → arguments ts ws ≡ Some ws)
+        → arguments (t ∷ ts) us ≡ Some us
+    go None e h = absurd (cc)
+    go (Some ws) e h =
+        subst (λ z. arguments (t ∷ ts) z ≡ Some z) (same_Some (convert t v ∷ ws) us e)
+        (ap (λ z. and_argument z (arguments ts ws)) (convert_twice v t) ∙ ap (λ z. and_argument (convert t v) z) (h ws refl))
+
+-- arguments go on into parameters of one shape as they are
+pub arguments_on : (ts ps : List Ty) (vs us : List Value) → map shape_of ts ≡ map shape_of ps → arguments ts vs ≡ Some us → arguments ps vs ≡ arguments ps us
+arguments_on ts ps vs us e h = sym (same_arguments vs ts ps e) ∙ h ∙ sym (again ts vs us h) ∙ same_arguments us ts ps e

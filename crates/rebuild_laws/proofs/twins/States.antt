@@ -32,7 +32,7 @@ pub escaped_first : (s : State) (p : Outcome) → Alike (stop Escaped s) p
 unfolding Alike
 escaped_first s p a b = absurd (b refl)
 
-ends_alike : (e : End) (s t : State) → s.out ≡ t.out → s.left ≡ t.left → Alike (stop e s) (stop e t)
+pub ends_alike : (e : End) (s t : State) → s.out ≡ t.out → s.left ≡ t.left → Alike (stop e s) (stop e t)
 unfolding Alike
 ends_alike e s t o l a b = λ i. record { end = e; out = o i; left = l i; met = [] }
 
@@ -168,9 +168,6 @@ module _ (L M : Lang) (K : Link) (Made : Option ℕ → Kind → Kind → Type 0
   abbrev pub KS : List Cell → (State → Outcome) → (State → Outcome) → Type 0
   KS h k j = (s t : State) → SameState s t → Keeps h s.cells → Alike (k s) (j t)
 
-  abbrev pub KL : List Cell → (List Value → State → Outcome) → (List Value → State → Outcome) → Type 0
-  KL h k j = (vs : List Value) (s t : State) → SameState s t → Keeps h s.cells → Alike (k vs s) (j vs t)
-
   abbrev pub KF : Env → Env → List Cell → ToFlow → ToFlow → Type 0
   KF g d h k j = (w : Flow) (v : Value) (ls : List Value) (s t : State) → SameState s t → Keeps h s.cells → HeldIn g s.cells v ls
       → Alike (k w (frame g v ls) s) (j w (frame d v ls) t)
@@ -185,7 +182,7 @@ module _ (L M : Lang) (K : Link) (Made : Option ℕ → Kind → Kind → Type 0
   pub noted : (s t : State) (m n : List Met) → SameState s t → SameState (record s { met = m }) (record t { met = n })
   noted s t m n r = record { cells = r.cells; strings = r.strings; statics = r.statics; held = r.held; out = r.out; left = r.left }
 
-  stepped : (s t : State) (n : ℕ) → SameState s t → SameState (record s { left = n }) (record t { left = n })
+  pub stepped : (s t : State) (n : ℕ) → SameState s t → SameState (record s { left = n }) (record t { left = n })
   stepped s t n r = record { cells = r.cells; strings = r.strings; statics = r.statics; held = r.held; out = r.out; left = refl }
 
   pub printed : (s t : State) (u : List ℕ) → SameState s t → SameState (record s { out = s.out ++ u }) (record t { out = t.out ++ u })

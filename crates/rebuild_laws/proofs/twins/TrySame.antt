@@ -11,7 +11,6 @@ use Rattle.java_core.specs.declared.Op.TheVariants as op
 use Rattle.java_core.specs.Trees.{no_ex, number, text, this, local, own_field, field, index, call, super_call, create, create_array, cast, binary, to_field, to_element, Sts, declare, assign, print, return, no_st, st_then}
 use Rattle.java_core.specs.Programs.{Plain, PlainMethod, PlainLocal}
 use Rattle.java_core.specs.Classes.{below, field_of, member_field, search_order, declaration_of, lookup, super_method}
-use Rattle.java_core.specs.Makers.{maker_slot}
 use Rattle.java_core.specs.Types.{plain_type, class_type, field_in}
 use Rattle.java_meaning.specs.Paired.{pair_some, pair_declare, pair_assign, pair_print, pair_return, pair_no_st, pair_st_then}
 use Rattle.java_meaning.specs.Moment.{Value, Number, Nothing, Object, Kind, an_object, an_array, Cell, own_type, own_class, Spot, touched, Ended, unnoted, Body, Lang}
@@ -19,7 +18,7 @@ use Rattle.java_meaning.specs.Meaning.{words_type, element_type, run_in}
 use Rattle.java_meaning.specs.Languages.{layout, body_with, language_of}
 use Rattle.java_meaning.proofs.Layouts.{places}
 use Rattle.flow_laws.specs.cover.Watched.{Of}
-use Rattle.rebuild_laws.specs.twins.Twins.{shape_of, Link, value_at, same_number, same_text, same_local, same_own_field, same_field, same_index, same_call, same_super_call, same_create, same_create_array, same_cast, same_binary, same_no_ex, same_to_field, same_to_element, HasPair, SameSts, SameBody, AreTwins}
+use Rattle.rebuild_laws.specs.twins.Twins.{shape_of, Link, value_at, same_number, same_text, same_local, same_own_field, same_field, same_index, same_call, same_super_call, same_create, same_create_array, same_cast, same_binary, same_no_ex, same_to_field, same_to_element, HasPair, neither_makes, SameSts, SameBody, AreTwins}
 use Rattle.rebuild_laws.proofs.twins.States.{Alike}
 use Rattle.rebuild_laws.proofs.twins.SameRun.{same_run}
 use Rattle.java_meaning.proofs.Examples.{tag, variable, class, under, many, main_of, method as method_of}
@@ -273,7 +272,8 @@ bodies_same b c pair_main = record {
   ends = refl;
   code =
       pair_st_then (pair_declare (pair_some
-      (same_create same_no_ex (record { made = record { old = refl; new = refl }; values = λ f h. first_values f (only f (Some 0) h) }))))
+      (same_create same_no_ex (record { made = record { old = refl; new = refl }; values = λ f h. first_values f (only f (Some 0) h) })
+      (neither_makes refl refl))))
       (pair_st_then (pair_declare (pair_some (same_create_array same_number (record { made = record { old = refl; new = refl }; shape = refl }))))
       (pair_st_then (pair_assign (same_to_field same_local
       (record { new = λ f e. refl; had = λ f e o c k made m. subst (λ z. ((z == 0) && is_first o) ≡ true) (same_Some 0 f e) m }))
@@ -308,8 +308,6 @@ twins = record {
   passes = λ p v h. refl;
   passes_all = λ b vs h. refl;
   words = record { old = refl; new = refl };
-  old_makers = old_makers;
-  new_makers = new_makers;
   old_places = places old_program;
   new_places = places new_program;
   fields_apart = λ o f k hf hk e. only f o hf ∙ sym (only k o hk);
@@ -321,20 +319,6 @@ twins = record {
   pairs = bodies_same;
 }
   where
-    old_makers : (c : ℕ) → maker_slot old_program c ≡ None
-    old_makers zero = refl
-    old_makers (suc zero) = refl
-    old_makers (suc (suc zero)) = refl
-    old_makers (suc (suc (suc zero))) = refl
-    old_makers (suc (suc (suc (suc c)))) = refl
-
-    new_makers : (c : ℕ) → maker_slot new_program c ≡ None
-    new_makers zero = refl
-    new_makers (suc zero) = refl
-    new_makers (suc (suc zero)) = refl
-    new_makers (suc (suc (suc zero))) = refl
-    new_makers (suc (suc (suc (suc c)))) = refl
-
     no_objects : (i a : ℕ) → slice_get (Number (pos 0) ∷ []) i ≡ Some (Object a) → ⊥
     no_objects zero a e = absurd (let z = same_Some (Number (pos 0)) (Object a) e in cc)
     no_objects (suc i) a e = absurd (cc)

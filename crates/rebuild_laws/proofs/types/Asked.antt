@@ -73,9 +73,10 @@ module _ (P W : Plain) (R : Renaming) where
     Serves (a_load p b (Some f) o) = HasField b f
     Serves (a_load p b None o) = Unit {0}
     Serves (an_element p b o) = Unit {0}
-    Serves (a_creation p u o) = (n : ℕ) → o.created ≡ Some n → (t : ObjectType) → o.ty ≡ Some t → t.dim ≡ 0
+    Serves (a_creation p u o None d es) = (n : ℕ) → o.created ≡ Some n → (t : ObjectType) → o.ty ≡ Some t → t.dim ≡ 0
         → (a : ℕ) → new_class o.row ≡ Some a
         → is_concrete W a ≡ true
+    Serves (a_creation p u o (Some s) d es) = ArgsFit (row.Param s) es
     Serves (a_call p b (Some s) (Some d) es o) = HasSlot b s d × ArgsFit (row.Param s) es
     Serves (a_call p b (Some s) None es o) = Unit {0}
     Serves (a_call p b None d es o) = Unit {0}

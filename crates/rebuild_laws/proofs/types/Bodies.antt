@@ -29,14 +29,17 @@ use Rattle.flow_laws.proofs.cover.HasNumbers.{this_row}
 use Rattle.flow_laws.proofs.order.Owners.{row_there}
 use Rattle.rebuild_model.specs.Renaming.{retyped, retyped_if}
 use Rattle.rebuild_model.specs.Matches.{MatchesSts}
-use Rattle.rebuild_model.specs.Members.{new_types, HasTypes, HasCode, StandsAt, IsBody, IsHead, IsFiller}
+use Rattle.rebuild_model.specs.Members.{new_types, HasTypes, HasCode, StandsAt, IsBody, IsHead, IsFiller, IsStaticMethodOf}
+use Rattle.rebuild_model.specs.Rebuilds.{IsMakeMethod}
 use Rattle.rebuild_model.specs.Written.{zero_int, no_truth, zero_char, no_object, IsFilling, fills_nothing, fills, IsWritten}
 use Rattle.rebuild_laws.specs.looks.Known.{KnownOfBoth, sides}
 use Rattle.rebuild_laws.proofs.types.Asked.{retypes, SeesNew}
 use Rattle.flow_laws.proofs.cover.TypedParts.{TypedBody}
 use Rattle.rebuild_laws.proofs.types.Walk.{CopiedBody}
 use Rattle.rebuild_laws.proofs.types.Statements.{again_body}
-use Rattle.rebuild_laws.proofs.types.Served.{each_retypes, variables_after, row_class_is, renewed, served}
+use Rattle.rebuild_laws.proofs.types.Retypes.{each_retypes, variables_after}
+use Rattle.rebuild_laws.proofs.types.Served.{row_class_is, renewed, served}
+use Rattle.rebuild_laws.proofs.types.Making.{make_typed}
 
 get_retyped : (p : ℕ → Option ℕ) (ts : List Ty) (i : ℕ) → slice_get (retypes p ts) i ≡ retyped_if (p i) (slice_get ts i)
 get_retyped p [] i = refl
@@ -124,12 +127,19 @@ module _ {P : Plain} {F : Facts} {H : Hierarchy} {W : Plain} (K : KnownOfBoth P 
 
   static_typed : (g : ℕ) (new : PlainMethod) → slice_get W.methods g ≡ Some new → new.is_static ≡ true → IsTypedMethod W g new
   unfolding IsTypedMethod
-  static_typed g new e s ys body =
-      let x = K.rebuilt.statics.methods g new e s in
-      let y = x.1.same in
-      let same : y.new ≡ new = same_Some y.new new (sym y.new_stands ∙ e) in
-      copy_typed x.0 y.old new g y.old_stands (subst (λ z. HasTypes R x.0 y.old z) same x.1.types) (subst (λ z. HasCode P W R x.0 y.old z) same x.1.code)
-      (λ i. absurd (false≢true (sym i ∙ y.old_static))) ys body
+  static_typed g new e s ys body = ⊎_elim (λ x. copied_typed x.0 x.1) (λ x. made_typed x) (K.rebuilt.statics.methods g new e s)
+    where
+      copied_typed : (m : ℕ) → IsStaticMethodOf P F H W T m g → TypedSts W (env_of g new) ys
+      copied_typed m x =
+          let y = x.same in
+          let same : y.new ≡ new = same_Some y.new new (sym y.new_stands ∙ e) in
+          copy_typed m y.old new g y.old_stands (subst (λ z. HasTypes R m y.old z) same x.types) (subst (λ z. HasCode P W R m y.old z) same x.code)
+          (λ i. absurd (false≢true (sym i ∙ y.old_static))) ys body
+
+      made_typed : IsMakeMethod P F H W T g → TypedSts W (env_of g new) ys
+      made_typed x =
+          let same : x.is.new ≡ new = same_Some x.is.new new (sym x.is.stands ∙ e) in
+          subst (λ z. IsTypedMethod W g z) same (make_typed K typed facts pt t A O S B table none hierarchy g x) ys body
 
   body_typed : (g m : ℕ) (new : PlainMethod) → IsBody P F H W T m new → IsTypedMethod W g new
   unfolding IsTypedMethod

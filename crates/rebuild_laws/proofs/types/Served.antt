@@ -1,5 +1,5 @@
 -- What the parts of a body ask is there, where a program rebuilds another over a hierarchy that breaks no obligation.
-use Rattle.std.proofs.Common.{◌≡◌, ℕ, suc, ◌+◌, List, [], ◌∷◌, Option, Some, None, length, refl, sym, ap, ◌∙◌, subst, arith, inl, inr}
+use Rattle.std.proofs.Common.{◌≡◌, ℕ, List, [], Option, Some, None, length, refl, sym, ap, ◌∙◌, subst, inl, inr}
 use Rattle.std.specs.Prelude.{◌<◌, ◌==◌, ◌&&◌, if◌then◌else◌, Bool, true, false, slice_get, Contains, IfSome}
 use Rattle.std.specs.Option.{option_map, option_map_or, is_some}
 use Rattle.std.proofs.lemmas.Bool.{false≢true, and_from, eq-eqb}
@@ -8,8 +8,7 @@ use Rattle.std.proofs.lemmas.List.Folds.{list_any-from_Any}
 use Rattle.java_meaning.proofs.Calls.{mapped_some}
 use Rattle.kaba_base.specs.declared.Place.{Place}
 use Rattle.kaba_base.specs.declared.SiteId.{SiteId}
-use Rattle.java_core.specs.declared.Ty.{Ty}
-use Rattle.java_core.specs.Programs.{Plain, PlainField, PlainMethod, PlainLocal}
+use Rattle.java_core.specs.Programs.{Plain, PlainField, PlainMethod}
 use Rattle.java_core.specs.Classes.{below, slot_of_method, has_body, is_concrete}
 use Rattle.java_core.specs.Types.{types_of, signature_of_method}
 use Rattle.java_core.specs.Typing.{IsTyped}
@@ -35,7 +34,6 @@ use Rattle.flow_rules.specs.declared.items.RowItem.{RowItem}
 use Rattle.flow_rules.specs.declared.items.RowItem.TheVariants as row
 use Rattle.flow_rules.specs.declared.items.ColumnItem.{ColumnItem}
 use Rattle.flow_rules.specs.declared.items.ColumnItem.TheVariants as column
-use Rattle.flow_rules.specs.Ordered.{each}
 use Rattle.flow_rules.specs.Operands.{variable_row, result_in}
 use Rattle.flow_rules.specs.Parts.{Part, a_load, an_element, a_creation, a_call, a_static_call, a_super_call, a_test, a_pair, a_set, a_store, an_element_store, a_return, parts_of}
 use Rattle.flow_rules.specs.Numbered.{row_number}
@@ -47,10 +45,9 @@ use Rattle.flow_laws.proofs.order.Columns.{body_column}
 use Rattle.flow_laws.proofs.order.Tests.{gathered_has}
 use Rattle.flow_laws.proofs.order.Owners.{row_of_operand, creation_object}
 use Rattle.flow_laws.proofs.order.Fitted.{part_fitted}
-use Rattle.rebuild_model.specs.Renaming.{renaming_of, retyped, retyped_if}
+use Rattle.rebuild_model.specs.Renaming.{renaming_of, retyped_if}
 use Rattle.rebuild_model.specs.Members.{is_made_at, new_types, HasTypes}
 use Rattle.rebuild_laws.specs.looks.Known.{KnownOfBoth, Offers, sides}
-use Rattle.rebuild_laws.proofs.looks.NoMaker.{no_maker_new}
 use Rattle.rebuild_laws.proofs.looks.Nodes.{below_is, concrete}
 use Rattle.rebuild_laws.proofs.looks.Fields.{new_field, finds_field}
 use Rattle.rebuild_laws.proofs.looks.Slots.{method_of_slot, offers_item}
@@ -61,36 +58,8 @@ use Rattle.rebuild_laws.proofs.given.Rest.{half}
 use Rattle.rebuild_laws.proofs.given.Needed as needed
 use Rattle.rebuild_laws.proofs.given.Needed.{super_offers, super_slot, super_of, super_body}
 use Rattle.rebuild_laws.proofs.types.Retyped.{IsUnder, AreNear}
+use Rattle.rebuild_laws.proofs.types.Retypes.{from_front, each_retypes, variables_after}
 use Rattle.rebuild_laws.proofs.types.Asked.{retypes, new_class, FindsField, FindsSlot, FindsSuper, HasField, HasSlot as HasSlotAt, ArgsFit, Serves, AreRenewed, method_signature, slot_signature}
-
--- types by the classes of their numbers
-pub retypes_same : (p q : ℕ → Option ℕ) (ts : List Ty) → ((i : ℕ) → p i ≡ q i) → retypes p ts ≡ retypes q ts
-retypes_same p q [] e = refl
-retypes_same p q (t ∷ ts) e = ap (λ k. retyped k t ∷ retypes (λ i. p (suc i)) ts) (e 0)
-    ∙ ap (λ z. retyped (q 0) t ∷ z) (retypes_same (λ i. p (suc i)) (λ i. q (suc i)) ts (λ i. e (suc i)))
-
-shifted : (n i : ℕ) → (n + 1) + i ≡ n + suc i
-shifted n i = omega arith
-
-from_zero : (n : ℕ) → n ≡ n + 0
-from_zero n = omega arith
-
-from_front : (i : ℕ) → 0 + i ≡ i
-from_front i = omega arith
-
-each_after : (p : ℕ → Option ℕ) (n : ℕ) (ts : List Ty) → each (λ i t. retyped (p i) t ∷ []) n ts ≡ retypes (λ i. p (n + i)) ts
-each_after p n [] = refl
-each_after p n (t ∷ ts) =
-    ap (λ z. retyped (p n) t ∷ z) (each_after p (n + 1) ts ∙ retypes_same (λ i. p ((n + 1) + i)) (λ i. p (n + suc i)) ts (λ i. ap p (shifted n i)))
-    ∙ ap (λ z. retyped (p z) t ∷ retypes (λ i. p (n + suc i)) ts) (from_zero n)
-
-pub each_retypes : (p : ℕ → Option ℕ) (ts : List Ty) → each (λ i t. retyped (p i) t ∷ []) 0 ts ≡ retypes p ts
-each_retypes p ts = each_after p 0 ts ∙ retypes_same (λ i. p (0 + i)) p ts (λ i. ap p (from_front i))
-
-pub variables_after : (p : ℕ → Option ℕ) (n : ℕ) (vs : List PlainLocal)
-    → each (λ i v. retyped (p i) v.ty ∷ []) n vs ≡ each (λ i t. retyped (p i) t ∷ []) n (types_of vs)
-variables_after p n [] = refl
-variables_after p n (v ∷ vs) = ap (λ z. retyped (p n) v.ty ∷ z) (variables_after p (n + 1) vs)
 
 module _ {P : Plain} {F : Facts} {H : Hierarchy} {W : Plain} (K : KnownOfBoth P F H W) where
   open sides K use {places as T, renaming as R}
@@ -136,7 +105,7 @@ module _ {P : Plain} {F : Facts} {H : Hierarchy} {W : Plain} (K : KnownOfBoth P 
   pub renewed : AreRenewed P W R
   renewed = record {
     numbered = λ i r e. (T.type_of (place_of_row H r), row_class_is i r e);
-    no_maker = no_maker_new K;
+    no_maker = K.rebuilt.makerless;
     static_fields = λ f g s.
         let x = (static_fields K).is f g s in
         static_field_type K f g x ∙ sym (ap (λ z. retyped_if (R.row_type (row.Field f)) (option_map (λ (k : PlainField). k.ty) z)) x.same.old_stands);
@@ -238,7 +207,7 @@ module _ {P : Plain} {F : Facts} {H : Hierarchy} {W : Plain} (K : KnownOfBoth P 
       tie_of : (p : Part) → InBody p → (x : TieInfo) → Contains (ties_of (numbers P) P m k.slot p) x → Contains F.ties.items x
       tie_of p c x d = (facts.ties x).1 (gathered_has P (λ b. ties_of (numbers P) P b.number b.slot) x m k p stands c d)
 
-      access_of : (p : Part) → InBody p → (x : AccessInfo) → Contains (accesses_of (numbers P) p) x → Contains F.accesses.items x
+      pub access_of : (p : Part) → InBody p → (x : AccessInfo) → Contains (accesses_of (numbers P) p) x → Contains F.accesses.items x
       access_of p c x d = (facts.accesses x).1 (gathered_has P (λ b. accesses_of (numbers P)) x m k p stands c d)
 
       super_of_part : (p : Part) → InBody p → (x : SuperInfo) → Contains (supers_of (numbers P) m p) x → Contains F.supers.items x
@@ -283,17 +252,19 @@ module _ {P : Plain} {F : Facts} {H : Hierarchy} {W : Plain} (K : KnownOfBoth P 
               (and_from ((site_at F s.0).dim == 0) (place_of_row H (site_row F s.0) == place_of_row H r) dim
               (eq-eqb (place_of_row H (site_row F s.0)) (place_of_row H r) (ap (place_of_row H) back)))
 
-      created : (o : Operand) (a : ℕ) → C o.row ≡ Some a →
+      -- so the class of its row is one
+      pub created : (o : Operand) (a : ℕ) → C o.row ≡ Some a →
           ((r : ℕ) → row_at (numbers P) o ≡ Some r → (r < length F.rows.items) × (is_object_row F r ≡ true)) → is_concrete W a ≡ true
       created o a hc object =
           let w = row_of_class o.row a hc in
           let q = object w.number (row_in_is o.row a w) in
           subst (λ z. is_concrete W z ≡ true) w.class (concrete K (place_of_row H w.number) (hierarchy.placed.rows w.number q.0) (made_row w.number q.0 q.1))
 
-      object_there : (w : Place) (u : Bool) (o : Operand) → InBody (a_creation w u o) → (n : ℕ) → o.created ≡ Some n → (y : ObjectType)
-          → o.ty ≡ Some y → y.dim ≡ 0 → (r : ℕ) → row_at (numbers P) o ≡ Some r → (r < length F.rows.items) × (is_object_row F r ≡ true)
-      object_there w u o i n cr y ty dim r e =
-          let g = (part_fitted P K.old typed F facts m k stands (a_creation w u o) i).0 in
+      pub object_there : (w : Place) (u : Bool) (o : Operand) (s d : Option ℕ) (es : List Operand) → InBody (a_creation w u o s d es) → (n : ℕ)
+          → o.created ≡ Some n → (y : ObjectType) → o.ty ≡ Some y → y.dim ≡ 0 → (r : ℕ) → row_at (numbers P) o ≡ Some r
+          → (r < length F.rows.items) × (is_object_row F r ≡ true)
+      object_there w u o s d es i n cr y ty dim r e =
+          let g = (part_fitted P K.old typed F facts m k stands (a_creation w u o s d es) i).0 in
           let h = row_of_operand P K.old typed F facts m k stands o r g e in (
             h.at.below,
             creation_object P K.old typed F facts m k stands o r n g h cr (ap (λ z. z.dim) (same_Some h.type y (sym h.stated ∙ ty)) ∙ dim),
@@ -336,7 +307,8 @@ module _ {P : Plain} {F : Facts} {H : Hierarchy} {W : Plain} (K : KnownOfBoth P 
       served c self (a_load w b (Some f) o) i = has_field b f (access_of (a_load w b (Some f) o) i)
       served c self (a_load w b None o) i = tt
       served c self (an_element w b o) i = tt
-      served c self (a_creation w u o) i = λ n cr y ty dim a hc. created o a hc (object_there w u o i n cr y ty dim)
+      served c self (a_creation w u o None d es) i = λ n cr y ty dim a hc. created o a hc (object_there w u o None d es i n cr y ty dim)
+      served c self (a_creation w u o (Some s) d es) i = slot_args s es (tie_of (a_creation w u o (Some s) d es) i)
       served c self (a_call w b (Some s) (Some d) es o) i =
           (has_slot b s d (access_of (a_call w b (Some s) (Some d) es o) i), slot_args s es (tie_of (a_call w b (Some s) (Some d) es o) i))
       served c self (a_call w b (Some s) None es o) i = tt

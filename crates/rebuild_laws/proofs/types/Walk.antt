@@ -1,6 +1,6 @@
 -- A copy of a typed body is typed, where its parts find what they ask.
 use Rattle.std.proofs.Common.{◌≡◌, ℕ, suc, List, [], ◌∷◌, ◌++◌, Option, Some, None, refl, sym, ap, ◌∙◌, subst}
-use Rattle.std.specs.Prelude.{nat_lt, length, Bool, true, false, slice_get, Contains}
+use Rattle.std.specs.Prelude.{nat_lt, length, ◌||◌, Bool, true, false, slice_get, Contains}
 use Rattle.std.specs.Option.{option_map, option_and_then, is_some}
 use Rattle.std.proofs.lemmas.Option.{same_Some}
 use Rattle.java_core.specs.declared.Ty.{Ty}
@@ -9,9 +9,10 @@ use Rattle.java_core.specs.declared.BinOp.{BinOp}
 use Rattle.java_core.specs.Trees.{Tag, Ex, Exs, no_ex, ex_then, number, character, text, truth, null, this, local, static_field, own_field, field, index, call, static_call, super_call, create, create_array, cast, instance_of, unary, binary}
 use Rattle.java_core.specs.Programs.{Plain, PlainMethod, PlainField, PlainSlot}
 use Rattle.java_core.specs.Classes.{slot_of, slot_of_method, super_method, declaration_of, has_body, is_concrete}
-use Rattle.java_core.specs.Types.{Static, a_value, or_nothing, Env, env_of, types_of, class_type, class_of, element_of, is_numeric, is_string, field_type, value_type, field_in, access_type, fits, string_method, string_params, signature_of_string, call_signature, result_of, unary_type, binary_type, static}
+use Rattle.java_core.specs.Makers.{maker_of, maker_slot}
+use Rattle.java_core.specs.Types.{Static, a_value, or_nothing, Env, env_of, types_of, class_type, class_of, element_of, is_numeric, is_string, field_type, value_type, field_in, access_type, fits, string_method, string_params, signature_of_string, signature_of_method, call_signature, result_of, unary_type, binary_type, static}
 use Rattle.java_core.specs.Typing.{Typed, TypedArgs, t_number, t_character, t_text, t_truth, t_null, t_this, t_local, t_static_field, t_field, t_index, t_call, t_static_call, t_super_call, t_create, t_make, t_create_array, t_cast, t_instance_of, t_unary, t_binary, t_no_ex, t_ex_then, are_related, takes_one, takes_two, can_cast}
-use Rattle.java_core.specs.Formed.{FormedExs, f_this, f_own_field, f_field, f_index, f_call, f_static_call, f_super_call, f_create_array, f_cast, f_instance_of, f_unary, f_binary, f_ex_then}
+use Rattle.java_core.specs.Formed.{FormedExs, f_this, f_own_field, f_field, f_index, f_call, f_static_call, f_super_call, f_create, f_create_array, f_cast, f_instance_of, f_unary, f_binary, f_ex_then}
 use Rattle.flow_rules.specs.declared.items.ObjectType.{ObjectType}
 use Rattle.flow_rules.specs.declared.items.Operand.{Operand}
 use Rattle.flow_rules.specs.declared.items.RowItem.{RowItem}
@@ -27,9 +28,11 @@ use Rattle.flow_laws.proofs.cover.Types.{class_apart, slot_called}
 use Rattle.flow_laws.proofs.cover.TypedParts as typed_parts
 use Rattle.flow_laws.proofs.cover.TypedParts.{TypedBody}
 use Rattle.rebuild_model.specs.Renaming.{Renaming, retyped, retyped_if}
-use Rattle.rebuild_model.specs.Matches.{Matches, MatchesAll, m_number, m_character, m_text, m_truth, m_null, m_this, m_local, m_static_field, m_own_field, m_field, m_length, m_index, m_call, m_string_call, m_static_call, m_super_call, m_create, m_create_array, m_cast, m_instance_of, m_unary, m_binary, m_no_ex, m_ex_then}
+use Rattle.rebuild_model.specs.Makes.{HasOldSlot, IsMake}
+use Rattle.rebuild_model.specs.Matches.{Matches, MatchesAll, m_number, m_character, m_text, m_truth, m_null, m_this, m_local, m_static_field, m_own_field, m_field, m_length, m_index, m_call, m_string_call, m_static_call, m_super_call, m_create, m_make, m_create_array, m_cast, m_instance_of, m_unary, m_binary, m_no_ex, m_ex_then}
 use Rattle.rebuild_laws.proofs.types.Retyped.{retyped_static, HasClass, IsUnder, AreNearIf, retyped_or, numeric_kept, string_kept, element_kept, some_kept, class_new, class_typed, takes_one_kept, binary_kept, fits_kept, takes_two_kept, related_kept, cast_kept}
 use Rattle.rebuild_laws.proofs.types.Finding.{field_class, access_found, field_at, found_instance, length_type, length_there, is_its_length, called_at, string_called, super_called, string_plain, string_classless, string_found, retyped_string, plain_kept}
+use Rattle.rebuild_laws.proofs.types.Retypes.{each_retypes}
 use Rattle.rebuild_laws.proofs.types.Asked.{retypes, new_class, FindsField, Serves, AreRenewed, SeesNew, slot_signature}
 use Rattle.flow_laws.proofs.cover.Walked.{walked}
 use Rattle.flow_laws.proofs.cover.Each.{left, right, past, here}
@@ -138,14 +141,43 @@ module _ (A : CopiedBody) where
   retyped_result i k t e = sym (retyped_or k t) ∙ ap (λ z. retyped_static z (or_nothing t)) (sym e)
 
   -- a creation of a class without a constructor asks for no arguments
-  no_args : (es ds : Exs) (t : Tag) (n c : ℕ) → Typed P g (create t n c es) → MatchesAll P W R g es ds → ds ≡ no_ex
-  no_args no_ex no_ex t n c ty m_no_ex = refl
-  no_args no_ex (ex_then d ds) t n c ty ms = elim ms [ ]
-  no_args (ex_then e es) ds t n c (t_make a b w args) ms = absurd (let z = sym (B.are_facts.no_maker c) ∙ b in cc)
+  no_args : (es ds : Exs) (t : Tag) (n c : ℕ) → maker_of P c ≡ None → Typed P g (create t n c es) → MatchesAll P W R g es ds → ds ≡ no_ex
+  no_args no_ex no_ex t n c none ty m_no_ex = refl
+  no_args no_ex (ex_then d ds) t n c none ty ms = elim ms [ ]
+  no_args (ex_then e es) ds t n c none (t_make a b w args) ms = absurd (let z = sym none ∙ b in cc)
 
-  typed_create : (t : Tag) (n c : ℕ) (es : Exs) → Typed P g (create t n c es) → (s : Tag) (i a : ℕ) (ds : Exs) → MatchesAll P W R g es ds
-      → is_concrete W a ≡ true → Typed W h (create s i a ds)
-  typed_create t n c es ty s i a ds ms e = subst (λ z. Typed W h (create s i a z)) (sym (no_args es ds t n c ty ms)) (t_create e (N.no_maker a))
+  typed_create : (t : Tag) (n c : ℕ) (es : Exs) → maker_of P c ≡ None → Typed P g (create t n c es) → (s : Tag) (i a : ℕ) (ds : Exs)
+      → MatchesAll P W R g es ds → is_concrete W a ≡ true → Typed W h (create s i a ds)
+  typed_create t n c es none ty s i a ds ms e =
+      subst (λ z. Typed W h (create s i a z)) (sym (no_args es ds t n c none ty ms)) (t_create e (N.no_maker a))
+
+  -- one of a class with a constructor for those that its slot takes
+  made_args : (t : Tag) (n c f : ℕ) (es : Exs) (w : HasOldSlot P f) → maker_of P c ≡ Some f → Typed P g (create t n c es)
+      → TypedArgs P g es w.signature.params
+  made_args t n c f es w has (t_create a none) = absurd (let z = sym none ∙ has in cc)
+  made_args t n c f es w has (t_make {m = m2} {s = sig} a b called args) =
+      let o = typed_parts.method_sig B f sig (sym (ap (signature_of_method P) (same_Some m2 f (sym b ∙ has))) ∙ called) in
+      let i = in_slot P formed f w.old w.old_stands w.slot w.of_slot in
+      subst (λ z. TypedArgs P g es z) (o.2 ∙ ap (λ z. types_of z.params) (same_Some o.0 w.old (sym o.1 ∙ w.old_stands)) ∙ i.params
+      ∙ ap (λ z. z.params) (same_Some i.slot w.signature (sym i.stands ∙ w.slot_stands))) args
+
+  made_slot : (c f : ℕ) (w : HasOldSlot P f) → maker_of P c ≡ Some f → maker_slot P c ≡ Some w.slot
+  made_slot c f w has = ap (option_and_then (slot_of_method P)) has ∙ ap (option_and_then (λ (k : PlainMethod). k.slot)) w.old_stands ∙ w.of_slot
+
+  -- the method that makes its objects takes what that slot does
+  make_signature : (n f a : ℕ) (is : IsMake P W R n f a) → signature_of_method W a
+      ≡ Some (record { params = retypes (λ i. R.row_type (row.Param is.was.slot i)) is.was.signature.params; result = is.new.result })
+  make_signature n f a is =
+      ap (option_map (λ (k : PlainMethod). record { params = types_of k.params; result = k.result })) is.stands
+      ∙ ap (λ z. Some (record { params = z; result = is.new.result }))
+      (is.params ∙ each_retypes (λ i. R.row_type (row.Param is.was.slot i)) is.was.signature.params)
+
+  -- what the part of a creation asks, by the slot of its constructor
+  created_asked : (u : Bool) (t : Tag) (n c : ℕ) (es : Exs) (s : Option ℕ) → maker_slot P c ≡ s → Stands (tree u (create t n c es))
+      → Serves P W R m k h.self (a_creation t.place (u || is_some (maker_of P c)) (O (create t n c es)) s (maker_of P c) (operands es))
+  created_asked u t n c es s e st =
+      let p : Option ℕ → Part = λ z. a_creation t.place (u || is_some (maker_of P c)) (O (create t n c es)) z (maker_of P c) (operands es) in
+      subst (λ z. Serves P W R m k h.self (p z)) e (asked (p (maker_slot P c)) _ st)
 
   slot_classed : (s : ℕ) (slot : PlainSlot) → slice_get P.slots s ≡ Some slot → (i : ℕ) (u : Ty) → slice_get slot.params i ≡ Some u
       → HasClass (object_of u) (R.row_type (row.Param s i))
@@ -319,10 +351,19 @@ module _ (A : CopiedBody) where
               ∙ ap (λ z. retyped_static (C (row_at (super_call t x es))) (or_nothing z)) (sym o.3)
               ∙ ap (λ z. retyped_static (C (row_at (super_call t x es))) (result_of z)) (sym called);
         }
-    again u sc (create t n c es) d ty fo st (m_create {u = s} {j = j} {k = a} {ds = ds} at mes) =
-        let made = asked (a_creation t.place u (O (create t n c es))) _ st n refl (record { class = record { 0 = c }; dim = 0 })
+    again u sc (create t n c es) d ty fo st (m_create {u = s} {j = j} {k = a} {ds = ds} none at mes) =
+        let made = created_asked u t n c es None (ap (option_and_then (slot_of_method P)) none) st n refl (record { class = record { 0 = c }; dim = 0 })
         (create_typed t n c es) refl a at in
-        record { typed = typed_create _ n c es ty s j a ds mes made; type = ap (λ z. retyped_static z (a_value (class_type c))) (sym at) }
+        record { typed = typed_create _ n c es none ty s j a ds mes made; type = ap (λ z. retyped_static z (a_value (class_type c))) (sym at) }
+    again u sc (create t n c es) d ty (f_create known fes) st (m_make {m = f} {k = a} {ds = ds} has is mes) =
+        let w = is.was in
+        let sig = make_signature n f a is in
+        record {
+          typed = t_static_call sig (agains (is_some (maker_of P c)) sc es ds w.signature.params (λ i. R.row_type (row.Param w.slot i))
+              (made_args t n c f es w has ty) fes (past _ _ st) mes (slot_classed w.slot w.signature w.slot_stands)
+              (created_asked u t n c es (Some w.slot) (made_slot c f w has) st));
+          type = ap result_of sig ∙ ap or_nothing is.result ∙ ap (λ z. retyped_static z (a_value (class_type c))) (sym is.row);
+        }
     again u sc (create_array t n v e) d (t_create_array te num) (f_create_array ty dim fe) st (m_create_array {d = b} me) =
         let a = again false sc e b te fe (past _ _ st) me in
         record { typed = t_create_array a.typed (ap is_numeric a.type ∙ numeric_kept (C (row_at e)) (old e) ∙ num); type = refl }

@@ -1,17 +1,15 @@
 -- Mirror. What is known of a program, of its facts and its hierarchy, and of a program that rebuilds it: what the
 -- look-ups in that program rest on.
 use Rattle.std.specs.Prelude.{◌≡◌, ℕ, ◌<◌, true, length, Some}
-use Rattle.kaba_base.specs.Words.{is_name}
 use Rattle.kaba_base.specs.declared.NodeId.{NodeId}
 use Rattle.java_core.specs.Programs.{Plain}
 use Rattle.java_core.specs.Classes.{slot_of_method}
-use Rattle.java_core.specs.Makers.{HasNoMaker}
 use Rattle.java_core.specs.Formed.{IsFormed}
 use Rattle.kaba_order.specs.Orders.{IsPartialOrder, is_le, is_live}
 use Rattle.fact_model.specs.Items.{column_kind, column_slot}
 use Rattle.fact_model.specs.declared.facts.Facts.{Facts}
 use Rattle.fact_model.specs.declared.facts.ColKind.TheVariants.{Fld}
-use Rattle.hier_model.specs.Hierarchies.{Hierarchy, place_of_column, member_name, is_offered, stands_at, is_method, SlotsHaveOneName}
+use Rattle.hier_model.specs.Hierarchies.{Hierarchy, place_of_column, member_name, is_offered, is_method, SlotsHaveOneName}
 use Rattle.flow_rules.specs.declared.items.ColumnItem.{ColumnItem}
 use Rattle.flow_rules.specs.declared.items.ColumnItem.TheVariants as column
 use Rattle.flow_rules.specs.Facts.{numbers, kind_of, slot_in}
@@ -47,9 +45,6 @@ pub record KnownOfBoth (P : Plain) (F : Facts) (H : Hierarchy) (W : Plain) : Typ
   pub placed : (c : ℕ) (p : NodeId) → place_of_column H c ≡ Some p → is_live H.order p.0 ≡ true
   pub names : SlotsHaveOneName F H
   pub apart : AreNamesApart F H
-  -- no class has a constructor, and a method that stands has a name of the text
-  pub no_maker : HasNoMaker P
-  pub written : (n c : ℕ) → stands_at H n c ≡ true → is_method (column_kind F c) ≡ true → is_name (member_name H c) ≡ true
 
 -- where the members of the old program are in the new one, and what they are called there
 pub record BothSides : Type 0 where

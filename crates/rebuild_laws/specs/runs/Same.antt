@@ -2,7 +2,6 @@
 -- of each that is one with it.
 use Rattle.std.specs.Prelude.{◌≡◌, ℕ, List}
 use Rattle.java_core.specs.Programs.{Plain}
-use Rattle.java_core.specs.Makers.{HasNoMaker}
 use Rattle.java_core.specs.Typing.{IsTyped}
 use Rattle.java_core.specs.Formed.{IsFormed}
 use Rattle.java_meaning.specs.Languages.{run}
@@ -25,6 +24,6 @@ unfoldable pub RebuiltRunsTheSame : Type 0
 RebuiltRunsTheSame = (P : Plain) (F : Facts) (s : PointsTo) (t : Table) (H : Hierarchy) (W : Plain) → IsRebuildable P F s t H → IsFormed W
     → Rebuilds P F H W → HasSameRun P W
 
--- two formed programs without constructors that are one have the same run, where the first is typed
+-- two formed programs that are one have the same run, where the first is typed
 unfoldable pub OneRunsTheSame : Type 0
-OneRunsTheSame = (P Q : Plain) → IsFormed P → IsTyped P → IsFormed Q → HasNoMaker P → HasNoMaker Q → AreOne P Q → HasSameRun P Q
+OneRunsTheSame = (P Q : Plain) → IsFormed P → IsTyped P → IsFormed Q → AreOne P Q → HasSameRun P Q

@@ -1,6 +1,6 @@
 -- Mirror. Two languages whose runs are the same: what ties them, and when a body of one is the twin of a body of the
 -- other, form by form.
-use Rattle.std.specs.Prelude.{◌≡◌, ℕ, ℤ, Bool, true, false, List, Option, Some, None, map, slice_get}
+use Rattle.std.specs.Prelude.{◌≡◌, ℕ, suc, ℤ, Bool, true, false, List, [], ◌∷◌, length, Option, Some, None, map, slice_get}
 use Rattle.std.specs.Option.{option_map, option_and_then}
 use Rattle.java_core.specs.declared.Ty.{Ty}
 use Rattle.java_core.specs.declared.TyBase.{TyBase}
@@ -12,6 +12,7 @@ use Rattle.java_core.specs.Types.{Env, class_type, StringMethod}
 use Rattle.java_meaning.specs.Moment.{Value, Kind, an_object, an_array, Cell, own_type, Spot, held, bound, self_of, set_static, touched, tested, ran, Body, Lang}
 use Rattle.java_meaning.specs.Meaning.{words_type, element_type, is_number_type, names_length, text_method}
 use Rattle.java_meaning.specs.Paired.{PairedIf, PairedSt, PairedSts, PairedArms}
+use Rattle.rebuild_model.specs.Makes.{IsMakeCode}
 use Rattle.flow_laws.specs.cover.Families.{ArePlain}
 use Rattle.flow_laws.specs.cover.Watched.{Of}
 
@@ -44,6 +45,11 @@ spot_of b (local t i) = bound b i
 spot_of b (this t) = self_of b
 spot_of b (static_field t f) = set_static f
 spot_of b e = held b e
+
+-- how many expressions a list has
+abbrev pub many : Exs → ℕ
+many no_ex = 0
+many (ex_then e es) = suc (many es)
 
 -- the value of a field among the values of an object of a class
 abbrev pub value_at : Lang → ℕ → ℕ → List Value → Option Value
@@ -99,6 +105,41 @@ module _ (L M : Lang) (K : Link) (Made : Option ℕ → Kind → Kind → Type 0
           → K.may (ran g.body a b.env.body) o ≡ true → HasCalled d y k b
       pub texts : (m : StringMethod) → text_method (L.slot g e x) x ≡ Some m → text_method (M.slot h d y) y ≡ Some m
 
+    -- neither class has a constructor; or both have one, and the body of the first that the creation a runs is of a pair with that of the second
+    pub data SameMaker (a : Ex) (n c k : ℕ) : Type 0 where
+      neither_makes : L.maker c ≡ None → M.maker k ≡ None → SameMaker a n c k
+      both_make : {i j : ℕ} → L.maker c ≡ Some i → M.maker k ≡ Some j
+          → ((b : Body) → L.body c i ≡ Some b → K.may (ran g.body a b.env.body) (Some n) ≡ true → HasPair b (M.body k j)) → SameMaker a n c k
+
+    -- made makes objects of the class k by a call of the name x: that call runs a body of a pair with b, on parameters of one shape with those of made
+    pub record RunsMade (made : Body) (x : List ℕ) (k : ℕ) (b : Body) : Type 0 where
+      pub params : map shape_of made.params ≡ map shape_of b.params
+      pub slot : ℕ
+      pub called : (t : Tag) → M.slot made.env (local t (length made.params)) x ≡ Some slot
+      pub runs : HasPair b (M.body k slot)
+
+    -- the class of a creation has a constructor in the first; in the second the static method m makes the object, and runs on it a body of a pair with
+    -- that of the constructor
+    pub record SameMake (a : Ex) (n c m : ℕ) (es : Exs) : Type 0 where
+      pub class : ℕ
+      pub new : SameNew n c class
+      pub maker : ℕ
+      pub has_maker : L.maker c ≡ Some maker
+      pub bare : M.maker class ≡ None
+      pub body : Body
+      pub found : M.static_body m ≡ Some body
+      pub name : List ℕ
+      pub code : IsMakeCode class name (length body.params) body.code
+      pub as_many : many es ≡ length body.params
+      -- its one local, and what it gives
+      pub first : Value
+      pub rest : body.rest ≡ first ∷ []
+      pub kept : Ty
+      pub local_is : slice_get body.env.locals (length body.params) ≡ Some kept
+      pub given : Ty
+      pub result : body.env.result ≡ Some given
+      pub runs : (b : Body) → L.body c maker ≡ Some b → K.may (ran g.body a b.env.body) (Some n) ≡ true → RunsMade body name class b
+
     -- the test of the form a has one outcome for each object there
     abbrev pub SameTest : Ex → Ty → Ty → Type 0
     SameTest a t u = (o : Option ℕ) (k l : Kind) → Made o k l → K.may (tested g.body a (L.is_sub (own_type k) t)) o ≡ true
@@ -135,7 +176,10 @@ module _ (L M : Lang) (K : Link) (Made : Option ℕ → Kind → Kind → Type 0
             → Same (static_call t m es) (static_call u n ds)
         same_super_call : {t u : Tag} {x y : List ℕ} {es ds : Exs} → SameAll es ds → BothPair (L.super_body g.self x) (M.super_body h.self y)
             → Same (super_call t x es) (super_call u y ds)
-        same_create : {t u : Tag} {n j c k : ℕ} {es ds : Exs} → SameAll es ds → SameNew n c k → Same (create t n c es) (create u j k ds)
+        same_create : {t u : Tag} {n j c k : ℕ} {es ds : Exs} → SameAll es ds → SameNew n c k → SameMaker (create t n c es) n c k
+            → Same (create t n c es) (create u j k ds)
+        -- a creation with a constructor is a call of a method that makes the object
+        same_make : {t u : Tag} {n c m : ℕ} {es ds : Exs} → SameAll es ds → SameMake (create t n c es) n c m es → Same (create t n c es) (static_call u m ds)
         same_create_array : {t u : Tag} {n j : ℕ} {v w : Ty} {e d : Ex} → Same e d → SameArray n v w → Same (create_array t n v e) (create_array u j w d)
         same_cast : {t u : Tag} {n j : ℕ} {v w : Ty} {e d : Ex} → Same e d → shape_of v ≡ shape_of w
             → (is_number_type v.base v.dim ≡ false → SameTest (cast t n v e) v w) → Same (cast t n v e) (cast u j w d)
@@ -199,9 +243,6 @@ module _ (L M : Lang) (K : Link) (Made : Option ℕ → Kind → Kind → Type 0
     pub passes : (p : Spot) (v : Value) (h : List Cell) → M.sees p v h ≡ true
     pub passes_all : (b : ℕ) (vs : List Value) (h : List Cell) → M.sees_all b vs h ≡ true
     pub words : Made None (an_array words_type) (an_array words_type)
-    -- no class has a constructor
-    pub old_makers : (c : ℕ) → L.maker c ≡ None
-    pub new_makers : (c : ℕ) → M.maker c ≡ None
     -- different fields of one object are in different places
     pub old_places : (c f k i : ℕ) → L.index c f ≡ Some i → L.index c k ≡ Some i → f ≡ k
     pub new_places : (c f k i : ℕ) → M.index c f ≡ Some i → M.index c k ≡ Some i → f ≡ k

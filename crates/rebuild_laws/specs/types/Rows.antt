@@ -13,7 +13,8 @@ use Rattle.flow_rules.specs.declared.items.ColumnItem.{ColumnItem}
 use Rattle.flow_rules.specs.declared.items.ColumnItem.TheVariants as column
 use Rattle.flow_rules.specs.Facts.{numbers}
 use Rattle.rebuild_model.specs.Renaming.{Places, renaming_of, retyped_if}
-use Rattle.rebuild_model.specs.Members.{slot_types, StandsAt, HasOldSlot, IsField, IsBody}
+use Rattle.rebuild_model.specs.Makes.{slot_types, HasOldSlot}
+use Rattle.rebuild_model.specs.Members.{StandsAt, IsField, IsBody}
 
 module _ (P : Plain) (F : Facts) (H : Hierarchy) (W : Plain) (T : Places) where
   -- the type of a row's node
