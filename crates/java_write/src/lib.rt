@@ -8,6 +8,7 @@ ghost use Rattle.java_core.specs.Programs.{program_of};
 ghost use Rattle.java_core.specs.Formed.{IsFormed};
 ghost use Rattle.java_core.specs.Typing.{IsTyped};
 ghost use Rattle.java_tree.specs.Syntax.{tree_of};
+ghost use Rattle.fact_model.specs.InRange.{InRange};
 ghost use Rattle.flow_rules.specs.Facts.{IsWithinLimits};
 ghost use Rattle.name_rules.specs.declared.Refusal.TheVariants as Refusal;
 ghost use Rattle.flow_program.specs.Known.{AreProgramFacts};
@@ -23,21 +24,24 @@ use java_resolve::{Refusal, resolve};
 use java_tree::Tree;
 use source_gen::generate;
 use std::alloc::{AllocError, Global};
-use write_forms::Numbering;
+use write_forms::{Numbering, make_names};
 
-/// The numbers of the rows and columns of a program that has facts.
-fn numbers_of(alloc: Global, program: &Program) -> Result<Numbering, AllocError>
+/// The numbers of the rows, columns and creations of a program that has these facts.
+fn numbers_of(alloc: Global, program: &Program, facts: &Facts) -> Result<Numbering, AllocError>
     requires formed { IsFormed (program_of program.now) }
     requires within { IsWithinLimits (program_of program.now) }
-    ensures numbers { IfOk result (AreNumbersOf program.now) }
+    requires range { InRange facts.now }
+    ensures numbers { IfOk result (AreNumbersOf program.now facts.now) }
 {
     match numbering_of(alloc, program) {
         Ok(numbering) => Ok(Numbering {
             rows: numbering.rows,
             columns: numbering.columns,
+            sites: numbering.sites,
+            makes: make_names(alloc, facts)?,
         }),
         Err(FactsFault::Memory) => Err(AllocError),
-        Err(FactsFault::TooMany(_, _) | FactsFault::HasConstructor(_)) => unreachable!(),
+        Err(FactsFault::TooMany(_, _)) => unreachable!(),
     }
 }
 
@@ -55,7 +59,7 @@ fn tree_of_hierarchy(
     ensures typed { IsTyped (program_of program.now) }
 {
     let plain = program.program();
-    let numbering = numbers_of(alloc, plain)?;
+    let numbering = numbers_of(alloc, plain, facts)?;
     generate(alloc, plain, &numbering, facts, hier)
 }
 

@@ -1,3 +1,5 @@
+pub mod Fills
+pub mod Made
 pub mod Seen
 pub mod Sources
 pub mod Words

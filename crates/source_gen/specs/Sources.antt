@@ -1,8 +1,14 @@
 -- Mirror. What the types of the nodes are written of.
-use Rattle.std.specs.Prelude.{◌≡◌}
+use Rattle.std.specs.Prelude.{◌≡◌, map}
+use Rattle.std.specs.Option.{option_map}
 use Rattle.fact_model.specs.InRange.{InRange}
 use Rattle.hier_model.specs.Hierarchies.{Hierarchy, IsHierarchyOf}
-use Rattle.write_forms.specs.Sources.{IsSource}
+use Rattle.java_core.specs.Programs.{Plain}
+use Rattle.fact_model.specs.declared.facts.Facts.{Facts}
+use Rattle.flow_rules.specs.Numbered.{sites_of}
+use Rattle.flow_rules.specs.Facts.{site_info, makers_seen, makers_of}
+use Rattle.write_forms.specs.declared.numbers.Numbering.{Numbering}
+use Rattle.write_forms.specs.Sources.{IsSource, old_program}
 use Rattle.source_gen.specs.Seen.{class_tests}
 use Rattle.source_gen.specs.declared.parts.Nodes.{Nodes}
 
@@ -10,9 +16,20 @@ use Rattle.source_gen.specs.declared.parts.Nodes.{Nodes}
 abbrev pub hierarchy_of : Nodes → Hierarchy
 hierarchy_of nodes = nodes.source.hier.now
 
+-- the sites that are numbered are those of the program, as the facts list them
+pub record AreSites (P : Plain) (n : Numbering) (F : Facts) : Type 0 where
+  pub numbers : n.sites.keys ≡ map (λ z. z.number) (sites_of P)
+  pub infos : F.sites.items ≡ map site_info (sites_of P)
+
+-- the facts have the sites of the program, and the names that are fixed for it
+pub record HaveMakes (P : Plain) (n : Numbering) (F : Facts) : Type 0 where
+  pub sites : AreSites P n F
+  pub makers : option_map makers_seen F.makers ≡ makers_of P
+
 -- a source, facts in range whose hierarchy it has, and the tests of the nodes
 pub record AreSourceNodes (nodes : Nodes) : Type 0 where
   pub source : IsSource nodes.source
+  pub sites : AreSites (old_program nodes.source) nodes.source.numbering.now nodes.facts.now
   pub range : InRange nodes.facts.now
   pub hierarchy : IsHierarchyOf nodes.facts.now (hierarchy_of nodes)
   pub classes : nodes.classes.now.items ≡ class_tests nodes.facts.now (hierarchy_of nodes)

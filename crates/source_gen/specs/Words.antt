@@ -8,4 +8,4 @@ pub use Rattle.hier_model.specs.Hierarchies.{IsHierarchyOf}
 pub use Rattle.flow_rules.specs.Ordered.{each, when}
 pub use Rattle.write_forms.specs.Sources.{IsSource, old_program, renaming}
 pub use Rattle.source_gen.specs.Seen.{head_if}
-pub use Rattle.source_gen.specs.Sources.{AreSourceNodes, hierarchy_of}
+pub use Rattle.source_gen.specs.Sources.{AreSourceNodes, HaveMakes, hierarchy_of}

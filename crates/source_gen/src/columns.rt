@@ -1,25 +1,24 @@
-//! What the columns at a node and the slots that it offers give to its type.
+//! What the columns at a node give to its type.
 
-ghost use Rattle.std.specs.Prelude.{◌≡◌, ◌++◌, [], ◌<◌, true, length, IfOk, OnOk, Option};
-ghost use Rattle.source_gen.specs.Words.{is_live, slot_seen, each, when, head_if, old_program, renaming, AreSourceNodes, hierarchy_of};
+ghost use Rattle.std.specs.Prelude.{◌≡◌, ◌++◌, [], ◌<◌, true, length, IfOk, OnOk};
+ghost use Rattle.source_gen.specs.Words.{is_live, each, when, head_if, old_program, renaming, AreSourceNodes, hierarchy_of};
 ghost use Rattle.java_tree.specs.Syntax as tree;
 ghost use Rattle.fact_model.specs.Items.{column_at};
 ghost use Rattle.hier_model.specs.Hierarchies.{stands_at};
-ghost use Rattle.rebuild_model.specs.Members.{is_headed, is_filled, is_made_at};
+ghost use Rattle.rebuild_model.specs.Members.{is_headed};
 ghost use Rattle.write_model.specs.Members as written;
 
-use crate::heads::{first_head, one_modifier, public_and, slot_head};
-use crate::members::{push_bodyless, push_head, push_member};
+use crate::fillers::add_fillers;
+use crate::heads::{public_and, slot_head};
+use crate::members::{push_bodyless, push_head};
 use crate::own::add_own;
 use crate::parts::Nodes;
 use crate::places::{is_declaration, is_first_there, is_made_at, offers, stands_at};
 use crate::supers::is_class;
 use hier_model::column_at;
-use java_core::{Slot, Ty, TyBase};
-use java_tree::unplaced::nowhere;
-use java_tree::{Expr, Head, Member, Modifier, Stmt, TypeBase, TypeName, build};
+use java_tree::{Head, Member, Modifier};
 use kaba_base::{ColId, Keyword, NodeId};
-use std::alloc::{AllocError, Global};
+use std::alloc::AllocError;
 
 /// Whether a declaration of a slot at a live node is written as a head: in an interface, and in an
 /// abstract class to which no body of the slot is offered.
@@ -29,17 +28,6 @@ fn is_headed(nodes: &Nodes, n: NodeId, x: u32) -> bool
     ensures { result ≡ is_headed nodes.now.facts.now (hierarchy_of nodes.now) n.0 x }
 {
     !is_class(nodes, n.0) || (!is_made_at(nodes, n) && !offers(nodes, n, x, true))
-}
-
-/// Whether the type of a live node has a filler of a slot: objects are created there, as `is_made`
-/// says, and it is offered the slot without a body.
-fn is_filled(nodes: &Nodes, is_made: bool, n: NodeId, x: u32) -> bool
-    requires nodes { AreSourceNodes nodes.now }
-    requires made { is_made ≡ is_made_at nodes.now.facts.now (hierarchy_of nodes.now) n.0 }
-    requires node { is_live nodes.now.source.hier.now.order n.0 ≡ true }
-    ensures { result ≡ is_filled nodes.now.facts.now (hierarchy_of nodes.now) n.0 x }
-{
-    is_made && (offers(nodes, n, x, false) && !offers(nodes, n, x, true))
 }
 
 /// The head that the declaration of a slot at a live node gives: once a slot.
@@ -116,93 +104,6 @@ fn add_columns(nodes: &Nodes, n: NodeId, into: &mut Vec<Member>) -> Result<(), A
 {
     for c in 0..nodes.facts.columns.len() as u32 {
         add_column(nodes, n, c, into)?;
-    }
-    Ok(())
-}
-
-/// What a filler gives back.
-fn value_of_none(alloc: Global, base: TyBase, dim: u32) -> Result<Expr, AllocError>
-    ensures { IfOk result (λ e. tree.expr_of e ≡ written.value_of_none base dim) }
-{
-    let place = nowhere();
-    match (base, dim) {
-        (TyBase::Int, 0) => Ok(Expr::Int { value: 0, place }),
-        (TyBase::Boolean, 0) => Ok(Expr::Bool {
-            value: false,
-            place,
-        }),
-        (TyBase::Char, 0) => {
-            let ty = TypeName {
-                base: TypeBase::Char,
-                dim: 0,
-                place,
-            };
-            build::cast(alloc, ty, Expr::Int { value: 0, place }, place)
-        }
-        (_, _) => Ok(Expr::Null { place }),
-    }
-}
-
-/// The statements of a filler of a slot with this result.
-fn filling(alloc: Global, given: Option<Ty>) -> Result<Vec<Stmt>, AllocError>
-    ensures { IfOk result (λ v. tree.stmts v.items ≡ written.filling given) }
-{
-    let mut list = Vec::new(alloc);
-    if let Some(ty) = given {
-        let value = value_of_none(alloc, ty.base, ty.dim)?;
-        list.push(Stmt::Return {
-            value: Some(value),
-            place: nowhere(),
-        })?;
-    }
-    Ok(list)
-}
-
-/// Adds the filler of a slot, if the class of a live node has one.
-fn add_filler(
-    nodes: &Nodes,
-    is_made: bool,
-    n: NodeId,
-    x: u32,
-    slot: &Slot,
-    into: &mut Vec<Member>,
-) -> Result<(), AllocError>
-    requires nodes { AreSourceNodes nodes.now }
-    requires made { is_made ≡ is_made_at nodes.now.facts.now (hierarchy_of nodes.now) n.0 }
-    requires node { is_live nodes.now.source.hier.now.order n.0 ≡ true }
-    ensures { OnOk result (tree.members into.new.items ≡ tree.members into.old.items ++ written.filler (old_program nodes.now.source)
-        (renaming nodes.now.source) nodes.now.facts.now (hierarchy_of nodes.now) n.0 x (slot_seen slot.now)) }
-{
-    if !is_filled(nodes, is_made, n, x) {
-        return Ok(());
-    }
-    let mods = one_modifier(nodes.source.alloc, Keyword::Public)?;
-    match first_head(&nodes.source, mods, slot)? {
-        Some(head) => {
-            let body = Some(filling(nodes.source.alloc, slot.result)?);
-            let place = nowhere();
-            push_member(into, Member::Method { head, body, place })
-        }
-        None => Ok(()),
-    }
-}
-
-/// Adds the fillers of the class of a live node, in the order of the slots.
-fn add_fillers(
-    nodes: &Nodes,
-    is_made: bool,
-    n: NodeId,
-    into: &mut Vec<Member>,
-) -> Result<(), AllocError>
-    requires nodes { AreSourceNodes nodes.now }
-    requires made { is_made ≡ is_made_at nodes.now.facts.now (hierarchy_of nodes.now) n.0 }
-    requires node { is_live nodes.now.source.hier.now.order n.0 ≡ true }
-    ensures { OnOk result (tree.members into.new.items ≡ tree.members into.old.items ++ each (written.filler
-        (old_program nodes.now.source) (renaming nodes.now.source) nodes.now.facts.now (hierarchy_of nodes.now) n.0) 0 (old_program nodes.now.source).slots) }
-{
-    for (x, slot) in nodes.source.program.slots.iter().enumerate() {
-        let x = x as u32;
-        add_filler(nodes, is_made, n, x, slot, into)?;
     }
     Ok(())
 }

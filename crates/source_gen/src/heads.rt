@@ -8,7 +8,7 @@ ghost use Rattle.flow_rules.specs.Operands.{result_in};
 ghost use Rattle.write_model.specs.Names as names;
 ghost use Rattle.write_model.specs.Members as members;
 
-use crate::parts::code_at;
+use crate::parts::{code_at, slot_at};
 use java_core::{Code, Local, Slot};
 use java_tree::unplaced::nowhere;
 use java_tree::{Head, Modifier, Param, TypeName};
@@ -58,7 +58,7 @@ fn param(
 }
 
 /// The parameters.
-fn params(source: &Source, m: u64, code: &Code) -> Result<Vec<Param>, AllocError>
+pub fn params(source: &Source, m: u64, code: &Code) -> Result<Vec<Param>, AllocError>
     requires { IsSource source.now }
     ensures { IfOk result (λ v. v.items ≡ each (λ i k. members.param (old_program source.now) (renaming source.now) source.now.hier.now m
         (code_seen code.now) i k ∷ []) 0 (code_seen code.now).params) }
@@ -131,7 +131,7 @@ pub fn slot_head(source: &Source, mods: Vec<Modifier>, x: u32) -> Result<Option<
     requires { IsSource source.now }
     ensures { IfOk result (λ h. head_if h ≡ members.slot_head (old_program source.now) (renaming source.now) source.now.hier.now mods.items x) }
 {
-    match source.program.slots.get(x as usize) {
+    match slot_at(source.program, x) {
         Some(slot) => first_head(source, mods, slot),
         None => Ok(None),
     }

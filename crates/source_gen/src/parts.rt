@@ -1,10 +1,10 @@
-//! What is written of, and fields and methods of a program by their numbers.
+//! What is written of, and fields, methods and slots of a program by their numbers.
 
 ghost use Rattle.std.specs.Prelude.{◌≡◌, slice_get};
-ghost use Rattle.source_gen.specs.Words.{option_map, program_of, field_seen, code_seen};
+ghost use Rattle.source_gen.specs.Words.{option_map, program_of, field_seen, code_seen, slot_seen};
 
 use fact_model::Facts;
-use java_core::{Code, Field, Program};
+use java_core::{Code, Field, Program, Slot};
 use write_forms::Source;
 
 /// What the types of the nodes are written of: the facts of the hierarchy besides, and which nodes of that are classes.
@@ -28,4 +28,11 @@ pub fn code_at(program: &Program, m: u64) -> Option<Code<'_>>
 {
     let method = program.methods.get(m as usize)?;
     Some(method.code())
+}
+
+/// A slot by its number.
+pub fn slot_at(program: &Program, x: u32) -> Option<&Slot>
+    ensures { option_map (λ s. slot_seen s.now) result ≡ slice_get (program_of program.now).slots x }
+{
+    program.slots.get(x as usize)
 }

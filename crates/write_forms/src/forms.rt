@@ -8,7 +8,7 @@ ghost use Rattle.java_tree.specs.Syntax.{
   FieldOf,
   CallOn,
   SuperCallOf,
-  NewOf,
+  NameRef,
   NewArrayOf,
   CastOf,
   InstanceOfClass,
@@ -18,12 +18,13 @@ ghost use Rattle.java_core.specs.Types as types;
 ghost use Rattle.flow_rules.specs.declared.items.RowItem.TheVariants as row;
 ghost use Rattle.write_model.specs.Names as written;
 ghost use Rattle.write_forms.specs.Renamed.{IsFitting};
-ghost use Rattle.write_forms.specs.Sources.{renaming, IsSource, accessed, called, above, row_named, row_typed};
+ghost use Rattle.write_forms.specs.Sources.{old_program, renaming, IsSource, accessed, called, above, row_named, row_typed, created};
 
 use crate::given::Source;
+use crate::makes::{make_name, makers_name};
 use crate::names::{accessed_name, called_name, field_name, row_name, row_type, super_name};
 use flow_rules::RowItem;
-use java_core::{Static, Ty, class_of};
+use java_core::{Static, Ty, class_of, maker_of};
 use java_tree::unplaced::{id, nowhere};
 use java_tree::{Expr, build};
 use kaba_base::{ClassId, MemberId, Name, made};
@@ -90,12 +91,31 @@ pub fn super_call(source: &Source, class: ClassId, name: &Name, args: Vec<Expr>)
     Ok(build::super_call(name, args, nowhere()))
 }
 
-/// A creation of an object, by the node where its row stands.
-pub fn creation(source: &Source, number: u32, class: ClassId, args: Vec<Expr>) -> Written
-    requires { IsFitting source.now.numbering.now source.now.hier.now }
-    ensures { IfOk result (λ e. expr_of e ≡ NewOf (written.id (row_named source.now (row.New number) class.0)) (exprs args.items) written.nowhere) }
+/// A call of the method that makes the objects of a creation.
+fn make_call(source: &Source, number: u64, args: Vec<Expr>) -> Written
+    requires { IsSource source.now }
+    ensures { IfOk result (λ e. expr_of e ≡ CallOn (NameRef (written.makers_name (old_program source.now)) written.nowhere)
+        ((renaming source.now).make_name number) (exprs args.items) written.nowhere) }
 {
-    let name = row_name(source, RowItem::New(number as u64), class)?;
+    let name = made!(makers_name(source); args);
+    let holder = Expr::Name {
+        name,
+        place: nowhere(),
+    };
+    let name = made!(make_name(source, number); args, holder);
+    build::call_on(source.alloc, holder, name, args, nowhere())
+}
+
+/// A creation of an object, by the node where its row stands; where its class has a constructor, a call of the method
+/// that makes its objects.
+pub fn creation(source: &Source, number: u32, class: ClassId, args: Vec<Expr>) -> Written
+    requires { IsSource source.now }
+    ensures { IfOk result (λ e. expr_of e ≡ created source.now number class.0 (exprs args.items)) }
+{
+    if maker_of(source.program, class).is_some() {
+        return make_call(source, number as u64, args);
+    }
+    let name = made!(row_name(source, RowItem::New(number as u64), class); args);
     Ok(build::new_object(id(name), args, nowhere()))
 }
 

@@ -7,10 +7,12 @@
 pub mod forms;
 mod given;
 mod holders;
+mod makes;
 mod names;
 mod numbers;
 
 pub use given::Source;
 pub use holders::{static_call, static_field, variable_name};
-pub use names::{field_name, infix_mark, method_name, modifier, prefix_mark, row_type};
+pub use makes::{make_name, make_names, makers_local, makers_name};
+pub use names::{field_name, infix_mark, method_name, modifier, prefix_mark, row_name, row_type};
 pub use numbers::{Numbering, result_row, variable_row};

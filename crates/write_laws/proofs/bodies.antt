@@ -1,6 +1,8 @@
 pub mod Scopes
 pub mod Meant
 pub mod Inverse
+pub mod SiteRows
+pub mod Sites
 pub mod Found
 pub mod Expressions
 pub mod Counted

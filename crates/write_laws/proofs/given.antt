@@ -2,10 +2,12 @@ pub mod Unplaced
 pub mod Read
 pub mod Letters
 pub mod Given
+pub mod Written
 pub mod Names
 pub mod Types
 pub mod Asked
 pub mod Forms
+pub mod Makes
 pub mod Named
 pub mod Bodies
 pub mod Whole

@@ -1,4 +1,6 @@
 pub mod Outlined
+pub mod Fixed
+pub mod FilledSlots
 pub mod Apart
 pub mod Nodes
 pub mod Covers
@@ -11,10 +13,12 @@ pub mod Given
 pub mod Fields
 pub mod Resolved
 pub mod Methods
+pub mod Makes
 pub mod Origins
 pub mod Main
 pub mod Rebuilt
 pub mod Named
 pub mod Filled
 pub mod Public
+pub mod NewNames
 pub mod Whole

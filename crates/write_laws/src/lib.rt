@@ -1,14 +1,15 @@
 //! The bodies of a written program match the old ones: each name in them means what it stands for.
 //!
 //! The crate has definitions and lemmas alone. `specs/bodies/Known.antt` says what the outline of the written program tells of
-//! the names that are written.
+//! the names that are written; `proofs/bodies/Sites.antt` has the site of a creation, where a method that makes objects is called.
 //!
 //! A program to which the written tree resolves rebuilds the old one over its hierarchy.
 //!
 //! Code is written only in a law. `proofs/rebuilds/Outlined.antt` says what a program has to which a tree resolves;
 //! `proofs/rebuilds/Members.antt` what the types of the written tree have as members; `proofs/rebuilds/Nodes.antt` and
 //! `proofs/rebuilds/Supers.antt` have the types and their order, `proofs/rebuilds/Fields.antt`, `proofs/rebuilds/Methods.antt` and
-//! `proofs/rebuilds/Origins.antt` the members, and `proofs/rebuilds/Main.antt` the method that a run begins with.
+//! `proofs/rebuilds/Origins.antt` the members, `proofs/rebuilds/Makes.antt` the methods that make objects of classes with a
+//! constructor, and `proofs/rebuilds/Main.antt` the method that a run begins with.
 //!
 //! The tree that is written of a program and a hierarchy names what is there: none of the conditions that refuse a
 //! text's names holds of it.

@@ -18,7 +18,7 @@ use Rattle.fact_model.specs.declared.facts.ColKind.TheVariants.{Dcl, Def}
 use Rattle.hier_model.specs.Hierarchies.{Hierarchy, node}
 use Rattle.flow_rules.specs.Operands.{type_in}
 use Rattle.flow_rules.specs.Parts.{parts_of}
-use Rattle.flow_rules.specs.Numbered.{rows_of, columns_of, row_number, column_number}
+use Rattle.flow_rules.specs.Numbered.{rows_of, columns_of, sites_of, bodies_of, row_number, column_number, site_number}
 use Rattle.flow_rules.specs.Facts.{numbers}
 use Rattle.rebuild_model.specs.Renaming.{renaming_of}
 use Rattle.write_model.specs.Names.{nowhere, id, modifier}
@@ -82,6 +82,7 @@ expected =
     ∷ []
 
 tree : (others : Facts) → java_tree program (facts others) nodes ≡ expected
-unfolding java_tree renaming_of numbers rows_of row_number columns_of column_number parts_of type_in call_signature super_signature field_in
+unfolding java_tree renaming_of numbers rows_of row_number columns_of column_number sites_of bodies_of site_number parts_of type_in call_signature
+    super_signature field_in
     access_type below member_field field_of declaration_of search_order super_method
 tree others = refl

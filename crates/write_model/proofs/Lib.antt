@@ -4,3 +4,4 @@ pub mod NoMaker
 mod Overriding
 mod Fillers
 mod Sites
+mod Making

@@ -1,7 +1,8 @@
 -- The tree that is written has no places.
 use Rattle.std.proofs.Common.{◌≡◌, ℕ, zero, ◌+◌, Bool, true, false, List, [], ◌∷◌, ◌++◌, map, Option, Some, None, refl, ap, ap₂, ◌∙◌}
 use Rattle.std.specs.Prelude.{slice_get, ◌==◌, ◌&&◌, not}
-use Rattle.std.specs.Option.{option_map, option_map_or}
+use Rattle.std.specs.Option.{is_some, option_map, option_map_or}
+use Rattle.std.specs.List.{flat_map}
 use Rattle.std.proofs.lemmas.Option.{same_Some}
 use Rattle.kaba_base.specs.declared.words.Keyword.TheVariants.{Public, Abstract, Static}
 use Rattle.java_tree.specs.declared.Modifier.{Modifier}
@@ -13,6 +14,7 @@ use Rattle.java_core.specs.declared.TyBase.{TyBase}
 use Rattle.java_core.specs.declared.TyBase.TheVariants.{Int, Boolean, Char}
 use Rattle.java_core.specs.Trees.{Ex, Exs, no_ex, ex_then, static_field, field, index, call, static_call, super_call, create, create_array, cast, instance_of, unary, binary, Target, to_static, to_field, to_element, St, Sts, IfArms, declare, block, assign, act, print, choose, loop, return, break, continue, no_st, st_then, no_other, otherwise, arm}
 use Rattle.java_core.specs.Programs.{Plain, PlainLocal, PlainField, PlainMethod, PlainSlot}
+use Rattle.java_core.specs.Makers.{maker_of}
 use Rattle.java_core.specs.Formed.{variables_of}
 use Rattle.fact_model.specs.declared.facts.Facts.{Facts}
 use Rattle.fact_model.specs.declared.facts.ColumnInfo.{ColumnInfo}
@@ -20,16 +22,17 @@ use Rattle.hier_model.specs.Hierarchies.{Hierarchy, type_name, is_class_node, st
 use Rattle.flow_rules.specs.declared.items.ColumnItem.{ColumnItem}
 use Rattle.flow_rules.specs.declared.items.ColumnItem.TheVariants as column
 use Rattle.flow_rules.specs.Ordered.{each, when}
-use Rattle.flow_rules.specs.Numbered.{columns_of}
-use Rattle.flow_rules.specs.Facts.{is_holder}
+use Rattle.flow_rules.specs.declared.items.RowItem.TheVariants as row
+use Rattle.flow_rules.specs.Numbered.{columns_of, sites_of}
+use Rattle.flow_rules.specs.Facts.{is_holder, makers_of}
 use Rattle.flow_rules.specs.Operands.{variable_row, result_in}
 use Rattle.rebuild_model.specs.Renaming.{Renaming, renaming_of}
 use Rattle.rebuild_model.specs.Members.{is_made_at, is_headed, is_filled}
-use Rattle.write_model.specs.Bodies.{static_field_tree, static_call_tree, is_simple, loop_tree, scope_after, scope_after_part, static_field_name, static_call_name, written, written_all, written_if, written_target, declared, written_st, written_sts, written_part, written_arms, written_else}
-use Rattle.write_model.specs.Members.{is_declaration, is_first_there, parameters, value_of_none, filling, param, head, body, first_head, slot_head, field_member, body_member, static_field_member, static_method_member, holder_members, heads_of_slot, column_heads, own_member, column_members, filler, class_members, interface_heads}
-use Rattle.write_model.specs.Names.{nowhere, modifier, by_number, class_name, written_type}
+use Rattle.write_model.specs.Bodies.{static_field_tree, static_call_tree, creation_tree, is_simple, loop_tree, scope_after, scope_after_part, static_field_name, static_call_name, written, written_all, written_if, written_target, declared, written_st, written_sts, written_part, written_arms, written_else}
+use Rattle.write_model.specs.Members.{is_declaration, is_first_there, parameters, passed, filled_slots, value_of_none, filling, param, head, body, first_head, slot_head, field_member, body_member, static_field_member, static_method_member, make_head, make_body, make_member, maker_member, site_member, make_members, holder_members, heads_of_slot, column_heads, own_member, column_members, filler, slot_filler, class_members, interface_heads}
+use Rattle.write_model.specs.Names.{nowhere, modifier, by_number, makers_name, class_name, row_name, written_type}
 use Rattle.write_model.specs.Supers.{extended, type_id, superclass, nodes_that, is_cover}
-use Rattle.write_model.specs.Written.{class_modifiers, type_tree, type_trees, holder_tree, holder_trees, java_tree}
+use Rattle.write_model.specs.Written.{class_modifiers, type_tree, type_trees, holder_tree, holder_trees, makers_trees, java_tree}
 
 -- ---- lists
 
@@ -58,6 +61,11 @@ over : {A B : Type 0} (f : B → B) (h : A → List B) → ((x : A) → all_unpl
 over f h e None = refl
 over f h e (Some x) = e x
 
+flat_is : {A B : Type 0} (f : B → B) (h : A → List B) → ((x : A) → all_unplaced f (h x) ≡ h x) → (xs : List A)
+    → all_unplaced f (flat_map h xs) ≡ flat_map h xs
+flat_is f h e [] = refl
+flat_is f h e (x ∷ xs) = both f (h x) (flat_map h xs) (e x) (flat_is f h e xs)
+
 -- ---- bodies
 
 static_field_is : (b : Bool) (holder x : List ℕ) → expr_unplaced (static_field_tree b holder x) ≡ static_field_tree b holder x
@@ -68,6 +76,11 @@ static_call_is : (b : Bool) (holder x : List ℕ) (es : Expressions) → exprs_u
     → expr_unplaced (static_call_tree b holder x es) ≡ static_call_tree b holder x es
 static_call_is true holder x es e = rw e refl
 static_call_is false holder x es e = rw e refl
+
+creation_is : (b : Bool) (holder make class : List ℕ) (es : Expressions) → exprs_unplaced es ≡ es
+    → expr_unplaced (creation_tree b holder make class es) ≡ creation_tree b holder make class es
+creation_is true holder make class es e = rw e refl
+creation_is false holder make class es e = rw e refl
 
 field_is : (P : Plain) (k : PlainMethod) (scope : List ℕ) (f : ℕ) → expr_unplaced (static_field_name P k scope f) ≡ static_field_name P k scope f
 field_is P k scope f = go (slice_get P.fields f)
@@ -107,7 +120,9 @@ module _ (P : Plain) (R : Renaming) (H : Hierarchy) (m : ℕ) (k : PlainMethod) 
     ex_is scope (call t e x es) = rw (ex_is scope e, exs_is scope es) refl
     ex_is scope (static_call t d es) = call_is P k scope d (written_all P R H m k scope es) (exs_is scope es)
     ex_is scope (super_call t x es) = rw (exs_is scope es) refl
-    ex_is scope (create t n c es) = rw (exs_is scope es) refl
+    ex_is scope (create t n c es) =
+        creation_is (is_some (maker_of P c)) (makers_name P) (R.make_name n) (row_name P H (R.row_type (row.New n)) c) (written_all P R H m k scope es)
+        (exs_is scope es)
     ex_is scope (create_array t n v e) = rw (ex_is scope e) refl
     ex_is scope (cast t n v e) = rw (ex_is scope e) refl
     ex_is scope (instance_of t n e c) = rw (ex_is scope e) refl
@@ -187,6 +202,10 @@ filling_is : (t : Option Ty) → stmts_unplaced (filling t) ≡ filling t
 filling_is None = refl
 filling_is (Some t) = rw (value_is t.base t.dim) refl
 
+passed_is : (vs : List PlainLocal) → exprs_unplaced (passed vs) ≡ passed vs
+passed_is [] = refl
+passed_is (v ∷ vs) = rw (passed_is vs) refl
+
 module _ (P : Plain) (R : Renaming) (H : Hierarchy) where
   head_is : (mods : List Modifier) → all_unplaced modifier_unplaced mods ≡ mods → (name : List ℕ) (m : ℕ) (k : PlainMethod)
       → head_unplaced (head P R H mods name m k) ≡ head P R H mods name m k
@@ -220,6 +239,23 @@ module _ (P : Plain) (R : Renaming) (H : Hierarchy) where
   slot_head_is : (mods : List Modifier) → all_unplaced modifier_unplaced mods ≡ mods → (x : ℕ)
       → all_unplaced head_unplaced (slot_head P R H mods x) ≡ slot_head P R H mods x
   slot_head_is mods e x = over head_unplaced (first_head P R H mods) (first_head_is mods e) (slice_get P.slots x)
+
+  make_head_is : (n c m : ℕ) (k : PlainMethod) → head_unplaced (make_head P R H n c m k) ≡ make_head P R H n c m k
+  make_head_is n c m k = λ i. record (make_head P R H n c m k) {
+    params = each_is param_unplaced (λ j v. param P R H m k j v ∷ []) (λ j v. refl) 0 k.params i;
+  }
+
+  make_body_is : (n c m : ℕ) (k : PlainMethod) → stmts_unplaced (make_body P R H n c m k) ≡ make_body P R H n c m k
+  make_body_is n c m k = rw (passed_is k.params) refl
+
+  make_is : (n c m : ℕ) (k : PlainMethod) → all_unplaced member_unplaced (make_member P R H n c m k ∷ []) ≡ make_member P R H n c m k ∷ []
+  make_is n c m k = λ i. MethodTree (make_head_is n c m k i) (Some (make_body_is n c m k i)) nowhere ∷ []
+
+  makes_are : all_unplaced member_unplaced (make_members P R H) ≡ make_members P R H
+  makes_are = each_is member_unplaced (site_member P R H) (λ s z. when_is member_unplaced (z.ty.dim == 0) _
+      (over member_unplaced (maker_member P R H z.number z.ty.class.0)
+      (λ m. over member_unplaced (λ k. make_member P R H z.number z.ty.class.0 m k ∷ []) (make_is z.number z.ty.class.0 m) (slice_get P.methods m))
+      (maker_of P z.ty.class.0))) 0 (sites_of P)
 
   holder_is : (c : ℕ) → all_unplaced member_unplaced (holder_members P R H c) ≡ holder_members P R H c
   holder_is c =
@@ -268,12 +304,15 @@ module _ (P : Plain) (R : Renaming) (F : Facts) (H : Hierarchy) where
       when_is member_unplaced (is_filled F H n x) _
       (members_of (Some (filling s.result)) (ap Some (filling_is s.result)) _ (first_head_is P R H (modifier Public ∷ []) refl s))
 
+  slot_filler_is : (n x : ℕ) → all_unplaced member_unplaced (slot_filler P R F H n x) ≡ slot_filler P R F H n x
+  slot_filler_is n x = over member_unplaced (filler P R F H n x) (filler_is n x) (slice_get P.slots x)
+
   class_is : (items : List ColumnItem) (n : ℕ) → all_unplaced member_unplaced (class_members P R F H items n) ≡ class_members P R F H items n
   class_is items n =
       both member_unplaced _ _
       (each_is member_unplaced (λ c k. when (stands_at H n c) (column_members P R F H items n c k))
       (λ c k. when_is member_unplaced (stands_at H n c) _ (column_is items n c k)) 0 F.columns.items)
-      (each_is member_unplaced (filler P R F H n) (filler_is n) 0 P.slots)
+      (flat_is member_unplaced (slot_filler P R F H n) (slot_filler_is n) (filled_slots P))
 
   interface_is : (n : ℕ) → all_unplaced head_unplaced (interface_heads P R F H n) ≡ interface_heads P R F H n
   interface_is n = each_is head_unplaced (λ c k. when (stands_at H n c) (column_heads P R F H [] n c k))
@@ -303,8 +342,11 @@ unfolding java_tree
 without_places P F H =
     let R = renaming_of P H by_number in
     let items = map (λ c. c.item) (columns_of P) in
-    both decl_unplaced (type_trees P R F H items) (holder_trees P R H)
+    both decl_unplaced (type_trees P R F H items ++ holder_trees P R H) (makers_trees P R H)
+    (both decl_unplaced (type_trees P R F H items) (holder_trees P R H)
     (each_is decl_unplaced (λ n live. when live (type_tree P R F H items (is_class_node F H n) n ∷ []))
     (λ n live. when_is decl_unplaced live _ (ap (λ z. z ∷ []) (type_is P R F H items (is_class_node F H n) n))) 0 H.order.live)
     (each_is decl_unplaced (λ c k. when (is_holder P c) (holder_tree P R H c k ∷ []))
-    (λ c k. when_is decl_unplaced (is_holder P c) _ (λ i. ClassTree [] k.name None [] (holder_is P R H c i) nowhere ∷ [])) 0 P.classes)
+    (λ c k. when_is decl_unplaced (is_holder P c) _ (λ i. ClassTree [] k.name None [] (holder_is P R H c i) nowhere ∷ [])) 0 P.classes))
+    (over decl_unplaced (λ m. ClassTree [] m.holder None [] (make_members P R H) nowhere ∷ [])
+    (λ m. λ i. ClassTree [] m.holder None [] (makes_are P R H i) nowhere ∷ []) (makers_of P))

@@ -17,7 +17,7 @@ use Rattle.fact_model.specs.declared.facts.ColKind.TheVariants.{Fld}
 use Rattle.hier_model.specs.Hierarchies.{Hierarchy, node}
 use Rattle.flow_rules.specs.Operands.{type_in}
 use Rattle.flow_rules.specs.Parts.{parts_of}
-use Rattle.flow_rules.specs.Numbered.{rows_of, columns_of, row_number, column_number}
+use Rattle.flow_rules.specs.Numbered.{rows_of, columns_of, sites_of, bodies_of, row_number, column_number, site_number}
 use Rattle.flow_rules.specs.Facts.{numbers}
 use Rattle.rebuild_model.specs.Renaming.{renaming_of}
 use Rattle.write_model.specs.Names.{nowhere, id}
@@ -84,7 +84,8 @@ apart : (others : Facts) → java_tree (program sum) (facts others) three
     nowhere ∷ ClassTree [] (codes "P_2") None (id (codes "Object_0") ∷ []) (an_int (codes "b") ∷ []) nowhere
     ∷ shown_tree (codes "P_1") (codes "P_2") (BinaryOf marks.Plus (FieldOf (NameRef (codes "x") nowhere) (codes "a") nowhere)
     (FieldOf (NameRef (codes "y") nowhere) (codes "b") nowhere) nowhere) ∷ []
-unfolding java_tree renaming_of numbers rows_of row_number columns_of column_number parts_of type_in call_signature super_signature field_in
+unfolding java_tree renaming_of numbers rows_of row_number columns_of column_number sites_of bodies_of site_number parts_of type_in call_signature
+    super_signature field_in
     access_type below member_field field_of declaration_of search_order super_method
 apart others = refl
 
@@ -92,6 +93,7 @@ above : (others : Facts) → java_tree (program same) (facts others) two
     ≡ ClassTree [] (codes "P_0") None [] (an_int (codes "a") ∷ []) nowhere ∷ ClassTree [] (codes "P_1") (Some (id (codes "P_0"))) []
     (an_int (codes "b") ∷ []) nowhere
     ∷ shown_tree (codes "P_0") (codes "P_1") (BinaryOf marks.Equal (NameRef (codes "x") nowhere) (NameRef (codes "y") nowhere) nowhere) ∷ []
-unfolding java_tree renaming_of numbers rows_of row_number columns_of column_number parts_of type_in call_signature super_signature field_in
+unfolding java_tree renaming_of numbers rows_of row_number columns_of column_number sites_of bodies_of site_number parts_of type_in call_signature
+    super_signature field_in
     access_type below member_field field_of declaration_of search_order super_method
 above others = refl

@@ -1,7 +1,7 @@
 -- Believed. How a body is written: the forms are those of the old body; types are those of the rows' nodes, members
 -- have their new names.
 use Rattle.std.specs.Prelude.{ℕ, ◌==◌, ◌&&◌, Bool, true, false, not, List, [], ◌∷◌, ◌++◌, Option, Some, None, slice_get, option_and_then}
-use Rattle.std.specs.Option.{option_map_or}
+use Rattle.std.specs.Option.{is_some, option_map_or}
 use Rattle.std.specs.List.{list_any}
 use Rattle.std.specs.Str.{bytes_eq}
 use Rattle.java_tree.specs.Syntax as tree
@@ -10,12 +10,13 @@ use Rattle.java_core.specs.Trees.{Ex, Exs, no_ex, ex_then, number, character, te
 use Rattle.java_core.specs.Programs.{Plain, PlainMethod}
 use Rattle.java_core.specs.Formed.{variables_of}
 use Rattle.java_core.specs.Classes.{declaration_of, super_method}
+use Rattle.java_core.specs.Makers.{maker_of}
 use Rattle.java_core.specs.Types.{Static, class_of, field_in, env_of, static}
 use Rattle.hier_model.specs.Hierarchies.{Hierarchy}
 use Rattle.flow_rules.specs.declared.items.RowItem.TheVariants as row
 use Rattle.flow_rules.specs.Operands.{variable_row}
 use Rattle.rebuild_model.specs.Renaming.{Renaming}
-use Rattle.write_model.specs.Names.{nowhere, id, class_name, row_name, written_type, prefix_mark, infix_mark}
+use Rattle.write_model.specs.Names.{nowhere, id, makers_name, class_name, row_name, written_type, prefix_mark, infix_mark}
 
 -- a static member by its simple name, or by its holder's name and its own
 abbrev pub static_field_tree : Bool → List ℕ → List ℕ → Expression
@@ -26,6 +27,11 @@ static_field_tree false holder x = FieldOf (NameRef holder nowhere) x nowhere
 abbrev pub static_call_tree : Bool → List ℕ → List ℕ → Expressions → Expression
 static_call_tree true holder x es = CallOf x es nowhere
 static_call_tree false holder x es = CallOn (NameRef holder nowhere) x es nowhere
+
+-- a creation; where the class has a constructor, a call of the method that makes its objects, in the holder of these
+abbrev pub creation_tree : Bool → List ℕ → List ℕ → List ℕ → Expressions → Expression
+creation_tree true holder make class es = CallOn (NameRef holder nowhere) make es nowhere
+creation_tree false holder make class es = NewOf (id class) es nowhere
 
 -- a loop is written with its own word: a `while`, which has a test and neither first nor last part, as a `while`
 abbrev pub loop_tree : Bool → OptionalStatement → Option Expression → OptionalStatement → Statements → Statement
@@ -100,7 +106,8 @@ module _ (P : Plain) (R : Renaming) (H : Hierarchy) (m : ℕ) (k : PlainMethod) 
     written scope (call t e x es) = CallOn (written scope e) (called_name (static P (env_of m k) e) x) (written_all scope es) nowhere
     written scope (static_call t d es) = static_call_name P k scope d (written_all scope es)
     written scope (super_call t x es) = SuperCallOf (super_name x) (written_all scope es) nowhere
-    written scope (create t n c es) = NewOf (id (row_name P H (R.row_type (row.New n)) c)) (written_all scope es) nowhere
+    written scope (create t n c es) = creation_tree (is_some (maker_of P c)) (makers_name P) (R.make_name n) (row_name P H (R.row_type (row.New n)) c)
+        (written_all scope es)
     written scope (create_array t n v e) = NewArrayOf (written_type P H (R.row_type (row.New n)) v) (written scope e) nowhere
     written scope (cast t n v e) = CastOf (written_type P H (R.row_type (row.Cast n)) v) (written scope e) nowhere
     written scope (instance_of t n e c) = InstanceOfClass (written scope e) (id (row_name P H (R.row_type (row.Test n)) c)) nowhere

@@ -1,15 +1,19 @@
 -- Believed. The members that the type of a node has, and those of a holder.
 use Rattle.std.specs.Prelude.{pos, ℕ, zero, suc, ◌==◌, ◌&&◌, Bool, true, false, not, List, [], ◌∷◌, ◌++◌, map, Option, Some, None, slice_get}
 use Rattle.std.specs.Option.{option_map, option_map_or}
+use Rattle.std.specs.List.{flat_map}
 use Rattle.kaba_base.specs.declared.words.Keyword.TheVariants.{Public, Abstract, Static}
 use Rattle.java_tree.specs.declared.Modifier.{Modifier}
 use Rattle.java_tree.specs.declared.TypeBase.TheVariants as base
 use Rattle.java_tree.specs.declared.Param.{Param}
-use Rattle.java_tree.specs.Syntax.{Expression, IntLit, BoolLit, NullLit, CastOf, ReturnOf, Statements, no_statements, and_then, HeadTree, MemberTree, FieldTree, MethodTree}
+use Rattle.java_tree.specs.declared.TypeName.{TypeName}
+use Rattle.java_tree.specs.Syntax.{Expression, IntLit, BoolLit, NullLit, NameRef, CallOn, NewOf, CastOf, LocalOf, DoOf, ReturnOf, Expressions, no_more, and_more, Statements, no_statements, and_then, HeadTree, MemberTree, FieldTree, MethodTree}
 use Rattle.java_core.specs.declared.Ty.{Ty}
 use Rattle.java_core.specs.declared.TyBase.{TyBase}
 use Rattle.java_core.specs.declared.TyBase.TheVariants.{Int, Boolean, Char, Str, Class}
 use Rattle.java_core.specs.Programs.{Plain, PlainField, PlainLocal, PlainMethod, PlainSlot}
+use Rattle.java_core.specs.Makers.{maker_of, maker_slot}
+use Rattle.java_core.specs.Types.{class_type}
 use Rattle.fact_model.specs.declared.facts.Facts.{Facts}
 use Rattle.fact_model.specs.declared.facts.ColumnInfo.{ColumnInfo}
 use Rattle.fact_model.specs.declared.facts.ColKind.{ColKind}
@@ -20,11 +24,14 @@ use Rattle.hier_model.specs.Hierarchies.{Hierarchy, stands_at, any_below}
 use Rattle.flow_rules.specs.declared.items.ColumnItem.{ColumnItem}
 use Rattle.flow_rules.specs.declared.items.ColumnItem.TheVariants as column
 use Rattle.flow_rules.specs.declared.items.RowItem.TheVariants as row
+use Rattle.flow_rules.specs.declared.items.Site.{Site}
+use Rattle.flow_rules.specs.Numbered.{sites_of}
+use Rattle.flow_rules.specs.Facts.{is_marked}
 use Rattle.flow_rules.specs.Ordered.{each, when}
 use Rattle.flow_rules.specs.Operands.{variable_row, result_in}
 use Rattle.rebuild_model.specs.Renaming.{Renaming}
 use Rattle.rebuild_model.specs.Members.{is_headed, is_filled}
-use Rattle.write_model.specs.Names.{nowhere, modifier, written_type}
+use Rattle.write_model.specs.Names.{nowhere, id, modifier, makers_local, row_name, written_type}
 use Rattle.write_model.specs.Bodies.{written_sts}
 
 -- whether a column of this kind is the declaration of a method
@@ -54,6 +61,16 @@ filling (Some t) = and_then (ReturnOf (Some (value_of_none t.base t.dim)) nowher
 abbrev pub parameters : ℕ → List PlainLocal → List ℕ
 parameters i [] = []
 parameters i (v ∷ vs) = i ∷ parameters (suc i) vs
+
+-- the parameters of a method, as arguments
+abbrev pub passed : List PlainLocal → Expressions
+passed [] = no_more
+passed (v ∷ vs) = and_more (NameRef v.name nowhere) (passed vs)
+
+-- the slots in the order in which they are filled in: those of constructors behind the others, by class
+abbrev pub filled_slots : Plain → List ℕ
+filled_slots P = each (λ x s. when (not (is_marked s.name)) (x ∷ [])) 0 P.slots
+    ++ each (λ c k. option_map_or (λ x. x ∷ []) (maker_slot P c) []) 0 P.classes
 
 module _ (P : Plain) (R : Renaming) (H : Hierarchy) where
   -- a parameter of a method, with the type of its row's node and its old name
@@ -100,6 +117,43 @@ module _ (P : Plain) (R : Renaming) (H : Hierarchy) where
   static_method_member c m k = when (k.is_static && (k.owner == c)) (MethodTree (head (modifier Public ∷ modifier Static ∷ []) k.name m k)
       (body m k) nowhere ∷ [])
 
+  -- the type of the objects of a creation of a class
+  abbrev pub object_type : ℕ → ℕ → TypeName
+  object_type n c = written_type P H (R.row_type (row.New n)) (class_type c)
+
+  -- the head of the method that makes the objects of a creation: it takes what the constructor takes
+  abbrev pub make_head : ℕ → ℕ → ℕ → PlainMethod → HeadTree
+  make_head n c m k = record {
+    mods = modifier Public ∷ modifier Static ∷ [];
+    type = Some (object_type n c);
+    name = R.make_name n;
+    params = each (λ i v. param m k i v ∷ []) 0 k.params;
+    place = nowhere;
+  }
+
+  -- its body: the object is created and kept, the method that the constructor is written as is called on it, and it is given back
+  abbrev pub make_body : ℕ → ℕ → ℕ → PlainMethod → Statements
+  make_body n c m k =
+      let made = NameRef (makers_local P) nowhere in
+      and_then (LocalOf false (object_type n c) (makers_local P) (Some (NewOf (id (row_name P H (R.row_type (row.New n)) c)) no_more nowhere)) nowhere)
+      (and_then (DoOf (CallOn made (R.method_name m) (passed k.params) nowhere) nowhere) (and_then (ReturnOf (Some made) nowhere) no_statements))
+
+  -- that method, for a creation of the class c with the constructor m
+  abbrev pub make_member : ℕ → ℕ → ℕ → PlainMethod → MemberTree
+  make_member n c m k = MethodTree (make_head n c m k) (Some (make_body n c m k)) nowhere
+
+  -- the one for a class that has a constructor, as a list
+  abbrev pub maker_member : ℕ → ℕ → ℕ → List MemberTree
+  maker_member n c m = option_map_or (λ k. make_member n c m k ∷ []) (slice_get P.methods m) []
+
+  -- that of a site, where objects of a class with a constructor are created
+  abbrev pub site_member : ℕ → Site → List MemberTree
+  site_member s z = when (z.ty.dim == 0) (option_map_or (maker_member z.number z.ty.class.0) (maker_of P z.ty.class.0) [])
+
+  -- the methods that make objects, by site
+  abbrev pub make_members : List MemberTree
+  make_members = each site_member 0 (sites_of P)
+
   -- the fields, then the methods, each in the order of the program
   abbrev pub holder_members : ℕ → List MemberTree
   holder_members c = each (static_field_member c) 0 P.fields ++ each (static_method_member c) 0 P.methods
@@ -138,9 +192,13 @@ module _ (P : Plain) (R : Renaming) (F : Facts) (H : Hierarchy) where
   abbrev pub filler : ℕ → ℕ → PlainSlot → List MemberTree
   filler n x s = when (is_filled F H n x) (map (λ h. MethodTree h (Some (filling s.result)) nowhere) (first_head P R H (modifier Public ∷ []) s))
 
+  -- that of a slot by its number
+  abbrev pub slot_filler : ℕ → ℕ → List MemberTree
+  slot_filler n x = option_map_or (filler n x) (slice_get P.slots x) []
+
   -- the members of a class by column, then the fillers by slot; and the heads of an interface by column. The items say what the columns are
   abbrev pub class_members : List ColumnItem → ℕ → List MemberTree
-  class_members items n = each (λ c k. when (stands_at H n c) (column_members items n c k)) 0 F.columns.items ++ each (filler n) 0 P.slots
+  class_members items n = each (λ c k. when (stands_at H n c) (column_members items n c k)) 0 F.columns.items ++ flat_map (slot_filler n) (filled_slots P)
 
   -- the heads of an interface, by the columns that stand at its node
   abbrev pub interface_heads : ℕ → List HeadTree

@@ -21,6 +21,7 @@ use Rattle.java_core.specs.declared.Op.{Op}
 use Rattle.java_core.specs.declared.Op.TheVariants as op
 use Rattle.java_core.specs.Programs.{Plain}
 use Rattle.hier_model.specs.Hierarchies.{Hierarchy, type_name}
+use Rattle.flow_rules.specs.Facts.{makers_of}
 use Rattle.rebuild_model.specs.Renaming.{Places}
 
 -- what is written has no place in a text
@@ -37,7 +38,14 @@ modifier k = record { word = k; place = nowhere }
 
 -- each node and each holder by its own number
 abbrev pub by_number : Places
-by_number = record { type_of = λ n. n; holder_of = λ c. c }
+by_number = record { type_of = λ n. n; holder_of = λ c. c; makers = 0 }
+
+-- the names of the holder of the methods that make objects, and of the local in each
+abbrev pub makers_name : Plain → List ℕ
+makers_name P = option_map_or (λ m. m.holder) (makers_of P) []
+
+abbrev pub makers_local : Plain → List ℕ
+makers_local P = option_map_or (λ m. m.local) (makers_of P) []
 
 -- the name of a class of the program
 abbrev pub class_name : Plain → ℕ → List ℕ

@@ -1,7 +1,8 @@
 -- Believed. The program that is written of a class hierarchy (after Streckenbach and Snelting, 2004): a type for each
 -- live node, and then the holders of the
--- static members.
+-- static members, and that of the methods that make objects.
 use Rattle.std.specs.Prelude.{ℕ, Bool, true, false, List, [], ◌∷◌, ◌++◌, map, None}
+use Rattle.std.specs.Option.{option_map_or}
 use Rattle.kaba_base.specs.declared.words.Keyword.TheVariants.{Abstract}
 use Rattle.java_tree.specs.declared.Modifier.{Modifier}
 use Rattle.java_tree.specs.Syntax.{DeclTree, ClassTree, InterfaceTree}
@@ -11,12 +12,12 @@ use Rattle.hier_model.specs.Hierarchies.{Hierarchy, type_name, is_class_node}
 use Rattle.flow_rules.specs.declared.items.ColumnItem.{ColumnItem}
 use Rattle.flow_rules.specs.Ordered.{each, when}
 use Rattle.flow_rules.specs.Numbered.{columns_of}
-use Rattle.flow_rules.specs.Facts.{is_holder}
+use Rattle.flow_rules.specs.Facts.{is_holder, makers_of}
 use Rattle.rebuild_model.specs.Renaming.{Renaming, renaming_of}
 use Rattle.rebuild_model.specs.Members.{is_made_at}
 use Rattle.write_model.specs.Names.{nowhere, modifier, by_number}
 use Rattle.write_model.specs.Supers.{extended, implemented, covering}
-use Rattle.write_model.specs.Members.{class_members, interface_heads, holder_members}
+use Rattle.write_model.specs.Members.{class_members, interface_heads, make_members, holder_members}
 
 -- a class where no object is created is abstract
 abbrev pub class_modifiers : Bool → List Modifier
@@ -50,9 +51,13 @@ module _ (P : Plain) (R : Renaming) (H : Hierarchy) where
   abbrev pub holder_trees : List DeclTree
   holder_trees = each (λ c k. when (is_holder P c) (holder_tree c k ∷ [])) 0 P.classes
 
+  -- and behind them that of the methods that make objects, where there are some
+  abbrev pub makers_trees : List DeclTree
+  makers_trees = option_map_or (λ m. ClassTree [] m.holder None [] (make_members P R H) nowhere ∷ []) (makers_of P) []
+
 -- the types and then the holders, by the new names and the items of the columns
 abbrev pub written_by : Plain → Renaming → Facts → Hierarchy → List ColumnItem → List DeclTree
-written_by P R F H items = type_trees P R F H items ++ holder_trees P R H
+written_by P R F H items = type_trees P R F H items ++ holder_trees P R H ++ makers_trees P R H
 
 -- the rows and columns have the numbers that the facts give them
 unfoldable pub java_tree : Plain → Facts → Hierarchy → List DeclTree

@@ -1,9 +1,9 @@
 -- What a written expression resolves to matches the old one.
 use Rattle.std.proofs.Common.{◌≡◌, ℕ, ◌+◌, List, [], ◌∷◌, ◌++◌, Option, Some, None, refl, sym, ap, ◌∙◌, subst}
-use Rattle.std.specs.Prelude.{◌&&◌, Bool, true, false, not, slice_get, Contains, option_and_then}
+use Rattle.std.specs.Prelude.{◌&&◌, Bool, true, false, not, slice_get, Contains, option_and_then, ◌==◌, ◌||◌}
 use Rattle.std.specs.Option.{option_map_or, is_some, is_none}
 use Rattle.std.proofs.lemmas.Bool.{false≢true}
-use Rattle.java_tree.specs.Syntax.{Expression, NullLit, Expressions}
+use Rattle.java_tree.specs.Syntax.{Expression, NullLit, Expressions, no_more, NameRef, CallOn}
 use Rattle.java_core.specs.declared.Ty.{Ty}
 use Rattle.java_core.specs.declared.TyBase.{TyBase}
 use Rattle.java_core.specs.declared.TyBase.TheVariants.{Class}
@@ -25,19 +25,23 @@ use Rattle.flow_laws.proofs.cover.Types.{class_apart, slot_called}
 use Rattle.name_rules.specs.declared.parts.Bound.{Bound}
 use Rattle.name_rules.specs.declared.parts.Here.{Here}
 use Rattle.name_rules.specs.Meanings.{class_named, is_bound, bound_names, is_class_name}
-use Rattle.name_rules.specs.Resolves.{ResolvesTo, AllResolve, r_number, r_character, r_text, r_truth, r_null, r_this, r_field, r_index, r_super_call, r_create, r_create_array, r_cast, r_instance_of, r_unary, r_binary, r_no_more, r_and_more}
-use Rattle.write_model.specs.Names.{nowhere, by_number, class_name, row_name}
-use Rattle.write_model.specs.Bodies.{variable_name, is_simple, static_field_tree, static_call_tree, field_name, called_name, written, written_all}
-use Rattle.rebuild_model.specs.Renaming.{Places, Renaming, renaming_of, retyped}
-use Rattle.rebuild_model.specs.Matches.{Matches, MatchesAll, m_number, m_character, m_text, m_truth, m_null, m_this, m_local, m_static_field, m_own_field, m_field, m_length, m_index, m_call, m_string_call, m_static_call, m_super_call, m_create, m_create_array, m_cast, m_instance_of, m_unary, m_binary, m_no_ex, m_ex_then}
+use Rattle.name_rules.specs.Resolves.{ResolvesTo, AllResolve, r_number, r_character, r_text, r_truth, r_null, r_this, r_field, r_index, r_super_call, r_create_array, r_cast, r_instance_of, r_unary, r_binary, r_no_more, r_and_more}
+use Rattle.write_model.specs.Names.{nowhere, by_number, class_name, row_name, id, makers_name}
+use Rattle.write_model.specs.Bodies.{variable_name, is_simple, static_field_tree, static_call_tree, field_name, called_name, written, written_all, creation_tree}
+use Rattle.rebuild_model.specs.Renaming.{Places, Renaming, renaming_of, retyped, make_name}
+use Rattle.rebuild_model.specs.Matches.{Matches, MatchesAll, m_number, m_character, m_text, m_truth, m_null, m_this, m_local, m_static_field, m_own_field, m_field, m_length, m_index, m_call, m_string_call, m_static_call, m_super_call, m_create, m_create_array, m_cast, m_instance_of, m_unary, m_binary, m_no_ex, m_ex_then, m_make}
 use Rattle.write_laws.specs.bodies.Known.{KnowsNames}
 use Rattle.write_laws.proofs.bodies.Scopes.{bound_if, Scoped}
 use Rattle.write_laws.proofs.bodies.Meant.{prefix_read, infix_read, HasNode, means_is, cast_is}
-use Rattle.write_laws.proofs.bodies.Inverse.{at_local, at_field, at_call}
+use Rattle.write_laws.proofs.bodies.Inverse.{at_local, at_field, at_call, at_create}
 use Rattle.write_laws.proofs.bodies.Found as found
 use Rattle.write_laws.proofs.bodies.Found.{own_nearest, row_type_is, field_name_is, method_name_is}
 use Rattle.flow_laws.proofs.cover.Walked.{walked}
 use Rattle.flow_laws.proofs.cover.Each.{left, right, past}
+use Rattle.write_laws.proofs.bodies.Sites.{creation_part, object_site}
+use Rattle.java_core.specs.Makers.{maker_of}
+use Rattle.flow_rules.specs.declared.items.ObjectType.{ObjectType}
+use Rattle.rebuild_model.specs.Makes.{IsMake}
 
 none_field : (b : Bool) (o : Option ℕ) (f : ℕ) → o ≡ Some f → (not b && is_none o) ≡ false
 none_field true o f e = refl
@@ -85,11 +89,10 @@ module _ (P : Plain) (H : Hierarchy) (U O : Plain) (T : Places) (K : KnowsNames 
   front p qs st = st p (first p qs)
 
   -- rows of creations, casts and `instanceof`
-  object_row : (t : Tag) (u : Bool) (n c : ℕ) (es : Exs) → Contains (parts_of P m k)
-      (a_creation t.place u (operand_of P (type_in P m k) m k (create t n c es))) → HasRow (row.New n)
+  object_row : (t : Tag) (u : Bool) (n c : ℕ) (es : Exs) → Contains (parts_of P m k) (creation_part P m k t.place u t n c es) → HasRow (row.New n)
   unfolding type_in
   object_row t u n c es i =
-      found.form_has P H U O T K formed m k stands (a_creation t.place u (operand_of P (type_in P m k) m k (create t n c es))) t.place (row.New n)
+      found.form_has P H U O T K formed m k stands (creation_part P m k t.place u t n c es) t.place (row.New n)
       (type (create t n c es)) (record { class = record { 0 = c }; dim = 0 }) i refl (λ x d. d)
 
   test_row : (t : Tag) (n c : ℕ) (e : Ex) → Contains (parts_of P m k) (a_test t.place (operand_of P (type_in P m k) m k e) (test_operand m t n c))
@@ -102,11 +105,11 @@ module _ (P : Plain) (H : Hierarchy) (U O : Plain) (T : Places) (K : KnowsNames 
   has_node i b h c e = let r = h c e in (r.node, r.is, r.live)
 
   array_node : (t : Tag) (u : Bool) (n : ℕ) (v : Ty) (e : Ex) → Contains (parts_of P m k)
-      (a_creation t.place u (operand_of P (type_in P m k) m k (create_array t n v e)))
+      (a_creation t.place u (operand_of P (type_in P m k) m k (create_array t n v e)) None None [])
       → HasNode O P H T K.type K.no_text (by_node.row_type (row.New n)) v.base
   unfolding type_in
   array_node t u n v e i = has_node (row.New n) v.base (λ c b.
-      found.form_has P H U O T K formed m k stands (a_creation t.place u (operand_of P (type_in P m k) m k (create_array t n v e))) t.place
+      found.form_has P H U O T K formed m k stands (a_creation t.place u (operand_of P (type_in P m k) m k (create_array t n v e)) None None []) t.place
       (row.New n) (type (create_array t n v e)) (record { class = c; dim = v.dim })
       i (ap (λ z. object_of (record { base = z; dim = v.dim })) b) (λ x d. d))
 
@@ -118,6 +121,13 @@ module _ (P : Plain) (H : Hierarchy) (U O : Plain) (T : Places) (K : KnowsNames 
       found.form_has P H U O T K formed m k stands (a_test t.place (operand_of P (type_in P m k) m k e)
       (operand_of P (type_in P m k) m k (cast t n v e))) t.place (row.Cast n) (type (cast t n v e)) (record { class = c; dim = v.dim })
       i (ap (λ z. object_of (record { base = z; dim = v.dim })) b) (λ x d. d))
+
+  none_matched : {bs : List Bound} (xs : Exs) → AllResolve O here bs no_more xs → MatchesAll P U R g no_ex xs
+  none_matched _ r_no_more = m_no_ex
+
+  make_called : (n : ℕ) → by_node.make_name n ≡ make_name P n
+  unfolding renaming_of
+  make_called n = refl
 
   -- the class that a written name of a row means
   row_class : (i : RowItem) (c a : ℕ) → HasRow i → class_named O (row_name P H (by_node.row_type i) c) ≡ Some a → R.row_type i ≡ Some a
@@ -211,6 +221,12 @@ module _ (P : Plain) (H : Hierarchy) (U O : Plain) (T : Places) (K : KnowsNames 
             (written_all P by_node H m k scope es)) o (NullLit nowhere)) ≡ false
         go None = refl
         go (Some g) = tree_free (is_simple k scope g.owner g.name) (class_name P g.owner) g.name (written_all P by_node H m k scope es)
+    no_class (create t n c es) fo = creation_free (is_some (maker_of P c)) (makers_name P) (by_node.make_name n)
+        (row_name P H (by_node.row_type (row.New n)) c) (written_all P by_node H m k scope es)
+      where
+        creation_free : (b : Bool) (x y z : List ℕ) (ts : Expressions) → is_class_name O here.owner (bound_names bs) (creation_tree b x y z ts) ≡ false
+        creation_free true x y z ts = refl
+        creation_free false x y z ts = refl
     no_class e fo = refl
 
     mutual
@@ -249,13 +265,28 @@ module _ (P : Plain) (H : Hierarchy) (U O : Plain) (T : Places) (K : KnowsNames 
           subst (λ z. Matches P U R g (super_call t x es) (super_call w z ds))
           (sym (ap (λ z. option_map_or by_node.method_name z x) there ∙ method_name_is P H T f))
           (m_super_call there (matched_all false (at + 1) es ds _ args fes (past _ _ st) all))
-      matched u at (create t n c no_ex) d (t_create v x) fo st (r_create {i = i} {k = a} named r_no_more) =
-          m_create (row_class (row.New n) c a (object_row (labelled at t) u n c no_ex (front _ [] st)) named) m_no_ex
-      matched u at (create t n c es) d (t_make v x called args) (f_create y fes) st (r_create {xs = ds} {i = i} {k = a} named all) =
+      matched u at (create t n c no_ex) d (t_create v none) fo st r =
+          let z = at_create O here bs (id (row_name P H (by_node.row_type (row.New n)) c)) no_more nowhere d
+          (subst (λ b. To (creation_tree b (makers_name P) (by_node.make_name n) (row_name P H (by_node.row_type (row.New n)) c) no_more) d)
+          (ap is_some none) r) in
+          subst (λ y. Copies (create t n c no_ex) y) (sym z.5)
+          (m_create none (row_class (row.New n) c z.1 (object_row (labelled at t) (u || is_some (maker_of P c)) n c no_ex (front _ [] st)) z.3)
+          (none_matched z.2 z.4))
+      matched u at (create t n c es) d (t_make {m = j} v has called args) (f_create y fes) st r =
           let labels = label_all (at + 1) es in
-          let rest = tree_all false labels in
-          m_create (row_class (row.New n) c a (object_row (labelled at t) u n c labels (front _ rest st)) named)
-          (matched_all false (at + 1) es ds _ args fes (past _ rest st) all)
+          let rest = tree_all (is_some (maker_of P c)) labels in
+          let x = object_site P formed m k stands (labelled at t).place (u || is_some (maker_of P c)) (labelled at t) n c labels (front _ rest st) in
+          let of : maker_of P x.site.ty.class.0 ≡ Some j = ap (λ (o : ObjectType). maker_of P o.class.0) x.type ∙ has in
+          let z = found.make_met P H U O T K formed m k stands here static_here owner inner scope bs s x.number j x.site x.stands
+          (ap (λ (o : ObjectType). o.dim == 0) x.type) of (written_all P by_node H m k scope es) d
+          (subst (λ q. To (CallOn (NameRef (makers_name P) nowhere) q (written_all P by_node H m k scope es) nowhere) d)
+          (make_called n ∙ ap (make_name P) (sym x.is))
+          (subst (λ b. To (creation_tree b (makers_name P) (by_node.make_name n) (row_name P H (by_node.row_type (row.New n)) c)
+          (written_all P by_node H m k scope es)) d)
+          (ap is_some has) r)) in
+          subst (λ y. Copies (create t n c es) y) (sym z.4)
+          (m_make has (subst (λ q. IsMake P U R q j z.0) x.is z.2)
+          (matched_all (is_some (maker_of P c)) (at + 1) es z.1 _ args fes (past _ rest st) z.3))
       matched u at (create_array t n v e) d (t_create_array te num) (f_create_array known deep fe) st (r_create_array {t = v2} {x = x} {i = i} means re) =
           subst (λ z. Matches P U R g (create_array t n v e) (create_array w i z x))
           (sym (means_is O P H T K.type K.no_text (by_node.row_type (row.New n)) v v2 (array_node (labelled at t) u n v (label (at + 1) e) (front _ _ st)) means

@@ -1,7 +1,7 @@
 -- What the names of a body find: rows, holders and static members.
 use Rattle.std.proofs.Common.{◌≡◌, ℕ, List, [], ◌∷◌, Option, Some, None, length, refl, sym, ap, ◌∙◌, subst}
-use Rattle.std.specs.Prelude.{◌&&◌, not, eqb, Bool, true, false, slice_get, Contains}
-use Rattle.std.specs.Option.{option_map, option_map_or}
+use Rattle.std.specs.Prelude.{◌&&◌, not, eqb, Bool, true, false, slice_get, Contains, ◌==◌}
+use Rattle.std.specs.Option.{option_map, option_map_or, is_some}
 use Rattle.std.specs.List.{list_any}
 use Rattle.std.specs.Str.{bytes_eq}
 use Rattle.std.proofs.lemmas.Bool.{and_parts, eqb-true, or_from, not-true}
@@ -9,7 +9,7 @@ use Rattle.std.proofs.lemmas.Option.{same_Some, slice_get_within, get_or_from_sl
 use Rattle.std.proofs.lemmas.Slice.Eq.{bytes_eq-Decides}
 use Rattle.kaba_base.specs.declared.Place.{Place}
 use Rattle.kaba_base.specs.declared.ClassId.{ClassId}
-use Rattle.java_tree.specs.Syntax.{Expression, NullLit, NameRef, Expressions}
+use Rattle.java_tree.specs.Syntax.{Expression, NullLit, NameRef, Expressions, CallOn}
 use Rattle.java_core.specs.declared.TyBase.TheVariants.{Class}
 use Rattle.java_core.specs.Trees.{at_place, Ex, Exs, static_field, static_call}
 use Rattle.java_core.specs.Programs.{Plain, PlainClass, PlainField, PlainMethod, PlainLocal}
@@ -25,9 +25,9 @@ use Rattle.flow_rules.specs.declared.items.Row.{Row}
 use Rattle.flow_rules.specs.Operands.{object_if, variable_row}
 use Rattle.flow_rules.specs.Types.{variable_object}
 use Rattle.flow_rules.specs.Parts.{Part, parts_of}
-use Rattle.flow_rules.specs.Numbered.{row_if, form_rows, row_number}
-use Rattle.flow_rules.specs.Facts.{is_holder, numbers}
-use Rattle.flow_rules.proofs.Listed.{one}
+use Rattle.flow_rules.specs.Numbered.{row_if, form_rows, row_number, sites_of}
+use Rattle.flow_rules.specs.Facts.{is_holder, numbers, PlainMakers, makers_of}
+use Rattle.flow_rules.proofs.Listed.{one, contains_at}
 use Rattle.flow_laws.proofs.cover.HasNumbers.{form_row}
 use Rattle.flow_laws.proofs.cover.HasRows.{variable_row_of}
 use Rattle.flow_laws.proofs.cover.Found.{nearest_some}
@@ -35,14 +35,18 @@ use Rattle.name_rules.specs.declared.parts.Bound.{Bound}
 use Rattle.name_rules.specs.declared.parts.Here.{Here}
 use Rattle.name_rules.specs.Meanings.{in_scope}
 use Rattle.name_rules.specs.Resolves.{ResolvesTo, AllResolve}
-use Rattle.write_model.specs.Names.{nowhere, by_number, class_name}
+use Rattle.write_model.specs.Names.{nowhere, by_number, class_name, makers_name}
 use Rattle.write_model.specs.Bodies.{is_named, is_in_scope, is_simple, static_field_tree, static_call_tree, static_field_name, static_call_name}
-use Rattle.rebuild_model.specs.Renaming.{Places, Renaming, renaming_of}
+use Rattle.rebuild_model.specs.Renaming.{Places, Renaming, renaming_of, make_name}
 use Rattle.rebuild_model.specs.Matches as copy
 use Rattle.rebuild_laws.proofs.looks.Fields.{field_holder, method_holder}
 use Rattle.write_laws.specs.bodies.Known.{KnowsNames}
 use Rattle.write_laws.proofs.bodies.Scopes.{Scoped}
 use Rattle.write_laws.proofs.bodies.Inverse.{no_variable, at_static, at_class_field, at_own_call, at_class_call}
+use Rattle.flow_rules.specs.declared.items.Site.{Site}
+use Rattle.rebuild_model.specs.Makes.{IsMake}
+use Rattle.java_core.specs.Makers.{maker_of}
+use Rattle.write_laws.proofs.rebuilds.Fixed.{holder_no_word, variable_word, makers_there}
 
 none_any : (p : ℕ → Bool) (xs : List ℕ) → ((i : ℕ) → p i ≡ false) → list_any p xs ≡ false
 none_any p [] h = refl
@@ -150,6 +154,35 @@ module _ (P : Plain) (H : Hierarchy) (U O : Plain) (T : Places) (K : KnowsNames 
       no_name c h e holds d r =
           no_variable O here bs (class_name P c) nowhere d (s.absent (class_name P c) (class_free c h scope e))
           (no_field_of O here.owner (class_name P c) (λ f k ef. K.no_field c f k holds ef)) r
+
+      -- nor does the name of the holder of the methods that make objects
+      makers_free : (mk : PlainMakers) → makers_of P ≡ Some mk → (scope : List ℕ) → is_in_scope k scope (makers_name P) ≡ false
+      makers_free mk me scope = none_any (is_named k (makers_name P)) scope (λ i. go i (slice_get (variables_of k) i) refl)
+        where
+          go : (i : ℕ) (o : Option PlainLocal) → slice_get (variables_of k) i ≡ o → option_map_or (λ v. bytes_eq v.name (makers_name P)) o false ≡ false
+          go i None f = refl
+          go i (Some v) f = same (bytes_eq v.name (makers_name P)) refl
+            where
+              same : (b : Bool) → bytes_eq v.name (makers_name P) ≡ b → b ≡ false
+              same false g = refl
+              same true g =
+                  absurd (holder_no_word P formed mk me v.name (variable_word P formed m k v stands (contains_at (variables_of k) i v f))
+                  (sym (ap (λ o. option_map_or (λ (z : PlainMakers). z.holder) o []) me) ∙ sym ((bytes_eq-Decides v.name (makers_name P)).0 g)))
+
+      no_makers_name : (mk : PlainMakers) → makers_of P ≡ Some mk → (d : Ex) → ResolvesTo O here bs (NameRef (makers_name P) nowhere) d → ⊥
+      no_makers_name mk me d r =
+          no_variable O here bs (makers_name P) nowhere d (s.absent (makers_name P) (makers_free mk me scope))
+          (no_field_of O here.owner (makers_name P) (λ f k ef. K.makers_no_field f k (ap is_some me) ef)) r
+
+      -- the call of the method that makes the objects of a site
+      pub make_met : (s m : ℕ) (x : Site) → slice_get (sites_of P) s ≡ Some x → (x.ty.dim == 0) ≡ true → maker_of P x.ty.class.0 ≡ Some m
+          → (es : Expressions) (d : Ex) → ResolvesTo O here bs (CallOn (NameRef (makers_name P) nowhere) (make_name P x.number) es nowhere) d
+          → (h : ℕ) × (xs : Exs) × IsMake P U (renaming_of P H T) x.number m h × AllResolve O here bs es xs × (d ≡ static_call (at_place nowhere) h xs)
+      make_met s m x e object has es d r =
+          let mk = makers_there P formed s (record { site = x; stands = e; object = object; maker = m; has = has }) in
+          let z = at_class_call O here bs (makers_name P) (make_name P x.number) es nowhere nowhere T.makers d (K.makers (ap is_some mk.1))
+          (no_makers_name mk.0 mk.1) r in
+          (z.0, z.1, K.make s m z.0 x z.2.member e object has z.2.stands z.2.owner z.2.name, z.3, z.4)
 
       -- what is simply named
       pub record IsSimple (c : ℕ) (x : List ℕ) : Type 0 where

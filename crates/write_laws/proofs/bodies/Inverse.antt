@@ -4,15 +4,16 @@ use Rattle.std.specs.Prelude.{true, false}
 use Rattle.std.proofs.lemmas.Bool.{false≢true}
 use Rattle.std.proofs.lemmas.Option.{same_Some}
 use Rattle.kaba_base.specs.declared.Place.{Place}
-use Rattle.java_tree.specs.Syntax.{Expression, NameRef, FieldOf, CallOf, CallOn, Expressions}
-use Rattle.java_core.specs.Trees.{at_place, Ex, Exs, local, static_field, field, call, static_call}
+use Rattle.java_tree.specs.Syntax.{Expression, NameRef, FieldOf, CallOf, CallOn, Expressions, NewOf}
+use Rattle.java_core.specs.Trees.{at_place, Ex, Exs, local, static_field, field, call, static_call, create}
 use Rattle.java_core.specs.Programs.{Plain, PlainField, PlainMethod}
 use Rattle.java_core.specs.Classes.{field_of}
 use Rattle.name_rules.specs.declared.parts.Bound.{Bound}
 use Rattle.name_rules.specs.declared.parts.Here.{Here}
 use Rattle.name_rules.proofs.FirstMethods.{first-met}
 use Rattle.name_rules.specs.Meanings.{class_named, in_scope, bound_names, is_class_name, IsStaticFieldOf, IsStaticMethodOf, IsNearestField, IsMet}
-use Rattle.name_rules.specs.Resolves.{ResolvesTo, AllResolve, r_local, r_static_field, r_own_field, r_class_field, r_field, r_own_static_call, r_own_call, r_static_call, r_call}
+use Rattle.name_rules.specs.Resolves.{ResolvesTo, AllResolve, r_local, r_static_field, r_own_field, r_class_field, r_field, r_own_static_call, r_own_call, r_static_call, r_call, r_create}
+use Rattle.java_tree.specs.declared.Id.{Id}
 
 module _ (O : Plain) (here : Here) (bs : List Bound) where
   abbrev To : Expression → Ex → Type 0
@@ -40,6 +41,11 @@ module _ (O : Plain) (here : Here) (bs : List Bound) where
   at_static n p d e s (r_local h) = absurd (let z = sym h ∙ e in cc)
   at_static n p d e s (r_static_field {f = f} {k = k} h g t o) = record { number = f; member = k; nearest = g; is = refl }
   at_static n p d e s (r_own_field h g t o) = absurd (false≢true (sym o ∙ s))
+
+  -- a creation
+  pub at_create : (c : Id) (es : Expressions) (p : Place) (d : Ex) → To (NewOf c es p) d
+      → (i : ℕ) × (k : ℕ) × (xs : Exs) × (class_named O c.name ≡ Some k) × AllResolve O here bs es xs × (d ≡ create (at_place p) i k xs)
+  at_create c es p d (r_create {xs = xs} {i = i} {k = k} named all) = (i, k, xs, named, all, refl)
 
   pub at_field : (e : Expression) (n : List ℕ) (p : Place) (d : Ex) → is_class_name O here.owner (bound_names bs) e ≡ false → To (FieldOf e n p) d
       → (x : Ex) × To e x × (d ≡ field (at_place p) x n)

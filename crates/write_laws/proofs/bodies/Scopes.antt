@@ -37,7 +37,7 @@ unbound bs n e = go (local_of n bs) (sym (bound_if bs n) ∙ e)
     go (Some i) h = absurd (false≢true (sym h))
 
 -- what is found stays found behind another name
-kept : (bs : List Bound) (b : Bound) (n : List ℕ) (i : ℕ) → local_of n bs ≡ Some i → local_of n (bs ++ b ∷ []) ≡ Some i
+pub kept : (bs : List Bound) (b : Bound) (n : List ℕ) (i : ℕ) → local_of n bs ≡ Some i → local_of n (bs ++ b ∷ []) ≡ Some i
 kept [] b n i e = absurd (cc)
 kept (x ∷ bs) b n i e = go (bytes_eq x.name n) (kept bs b n i) e
   where
@@ -60,6 +60,11 @@ added (x ∷ bs) b n e = go (bytes_eq x.name n) (added bs b n) e
 pub record Scoped (k : PlainMethod) (inner scope : List ℕ) (bs : List Bound) : Type 0 where
   pub found : (i : ℕ) → Contains inner i → in_scope bs (variable_name k i) ≡ Some i
   pub absent : (x : List ℕ) → is_in_scope k scope x ≡ false → in_scope bs x ≡ None
+
+-- a new local is found by its name
+pub own_found : (bs : List Bound) (n : List ℕ) (i : ℕ) → is_bound (bound_names bs) n ≡ false → local_of n (bound bs n i) ≡ Some i
+own_found bs n i fresh =
+    added bs (record { name = n; number = i }) n (unbound bs n fresh) ∙ ap (λ z. if z then Some i else None) ((bytes_eq-Decides n n).1 refl)
 
 -- a new local with a name of its own
 pub scoped_more : (k : PlainMethod) (inner scope : List ℕ) (bs : List Bound) (i : ℕ) (v : PlainLocal) → Scoped k inner scope bs
@@ -87,15 +92,15 @@ scoped_more k inner scope bs i v s e fresh = record {
         (λ z. option_map_or (λ (v : PlainLocal). bytes_eq v.name x) z false) (sym e) ∙ last)
 
 -- parameters, by their names
-abbrev named : ℕ → List (List ℕ) → List Bound
+abbrev pub named : ℕ → List (List ℕ) → List Bound
 named c [] = []
 named c (n ∷ ns) = record { name = n; number = c } ∷ named (suc c) ns
 
-params_named : (c : ℕ) (ps : List PlainLocal) → params_from c ps ≡ named c (map (λ v. v.name) ps)
+pub params_named : (c : ℕ) (ps : List PlainLocal) → params_from c ps ≡ named c (map (λ v. v.name) ps)
 params_named c [] = refl
 params_named c (p ∷ ps) = ap (λ z. record { name = p.name; number = c } ∷ z) (params_named (suc c) ps)
 
-name_found : (c : ℕ) (ns : List (List ℕ)) (j : ℕ) (n : List ℕ) → ((a b : ℕ) (x : List ℕ) → slice_get ns a ≡ Some x → slice_get ns b ≡ Some x → a ≡ b)
+pub name_found : (c : ℕ) (ns : List (List ℕ)) (j : ℕ) (n : List ℕ) → ((a b : ℕ) (x : List ℕ) → slice_get ns a ≡ Some x → slice_get ns b ≡ Some x → a ≡ b)
     → slice_get ns j ≡ Some n
     → local_of n (named c ns) ≡ Some (c + j)
 name_found c [] j n once e = absurd (cc)
@@ -120,7 +125,7 @@ name_absent p c (v ∷ ps) x h e =
     ap (λ z. if z then Some c else local_of x (params_from (suc c) ps)) (sym first ∙ both.0)
     ∙ name_absent p (suc c) ps x (λ j w ej. ap p (let z : suc c + j ≡ c + suc j = omega arith in z) ∙ h (suc j) w ej) both.1
 
-get_name : (ps : List PlainLocal) (i : ℕ) (v : PlainLocal) → slice_get ps i ≡ Some v → slice_get (map (λ (v : PlainLocal). v.name) ps) i ≡ Some v.name
+pub get_name : (ps : List PlainLocal) (i : ℕ) (v : PlainLocal) → slice_get ps i ≡ Some v → slice_get (map (λ (v : PlainLocal). v.name) ps) i ≡ Some v.name
 get_name [] i v e = absurd (cc)
 get_name (p ∷ ps) zero v e = ap Some (ap (λ z. z.name) (same_Some p v e))
 get_name (p ∷ ps) (suc i) v e = get_name ps i v e

@@ -33,7 +33,7 @@ use Rattle.flow_laws.proofs.order.Tests.{gathered_has}
 use Rattle.rebuild_laws.proofs.given.Rest.{half}
 use Rattle.rebuild_laws.proofs.types.Tables.{same_table}
 use Rattle.write_laws.proofs.given.Given.{Given, words}
-use Rattle.rebuild_laws.proofs.given.Written.{method_member}
+use Rattle.write_laws.proofs.given.Written.{method_member}
 use Rattle.write_laws.proofs.given.Names.{columns, offered_named, field_name_is, method_name_is}
 
 module _ (C : Given) where

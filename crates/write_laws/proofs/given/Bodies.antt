@@ -1,14 +1,14 @@
 -- The bodies of the written tree are made of forms that the grammar gives.
 use Rattle.std.proofs.Common.{◌≡◌, ℕ, ◌+◌, Bool, true, false, List, [], ◌∷◌, ◌++◌, length, Option, Some, None, Contains, refl, sym, ap, ◌∙◌, subst, arith}
-use Rattle.std.specs.Prelude.{option_and_then}
+use Rattle.std.specs.Prelude.{option_and_then, ◌||◌, ◌==◌}
 use Rattle.std.specs.Option.{is_some, option_map_or}
 use Rattle.std.proofs.lemmas.Bool.{false≢true}
 use Rattle.kaba_base.specs.declared.Place.{Place}
-use Rattle.java_tree.specs.Syntax.{Expression, Statement, LocalOf, BlockOf, Statements, no_statements}
+use Rattle.java_tree.specs.Syntax.{Expression, Statement, LocalOf, BlockOf, Statements, no_statements, no_more}
 use Rattle.java_tree.specs.Formed as printed
 use Rattle.java_tree.specs.Formed.{is_target, IsFormedExpression, AreFormed, IsFormedValue, IsFormedStmt, AreFormedStmts, AreFormedArms, IsFormedElse, IsFormedFirst, IsFormedStep}
 use Rattle.java_core.specs.declared.Ty.{Ty}
-use Rattle.java_core.specs.Trees.{Ex, Exs, no_ex, ex_then, number, character, text, truth, null, this, local, static_field, own_field, field, index, call, static_call, super_call, create, create_array, cast, instance_of, unary, binary, Target, to_local, to_static, to_own, to_field, to_element, no_target, St, Sts, IfArms, declare, block, assign, act, print, choose, loop, return, break, continue, no_st, st_then, no_other, otherwise, arm}
+use Rattle.java_core.specs.Trees.{Ex, Exs, no_ex, ex_then, number, character, text, truth, null, this, local, static_field, own_field, field, index, call, static_call, super_call, create, create_array, cast, instance_of, unary, binary, Target, to_local, to_static, to_own, to_field, to_element, no_target, St, Sts, IfArms, declare, block, assign, act, print, choose, loop, return, break, continue, no_st, st_then, no_other, otherwise, arm, Tag}
 use Rattle.java_core.specs.Programs.{PlainLocal}
 use Rattle.java_core.specs.Types.{field_type, value_type, fits_in, target_type}
 use Rattle.java_core.specs.Typing.{TypedArgs, TypedTarget, TypedTest, TypedSt, TypedSts, TypedArms, t_field, t_index, t_call, t_static_call, t_super_call, t_create, t_make, t_create_array, t_cast, t_instance_of, t_unary, t_binary, t_ex_then, t_to_field, t_to_element, t_test, t_declare_as, t_block, t_assign, t_act, t_print, t_choose, t_loop, t_return, t_st_then, t_otherwise, t_arm}
@@ -20,15 +20,20 @@ use Rattle.flow_rules.specs.Labels.{size, labelled, label, label_all, size_if, l
 use Rattle.flow_rules.specs.Parts.{a_load, a_store, is_accessed, parts_if, parts_assign, parts_st, parts_arms, parts_body, parts_of}
 use Rattle.flow_rules.proofs.Listed.{contains_at, more}
 use Rattle.rebuild_laws.proofs.types.Statements.{fits_some}
-use Rattle.write_model.specs.Names.{nowhere, written_type}
+use Rattle.write_model.specs.Names.{nowhere, written_type, makers_name, row_name}
 use Rattle.write_model.specs.Bodies.{scope_after_part, written, written_all, written_if, written_target, declared, written_st, written_sts, written_part, written_arms, written_else}
 use Rattle.write_laws.proofs.given.Given.{Given, Bodied, words}
 use Rattle.write_laws.proofs.given.Types.{cast_formed}
-use Rattle.write_laws.proofs.given.Forms.{literal, sign, infix_level, loop_formed}
+use Rattle.write_laws.proofs.given.Forms.{literal, sign, infix_level, loop_formed, creation_formed, creation_called}
 use Rattle.write_laws.proofs.given.Named as named
-use Rattle.flow_laws.proofs.NoMaker.{called_name}
 use Rattle.flow_laws.proofs.cover.Walked.{walked}
 use Rattle.flow_laws.proofs.cover.Each.{left, right, past, here}
+use Rattle.java_lex.specs.Writable.{IsName}
+use Rattle.java_core.specs.Makers.{maker_of}
+use Rattle.flow_rules.specs.declared.items.ObjectType.{ObjectType}
+use Rattle.write_laws.proofs.bodies.Sites.{creation_part, object_site}
+use Rattle.write_laws.proofs.rebuilds.Fixed.{IsMade}
+use Rattle.write_laws.proofs.given.Makes.{holder_called, make_called}
 
 module _ (C : Given) (B : Bodied C) where
   open C use {program as P, hierarchy as H}
@@ -40,6 +45,20 @@ module _ (C : Given) (B : Bodied C) where
   -- how an expression is written
   abbrev E : List ℕ → Ex → Expression
   E wr e = written P R H m k wr e
+
+  -- the names of the method that makes the objects of a creation
+  make_names : (t : Tag) (n c j : ℕ) (es : Exs) (u : Bool) (w : Tag) → maker_of P c ≡ Some j
+      → Contains (parts_of P m k) (creation_part P m k t.place u w n c es) → IsName (makers_name P) × IsName (R.make_name n)
+  make_names t n c j es u w e i =
+      let x = object_site P C.ready.formed m k B.stands t.place u w n c es i in
+      let z : IsMade P C.ready.formed x.number = record {
+        site = x.site;
+        stands = x.stands;
+        object = ap (λ (o : ObjectType). o.dim == 0) x.type;
+        maker = j;
+        has = ap (λ (o : ObjectType). maker_of P o.class.0) x.type ∙ e;
+      } in
+      (holder_called C x.number z, subst (λ q. IsName (R.make_name q)) x.is (make_called C x.number z))
 
   -- ---- expressions, of which the parts have labels
 
@@ -70,7 +89,7 @@ module _ (C : Given) (B : Bodied C) where
         let inner = left (tree true l) _ st in (
           ex_formed at true sc wr e te fe inner,
           named.call_named C B sc (labelled (at + size e) t) at e x (label_all (at + size e + 1) es) sig te called fe inner
-              (called_name P C.ready.formed C.ready.facts.no_maker m k x B.stands n) (here _ _ (right (tree true l) _ st)),
+              n (here _ _ (right (tree true l) _ st)),
           exs_formed (at + size e + 1) true sc wr es _ args fes (past _ _ (right (tree true l) _ st)),
         )
     ex_formed at u sc wr (static_call t d es) (t_static_call sig args) (f_static_call s fes) st =
@@ -79,9 +98,16 @@ module _ (C : Given) (B : Bodied C) where
       named.super_named C B (labelled at t) x (label_all (at + 1) es) d sig s found bodied called (here _ _ st),
       exs_formed (at + 1) false sc wr es _ args fes (past _ _ st),
     )
-    ex_formed at u sc wr (create t n c no_ex) (t_create v w) (f_create a b) st = (named.class_row C B (row.New n) c a, tt)
-    ex_formed at u sc wr (create t n c es) (t_make v w called args) (f_create a fes) st =
-        (named.class_row C B (row.New n) c a, exs_formed (at + 1) false sc wr es _ args fes (past _ (all false (label_all (at + 1) es)) st))
+    ex_formed at u sc wr (create t n c no_ex) (t_create v w) (f_create a b) st =
+        creation_formed (is_some (maker_of P c)) (makers_name P) (R.make_name n) (row_name P H (R.row_type (row.New n)) c) no_more
+        (λ h. absurd (false≢true (sym (ap is_some w) ∙ h))) (λ h. named.class_row C B (row.New n) c a) tt
+    ex_formed at u sc wr (create t n c es) (t_make {m = j} v w called args) (f_create a fes) st =
+        let labels = label_all (at + 1) es in
+        let made = is_some (maker_of P c) in
+        creation_formed made (makers_name P) (R.make_name n) (row_name P H (R.row_type (row.New n)) c) (written_all P R H m k wr es)
+        (λ h. make_names t n c j labels (u || made) (labelled at t) w (here _ _ st))
+        (λ h. named.class_row C B (row.New n) c a)
+        (exs_formed (at + 1) made sc wr es _ args fes (past _ (all made labels) st))
     ex_formed at u sc wr (create_array t n v e) (t_create_array te num) (f_create_array a d fe) st =
         (named.base C B (row.New n) v a, omega (arith, d), ex_formed (at + 1) false sc wr e te fe (past _ _ st))
     ex_formed at u sc wr (cast t n v e) (t_cast te can) (f_cast a fe) st =
@@ -162,7 +188,8 @@ module _ (C : Given) (B : Bodied C) where
   call_written wr sc (call t e x es) c f = refl
   call_written wr sc (static_call t d es) c (f_static_call s fes) = (named.static_call_formed C B wr d (written_all P R H m k wr es) s).1
   call_written wr sc (super_call t x es) c f = refl
-  call_written wr sc (create t n a es) c f = refl
+  call_written wr sc (create t n a es) c f = creation_called (is_some (maker_of P a)) (makers_name P) (R.make_name n)
+      (row_name P H (R.row_type (row.New n)) a) (written_all P R H m k wr es)
   call_written wr sc e c f = absurd (false≢true c)
 
   -- what stands in the head of a `for`

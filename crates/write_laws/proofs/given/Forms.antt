@@ -14,7 +14,7 @@ use Rattle.java_core.specs.declared.Op.{Op}
 use Rattle.java_core.specs.declared.Op.TheVariants as op
 use Rattle.java_core.specs.Formed.{IsLiteral, small, least}
 use Rattle.write_model.specs.Names.{prefix_mark, operation, infix_mark}
-use Rattle.write_model.specs.Bodies.{static_field_tree, static_call_tree, loop_tree}
+use Rattle.write_model.specs.Bodies.{static_field_tree, static_call_tree, loop_tree, creation_tree}
 
 pub literal : {z : ℤ} → IsLiteral z → IsNumber z
 literal (small h) = a_small h
@@ -41,6 +41,16 @@ pub call_tree : (b : Bool) (x y : List ℕ) (es : Expressions) → IsName x → 
     → (AreFormed es → IsFormedExpression (static_call_tree b x y es)) × (printed.is_call (static_call_tree b x y es) ≡ true)
 call_tree true x y es a c = (λ f. (c, f), refl)
 call_tree false x y es a c = (λ f. (a, c, f), refl)
+
+-- a creation, or a call of the method that makes its object
+pub creation_formed : (b : Bool) (x y z : List ℕ) (es : Expressions) → (b ≡ true → IsName x × IsName y) → (b ≡ false → IsName z) → AreFormed es
+    → IsFormedExpression (creation_tree b x y z es)
+creation_formed true x y z es f g h = let n = f refl in (n.0, n.1, h)
+creation_formed false x y z es f g h = (g refl, h)
+
+pub creation_called : (b : Bool) (x y z : List ℕ) (es : Expressions) → printed.is_call (creation_tree b x y z es) ≡ true
+creation_called true x y z es = refl
+creation_called false x y z es = refl
 
 pub loop_formed : (is_while : Bool) (a : OptionalStatement) (v : Option Expression) (s : OptionalStatement) (ss : Statements) → IsFormedFirst a
     → IsFormedValue v

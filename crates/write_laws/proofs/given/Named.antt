@@ -1,7 +1,7 @@
 -- The names that a written body has can be written: those of variables, of static members and of the members that it asks for.
-use Rattle.std.proofs.Common.{◌≡◌, ℕ, ◌<◌, Bool, true, false, List, [], length, Option, Some, None, Contains, refl, sym, ap, ◌∙◌, subst}
-use Rattle.std.specs.Prelude.{option_and_then}
-use Rattle.std.specs.Option.{is_some, option_map_or}
+use Rattle.std.proofs.Common.{◌≡◌, ℕ, ◌<◌, Bool, true, false, List, [], length, Option, Some, None, Contains, refl, sym, ap, ◌∙◌, subst, ⊎_elim}
+use Rattle.std.specs.Prelude.{option_and_then, if◌then◌else◌}
+use Rattle.std.specs.Option.{is_some, option_map_or, option_map}
 use Rattle.std.proofs.lemmas.Option.{slice_get_within}
 use Rattle.java_lex.specs.Writable.{IsName}
 use Rattle.java_tree.specs.Syntax.{NullLit, Expressions}
@@ -9,10 +9,10 @@ use Rattle.java_tree.specs.Formed as printed
 use Rattle.java_tree.specs.Formed.{is_target, IsFormedExpression, AreFormed, IsFormedBase}
 use Rattle.java_core.specs.declared.Ty.{Ty}
 use Rattle.java_core.specs.Trees.{Tag, Ex, Exs, call, super_call}
-use Rattle.java_core.specs.Programs.{PlainLocal, PlainField, PlainMethod}
+use Rattle.java_core.specs.Programs.{PlainLocal, PlainField, PlainMethod, Plain}
 use Rattle.java_core.specs.Classes.{slot_of, slot_of_method, declaration_of, super_method, has_body}
-use Rattle.java_core.specs.Types.{Static, class_of, field_in, field_type, access_type, Signature, call_signature, super_signature, static}
-use Rattle.java_core.specs.Formed.{IsClass, IsProgramType, IsOwnField, IsFormedMethod, IsStaticField, IsStaticMethod, variables_of}
+use Rattle.java_core.specs.Types.{Static, class_of, field_in, field_type, access_type, Signature, call_signature, super_signature, static, string_method, signature_of_string, object_signature, is_string}
+use Rattle.java_core.specs.Formed.{IsClass, IsProgramType, IsOwnField, IsFormedMethod, IsStaticField, IsStaticMethod, variables_of, IsCalled}
 use Rattle.fact_model.specs.declared.facts.AccessInfo.{AccessInfo}
 use Rattle.flow_rules.specs.declared.items.ColumnItem.TheVariants as column
 use Rattle.flow_rules.specs.declared.items.RowItem.{RowItem}
@@ -26,7 +26,6 @@ use Rattle.flow_rules.specs.Facts.{numbers}
 use Rattle.flow_laws.specs.cover.Slotted.{HaveSlots}
 use Rattle.flow_rules.proofs.TypeLemmas.{class_is}
 use Rattle.java_core.proofs.Retagging.{static_same}
-use Rattle.flow_laws.proofs.NoMaker.{method_name}
 use Rattle.flow_laws.proofs.cover.Labelled.{ex_same, typed_same, formed_same}
 use Rattle.flow_laws.proofs.cover.HasNumbers.{this_row}
 use Rattle.flow_laws.proofs.cover.Types.{class_apart, slot_called}
@@ -38,10 +37,28 @@ use Rattle.rebuild_laws.proofs.types.Finding.{access_found, found_instance}
 use Rattle.write_model.specs.Names.{nowhere, class_name, row_name, written_base}
 use Rattle.write_model.specs.Bodies.{static_field_tree, static_call_tree, static_field_name, static_call_name, variable_name, is_simple}
 use Rattle.write_laws.proofs.given.Given.{Given, Bodied, words}
-use Rattle.write_laws.proofs.given.Types.{known_class_named, row_named, base_formed}
+use Rattle.write_laws.proofs.given.Types.{known_class_named, row_named, base_formed, static_named}
 use Rattle.write_laws.proofs.given.Asked.{field_asked, call_asked, access_of, super_asked}
 use Rattle.write_laws.proofs.given.Forms.{field_tree, call_tree}
 use Rattle.flow_laws.proofs.cover.Walked.{walked}
+use Rattle.java_core.specs.Makers.{maker_name}
+
+-- no method of a String has a constructor's name
+no_string : (y : List ℕ) → string_method (maker_name y) ≡ None
+no_string y = refl
+
+maker_declared : (P : Plain) (s : Static) (x y : List ℕ) (sig : Signature) → x ≡ maker_name y → call_signature P s x ≡ Some sig → class_of s ≡ None → ⊥
+unfolding call_signature
+maker_declared P s x y sig e called none = go (is_string s) refl
+  where
+    go : (b : Bool) → is_string s ≡ b → ⊥
+    go true h =
+        let z : option_map signature_of_string (string_method x) ≡ Some sig =
+        subst (λ b. (if b then option_map signature_of_string (string_method x) else object_signature P (class_of s) x) ≡ Some sig) h called in
+        cc (sym (ap (λ x. option_map signature_of_string (string_method x)) e ∙ ap (option_map signature_of_string) (no_string y)) ∙ z)
+    go false h =
+        let o = slot_called P s x sig called h in
+        cc (sym (ap (option_and_then (λ c. slot_of P c x)) none) ∙ o.found)
 
 module _ (C : Given) (B : Bodied C) where
   open C use {program as P, facts as F, hierarchy as H}
@@ -89,7 +106,7 @@ module _ (C : Given) (B : Bodied C) where
       (λ o. let e = option_map_or (λ (g : PlainMethod). static_call_tree (is_simple k wr g.owner g.name) (class_name P g.owner) g.name es) o
       (NullLit nowhere) in (AreFormed es → IsFormedExpression e) × (printed.is_call e ≡ true)) (sym s.stands)
       (call_tree (is_simple k wr c x) (class_name P c) x es (known_class_named C c (slice_get_within P.classes c w.holder w.stands))
-      (method_name P C.ready.formed C.ready.facts.no_maker d s.member s.stands))
+      (static_named C d s.member s.stands s.kind))
 
   same_number : (i : Option RowItem) → row_in N i ≡ number_if (row_number P) i
   unfolding numbers
@@ -151,7 +168,7 @@ module _ (C : Given) (B : Bodied C) where
 
   -- the method that a call finds; those of a String keep their names
   pub call_named : (sc : List ℕ) (t : Tag) (at : ℕ) (e : Ex) (x : List ℕ) (es : Exs) (sig : Signature) → IsTyped e
-      → call_signature P (old e) x ≡ Some sig → IsFormedEx sc e → Stands (tree true (label at e)) → IsName x
+      → call_signature P (old e) x ≡ Some sig → IsFormedEx sc e → Stands (tree true (label at e)) → IsCalled P k x
       → Contains (parts_of P m k) (a_call t.place (O (label at e)) (call_slot P (type (label at e)) x) (call_declaration P (type (label at e)) x)
       (operands es) (O (call t (label at e) x es)))
       → IsName (option_map_or R.method_name (option_and_then (λ c. declaration_of P c x) (class_of (old e))) x)
@@ -171,12 +188,14 @@ module _ (C : Given) (B : Bodied C) where
 
       of_declaration : (c : ℕ) → class_of (old e) ≡ Some c → (o : Option ℕ) → declaration_of P c x ≡ o
           → IsName (option_map_or R.method_name o x)
-      of_declaration c cls None dcl = n
+      of_declaration c cls None dcl =
+          let s = slot_called P (old e) x sig called (class_apart (old e) c cls).1 in
+          absurd (cc (sym (ap (option_and_then (slot_of_method P)) dcl) ∙ sym (ap (option_and_then (λ c. slot_of P c x)) cls) ∙ s.found))
       of_declaration c cls (Some d) dcl = found c d cls dcl
 
       of_class : (o : Option ℕ) → class_of (old e) ≡ o
           → IsName (option_map_or R.method_name (option_and_then (λ c. declaration_of P c x) o) x)
-      of_class None cls = n
+      of_class None cls = ⊎_elim (λ n. n) (λ i. absurd (maker_declared P (old e) x i.class.name sig i.name called cls)) n
       of_class (Some c) cls = of_declaration c cls (declaration_of P c x) refl
 
   -- the method that a super call runs

@@ -15,7 +15,7 @@ use Rattle.flow_rules.specs.Facts.{numbers}
 use Rattle.rebuild_model.specs.Renaming.{renaming_of}
 use Rattle.rebuild_laws.specs.looks.Known.{AreItemColumns}
 use Rattle.rebuild_laws.proofs.given.Given.{columns as columns_are}
-use Rattle.rebuild_laws.proofs.given.Written.{type_written, member_written}
+use Rattle.write_laws.proofs.given.Written.{type_written, member_written}
 use Rattle.write_laws.proofs.given.Given.{Given, words}
 use Rattle.write_laws.proofs.given.Letters.{named}
 

@@ -1,5 +1,5 @@
 -- The types of the written tree have names that can be written.
-use Rattle.std.proofs.Common.{◌≡◌, ℕ, zero, suc, [], Option, Some, None, refl, sym, ap, ◌∙◌, subst}
+use Rattle.std.proofs.Common.{◌≡◌, ℕ, zero, suc, [], Option, Some, None, refl, sym, ap, ◌∙◌, subst, ⊎_elim, true}
 use Rattle.std.specs.Prelude.{slice_get, codes}
 use Rattle.std.specs.Option.{option_map, option_map_or}
 use Rattle.std.proofs.lemmas.Option.{same_Some}
@@ -8,7 +8,7 @@ use Rattle.java_tree.specs.Formed.{IsFormedBase, IsCastBase}
 use Rattle.java_core.specs.declared.Ty.{Ty}
 use Rattle.java_core.specs.declared.TyBase.{TyBase}
 use Rattle.java_core.specs.declared.TyBase.TheVariants.{Int, Boolean, Char, Str, Class}
-use Rattle.java_core.specs.Programs.{PlainClass}
+use Rattle.java_core.specs.Programs.{PlainClass, PlainMethod}
 use Rattle.java_core.specs.Formed.{IsClass, IsKnownBase, IsCastType, to_int, to_char, to_class}
 use Rattle.hier_model.specs.Hierarchies.{place_of_row}
 use Rattle.flow_rules.specs.declared.items.RowItem.{RowItem}
@@ -21,6 +21,7 @@ use Rattle.write_laws.proofs.rebuilds.Retyped.{row_live}
 use Rattle.write_laws.proofs.given.Given.{Given, words}
 use Rattle.write_laws.proofs.given.Names.{type_named}
 use Rattle.java_meaning.proofs.Small.{named}
+use Rattle.std.proofs.lemmas.Bool.{false≢true}
 
 module _ (C : Given) where
   open C use {program as P, facts as F, hierarchy as H}
@@ -60,3 +61,8 @@ module _ (C : Given) where
   cast_formed i _ to_int = (tt, refl)
   cast_formed i _ to_char = (tt, refl)
   cast_formed i _ (to_class {c = c} lt) = (row_named i c.0 lt, refl)
+
+  -- a static method is no constructor
+  pub static_named : (d : ℕ) (k : PlainMethod) → slice_get P.methods d ≡ Some k → k.is_static ≡ true → IsName k.name
+  static_named d k e s =
+      ⊎_elim (λ n. n) (λ i. absurd (false≢true (sym (C.ready.formed.makers d k e i).instance ∙ s))) (C.ready.formed.methods d k e).name

@@ -41,18 +41,18 @@ use Rattle.flow_rules.proofs.NumberedItems.{numbered_columns}
 use Rattle.rebuild_model.specs.Members.{is_made_at, offers_body, is_filled}
 use Rattle.write_model.specs.Names.{modifier, written_type}
 use Rattle.write_model.specs.Bodies.{written_sts}
-use Rattle.write_model.specs.Members.{is_declaration, value_of_none, filling, parameters, param, head, body, holder_members, class_members, interface_heads}
+use Rattle.write_model.specs.Members.{is_declaration, value_of_none, filling, parameters, param, head, body, holder_members, class_members, interface_heads, make_members}
 use Rattle.write_model.specs.Supers.{is_cover, nodes_that, superclass, type_id, extended}
 use Rattle.write_model.specs.Written.{class_modifiers, type_tree}
 use Rattle.write_laws.proofs.rebuilds.Members.{IsHeadTree, IsHeadAt, IsMember, a_field, a_body, a_head, a_filler, class_from, interface_from, IsStatic, a_static_field, a_static_method, holder_from}
-use Rattle.write_laws.proofs.rebuilds.Nodes.{items, tree, Declares, a_node, a_holder, declares}
+use Rattle.write_laws.proofs.rebuilds.Nodes.{items, tree, Declares, a_node, a_holder, declares, a_makers}
 use Rattle.write_laws.proofs.rebuilds.Order.{superclass_from, cover_from, among_from}
 use Rattle.write_laws.proofs.given.Given.{Given, words}
-use Rattle.flow_laws.proofs.NoMaker.{method_name}
-use Rattle.rebuild_laws.proofs.given.Written.{method_member}
+use Rattle.write_laws.proofs.given.Written.{method_member}
 use Rattle.write_laws.proofs.given.Names.{columns, type_named, member_named, field_name_is, method_name_is}
-use Rattle.write_laws.proofs.given.Types.{class_named, base_formed}
+use Rattle.write_laws.proofs.given.Types.{class_named, base_formed, static_named}
 use Rattle.write_laws.proofs.given.Bodies.{body_formed}
+use Rattle.write_laws.proofs.given.Makes.{makers_named, made_formed}
 
 each_of : {A : Type 0} (P : A → Type 0) (xs : List A) → ((x : A) → Contains xs x → P x) → Each P xs
 each_of P [] k = tt
@@ -202,7 +202,7 @@ module _ (C : Given) where
       ((refl, (refl, tt)), base_formed C (row.Field f) k.ty.base w.type, w.name.name)
   static_formed c x (a_static_method m k _ e b d) =
       subst IsFormedMember (one_from _ x (when_from (k.is_static && (k.owner == c)) _ x d).1)
-      (head_formed old_words k.name m k e (refl, (refl, tt)) (method_name P C.ready.formed C.ready.facts.no_maker m k e), method_body m k e)
+      (head_formed old_words k.name m k e (refl, (refl, tt)) (static_named C m k e (and_parts k.is_static (k.owner == c) b).0), method_body m k e)
 
   -- ---- declarations
 
@@ -247,6 +247,13 @@ module _ (C : Given) where
     tt,
     tt,
     each_of IsFormedMember (holder_members P R H c) (λ x d. static_formed c x (holder_from P R H c x d)),
+  )
+  declared_formed _ (a_makers w e) = (
+    tt,
+    (makers_named C w e).0,
+    tt,
+    tt,
+    each_of IsFormedMember (make_members P R H) (λ x d. made_formed C params_formed x d),
   )
 
   pub tree_formed : IsFormedTree (tree P F H)

@@ -30,22 +30,24 @@ use Rattle.flow_rules.specs.declared.items.ColumnItem.{ColumnItem}
 use Rattle.flow_rules.specs.declared.items.ColumnItem.TheVariants as column
 use Rattle.flow_rules.specs.Ordered.{each, when}
 use Rattle.flow_rules.specs.Facts.{slot_in, kind_of}
-use Rattle.flow_rules.proofs.Listed.{index_at, map_from, when_from, each_from_zero, one_from}
+use Rattle.flow_rules.proofs.Listed.{index_at, map_from, when_from, each_from_zero, one_from, flat_from}
 use Rattle.rebuild_laws.specs.looks.Known.{AreItemColumns}
 use Rattle.rebuild_laws.proofs.given.Given.{columns as columns_are}
 use Rattle.rebuild_laws.proofs.given.Apart.{names_apart}
 use Rattle.rebuild_model.specs.Members.{is_made_at, offers_body, is_headed, is_filled}
 use Rattle.write_model.specs.Names.{nowhere}
-use Rattle.write_model.specs.Members.{is_declaration, filling, head, first_head, slot_head, field_member, body_member, bodyless, is_first_there, heads_of_slot, column_heads, own_member, column_members, filler, class_members, interface_heads}
+use Rattle.write_model.specs.Members.{is_declaration, filling, head, first_head, slot_head, field_member, body_member, bodyless, is_first_there, heads_of_slot, column_heads, own_member, column_members, filler, class_members, interface_heads, slot_filler, filled_slots}
 use Rattle.write_laws.proofs.rebuilds.Nodes.{items}
 use Rattle.write_laws.proofs.rebuilds.Members.{IsHeadTree, first_head_from, in_class, as_filler, flat_option_from}
 use Rattle.write_laws.proofs.names.Origins.{R}
 use Rattle.write_laws.specs.names.Laws.{IsNamedProgram}
 use Rattle.write_laws.proofs.names.Variables.{column_number, field_name_is}
 use Rattle.write_laws.proofs.names.Instances.{OffersSlot, one_slot, offered_there, name_is, body_offers}
-use Rattle.write_laws.proofs.names.Once.{Once, append_once, each_once, one_once, when_once, map_once}
+use Rattle.write_laws.proofs.names.Once.{Once, append_once, each_once, one_once, when_once, map_once, flat_once}
 use Rattle.write_laws.proofs.names.Declared.{SameMember, SameHead}
 use Rattle.hier_laws.proofs.Unbroken.{none_broken}
+use Rattle.std.specs.List.{flat_map}
+use Rattle.write_laws.proofs.rebuilds.FilledSlots.{slots_once}
 
 pub option_once : {A B : Type 0} (agree : B → B → Type 0) (g : A → List B) (o : Option A) → ((k : A) → Once agree (g k)) → Once agree (option_map_or g o [])
 option_once agree g None h = tt
@@ -344,12 +346,16 @@ module _ {P : Plain} {F : Facts} {pt : PointsTo} {H : Hierarchy} (G : IsNamedPro
       (slice_get P.methods sig.first)
       (λ k. one_once SameHead (head P (R P F H) H (as_filler P (R P F H) F H) ((R P F H).method_name sig.first) sig.first k))))
 
-  two_fillers : (n s t : ℕ) (x y : MemberTree) → s < t → FillerAt n s x → FillerAt n t y → SameMember x y → ⊥
-  two_fillers n s t x y lt a b e =
-      let same = one_slot G n s t b.head.name
+  two_fillers : (n s t : ℕ) (x y : MemberTree) → (s ≡ t → ⊥) → FillerAt n s x → FillerAt n t y → SameMember x y → ⊥
+  two_fillers n s t x y other a b e =
+      other (one_slot G n s t b.head.name
       (subst (Offers n s) (subst (λ z. SameMember (MethodTree a.head (Some a.body) nowhere) z) (sym b.is) (subst (λ z. SameMember z y) (sym a.is) e)) a.offers)
-      b.offers in
-      omega (arith, lt, same)
+      b.offers)
+
+  slot_in_from : (n s : ℕ) (x : MemberTree) → Contains (slot_filler P (R P F H) F H n s) x → FillerAt n s x
+  slot_in_from n s x d =
+      let z = flat_option_from (filler P (R P F H) F H n s) (slice_get P.slots s) x d in
+      filler_in n s z.0 x z.1 z.2
 
   own_filler : (n c s : ℕ) (h : HeadTree) (b : Statements) (x : MemberTree) → is_live H.order n ≡ true → offers_body F H n s ≡ false → Offers n s h.name
       → OwnAt n c x → SameMember x (MethodTree h (Some b) nowhere) → ⊥
@@ -371,17 +377,17 @@ module _ {P : Plain} {F : Facts} {pt : PointsTo} {H : Hierarchy} (G : IsNamedPro
   pub class_once : (n : ℕ) → is_live H.order n ≡ true → is_class_node F H n ≡ true
       → Once SameMember (class_members P (R P F H) F H (items P F H) n)
   class_once n live class =
-      append_once SameMember (each f 0 F.columns.items) (each (filler P (R P F H) F H n) 0 P.slots)
+      append_once SameMember (each f 0 F.columns.items) (flat_map (slot_filler P (R P F H) F H n) (filled_slots P))
       (all_once SameMember f F.columns.items
       (λ c k e. one_column n c k live class e)
       (λ c d k l a b p q lt x y e. two_columns n c d a b live class lt (found c k a p x) (found d l b q y) e))
-      (all_once SameMember (filler P (R P F H) F H n) P.slots
-      (λ s sig e. filler_once n s sig)
-      (λ s t sig tig a b p q lt x y e. two_fillers n s t a b lt (filler_in n s sig a p x) (filler_in n t tig b q y) e))
+      (flat_once SameMember (λ s t. s ≡ t) (slot_filler P (R P F H) F H n) (filled_slots P) (slots_once P G.formed)
+      (λ s. option_once SameMember (filler P (R P F H) F H n s) (slice_get P.slots s) (filler_once n s))
+      (λ s t a b other x y e. two_fillers n s t a b other (slot_in_from n s a x) (slot_in_from n t b y) e))
       (λ a b x y e.
       let u = each_from_zero f F.columns.items a x in
-      let v = each_from_zero (filler P (R P F H) F H n) P.slots b y in
-      column_filler n u.0 v.0 a b live class (found u.0 u.1 a u.2 u.3) (filler_in n v.0 v.1 b v.2 v.3) e)
+      let v = flat_from (slot_filler P (R P F H) F H n) (filled_slots P) b y in
+      column_filler n u.0 v.0 a b live class (found u.0 u.1 a u.2 u.3) (slot_in_from n v.0 b v.2) e)
     where
       f : ℕ → ColumnInfo → List MemberTree
       f c k = when (stands_at H n c) (column_members P (R P F H) F H (items P F H) n c k)

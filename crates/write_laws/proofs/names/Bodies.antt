@@ -1,7 +1,7 @@
 -- No condition on names holds in a written body.
 use Rattle.std.proofs.Common.{◌≡◌, ℕ, ◌&&◌, ◌==◌, Bool, true, false, List, [], ◌∷◌, ◌++◌, Option, Some, None, refl, sym, ap, ◌∙◌, subst}
 use Rattle.std.specs.Prelude.{not, slice_get}
-use Rattle.std.specs.Option.{option_map_or, is_none}
+use Rattle.std.specs.Option.{option_map_or, is_none, is_some}
 use Rattle.std.proofs.lemmas.Bool.{false≢true, and_parts, eqb-true, not-true}
 use Rattle.java_tree.specs.Syntax.{Expression, NameRef, FieldOf, ThisRef, Expressions, LocalOf, BlockOf, Statements, OptionalStatement, absent, present, NullLit, no_statements}
 use Rattle.java_tree.specs.Syntax as tree
@@ -9,24 +9,28 @@ use Rattle.java_core.specs.Programs.{Plain, PlainField, PlainLocal, PlainMethod}
 use Rattle.java_core.specs.Trees.{Ex, Exs, Target, St, Sts, IfArms, no_st, st_then, arm}
 use Rattle.java_core.specs.Classes.{field_of}
 use Rattle.java_core.specs.Types.{static, env_of}
+use Rattle.flow_rules.specs.declared.items.RowItem.TheVariants as row
 use Rattle.flow_rules.specs.Operands.{variable_row}
 use Rattle.java_core.specs.Formed.{variables_of, IsNewLocal, IsStaticField, IsStaticMethod, is_at_most_one, FormedEx, f_number, f_character, f_text, f_truth, f_null, f_this, f_local, f_static_field, f_own_field, f_field, f_index, f_call, f_static_call, f_super_call, f_create, f_create_array, f_cast, f_instance_of, f_unary, f_binary, FormedExs, f_no_ex, f_ex_then, FormedTarget, f_to_local, f_to_static, f_to_own, f_to_field, f_to_element, FormedOption, f_none, f_some, FormedSt, f_declare, f_block, f_assign, f_act, f_print, f_choose, f_loop, f_return, f_break, f_continue, FormedSts, f_no_st, f_st_then, FormedArms, f_no_other, f_otherwise, f_arm}
 use Rattle.java_core.specs.Formed as core
 use Rattle.hier_model.specs.Hierarchies.{Hierarchy}
-use Rattle.rebuild_model.specs.Renaming.{Renaming}
+use Rattle.rebuild_model.specs.Renaming.{Renaming, make_name}
 use Rattle.name_rules.specs.declared.parts.Here.{Here}
 use Rattle.name_rules.specs.declared.Refusal.{Refusal}
-use Rattle.name_rules.specs.Meanings.{is_class_name}
+use Rattle.name_rules.specs.Meanings.{is_class_name, IsStaticMethodOf}
 use Rattle.name_rules.specs.Conditions.{FaultIn, FaultInOne, FaultInValue, this_in_static, in_array, in_index, super_in_static, in_super_arguments, no_class_of_new, in_new_arguments, no_type_of_array, in_size, no_type_of_cast, in_cast, no_class_of_test, in_tested, in_operand, in_left, in_right, in_first, in_later, in_value, StFault, StsFault, ArmsFault, PartFault, in_block, in_target, in_assigned, in_call, in_printed, in_returned, break_outside, continue_outside, in_statement, in_rest, in_test, in_arm, in_more_arms, in_part, names_after, names_after_part}
-use Rattle.write_model.specs.Names.{nowhere, class_name, written_type}
-use Rattle.write_model.specs.Bodies.{static_field_tree, static_call_tree, loop_tree, scope_after, scope_after_part, variable_name, is_in_scope, is_simple, static_field_name, static_call_name, field_name, called_name, written, written_all, written_if, written_target, declared, written_st, written_sts, written_part, written_arms, written_else}
+use Rattle.write_model.specs.Names.{nowhere, class_name, written_type, makers_name, row_name}
+use Rattle.write_model.specs.Bodies.{static_field_tree, static_call_tree, loop_tree, scope_after, scope_after_part, variable_name, is_in_scope, is_simple, static_field_name, static_call_name, field_name, called_name, written, written_all, written_if, written_target, declared, written_st, written_sts, written_part, written_arms, written_else, creation_tree}
 use Rattle.write_laws.specs.names.Stages.{IsStage, HasHolder, FindsField, FindsMethod}
-use Rattle.write_laws.specs.names.Known.{KnownEx, KnownExs, KnownTarget, KnownVariable, known}
+use Rattle.write_laws.specs.names.Known.{KnownEx, KnownExs, KnownTarget, KnownVariable, known, IsKnownName, IsSiteOf}
 use Rattle.java_meaning.specs.EachStatement.{OfOption, InSt, InSts, InArms}
 use Rattle.write_laws.proofs.names.Faults.{bound_no_class, variable_fault, own_field_fault, own_field_no_class, holder_field_fault, holder_call_fault, field_fault, call_fault, own_call_fault, local_fault, if_fault, loop_fault}
 use Rattle.write_laws.proofs.names.Scopes.{IsScope, is_there, not_bound, more}
+use Rattle.java_core.specs.Makers.{maker_of}
+use Rattle.flow_rules.specs.declared.items.ObjectType.{ObjectType}
 
-module _ (P : Plain) (R : Renaming) (H : Hierarchy) (m : ℕ) (k : PlainMethod) (O : Plain) (here : Here) (stage : IsStage P k O here) where
+module _ (P : Plain) (R : Renaming) (H : Hierarchy) (m : ℕ) (k : PlainMethod) (O : Plain) (here : Here) (stage : IsStage P k O here)
+    (called : (n : ℕ) → R.make_name n ≡ make_name P n) where
   -- what a simple name stands on
   simple_parts : (scope : List ℕ) (owner : ℕ) (x : List ℕ) → is_simple k scope owner x ≡ true
       → (k.is_static ≡ true) × (k.owner ≡ owner) × (is_in_scope k scope x ≡ false)
@@ -85,6 +89,29 @@ module _ (P : Plain) (R : Renaming) (H : Hierarchy) (m : ℕ) (k : PlainMethod) 
         (sym is.stands)
         (static_call_ok g (stage.methods d g is.stands is.kind) es r args (is_simple k scope g.owner g.name) refl)
 
+    -- a creation, or a call of the method that makes its object
+    create_ok : (n c : ℕ) (es : Expressions) (r : Refusal) (b : Bool) → is_some (maker_of P c) ≡ b → IsKnownName O (row_name P H (R.row_type (row.New n)) c)
+        → IsSiteOf P n c → (FaultInOne O here names es r → ⊥)
+        → FaultIn O here names (creation_tree b (makers_name P) (R.make_name n) (row_name P H (R.row_type (row.New n)) c) es) r → ⊥
+    create_ok n c es r false e type site args (no_class_of_new h) = type h
+    create_ok n c es r false e type site args (in_new_arguments x) = args x
+    create_ok n c es r true e type site args x = go (maker_of P c) refl e
+      where
+        go : (o : Option ℕ) → maker_of P c ≡ o → is_some (maker_of P c) ≡ true → ⊥
+        go None d h = false≢true (sym (ap is_some d) ∙ h)
+        go (Some j) d h =
+            let f = stage.makes site.number j site.site site.stands (ap (λ (o : ObjectType). o.dim == 0) site.type)
+            (ap (λ (o : ObjectType). maker_of P o.class.0) site.type ∙ d) in
+            let free : is_class_name O here.owner names (NameRef (makers_name P) nowhere) ≡ true =
+            ap (λ z. not z && is_none (field_of O here.owner (makers_name P))) (not_bound k s (makers_name P) (λ i v a e. f.no_variable i v e))
+            ∙ ap (λ z. is_none z) f.no_field in
+            holder_call_fault O here names (makers_name P) (R.make_name n) nowhere nowhere f.number free f.named es f.method
+            (subst (λ z. IsStaticMethodOf O f.number z f.method) (ap (make_name P) site.is ∙ sym (called n)) f.found) r args x
+
+    create_no_class : (b : Bool) (x y z : List ℕ) (es : Expressions) → is_class_name O here.owner names (creation_tree b x y z es) ≡ false
+    create_no_class true x y z es = refl
+    create_no_class false x y z es = refl
+
     -- what is written of an expression is no class's name
     no_class : {e : Ex} → FormedEx P k formed e → is_class_name O here.owner names (written P R H m k scope e) ≡ false
     no_class (f_local {i = i} a b) = bound_no_class O here names (variable_name k i) nowhere (is_there k s i a)
@@ -103,6 +130,8 @@ module _ (P : Plain) (R : Renaming) (H : Hierarchy) (m : ℕ) (k : PlainMethod) 
                 (option_map_or (λ g. static_call_tree (is_simple k scope g.owner g.name) (class_name P g.owner) g.name es) o (NullLit nowhere)) ≡ false
             go None = refl
             go (Some g) = tree_no_class (is_simple k scope g.owner g.name) (class_name P g.owner) g.name
+    no_class (f_create {n = n} {c = c} {es = es} a b) = create_no_class (is_some (maker_of P c)) (makers_name P) (R.make_name n)
+        (row_name P H (R.row_type (row.New n)) c) (written_all P R H m k scope es)
     no_class fo = refl
 
     own_ok : (x : List ℕ) (r : Refusal) → k.is_static ≡ false → FaultIn O here names (FieldOf (ThisRef nowhere) x nowhere) r → ⊥
@@ -133,8 +162,8 @@ module _ (P : Plain) (R : Renaming) (H : Hierarchy) (m : ℕ) (k : PlainMethod) 
       ex_ok (f_static_call {m = d} {es = es} is a) g r x = static_call_name_ok d is (written_all P R H m k scope es) r (exs_ok a g r) x
       ex_ok (f_super_call a b c) g r (super_in_static h) = false≢true (sym a ∙ sym stage.static ∙ h)
       ex_ok (f_super_call a b c) g r (in_super_arguments x) = exs_ok c g r x
-      ex_ok (f_create a b) g r (no_class_of_new h) = g.0 h
-      ex_ok (f_create a b) g r (in_new_arguments x) = exs_ok b g.1 r x
+      ex_ok (f_create {n = n} {c = c} {es = es} a b) g r x =
+          create_ok n c (written_all P R H m k scope es) r (is_some (maker_of P c)) refl g.0 g.1 (exs_ok b g.2 r) x
       ex_ok (f_create_array a b c) g r (no_type_of_array h) = g.0 r h
       ex_ok (f_create_array a b c) g r (in_size x) = ex_ok c g.1 r x
       ex_ok (f_cast a b) g r (no_type_of_cast h) = g.0 r h

@@ -1,6 +1,6 @@
 -- Each type that a body of the tree names is there, since the creations, casts and tests of a body have rows.
 use Rattle.std.proofs.Common.{◌≡◌, ℕ, ◌+◌, Bool, true, false, List, [], ◌∷◌, ◌++◌, Option, Some, None, Contains, refl, sym, ap, ◌∙◌, subst}
-use Rattle.std.specs.Prelude.{slice_get, length}
+use Rattle.std.specs.Prelude.{slice_get, length, ◌||◌}
 use Rattle.std.proofs.lemmas.List.Elements.{Contains-append_left, Contains-append_right}
 use Rattle.kaba_base.specs.declared.Place.{Place}
 use Rattle.java_tree.specs.declared.TypeBase.TheVariants as base
@@ -33,6 +33,9 @@ use Rattle.java_meaning.specs.EachStatement.{OfOption, InSt, InSts, InArms}
 use Rattle.write_laws.proofs.names.Origins.{R}
 use Rattle.write_laws.specs.names.Laws.{IsNamedProgram}
 use Rattle.write_laws.proofs.names.Named.{row_known, type_known}
+use Rattle.std.specs.Option.{is_some}
+use Rattle.java_core.specs.Makers.{maker_of}
+use Rattle.write_laws.proofs.bodies.Sites.{creation_part, object_site}
 
 module _ {P : Plain} {F : Facts} {pt : PointsTo} {H : Hierarchy} (G : IsNamedProgram P F pt H) (m : ℕ) (k : PlainMethod)
     (stands : slice_get P.methods m ≡ Some k) where
@@ -42,9 +45,9 @@ module _ {P : Plain} {F : Facts} {pt : PointsTo} {H : Hierarchy} (G : IsNamedPro
   abbrev R₀ : Renaming
   R₀ = R P F H
 
-  -- what the parts of a list list has a row
+  -- the parts of a list stand among those of the body
   abbrev Rows : List Part → Type 0
-  Rows ps = (p : Part) → Contains ps p → (x : Row) → Contains (form_rows p) x → HasRow P x.item
+  Rows ps = (p : Part) → Contains ps p → Contains (parts_of P m k) p
 
   left : (xs ys : List Part) → Rows (xs ++ ys) → Rows xs
   left xs ys r p c = r p (Contains-append_left xs ys p c)
@@ -56,7 +59,7 @@ module _ {P : Plain} {F : Facts} {pt : PointsTo} {H : Hierarchy} (G : IsNamedPro
   tail p ps r q c = r q (more q p ps c)
 
   of_first : (p : Part) (ps : List Part) → Rows (p ∷ ps) → (x : Row) → Contains (form_rows p) x → HasRow P x.item
-  of_first p ps r x c = r p (first p ps) x c
+  of_first p ps r x c = form_row P m k stands p (r p (first p ps)) x c
 
   own : (q : Place) (i : RowItem) (o : Option ObjectType) (t : ObjectType) → o ≡ Some t
       → ((x : Row) → Contains (own_row q (Some i) o) x → HasRow P x.item) → HasRow P i
@@ -82,12 +85,12 @@ module _ {P : Plain} {F : Facts} {pt : PointsTo} {H : Hierarchy} (G : IsNamedPro
   E e = KnownEx P R₀ H m k O e
 
   create_row : (q : Place) (u : Bool) (t : _) (n c : ℕ) (es : Exs) (rest : List Part)
-      → Rows (a_creation q u (operand_of P (type_in P m k) m k (create t n c es)) ∷ rest) → HasRow P (row.New n)
+      → Rows (creation_part P m k q u t n c es ∷ rest) → HasRow P (row.New n)
   unfolding type_in
   create_row q u t n c es rest r = own q (row.New n) _ (record { class = record { 0 = c }; dim = 0 }) refl (of_first _ rest r)
 
   array_row : (q : Place) (u : Bool) (t : _) (n : ℕ) (v : Ty) (e : Ex) (rest : List Part) (o : ObjectType) → object_of v ≡ Some o
-      → Rows (a_creation q u (operand_of P (type_in P m k) m k (create_array t n v e)) ∷ rest) → HasRow P (row.New n)
+      → Rows (a_creation q u (operand_of P (type_in P m k) m k (create_array t n v e)) None None [] ∷ rest) → HasRow P (row.New n)
   unfolding type_in
   array_row q u t n v e rest o d r = own q (row.New n) (object_of v) o d (of_first _ rest r)
 
@@ -113,8 +116,13 @@ module _ {P : Plain} {F : Facts} {pt : PointsTo} {H : Hierarchy} (G : IsNamedPro
     ex_known at u (static_call t d es) (f_static_call a b) r = exs_known (at + 1) false es b (tail _ (all false (label_all (at + 1) es)) r)
     ex_known at u (super_call t x es) (f_super_call a b c) r = exs_known (at + 1) false es c (tail _ (all false (label_all (at + 1) es)) r)
     ex_known at u (create t n c es) (f_create a b) r =
-        let A = all false (label_all (at + 1) es) in
-        (row_known G (row.New n) c (create_row t.place u (labelled at t) n c (label_all (at + 1) es) A r), exs_known (at + 1) false es b (tail _ A r))
+        let made = is_some (maker_of P c) in
+        let labels = label_all (at + 1) es in
+        let A = all made labels in (
+          row_known G (row.New n) c (create_row t.place (u || made) (labelled at t) n c labels A r),
+          object_site P G.formed m k stands t.place (u || made) (labelled at t) n c labels (r _ (first _ A)),
+          exs_known (at + 1) made es b (tail _ A r),
+        )
     ex_known at u (create_array t n v e) (f_create_array a b c) r =
         let B = ps false (label (at + 1) e) in
         (type_known G (row.New n) v (λ o d. array_row t.place u (labelled at t) n v (label (at + 1) e) B o d r), ex_known (at + 1) false e c (tail _ B r))
@@ -225,5 +233,4 @@ module _ {P : Plain} {F : Facts} {pt : PointsTo} {H : Hierarchy} (G : IsNamedPro
   -- each type that a body names is there
   pub body_known : (xs : Sts) → k.body ≡ Some xs → FormedSts P k false (numbers_below (length k.params)) xs → InSts (known P R₀ H m k O) xs
   unfolding parts_of
-  body_known xs e f = sts_known 0 xs f
-      (λ p c x d. form_row P m k stands p (subst (λ z. Contains (parts_body P (type_in P m k) m k z) p) (sym e) c) x d)
+  body_known xs e f = sts_known 0 xs f (λ p c. subst (λ z. Contains (parts_body P (type_in P m k) m k z) p) (sym e) c)

@@ -20,25 +20,30 @@ use Rattle.fact_model.specs.declared.facts.Facts.{Facts}
 use Rattle.fact_model.specs.declared.sets.PointsTo.{PointsTo}
 use Rattle.hier_model.specs.Hierarchies.{Hierarchy, is_class_node}
 use Rattle.flow_rules.specs.declared.items.RowItem.TheVariants as row
-use Rattle.flow_rules.specs.Facts.{is_holder}
+use Rattle.flow_rules.specs.Facts.{is_holder, PlainMakers}
 use Rattle.flow_rules.proofs.Listed.{first, at_contains, contains_at, at_map, map_at, map_has, when_has, position_there, one_from}
 use Rattle.name_rules.specs.declared.parts.Here.{Here}
 use Rattle.name_rules.specs.Outline.{FieldAt, MethodAt, name_of, fields_in, methods_in, type_named, is_known, is_type_name, is_static, outline, field_outline, method_outline, fields_declared, methods_declared}
 use Rattle.name_rules.specs.Meanings.{class_named, IsMet}
-use Rattle.rebuild_model.specs.Renaming.{Renaming}
-use Rattle.write_model.specs.Names.{nowhere, class_name, written_type}
-use Rattle.write_model.specs.Members.{head, body, holder_members, static_field_member, static_method_member}
+use Rattle.rebuild_model.specs.Renaming.{Renaming, renaming_of}
+use Rattle.write_model.specs.Names.{nowhere, class_name, written_type, makers_name}
+use Rattle.write_model.specs.Members.{head, body, holder_members, static_field_member, static_method_member, make_member, make_head, make_body, make_members}
 use Rattle.write_model.proofs.NoMaker.{no_maker}
 use Rattle.write_laws.proofs.rebuilds.Apart.{holder_class, no_holder}
 use Rattle.write_laws.proofs.rebuilds.Outlined.{fields_each, methods_in_each, declared_has, member_field_has, member_method_has}
-use Rattle.write_laws.proofs.rebuilds.Nodes.{node_tree, old_tree, tree_name}
-use Rattle.write_laws.proofs.rebuilds.Members.{static_field_has, static_method_has}
-use Rattle.write_laws.specs.names.Stages.{HasHolder, FindsField, FindsMethod}
-use Rattle.write_laws.proofs.names.Origins.{written, R, old_words, HasMethod, node_body, node_head, node_filler, interface_head, static_method, HasField, node_field, static_field, method_origin, field_origin}
+use Rattle.write_laws.proofs.rebuilds.Nodes.{node_tree, old_tree, tree_name, makers_tree}
+use Rattle.write_laws.proofs.rebuilds.Members.{static_field_has, static_method_has, makes_has}
+use Rattle.write_laws.specs.names.Stages.{HasHolder, FindsField, FindsMethod, FindsMake}
+use Rattle.write_laws.proofs.names.Origins.{written, R, old_words, HasMethod, node_body, node_head, node_filler, interface_head, static_method, HasField, node_field, static_field, method_origin, field_origin, make_method}
 use Rattle.write_laws.specs.names.Laws.{IsNamedProgram}
-use Rattle.write_laws.proofs.names.Supers.{type_number, holder_named, supers_are, above_object}
+use Rattle.write_laws.proofs.names.Supers.{type_number, holder_named, supers_are, above_object, makers_named}
 use Rattle.write_laws.proofs.names.Variables.{field_free, local_free}
 use Rattle.rebuild_laws.proofs.looks.Fields.{field_holder, method_holder}
+use Rattle.flow_rules.specs.declared.items.Site.{Site}
+use Rattle.flow_rules.specs.Numbered.{sites_of}
+use Rattle.java_core.specs.Makers.{maker_of}
+use Rattle.flow_laws.proofs.cover.Makers.{own_maker}
+use Rattle.write_laws.proofs.rebuilds.Fixed.{makers_there}
 
 module _ {P : Plain} {F : Facts} {pt : PointsTo} {H : Hierarchy} (G : IsNamedProgram P F pt H) where
   open written P F H use {trees as T, types, program as O}
@@ -137,6 +142,7 @@ module _ {P : Plain} {F : Facts} {pt : PointsTo} {H : Hierarchy} (G : IsNamedPro
   method_static c h _ (interface_head n i t a d) same =
       absurd (node_not_holder n c h.index h.class h.class_stands h.holder a.live (ap (slice_get T) (sym (suc_same i h.index same)) ∙ a.stands) h.stands)
   method_static c h _ (static_method d i m k old a e s o) same = refl
+  method_static c h _ (make_method i mk y t a) same = refl
 
   method_owner : (x : MethodAt) → HasMethod P F H x → x.owner ≢ 0
   method_owner _ (node_body n i d m k a e at o) same = absurd (omega (arith, same))
@@ -144,6 +150,7 @@ module _ {P : Plain} {F : Facts} {pt : PointsTo} {H : Hierarchy} (G : IsNamedPro
   method_owner _ (node_filler n i s t a f d) same = absurd (omega (arith, same))
   method_owner _ (interface_head n i t a d) same = absurd (omega (arith, same))
   method_owner _ (static_method d i m k old a e s o) same = absurd (omega (arith, same))
+  method_owner _ (make_method i mk y t a) same = absurd (omega (arith, same))
 
   -- a static field is found in its holder
   own_field : (f : ℕ) (old : PlainField) → slice_get P.fields f ≡ Some old → old.is_static ≡ true → (h : IsHolder old.owner)
@@ -235,6 +242,41 @@ module _ {P : Plain} {F : Facts} {pt : PointsTo} {H : Hierarchy} (G : IsNamedPro
           near = λ st same.
               let i : here.owner ≡ suc h.index = same_Some _ _ (sym (own st) ∙ ap (λ c. class_named O (class_name P c)) same ∙ h.named) in
               (z.0, method_outline types x, record { stands = z.1; name = refl; above = subst (λ w. IsSubclass O here.owner w) i same_class });
+        }
+
+    -- the method that makes the objects of a site is found in its holder
+    pub finds_make : (s j : ℕ) (z : Site) → slice_get (sites_of P) s ≡ Some z → (z.ty.dim == 0) ≡ true → maker_of P z.ty.class.0 ≡ Some j
+        → FindsMake P k O here z.number
+    unfolding renaming_of
+    finds_make s j z e object has =
+        let mk = makers_there P G.formed s (record { site = z; stands = e; object = object; maker = j; has = has }) in
+        let h = makers_named G mk.0 mk.1 in
+        let n = z.number in
+        let c = z.ty.class.0 in
+        let o = own_maker P c j has in
+        let t : MemberTree = make_member P R₀ H n c j o.method in
+        let x : MethodAt = record {
+          owner = suc h.0;
+          kind = kinds.Method;
+          in_abstract = false;
+          head = make_head P R₀ H n c j o.method;
+          up = None;
+          body = Some (make_body P R₀ H n c j o.method);
+        } in
+        let d : Contains (methods_declared (suc h.0) (makers_tree P F H mk.0)) x =
+        member_method_has (suc h.0) false (make_members P R₀ H) x t (makes_has P R₀ H s j z o.method e object has o.stands) (first x []) in
+        let g = method_there x (declared_has methods_declared 1 T (methods_in_each T (no_maker P F H)) x h.0 (suc h.0)
+        (makers_tree P F H mk.0) h.1 (omega arith) d) in
+        let name : makers_name P ≡ mk.0.holder = ap (λ o. option_map_or (λ (m : PlainMakers). m.holder) o []) mk.1 in
+        let type : is_type_name types (makers_name P) ≡ true = ap (is_type_name types) name
+        ∙ or_left (is_some (type_named types mk.0.holder)) (is_known mk.0.holder) (ap is_some (type_number G h.0 (makers_tree P F H mk.0) h.1)) in
+        record {
+          number = suc h.0;
+          named = ap (class_named O) name ∙ h.2;
+          no_field = no_field here.owner (makers_name P) type;
+          no_variable = λ i v q same. false≢true (sym (local_free G m k v at (contains_at (variables_of k) i v q)) ∙ ap (is_type_name types) same ∙ type);
+          method = g.0;
+          found = record { member = method_outline types x; stands = g.1; owner = refl; name = refl; static = refl };
         }
 
     -- what is above a holder is itself or Object

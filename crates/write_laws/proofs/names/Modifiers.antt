@@ -26,9 +26,9 @@ use Rattle.write_model.specs.Names.{modifier}
 use Rattle.write_model.specs.Bodies.{written_sts}
 use Rattle.write_model.specs.Members.{parameters}
 use Rattle.write_model.specs.Written.{class_modifiers, type_tree}
-use Rattle.write_laws.proofs.rebuilds.Nodes.{items, tree, Declares, a_node, a_holder, declares}
+use Rattle.write_laws.proofs.rebuilds.Nodes.{items, tree, Declares, a_node, a_holder, declares, a_makers}
 use Rattle.write_laws.specs.names.Laws.{IsNamedProgram}
-use Rattle.write_laws.proofs.names.Origins.{R, HasMethod, node_body, node_head, node_filler, interface_head, static_method, HasField, node_field, static_field, method_origin, field_origin}
+use Rattle.write_laws.proofs.names.Origins.{R, HasMethod, node_body, node_head, node_filler, interface_head, static_method, HasField, node_field, static_field, method_origin, field_origin, make_method}
 
 pub record Fits (kind : Kind) (mods : List Modifier) : Type 0 where
   pub apart : (i j : ℕ) (a b : Modifier) → slice_get mods i ≡ Some a → slice_get mods j ≡ Some b → i < j → disagree a.word b.word ≡ false
@@ -152,6 +152,11 @@ module _ {P : Plain} {F : Facts} {pt : PointsTo} {H : Hierarchy} (G : IsNamedPro
     body = right_body x refl (mapped (written_sts P (R P F H) H m old (parameters 0 old.params)) old.body ∙ static_body m old e s);
     open_to_all = refl;
   }
+  sound x (make_method i mk y t a) = record {
+    modifiers = fits_two kinds.Method (modifier Public) (modifier Static) refl refl refl;
+    body = right_body x refl refl;
+    open_to_all = refl;
+  }
 
   pub method_sound : (x : MethodAt) → Contains (methods_in (tree P F H)) x → IsSound x
   method_sound x c = sound x (method_origin P F H x c)
@@ -168,6 +173,7 @@ module _ {P : Plain} {F : Facts} {pt : PointsTo} {H : Hierarchy} (G : IsNamedPro
   declared_fits : (d : DeclTree) → Declares P F H d → Fits (kind_of d) (mods_of d)
   declared_fits _ (a_node n live) = type_fits (is_class_node F H n) n
   declared_fits _ (a_holder c k e h) = fits_none kinds.Class
+  declared_fits _ (a_makers m e) = fits_none kinds.Class
 
   field_fits : (x : FieldAt) → HasField P F H x → Fits kinds.Field x.mods
   field_fits _ (node_field n i c f k a e at o) = fits_none kinds.Field

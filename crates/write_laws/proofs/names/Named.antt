@@ -1,5 +1,5 @@
 -- Each type that a declaration of the tree names is there.
-use Rattle.std.proofs.Common.{◌≡◌, ◌≢◌, ℕ, true, false, List, Option, Some, None, Contains, refl, sym, ap, ◌∙◌, subst}
+use Rattle.std.proofs.Common.{◌≡◌, ◌≢◌, ℕ, true, false, List, Option, Some, None, Contains, refl, sym, ap, ◌∙◌, subst, ◌∷◌, slice_get, []}
 use Rattle.std.specs.Prelude.{codes}
 use Rattle.std.specs.Option.{option_map}
 use Rattle.std.proofs.lemmas.Bool.{false≢true}
@@ -13,7 +13,7 @@ use Rattle.java_tree.specs.Syntax.{HeadTree}
 use Rattle.java_core.specs.declared.Ty.{Ty}
 use Rattle.java_core.specs.declared.TyBase.{TyBase}
 use Rattle.java_core.specs.declared.TyBase.TheVariants.{Int, Boolean, Char, Str, Class}
-use Rattle.java_core.specs.Programs.{Plain}
+use Rattle.java_core.specs.Programs.{Plain, PlainMethod}
 use Rattle.fact_model.specs.declared.facts.Facts.{Facts}
 use Rattle.fact_model.specs.declared.sets.PointsTo.{PointsTo}
 use Rattle.hier_model.specs.Hierarchies.{Hierarchy, place_of_row}
@@ -29,14 +29,20 @@ use Rattle.name_rules.specs.Meanings.{class_named}
 use Rattle.name_rules.specs.Asked.{IsDeclared, of_field, of_param, of_result, Asks, by_super, by_type}
 use Rattle.name_rules.specs.Conditions.{no_such_type}
 use Rattle.rebuild_model.specs.Renaming.{renaming_of}
-use Rattle.write_model.specs.Names.{row_name, written_base, written_type}
+use Rattle.write_model.specs.Names.{row_name, written_base, written_type, modifier}
 use Rattle.write_laws.proofs.rebuilds.Nodes.{tree}
 use Rattle.write_laws.proofs.rebuilds.Retyped.{HasRow, row_live, field_row, variable_has_row, result_has_row}
 use Rattle.write_laws.specs.names.Known.{IsKnownName, IsKnownType}
-use Rattle.write_laws.proofs.names.Origins.{R, HasMethod, HasField, node_field, static_field, method_origin, field_origin}
+use Rattle.write_laws.proofs.names.Origins.{R, HasMethod, HasField, node_field, static_field, method_origin, field_origin, old_words, node_body, node_head, node_filler, interface_head, static_method, make_method}
 use Rattle.write_laws.specs.names.Laws.{IsNamedProgram}
 use Rattle.write_laws.proofs.names.Supers.{node_named, super_known}
-use Rattle.write_laws.proofs.names.Variables.{HasHead, head_of, param_of}
+use Rattle.write_laws.proofs.names.Variables.{head_of, param_of}
+use Rattle.java_tree.specs.declared.Modifier.{Modifier}
+use Rattle.write_model.specs.Members.{head}
+use Rattle.write_laws.proofs.rebuilds.Members.{IsHeadTree}
+use Rattle.java_core.specs.Types.{class_type}
+use Rattle.write_laws.proofs.bodies.SiteRows.{site_row}
+use Rattle.kaba_base.specs.declared.words.Keyword.TheVariants.{Public}
 
 module _ {P : Plain} {F : Facts} {pt : PointsTo} {H : Hierarchy} (G : IsNamedProgram P F pt H) where
   abbrev O : Plain
@@ -88,20 +94,29 @@ module _ {P : Plain} {F : Facts} {pt : PointsTo} {H : Hierarchy} (G : IsNamedPro
       (type_known (variable_row t.number t.method z.0) v.0.ty
       (λ o h. variable_has_row P G.formed t.number t.method z.0 v.0 t.stands (at_left t.method.params t.method.locals z.0 v.0 v.1) o h))
 
+  given_back : (m : ℕ) (k : PlainMethod) (u : TypeName) (o : Option Ty) → slice_get P.methods m ≡ Some k → k.result ≡ o
+      → option_map (written_type P H ((R P F H).row_type (result_in k.slot m))) o ≡ Some u → IsKnownType O u
+  given_back m k u None e p q = absurd (cc q)
+  given_back m k u (Some y) e p q =
+      subst (IsKnownType O) (same_Some (written_type P H ((R P F H).row_type (result_in k.slot m)) y) u q)
+      (type_known (result_in k.slot m) y (λ o h. result_has_row P G.formed m k e o (ap (λ z. object_if z) p ∙ h)))
+
+  of_head : (h : HeadTree) (u : TypeName) (mods : List Modifier) (name : List ℕ) (m : ℕ) (k : PlainMethod) → slice_get P.methods m ≡ Some k
+      → head P (R P F H) H mods name m k ≡ h → h.type ≡ Some u → IsKnownType O u
+  of_head h u mods name m k e is q = given_back m k u k.result e refl (ap (λ (y : HeadTree). y.type) is ∙ q)
+
+  of_tree : (h : HeadTree) (u : TypeName) (mods : List Modifier) (s : ℕ) → IsHeadTree P (R P F H) F H mods s h → h.type ≡ Some u → IsKnownType O u
+  of_tree h u mods s t q = of_head h u mods ((R P F H).method_name t.signature.first) t.signature.first t.first t.first_stands t.is q
+
   result_known : (x : MethodAt) (u : TypeName) → HasMethod P F H x → x.head.type ≡ Some u → IsKnownType O u
-  result_known x u m e =
-      let t = head_of G x m in
-      go t t.method.result refl (ap (λ (y : HeadTree). y.type) t.is ∙ e)
-    where
-      go : (t : HasHead G x.head) (o : Option Ty) → t.method.result ≡ o
-          → option_map (written_type P H ((R P F H).row_type (result_in t.method.slot t.number))) t.method.result ≡ Some u → IsKnownType O u
-      go t None p q = absurd (cc (p, q))
-      go t (Some y) p q =
-          let it : written_type P H ((R P F H).row_type (result_in t.method.slot t.number)) y ≡ u =
-          same_Some _ _ (sym (ap (λ o. option_map (written_type P H ((R P F H).row_type (result_in t.method.slot t.number))) o) p) ∙ q) in
-          subst (IsKnownType O) it
-          (type_known (result_in t.method.slot t.number) y
-          (λ o h. result_has_row P G.formed t.number t.method t.stands o (ap (λ z. object_if z) p ∙ h)))
+  result_known _ u (node_body n i c m k a e at o) q = of_head _ u (modifier Public ∷ []) ((R P F H).method_name m) m k o refl q
+  result_known _ u (node_head n i h a t) q = of_tree h u _ t.slot t.tree q
+  result_known _ u (node_filler n i s h a f t) q = of_tree h u _ s t q
+  result_known _ u (interface_head n i h a t) q = of_tree h u _ t.slot t.tree q
+  result_known _ u (static_method c i m k old a e s o) q = of_head _ u (old_words P F H) old.name m old e refl q
+  result_known _ u (make_method i mk y t a) q =
+      subst (IsKnownType O) (same_Some _ u q)
+      (type_known (row.New t.site.number) (class_type t.site.ty.class.0) (λ o h. (t.site.row, site_row P t.number t.site t.stands)))
 
   declared_known : (u : TypeName) → IsDeclared (tree P F H) u → IsKnownType O u
   declared_known _ (of_field {f = f} c) = field_known f (field_origin P F H f c)

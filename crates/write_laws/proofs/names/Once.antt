@@ -1,11 +1,11 @@
 -- Lists of which no two members agree.
 use Rattle.std.proofs.Common.{◌≡◌, ℕ, zero, suc, ◌+◌, ◌<◌, ◌≤◌, Bool, true, false, cond, List, [], ◌∷◌, ◌++◌, Some, Contains, refl, sym, subst, arith, ⊎_elim}
 use Rattle.std.specs.Prelude.{map, filter, slice_get}
-use Rattle.std.specs.List.{range_with_len}
+use Rattle.std.specs.List.{range_with_len, flat_map}
 use Rattle.std.proofs.lemmas.Option.{same_Some}
 use Rattle.std.proofs.lemmas.List.Elements.{Contains-append_cases}
 use Rattle.flow_rules.specs.Ordered.{each, when}
-use Rattle.flow_rules.proofs.Listed.{first, more, contains_at, each_from, map_from, one_from}
+use Rattle.flow_rules.proofs.Listed.{first, more, contains_at, each_from, map_from, one_from, flat_from}
 use Rattle.write_laws.proofs.rebuilds.Order.{filter_from}
 
 abbrev pub Once : {A : Type 0} → (A → A → Type 0) → List A → Type 0
@@ -39,6 +39,14 @@ each_once agree f n (x ∷ xs) one apart =
     (λ i j k l y z a b p q lt u v. apart (suc i) (suc j) k l y z a b p q (omega (arith, lt)) (omega (arith, u)) (omega (arith, v))))
     (λ a b c d. let z = each_from f (n + 1) xs b d in
     apart 0 (suc z.0) n z.1 x z.2 a b refl z.3 (omega arith) (omega arith) (let e = z.4 in omega (arith, e)) c z.5)
+
+-- what each item of a list without repetition gives, where two give nothing alike
+pub flat_once : {A B : Type 0} (agree : B → B → Type 0) (same : A → A → Type 0) (f : A → List B) (xs : List A) → Once same xs → ((x : A) → Once agree (f x))
+    → ((x y : A) (a b : B) → (same x y → ⊥) → Contains (f x) a → Contains (f y) b → agree a b → ⊥) → Once agree (flat_map f xs)
+flat_once agree same f [] o one apart = tt
+flat_once agree same f (x ∷ xs) o one apart =
+    append_once agree (f x) (flat_map f xs) (one x) (flat_once agree same f xs o.1 one apart)
+    (λ a b c d. let z = flat_from f xs b d in apart x z.0 a b (o.0 z.0 z.1) c z.2)
 
 pub one_once : {A : Type 0} (agree : A → A → Type 0) (x : A) → Once agree (x ∷ [])
 one_once agree x = (λ y c. absurd (let l = c.1 in omega (arith, l)), tt)

@@ -11,7 +11,7 @@ use Rattle.kaba_order.specs.Orders.{is_live}
 use Rattle.hier_model.specs.Hierarchies.{Hierarchy, is_class_node, stands_at}
 use Rattle.flow_rules.specs.declared.items.ColumnItem.TheVariants as column
 use Rattle.flow_rules.specs.declared.items.RowItem.TheVariants as row
-use Rattle.flow_rules.specs.Facts.{is_holder}
+use Rattle.flow_rules.specs.Facts.{is_holder, PlainMakers, makers_of}
 use Rattle.name_rules.specs.declared.parts.Kind.TheVariants as kinds
 use Rattle.name_rules.specs.Outline.{FieldAt, MethodAt, types_in, fields_in, methods_in, fields_declared, methods_declared, has_word, is_abstract_word}
 use Rattle.name_rules.specs.Outline as outline
@@ -19,12 +19,12 @@ use Rattle.flow_rules.proofs.Listed.{map_from, when_from, one_from}
 use Rattle.rebuild_model.specs.Renaming.{Renaming}
 use Rattle.rebuild_model.specs.Members.{is_made_at, is_filled}
 use Rattle.write_model.specs.Names.{nowhere, modifier, written_type}
-use Rattle.write_model.specs.Members.{head, body, filling, class_members, interface_heads, holder_members}
+use Rattle.write_model.specs.Members.{head, body, filling, class_members, interface_heads, holder_members, make_head, make_body, make_members}
 use Rattle.write_model.specs.Written.{class_modifiers, type_tree}
 use Rattle.write_model.proofs.NoMaker.{no_maker}
 use Rattle.write_laws.proofs.rebuilds.Outlined.{fields_each, methods_in_each, declared_from, member_field_from, member_method_from}
-use Rattle.write_laws.proofs.rebuilds.Nodes.{items, by_node, tree, node_tree, old_tree, Declares, a_node, a_holder, declares}
-use Rattle.write_laws.proofs.rebuilds.Members.{IsHeadTree, IsHeadAt, IsMember, a_field, a_body, a_head, a_filler, in_class, as_filler, class_from, interface_from, IsStatic, a_static_field, a_static_method, holder_from}
+use Rattle.write_laws.proofs.rebuilds.Nodes.{items, by_node, tree, node_tree, old_tree, Declares, a_node, a_holder, declares, makers_tree, a_makers}
+use Rattle.write_laws.proofs.rebuilds.Members.{IsHeadTree, IsHeadAt, IsMember, a_field, a_body, a_head, a_filler, in_class, as_filler, class_from, interface_from, IsStatic, a_static_field, a_static_method, holder_from, IsMakeTree, makes_from, no_field_made}
 
 -- the trees that are written, the names of the types that they declare, and their outline
 pub record Written : Type 0 where
@@ -53,6 +53,22 @@ module _ (P : Plain) (F : Facts) (H : Hierarchy) where
     pub stands : slice_get (tree P F H) i ≡ Some (old_tree P F H c k)
     pub class_stands : slice_get P.classes c ≡ Some k
     pub holder : is_holder P c ≡ true
+
+  -- and that of the holder of the methods that make objects
+  pub record IsMakersAt (i : ℕ) (mk : PlainMakers) : Type 0 where
+    pub stands : slice_get (tree P F H) i ≡ Some (makers_tree P F H mk)
+    pub has : makers_of P ≡ Some mk
+
+  -- the declaration of a method that makes objects
+  abbrev pub as_make : ℕ → (x : MemberTree) → IsMakeTree P R H x → MethodAt
+  as_make i x t = record {
+    owner = suc i;
+    kind = kinds.Method;
+    in_abstract = false;
+    head = make_head P R H t.site.number t.site.ty.class.0 t.maker t.method;
+    up = None;
+    body = Some (make_body P R H t.site.number t.site.ty.class.0 t.maker t.method);
+  }
 
   abbrev pub class_method : ℕ → ℕ → HeadTree → Option Statements → MethodAt
   class_method n i h b = record {
@@ -84,6 +100,7 @@ module _ (P : Plain) (F : Facts) (H : Hierarchy) where
           up = None;
           body = body P R H m old;
         })
+    make_method : (i : ℕ) (mk : PlainMakers) (x : MemberTree) (t : IsMakeTree P R H x) → IsMakersAt i mk → HasMethod (as_make i x t)
 
   -- a field of the tree
   pub data HasField : FieldAt → Type 0 where
@@ -152,6 +169,11 @@ module _ (P : Plain) (F : Facts) (H : Hierarchy) where
   declared_method i _ x e (a_holder c k d holder) h =
       let z = member_method_from (suc i) false (holder_members P R H c) x h in
       old_method_from c i k x z.0 (record { stands = e; class_stands = d; holder = holder }) (holder_from P R H c z.0 z.1) z.2
+  declared_method i _ x e (a_makers mk me) h =
+      let z = member_method_from (suc i) false (make_members P R H) x h in
+      let t = makes_from P R H z.0 z.1 in
+      subst HasMethod (one_from (as_make i z.0 t) x (subst (λ v. Contains (outline.method_member (suc i) false v) x) (sym t.is) z.2))
+      (make_method i mk z.0 t (record { stands = e; has = me }))
 
   declared_field : (i : ℕ) (d : _) (x : FieldAt) → slice_get (tree P F H) i ≡ Some d → Declares P F H d → Contains (fields_declared (suc i) d) x
       → HasField x
@@ -159,6 +181,7 @@ module _ (P : Plain) (F : Facts) (H : Hierarchy) where
   declared_field i _ x e (a_holder c k d holder) h =
       let z = member_field_from (suc i) (holder_members P R H c) x h in
       old_field_from c i k x z.0 (record { stands = e; class_stands = d; holder = holder }) (holder_from P R H c z.0 z.1) z.2
+  declared_field i _ x e (a_makers mk me) h = absurd (no_field_made P R H i x h)
 
   pub method_origin : (x : MethodAt) → Contains (methods_in (tree P F H)) x → HasMethod x
   method_origin x c =

@@ -32,16 +32,17 @@ use Rattle.name_rules.specs.Outline.{MethodAt, methods_in, method_outline, param
 use Rattle.name_rules.specs.Conditions.{AreOneSlot}
 use Rattle.write_model.specs.Names.{written_type}
 use Rattle.write_model.specs.Members.{param, head}
-use Rattle.write_laws.proofs.rebuilds.Apart.{no_holder}
-use Rattle.write_laws.proofs.rebuilds.Nodes.{node_tree, old_tree, tree_name, Declares, a_node, a_holder, declares}
+use Rattle.write_laws.proofs.rebuilds.Apart.{no_holder, no_makers}
+use Rattle.write_laws.proofs.rebuilds.Nodes.{node_tree, old_tree, tree_name, Declares, a_node, a_holder, declares, makers_tree, a_makers}
 use Rattle.write_laws.proofs.rebuilds.Members.{IsHeadTree, IsHeadAt}
-use Rattle.write_laws.proofs.names.Origins.{written, R, IsNodeAt, IsHolderAt, HasMethod, node_body, node_head, node_filler, interface_head, static_method, method_origin}
+use Rattle.write_laws.proofs.names.Origins.{written, R, IsNodeAt, HasMethod, node_body, node_head, node_filler, interface_head, static_method, method_origin, make_method}
 use Rattle.write_laws.specs.names.Laws.{IsNamedProgram}
 use Rattle.write_laws.proofs.names.Variables.{column_number}
 use Rattle.write_laws.proofs.names.Supers.{IsNumber, above_object, above_node, same_node, supers_are}
 use Rattle.write_laws.proofs.names.Instances.{OffersSlot, one_slot, offered_there, name_is, body_offers}
 use Rattle.write_laws.proofs.names.AtNodes.{slot_first, filler_offers, declaration_kind}
 use Rattle.write_laws.proofs.names.Separate.{methods_are_apart}
+use Rattle.flow_rules.specs.Facts.{PlainMakers, makers_of, is_holder}
 
 module _ {P : Plain} {F : Facts} {pt : PointsTo} {H : Hierarchy} (G : IsNamedProgram P F pt H) where
   open written P F H use {trees as T, types, program as O}
@@ -136,8 +137,13 @@ module _ {P : Plain} {F : Facts} {pt : PointsTo} {H : Hierarchy} (G : IsNamedPro
   numbered : (b : Bool) (n i : ℕ) → IsNodeAt P F H b n i → IsNumber G (suc i) n
   numbered b n i a = record { number = i; is = refl; stands = a.stands; live = a.live }
 
+  -- the declaration of a holder
+  data IsAside : DeclTree → Type 0 where
+    of_class : (c : ℕ) (k : PlainClass) → slice_get P.classes c ≡ Some k → is_holder P c ≡ true → IsAside (old_tree P F H c k)
+    of_makers : (m : PlainMakers) → makers_of P ≡ Some m → IsAside (makers_tree P F H m)
+
   abbrev IsOld : MethodAt → Type 0
-  IsOld x = (c : ℕ) × (i : ℕ) × (k : PlainClass) × IsHolderAt P F H c i k × (x.owner ≡ suc i)
+  IsOld x = (i : ℕ) × (d : DeclTree) × IsAside d × (slice_get T i ≡ Some d) × (x.owner ≡ suc i)
 
   of_types : (x : MethodAt) (n s : ℕ) → IsNumber G x.owner n → OffersSlot G n s x.head.name → is_static x ≡ false → HasTypes s x.head → IsOfSlot x
   of_types x n s at offers instance t = record { node = n; slot = s; at = at; offers = offers; instance = instance; types = t }
@@ -155,13 +161,14 @@ module _ {P : Plain} {F : Facts} {pt : PointsTo} {H : Hierarchy} (G : IsNamedPro
       (ap (λ (y : HeadTree). has_word is_static_word y.mods) (sym d.is)) (first_types _ s h d))
   found x (interface_head n i h a d) = inl (of_types _ n d.slot (numbered false n i a) (head_offers _ n h a.live d)
       (ap (λ (y : HeadTree). has_word is_static_word y.mods) (sym d.tree.is)) (first_types _ d.slot h d.tree))
-  found x (static_method c i m k old a e s o) = inr (c, i, k, a, refl)
+  found x (static_method c i m k old a e s o) = inr (i, old_tree P F H c k, of_class c k a.class_stands a.holder, a.stands, refl)
+  found x (make_method i mk y t a) = inr (i, makers_tree P F H mk, of_makers mk a.has, a.stands, refl)
 
   -- ---- at and above a type
 
   owner_there : (x : MethodAt) → IsOfSlot x ⊎ IsOld x → (i : ℕ) × (d : DeclTree) × (x.owner ≡ suc i) × (slice_get T i ≡ Some d)
   owner_there x (inl s) = (s.at.number, node_tree P F H s.node, s.at.is, s.at.stands)
-  owner_there x (inr o) = (o.1, old_tree P F H o.0 o.2, o.4, o.3.stands)
+  owner_there x (inr o) = (o.0, o.1, o.4, o.3)
 
   class_from : (i : ℕ) (w : PlainClass) → slice_get O.classes (suc i) ≡ Some w → (d : DeclTree) × (slice_get T i ≡ Some d)
   unfolding outline
@@ -190,10 +197,13 @@ module _ {P : Plain} {F : Facts} {pt : PointsTo} {H : Hierarchy} (G : IsNamedPro
       by_number (suc i) p = by_class i (slice_get O.classes (suc i)) p refl
 
   -- above a holder is Object alone
-  above_holder : (c y i h : ℕ) (k : PlainClass) → IsSubclass O c y → c ≡ suc i → slice_get T i ≡ Some (old_tree P F H h k) → (y ≡ 0 → ⊥) → y ≡ c
-  above_holder c _ i h k same_class e t n = refl
-  above_holder c y i h k (through {c = w} a b) e t n =
+  above_holder : (c y i : ℕ) (d : DeclTree) → IsAside d → IsSubclass O c y → c ≡ suc i → slice_get T i ≡ Some d → (y ≡ 0 → ⊥) → y ≡ c
+  above_holder c _ i d aside same_class e t n = refl
+  above_holder c y i _ (of_class h k f g) (through {c = w} a b) e t n =
       let d = subst (λ z. Contains z w) (ap (supers_of O) e ∙ supers_are G i (old_tree P F H h k) t) a in
+      absurd (n (above_object G w.0 y b (ap (λ (x : ClassId). x.0) (sym (one_from _ w d)))))
+  above_holder c y i _ (of_makers m f) (through {c = w} a b) e t n =
+      let d = subst (λ z. Contains z w) (ap (supers_of O) e ∙ supers_are G i (makers_tree P F H m) t) a in
       absurd (n (above_object G w.0 y b (ap (λ (x : ClassId). x.0) (sym (one_from _ w d)))))
 
   lifted : (n m s : ℕ) (x : List ℕ) → is_le H.order n m ≡ true → OffersSlot G m s x → OffersSlot G n s x
@@ -203,12 +213,16 @@ module _ {P : Plain} {F : Facts} {pt : PointsTo} {H : Hierarchy} (G : IsNamedPro
       go None h = absurd (false≢true h)
       go (Some p) h = G.hierarchy.sized.order.transitive n m p.0 le h
 
+  no_aside : (m : ℕ) (d : DeclTree) → is_live H.order m ≡ true → IsAside d → node_tree P F H m ≡ d → ⊥
+  no_aside m _ live (of_class c k f g) e =
+      no_holder F pt H G.unbroken P G.facts m c k live g f (sym (tree_name P F H (is_class_node F H m) m) ∙ ap name_of e)
+  no_aside m _ live (of_makers w f) e =
+      no_makers F pt H G.unbroken P G.facts w f m live (sym (tree_name P F H (is_class_node F H m) m) ∙ ap name_of e)
+
   no_old : (x : MethodAt) (m : ℕ) → IsNumber G x.owner m → IsOld x → ⊥
   no_old x m a o =
-      let e = suc_same a.number o.1 (sym a.is ∙ o.4) in
-      let one : node_tree P F H m ≡ old_tree P F H o.0 o.2 = same_Some _ _ (sym a.stands ∙ ap (slice_get T) e ∙ o.3.stands) in
-      no_holder F pt H G.unbroken P G.facts m o.0 o.2 a.live o.3.holder o.3.class_stands
-      (sym (tree_name P F H (is_class_node F H m) m) ∙ ap name_of one)
+      let e = suc_same a.number o.0 (sym a.is ∙ o.4) in
+      no_aside m o.1 a.live o.2 (same_Some _ _ (sym a.stands ∙ ap (slice_get T) e ∙ o.3))
     where
       suc_same : (i j : ℕ) → suc i ≡ suc j → i ≡ j
       suc_same i j e = omega (arith, e)
@@ -223,7 +237,7 @@ module _ {P : Plain} {F : Facts} {pt : PointsTo} {H : Hierarchy} (G : IsNamedPro
         (above_node G c x.owner n a b),
   )
   in_node c n x a b (inr o) =
-      absurd (⊎_elim (λ zero. not_zero x.owner o.1 o.4 zero) (λ m. no_old x m.0 m.1 o) (above_node G c x.owner n a b))
+      absurd (⊎_elim (λ zero. not_zero x.owner o.0 o.4 zero) (λ m. no_old x m.0 m.1 o) (above_node G c x.owner n a b))
 
   same_slot : (x y : MethodAt) (a : IsOfSlot x) (b : IsOfSlot y) → a.slot ≡ b.slot → AreOneSlot (method_outline types x) (method_outline types y)
   same_slot x y a b e =
@@ -237,6 +251,16 @@ module _ {P : Plain} {F : Facts} {pt : PointsTo} {H : Hierarchy} (G : IsNamedPro
             ∙ ap (λ (s : PlainSlot). option_map (meant (row.Return b.slot)) s.result) one ∙ sym b.types.result;
       }
 
+  in_aside : (i j c r : ℕ) (x y : MethodAt) (d : DeclTree) → slice_get (methods_in T) i ≡ Some x → slice_get (methods_in T) j ≡ Some y → i < j
+      → x.head.name ≡ y.head.name → IsSubclass O c x.owner → IsSubclass O c y.owner → IsOfSlot x ⊎ IsOld x → IsOfSlot y ⊎ IsOld y
+      → c ≡ suc r → slice_get T r ≡ Some d → IsAside d → AreOneSlot (method_outline types x) (method_outline types y)
+  in_aside i j c r x y d p q lt e a b u v is at aside =
+      let w = owner_there x u in
+      let z = owner_there y v in
+      let one = above_holder c x.owner r d aside a is at (not_zero x.owner w.0 w.2) in
+      let two = above_holder c y.owner r d aside b is at (not_zero y.owner z.0 z.2) in
+      absurd (methods_are_apart G i j x y p q lt (one ∙ sym two) e)
+
   in_type : (i j c r : ℕ) (x y : MethodAt) (d : DeclTree) → slice_get (methods_in T) i ≡ Some x → slice_get (methods_in T) j ≡ Some y → i < j
       → x.head.name ≡ y.head.name → IsSubclass O c x.owner → IsSubclass O c y.owner → IsOfSlot x ⊎ IsOld x → IsOfSlot y ⊎ IsOld y
       → c ≡ suc r → slice_get T r ≡ Some d → Declares P F H d → AreOneSlot (method_outline types x) (method_outline types y)
@@ -245,12 +269,8 @@ module _ {P : Plain} {F : Facts} {pt : PointsTo} {H : Hierarchy} (G : IsNamedPro
       let s = in_node c n x number a u in
       let t = in_node c n y number b v in
       same_slot x y s.0 t.0 (one_slot G n s.0.slot t.0.slot y.head.name (subst (OffersSlot G n s.0.slot) e s.1) t.1)
-  in_type i j c r x y _ p q lt e a b u v is at (a_holder h k f g) =
-      let w = owner_there x u in
-      let z = owner_there y v in
-      let one = above_holder c x.owner r h k a is at (not_zero x.owner w.0 w.2) in
-      let two = above_holder c y.owner r h k b is at (not_zero y.owner z.0 z.2) in
-      absurd (methods_are_apart G i j x y p q lt (one ∙ sym two) e)
+  in_type i j c r x y d p q lt e a b u v is at (a_holder h k f g) = in_aside i j c r x y d p q lt e a b u v is at (of_class h k f g)
+  in_type i j c r x y d p q lt e a b u v is at (a_makers m f) = in_aside i j c r x y d p q lt e a b u v is at (of_makers m f)
 
   at_methods : (i j c : ℕ) (x y : MethodAt) → slice_get (methods_in T) i ≡ Some x → slice_get (methods_in T) j ≡ Some y → i < j
       → x.head.name ≡ y.head.name → IsSubclass O c x.owner → IsSubclass O c y.owner → AreOneSlot (method_outline types x) (method_outline types y)

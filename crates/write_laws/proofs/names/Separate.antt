@@ -13,16 +13,22 @@ use Rattle.flow_rules.proofs.Listed.{when_from, one_from, each_from_zero}
 use Rattle.name_rules.specs.Outline.{FieldAt, MethodAt, fields_in, methods_in}
 use Rattle.flow_rules.specs.declared.items.RowItem.TheVariants as row
 use Rattle.write_model.specs.Names.{nowhere, written_type}
-use Rattle.write_model.specs.Members.{head, body, static_field_member, static_method_member, holder_members}
+use Rattle.write_model.specs.Members.{head, body, static_field_member, static_method_member, holder_members, make_member, maker_member, site_member, make_members}
 use Rattle.write_model.specs.Written.{type_tree}
 use Rattle.name_rules.proofs.NoMakers.{methods_written}
 use Rattle.write_model.proofs.NoMaker.{no_maker}
-use Rattle.write_laws.proofs.rebuilds.Nodes.{items, tree, Declares, a_node, a_holder, declares}
+use Rattle.write_laws.proofs.rebuilds.Nodes.{items, tree, Declares, a_node, a_holder, declares, a_makers}
 use Rattle.write_laws.proofs.names.Origins.{R, old_words}
 use Rattle.write_laws.specs.names.Laws.{IsNamedProgram}
-use Rattle.write_laws.proofs.names.Once.{Once, once_at, append_once, when_once}
+use Rattle.write_laws.proofs.names.Once.{Once, once_at, append_once, when_once, one_once}
 use Rattle.write_laws.proofs.names.Declared.{SameMember, SameField, SameMethod, MembersApart, fields_apart, methods_apart}
-use Rattle.write_laws.proofs.names.AtNodes.{all_once, class_once, interface_once}
+use Rattle.write_laws.proofs.names.AtNodes.{all_once, class_once, interface_once, option_once}
+use Rattle.flow_rules.specs.declared.items.Site.{Site}
+use Rattle.flow_rules.specs.Numbered.{sites_of}
+use Rattle.java_core.specs.Makers.{maker_of}
+use Rattle.rebuild_model.specs.Renaming.{make_name, renaming_of}
+use Rattle.write_laws.proofs.rebuilds.Members.{site_from}
+use Rattle.write_laws.proofs.rebuilds.Fixed.{one_make}
 
 same_from : (x y u v : MemberTree) → u ≡ x → v ≡ y → SameMember x y → SameMember u v
 same_from x y u v a b e = subst (λ z. SameMember u z) (sym b) (subst (λ z. SameMember z y) (sym a) e)
@@ -77,6 +83,35 @@ module _ {P : Plain} {F : Facts} {pt : PointsTo} {H : Hierarchy} (G : IsNamedPro
       let v = each_from_zero (static_method_member P (R P F H) H c) P.methods b y in
       field_method c u.0 v.0 u.1 v.1 a b u.3 v.3 e)
 
+  -- the methods that make objects are apart by their fixed names
+  make_called : (n : ℕ) → make_name P n ≡ (R P F H).make_name n
+  unfolding renaming_of
+  make_called n = refl
+
+  two_makes : (s t : ℕ) (y z : Site) (a b : MemberTree) → slice_get (sites_of P) s ≡ Some y → slice_get (sites_of P) t ≡ Some z → s < t
+      → Contains (site_member P (R P F H) H s y) a → Contains (site_member P (R P F H) H t z) b → SameMember a b → ⊥
+  two_makes s t y z a b p q lt c d e =
+      let u = site_from P (R P F H) H s y a p c in
+      let v = site_from P (R P F H) H t z b q d in
+      let name = same_from a b (make_member P (R P F H) H y.number y.ty.class.0 u.maker u.method)
+      (make_member P (R P F H) H z.number z.ty.class.0 v.maker v.method) u.is v.is e in
+      let one = one_make P G.formed s t (record { site = y; stands = p; object = u.object; maker = u.maker; has = u.has })
+      (record { site = z; stands = q; object = v.object; maker = v.maker; has = v.has })
+      (make_called y.number ∙ name ∙ sym (make_called z.number)) in
+      omega (arith, one, lt)
+
+  one_site : (s : ℕ) (z : Site) → Once SameMember (site_member P (R P F H) H s z)
+  one_site s z =
+      when_once SameMember (z.ty.dim == 0) _
+      (option_once SameMember (maker_member P (R P F H) H z.number z.ty.class.0) (maker_of P z.ty.class.0)
+      (λ m. option_once SameMember (λ k. make_member P (R P F H) H z.number z.ty.class.0 m k ∷ []) (slice_get P.methods m)
+      (λ k. one_once SameMember (make_member P (R P F H) H z.number z.ty.class.0 m k))))
+
+  makes_once : Once SameMember (make_members P (R P F H) H)
+  makes_once =
+      all_once SameMember (site_member P (R P F H) H) (sites_of P) (λ s z e. one_site s z)
+      (λ s t y z a b p q lt c d e. two_makes s t y z a b p q lt c d e)
+
   type_apart : (b : Bool) (n : ℕ) → is_live H.order n ≡ true → is_class_node F H n ≡ b → MembersApart (type_tree P (R P F H) F H (items P F H) b n)
   type_apart true n live class = class_once G n live class
   type_apart false n live class = interface_once G n live
@@ -84,6 +119,7 @@ module _ {P : Plain} {F : Facts} {pt : PointsTo} {H : Hierarchy} (G : IsNamedPro
   declared_apart : (d : DeclTree) → Declares P F H d → MembersApart d
   declared_apart _ (a_node n live) = type_apart (is_class_node F H n) n live refl
   declared_apart _ (a_holder c k e h) = holder_once c
+  declared_apart _ (a_makers m e) = makes_once
 
   pub members_apart : (i : ℕ) (d : DeclTree) → slice_get T i ≡ Some d → MembersApart d
   members_apart i d e = declared_apart d (declares P F H i d e)

@@ -16,7 +16,7 @@ use Rattle.java_core.specs.Formed.{HasNoTwice}
 use Rattle.fact_model.specs.declared.facts.Facts.{Facts}
 use Rattle.fact_model.specs.declared.sets.PointsTo.{PointsTo}
 use Rattle.hier_model.specs.Hierarchies.{Hierarchy, type_name, is_class_node}
-use Rattle.flow_rules.specs.Facts.{is_holder}
+use Rattle.flow_rules.specs.Facts.{is_holder, PlainMakers, makers_of}
 use Rattle.flow_rules.proofs.Listed.{first, more, at_contains, contains_at, at_map, map_at, map_from, one_from}
 use Rattle.name_rules.specs.Outline.{name_of, type_named, class_at, class_outline, id_meant, parent_meant, parent_named, faces_named, outline}
 use Rattle.name_rules.specs.Meanings.{type_names, class_named}
@@ -27,7 +27,7 @@ use Rattle.write_laws.proofs.rebuilds.Apart.{types_apart}
 use Rattle.write_laws.proofs.rebuilds.Chains.{class_down}
 use Rattle.write_laws.proofs.rebuilds.Order.{cover_from, superclass_from, among_from}
 use Rattle.write_laws.proofs.rebuilds.Outlined.{named_at}
-use Rattle.write_laws.proofs.rebuilds.Nodes.{items, node_tree, old_tree, node_at, holder_at, tree_name, Declares, a_node, a_holder, declares}
+use Rattle.write_laws.proofs.rebuilds.Nodes.{items, node_tree, old_tree, node_at, holder_at, tree_name, Declares, a_node, a_holder, declares, makers_tree, makers_at, a_makers}
 use Rattle.write_laws.proofs.rebuilds.Named.{names_are}
 use Rattle.write_laws.specs.names.Laws.{IsNamedProgram}
 use Rattle.write_laws.proofs.names.Origins.{written, R}
@@ -87,6 +87,10 @@ module _ {P : Plain} {F : Facts} {pt : PointsTo} {H : Hierarchy} (G : IsNamedPro
       → (i : ℕ) × (slice_get T i ≡ Some (old_tree P F H c k)) × (class_named O k.name ≡ Some (suc i))
   holder_named c k e h = let z = holder_at P F H c k e h in (z.0, z.1, named z.0 (old_tree P F H c k) z.1)
 
+  pub makers_named : (m : PlainMakers) → makers_of P ≡ Some m
+      → (i : ℕ) × (slice_get T i ≡ Some (makers_tree P F H m)) × (class_named O m.holder ≡ Some (suc i))
+  makers_named m e = let z = makers_at P F H m e in (z.0, z.1, named z.0 (makers_tree P F H m) z.1)
+
   pub class_is : (i : ℕ) (d : DeclTree) → slice_get T i ≡ Some d → slice_get O.classes (suc i) ≡ Some (class_outline types d)
   unfolding outline
   class_is i d e = at_map (class_outline types) T i d e
@@ -132,10 +136,12 @@ module _ {P : Plain} {F : Facts} {pt : PointsTo} {H : Hierarchy} (G : IsNamedPro
   pub declared_parent : (d : DeclTree) → Declares P F H d → (i : Id) → parent_named d ≡ Some i → (n : ℕ) × IsAbove n i true
   declared_parent _ (a_node n live) i e = (n, parent_is (class n) n i refl e)
   declared_parent _ (a_holder c k h d) i e = absurd (cc e)
+  declared_parent _ (a_makers m h) i e = absurd (cc e)
 
   pub declared_face : (d : DeclTree) → Declares P F H d → (i : Id) → Contains (faces_named d) i → (n : ℕ) × IsAbove n i false
   declared_face _ (a_node n live) i c = (n, faces_is (class n) n i refl c)
   declared_face _ (a_holder c k h d) i e = absurd (omega (arith, e.1))
+  declared_face _ (a_makers m h) i e = absurd (omega (arith, e.1))
 
   -- what is above has a type, of its kind
   above_type : (n : ℕ) (i : Id) (b : Bool) (a : IsAbove n i b) (c : ℕ) (k : PlainClass) → class_named O i.name ≡ Some c → slice_get O.classes c ≡ Some k
@@ -206,6 +212,7 @@ module _ {P : Plain} {F : Facts} {pt : PointsTo} {H : Hierarchy} (G : IsNamedPro
   declared_once : (d : DeclTree) → Declares P F H d → Once SameName (faces_named d)
   declared_once _ (a_node n live) = faces_once (class n) n
   declared_once _ (a_holder c k h d) = tt
+  declared_once _ (a_makers m h) = tt
 
   pub super_once : (d : DeclTree) (i j : ℕ) (a b : Id) → Contains T d → slice_get (faces_named d) i ≡ Some a → slice_get (faces_named d) j ≡ Some b
       → i < j → a.name ≡ b.name → ⊥
@@ -303,6 +310,9 @@ module _ {P : Plain} {F : Facts} {pt : PointsTo} {H : Hierarchy} (G : IsNamedPro
       (node_step (suc c) n p.by a p.direct)
   declared_loop c _ e (a_holder h k f g) p =
       let d = subst (λ z. Contains z p.by) (supers_are c (old_tree P F H h k) e) p.direct in
+      no_zero c (above_object p.by.0 (suc c) p.rest (ap (λ (x : ClassId). x.0) (sym (one_from _ p.by d))))
+  declared_loop c _ e (a_makers m f) p =
+      let d = subst (λ z. Contains z p.by) (supers_are c (makers_tree P F H m) e) p.direct in
       no_zero c (above_object p.by.0 (suc c) p.rest (ap (λ (x : ClassId). x.0) (sym (one_from _ p.by d))))
 
   pub no_loop : (c : ℕ) (d : DeclTree) → slice_get T c ≡ Some d → IsProperSubclass O (suc c) (suc c) → ⊥

@@ -1,5 +1,5 @@
 -- The types of the written tree: each name once, and none of the known ones.
-use Rattle.std.proofs.Common.{◌≡◌, ◌≢◌, ℕ, zero, suc, ◌<◌, ◌||◌, ◌&&◌, Bool, true, false, List, [], ◌∷◌, ◌++◌, Some, Contains, refl, sym, ap, ◌∙◌, subst, arith, ⊎_elim}
+use Rattle.std.proofs.Common.{◌≡◌, ◌≢◌, ℕ, zero, suc, ◌<◌, ◌||◌, ◌&&◌, Bool, true, false, List, [], ◌∷◌, ◌++◌, Some, Contains, refl, sym, ap, ◌∙◌, subst, arith, ⊎_elim, append_assoc, Option, None}
 use Rattle.std.specs.Prelude.{◌⊎◌, ◌==◌, slice_get, codes}
 use Rattle.std.specs.List.{list_any}
 use Rattle.std.specs.Str.{bytes_eq}
@@ -12,16 +12,19 @@ use Rattle.java_core.specs.Formed.{HasNoTwice}
 use Rattle.fact_model.specs.declared.facts.Facts.{Facts}
 use Rattle.fact_model.specs.declared.sets.PointsTo.{PointsTo}
 use Rattle.hier_model.specs.Hierarchies.{Hierarchy, type_name, is_class_node}
-use Rattle.hier_rules.specs.Names.{known_names}
+use Rattle.hier_rules.specs.Names.{known_names, is_holder_name}
 use Rattle.flow_rules.specs.Ordered.{each, when}
-use Rattle.flow_rules.specs.Facts.{is_holder}
+use Rattle.flow_rules.specs.Facts.{is_holder, PlainMakers, makers_of}
 use Rattle.flow_rules.proofs.Listed.{at_contains, at_map, each_from_zero, index_at, when_from, one_from}
 use Rattle.name_rules.specs.Outline.{name_of, is_known}
 use Rattle.write_model.specs.Written.{java_tree}
-use Rattle.write_laws.proofs.rebuilds.Apart.{any_at, types_apart, unreserved, no_holder}
-use Rattle.write_laws.proofs.rebuilds.Nodes.{tree, node_tree, old_tree, tree_name, Declares, a_node, a_holder, declares}
+use Rattle.write_laws.proofs.rebuilds.Apart.{any_at, types_apart, unreserved, no_holder, no_makers}
+use Rattle.write_laws.proofs.rebuilds.Nodes.{tree, node_tree, old_tree, tree_name, Declares, a_node, a_holder, declares, makers, makers_tree, a_makers}
 use Rattle.write_laws.specs.names.Laws.{IsNamedProgram}
 use Rattle.write_laws.proofs.names.Once.{Once, once_at, append_once, each_once, one_once, when_once}
+use Rattle.std.proofs.lemmas.List.Elements.{Contains-append_cases}
+use Rattle.std.specs.Option.{option_map_or}
+use Rattle.write_laws.proofs.rebuilds.Fixed.{holder_no_class, holder_new}
 
 live_at : (bs : List Bool) (n : ℕ) (b : Bool) → slice_get bs n ≡ Some b → b ≡ true → slice_get bs n ≡ Some true
 live_at bs n b e h = e ∙ ap Some h
@@ -36,9 +39,12 @@ module _ {P : Plain} {F : Facts} {pt : PointsTo} {H : Hierarchy} (G : IsNamedPro
   abbrev old_list : ℕ → PlainClass → List DeclTree
   old_list c k = when (is_holder P c) (old_tree P F H c k ∷ [])
 
-  tree_is : tree P F H ≡ each node_list 0 H.order.live ++ each old_list 0 P.classes
+  abbrev makers_list : List DeclTree
+  makers_list = makers P F H
+
+  tree_is : tree P F H ≡ each node_list 0 H.order.live ++ (each old_list 0 P.classes ++ makers_list)
   unfolding java_tree
-  tree_is = refl
+  tree_is = append_assoc (each node_list 0 H.order.live) (each old_list 0 P.classes) makers_list
 
   node_name : (n : ℕ) (d : DeclTree) → node_tree P F H n ≡ d → name_of d ≡ type_name H n
   node_name n d e = ap name_of (sym e) ∙ tree_name P F H (is_class_node F H n) n
@@ -85,14 +91,41 @@ module _ {P : Plain} {F : Facts} {pt : PointsTo} {H : Hierarchy} (G : IsNamedPro
       let s = when_from (is_holder P z.0) (old_tree P F H z.0 z.1 ∷ []) d z.3 in
       (z.0, z.1, z.2, s.0, one_from (old_tree P F H z.0 z.1) d s.1)
 
+  makers_in : (d : DeclTree) → Contains makers_list d → (m : PlainMakers) × (makers_of P ≡ Some m) × (makers_tree P F H m ≡ d)
+  makers_in d c = go (makers_of P) refl c
+    where
+      go : (o : Option PlainMakers) → makers_of P ≡ o → Contains (option_map_or (λ m. makers_tree P F H m ∷ []) o []) d
+          → (m : PlainMakers) × (makers_of P ≡ Some m) × (makers_tree P F H m ≡ d)
+      go None e c = absurd (omega (arith, c.1))
+      go (Some m) e c = (m, e, one_from (makers_tree P F H m) d c)
+
+  makers_once : Once Alike makers_list
+  makers_once = go (makers_of P)
+    where
+      go : (o : Option PlainMakers) → Once Alike (option_map_or (λ m. makers_tree P F H m ∷ []) o [])
+      go None = tt
+      go (Some m) = one_once Alike (makers_tree P F H m)
+
+  holders_once : Once Alike (each old_list 0 P.classes ++ makers_list)
+  holders_once =
+      append_once Alike (each old_list 0 P.classes) makers_list old_once makers_once
+      (λ a b c d h.
+      let k = old_in a c in
+      let m = makers_in b d in
+      holder_no_class P G.formed m.0 m.1 k.0 k.1 k.2 (ap name_of m.2 ∙ sym h ∙ ap name_of (sym k.4)))
+
   tree_once : Once Alike (tree P F H)
   tree_once =
       subst (Once Alike) (sym tree_is)
-      (append_once Alike (each node_list 0 H.order.live) (each old_list 0 P.classes) nodes_once old_once
+      (append_once Alike (each node_list 0 H.order.live) (each old_list 0 P.classes ++ makers_list) nodes_once holders_once
       (λ a b c d h.
       let n = node_in a c in
-      let k = old_in b d in
-      no_holder F pt H G.unbroken P G.facts n.0 k.0 k.1 n.1 k.3 k.2 (sym (node_name n.0 a n.2) ∙ h ∙ ap name_of (sym k.4))))
+      ⊎_elim
+      (λ d. let k = old_in b d in
+      no_holder F pt H G.unbroken P G.facts n.0 k.0 k.1 n.1 k.3 k.2 (sym (node_name n.0 a n.2) ∙ h ∙ ap name_of (sym k.4)))
+      (λ d. let m = makers_in b d in
+      no_makers F pt H G.unbroken P G.facts m.0 m.1 n.0 n.1 (sym (node_name n.0 a n.2) ∙ h ∙ ap name_of (sym m.2)))
+      (Contains-append_cases (each old_list 0 P.classes) makers_list b d)))
 
   -- each type has a name of its own
   pub type_once : (i j : ℕ) (c d : DeclTree) → slice_get (tree P F H) i ≡ Some c → slice_get (tree P F H) j ≡ Some d → i < j → name_of c ≡ name_of d → ⊥
@@ -101,8 +134,7 @@ module _ {P : Plain} {F : Facts} {pt : PointsTo} {H : Hierarchy} (G : IsNamedPro
   unknown_parts : (n : ℕ) → is_live H.order n ≡ true → (bytes_eq (codes "Object") (type_name H n) ≡ false) × (is_known (type_name H n) ≡ false)
   unknown_parts n live =
       let x = type_name H n in
-      let all = (or_parts (list_any (λ k. k.holder && bytes_eq k.name x) F.classes.items) (list_any (λ k. bytes_eq k x) known_names)
-      (unreserved F pt H G.unbroken n live)).1 in
+      let all = (or_parts (is_holder_name F x) (list_any (λ k. bytes_eq k x) known_names) (unreserved F pt H G.unbroken n live)).1 in
       let a = or_parts (bytes_eq (codes "Object") x) (list_any (λ k. bytes_eq k x) (codes "String" ∷ codes "System" ∷ [])) all in
       let b = or_parts (bytes_eq (codes "String") x) (list_any (λ k. bytes_eq k x) (codes "System" ∷ [])) a.1 in
       let c = or_parts (bytes_eq (codes "System") x) false b.1 in
@@ -142,6 +174,9 @@ module _ {P : Plain} {F : Facts} {pt : PointsTo} {H : Hierarchy} (G : IsNamedPro
       let u = unknown_parts n live in
       (λ e. false≢true (sym u.0 ∙ (bytes_eq-Decides (codes "Object") (type_name H n)).1 (sym e ∙ name)), ap is_known name ∙ u.1)
   name_is_new _ (a_holder c k e h) = old_parts c k e h
+  name_is_new _ (a_makers m e) =
+      let new = holder_new P G.formed m e in
+      (new.0, ap (λ w. w || bytes_eq (codes "System") m.holder) (not_equal m.holder (codes "String") new.1) ∙ not_equal m.holder (codes "System") new.2)
 
   -- and none of Object, String and System
   pub type_is_new : (d : DeclTree) → Contains (tree P F H) d → (name_of d ≡ codes "Object") ⊎ (is_known (name_of d) ≡ true) → ⊥

@@ -28,11 +28,11 @@ use Rattle.hier_model.specs.Names.{is_field}
 use Rattle.hier_model.proofs.AnyLemmas.{any_below_none}
 use Rattle.hier_rules.specs.declared.broken.Rule.TheVariants.{B8}
 use Rattle.hier_rules.specs.Instances.{of_column}
-use Rattle.hier_rules.specs.Names.{known_names, is_named, is_type, is_reserved, is_taken_name, taken_field}
+use Rattle.hier_rules.specs.Names.{known_names, is_named, is_type, is_makers_holder, is_holder_name, is_reserved, is_taken_name, taken_field, is_makers_local}
 use Rattle.flow_rules.specs.declared.items.ColumnItem.{ColumnItem}
 use Rattle.flow_rules.specs.declared.items.ColumnItem.TheVariants as column
 use Rattle.flow_rules.specs.Numbered.{columns_of}
-use Rattle.flow_rules.specs.Facts.{numbers, is_holder, all_variables, variable_names}
+use Rattle.flow_rules.specs.Facts.{numbers, is_holder, all_variables, variable_names, PlainMakers, makers_of}
 use Rattle.flow_rules.specs.Ordered.{each}
 use Rattle.flow_rules.proofs.Listed.{at_contains, contains_at, at_map, map_at, map_has, flat_has}
 use Rattle.flow_rules.proofs.NumberedItems.{numbered_columns}
@@ -40,13 +40,15 @@ use Rattle.flow_laws.proofs.order.Classes.{class_at, class_there}
 use Rattle.name_rules.specs.Outline.{FieldAt, MethodAt, fields_in, methods_in, name_of, types_in, type_named, is_known, is_type_name}
 use Rattle.rebuild_model.specs.Renaming.{renaming_of}
 use Rattle.rebuild_laws.proofs.given.Given.{columns as columns_are}
-use Rattle.write_model.specs.Members.{head, param}
-use Rattle.write_laws.proofs.rebuilds.Apart.{taken_parts}
-use Rattle.write_laws.proofs.rebuilds.Nodes.{items, tree, tree_name, Declares, a_node, a_holder, declares}
+use Rattle.write_model.specs.Members.{param}
+use Rattle.write_laws.proofs.rebuilds.Apart.{taken_parts, makers_holder_seen, no_makers_local}
+use Rattle.write_laws.proofs.rebuilds.Nodes.{items, tree, tree_name, Declares, a_node, a_holder, declares, a_makers}
 use Rattle.write_laws.proofs.rebuilds.Members.{IsHeadTree}
-use Rattle.write_laws.proofs.names.Origins.{R, old_words, HasMethod, node_body, node_head, node_filler, interface_head, static_method, HasField, node_field, static_field, method_origin, field_origin}
+use Rattle.write_laws.proofs.names.Origins.{R, HasMethod, node_body, node_head, node_filler, interface_head, static_method, HasField, node_field, static_field, method_origin, field_origin, make_method}
 use Rattle.write_laws.specs.names.Laws.{IsNamedProgram}
 use Rattle.hier_laws.proofs.Unbroken.{none_broken}
+use Rattle.write_laws.proofs.rebuilds.Fixed.{holder_no_word, holder_no_local, local_new, local_no_class}
+use Rattle.flow_laws.proofs.order.Names.{variable}
 
 -- what each gives one of, place by place
 pub each_at : {A B : Type 0} (g : ℕ → A → B) (n : ℕ) (xs : List A) (i : ℕ) (b : B) → slice_get (each (λ i x. g i x ∷ []) n xs) i ≡ Some b
@@ -61,12 +63,14 @@ module _ {P : Plain} {F : Facts} {pt : PointsTo} {H : Hierarchy} (G : IsNamedPro
 
   -- a name that is neither that of a node nor of a holder nor known is no type's
   not_type : (x : List ℕ) → x ≢ codes "Object" → is_known x ≡ false → ((n : ℕ) → is_live H.order n ≡ true → type_name H n ≢ x)
-      → ((c : ℕ) (k : PlainClass) → slice_get P.classes c ≡ Some k → is_holder P c ≡ true → k.name ≢ x) → is_type_name types x ≡ false
-  not_type x object known node holder = go (type_named types x) refl
+      → ((c : ℕ) (k : PlainClass) → slice_get P.classes c ≡ Some k → is_holder P c ≡ true → k.name ≢ x)
+      → ((m : PlainMakers) → makers_of P ≡ Some m → m.holder ≢ x) → is_type_name types x ≡ false
+  not_type x object known node holder makers = go (type_named types x) refl
     where
       declared : (d : DeclTree) → Declares P F H d → name_of d ≢ x
       declared _ (a_node n live) e = node n live (sym (tree_name P F H (is_class_node F H n) n) ∙ e)
       declared _ (a_holder c k at h) e = holder c k at h e
+      declared _ (a_makers m h) e = makers m h e
 
       at : (i : ℕ) (m : List ℕ) → slice_get types i ≡ Some m → m ≢ x
       at zero m e same = object (sym same ∙ sym (same_Some (codes "Object") m e))
@@ -91,9 +95,11 @@ module _ {P : Plain} {F : Facts} {pt : PointsTo} {H : Hierarchy} (G : IsNamedPro
   variable_free x v c =
       let o = G.formed.object in
       not_type x (λ e. v.no_class 0 o.object o.first (o.name ∙ sym e)) (unknown x v.no_string v.no_system)
-      (λ n live e. false≢true (sym (taken_parts F pt H G.unbroken n live).1
+      (λ n live e. false≢true (sym (or_parts (list_any (λ v. bytes_eq v (type_name H n)) F.vars.items) (is_makers_local F.makers (type_name H n))
+      (taken_parts F pt H G.unbroken n live).1).0
       ∙ any_name F.vars.items (type_name H n) (subst (Contains F.vars.items) (sym e) ((G.words.vars x).1 c))))
       (λ c k at h e. v.no_class c k at e)
+      (λ m h. holder_no_word P G.formed m h x (variable P G.formed x c))
     where
       any_name : (xs : List (List ℕ)) (y : List ℕ) → Contains xs y → list_any (λ v. bytes_eq v y) xs ≡ true
       any_name xs y d = let z = at_contains xs y d in any_passes_from_place (λ v. bytes_eq v y) xs z.0 y z.1 ((bytes_eq-Decides y y).1 refl)
@@ -115,6 +121,15 @@ module _ {P : Plain} {F : Facts} {pt : PointsTo} {H : Hierarchy} (G : IsNamedPro
   pub local_free : (m : ℕ) (k : PlainMethod) (v : PlainLocal) → slice_get P.methods m ≡ Some k → Contains (variables_of k) v
       → is_type_name types v.name ≡ false
   local_free m k v e c = variable_free v.name (((G.formed.methods m k e).variables v c).name) (method_variable m k v e c)
+
+  -- nor is that of the local in the methods that make objects
+  pub made_free : (m : PlainMakers) → makers_of P ≡ Some m → is_type_name types m.local ≡ false
+  made_free m e =
+      let new = local_new P G.formed m e in
+      not_type m.local new.0 (unknown m.local new.1 new.2)
+      (λ n live same. no_makers_local F pt H G.unbroken P G.facts m e n live same)
+      (λ c k at h same. local_no_class P G.formed m e c k at (sym same))
+      (λ w h same. holder_no_local P G.formed m e (ap (λ (z : PlainMakers). z.holder) (same_Some m w (sym e ∙ h)) ∙ same))
 
   -- ---- fields
 
@@ -148,7 +163,8 @@ module _ {P : Plain} {F : Facts} {pt : PointsTo} {H : Hierarchy} (G : IsNamedPro
     where
       free_name : (x : List ℕ) → is_type F H x ≡ false → is_reserved F x ≡ false → is_type_name types x ≡ false
       free_name x no_type no_reserved =
-          let r = or_parts (list_any (λ k. k.holder && bytes_eq k.name x) F.classes.items) (list_any (λ k. bytes_eq k x) known_names) no_reserved in
+          let r = or_parts (is_holder_name F x) (list_any (λ k. bytes_eq k x) known_names) no_reserved in
+          let holders = or_parts (list_any (λ k. k.holder && bytes_eq k.name x) F.classes.items) (is_makers_holder F.makers x) r.0 in
           let a = or_parts (bytes_eq (codes "Object") x) (list_any (λ k. bytes_eq k x) (codes "String" ∷ codes "System" ∷ [])) r.1 in
           let b = or_parts (bytes_eq (codes "String") x) (list_any (λ k. bytes_eq k x) (codes "System" ∷ [])) a.1 in
           let s = or_parts (bytes_eq (codes "System") x) false b.1 in
@@ -160,8 +176,9 @@ module _ {P : Plain} {F : Facts} {pt : PointsTo} {H : Hierarchy} (G : IsNamedPro
           let i = class_there P F G.facts c k at in
           let z = class_at P F G.facts c i.0 i.1 in
           let name : i.0.name ≡ x = z.name ∙ ap (λ (y : PlainClass). y.name) (same_Some _ _ (sym z.stands ∙ at)) ∙ e in
-          false≢true (sym r.0 ∙ any_passes_from_place (λ k. k.holder && bytes_eq k.name x) F.classes.items c i.0 i.1
+          false≢true (sym holders.0 ∙ any_passes_from_place (λ k. k.holder && bytes_eq k.name x) F.classes.items c i.0 i.1
           (and_from i.0.holder (bytes_eq i.0.name x) (z.holder ∙ h) ((bytes_eq-Decides i.0.name x).1 name))))
+          (λ m h e. false≢true (sym holders.1 ∙ makers_holder_seen F pt H G.unbroken P G.facts m h x e))
 
   field_is_free : (x : FieldAt) → HasField P F H x → is_type_name types x.name ≡ false
   field_is_free _ (node_field n i c f k a e at o) = node_field_free n c f a.live e at
@@ -178,32 +195,29 @@ module _ {P : Plain} {F : Facts} {pt : PointsTo} {H : Hierarchy} (G : IsNamedPro
     pub number : ℕ
     pub method : PlainMethod
     pub stands : slice_get P.methods number ≡ Some method
-    pub mods : List Modifier
-    pub name : List ℕ
-    pub is : head P (R P F H) H mods name number method ≡ h
+    pub params : each (λ i v. param P (R P F H) H number method i v ∷ []) 0 method.params ≡ h.params
 
   head_tree : (mods : List Modifier) (s : ℕ) (h : HeadTree) → IsHeadTree P (R P F H) F H mods s h → HasHead h
   head_tree mods s h t = record {
     number = t.signature.first;
     method = t.first;
     stands = t.first_stands;
-    mods = mods;
-    name = (R P F H).method_name t.signature.first;
-    is = t.is;
+    params = ap (λ (y : HeadTree). y.params) t.is;
   }
 
   pub head_of : (x : MethodAt) → HasMethod P F H x → HasHead x.head
-  head_of _ (node_body n i c m k a e at o) = record { number = m; method = k; stands = o; mods = _; name = (R P F H).method_name m; is = refl }
+  head_of _ (node_body n i c m k a e at o) = record { number = m; method = k; stands = o; params = refl }
   head_of _ (node_head n i h a t) = head_tree _ t.slot h t.tree
   head_of _ (node_filler n i s h a f t) = head_tree _ s h t
   head_of _ (interface_head n i h a t) = head_tree _ t.slot h t.tree
-  head_of _ (static_method c i m k old a e s o) = record { number = m; method = old; stands = e; mods = old_words P F H; name = old.name; is = refl }
+  head_of _ (static_method c i m k old a e s o) = record { number = m; method = old; stands = e; params = refl }
+  head_of _ (make_method i mk y t a) = record { number = t.maker; method = t.method; stands = t.method_stands; params = refl }
 
   -- a parameter is that of the method
   pub param_of : (h : HeadTree) (t : HasHead h) (i : ℕ) (q : Param) → slice_get h.params i ≡ Some q
       → (v : PlainLocal) × (slice_get t.method.params i ≡ Some v) × (param P (R P F H) H t.number t.method i v ≡ q)
   param_of h t i q e =
-      let z = each_at (λ i v. param P (R P F H) H t.number t.method i v) 0 t.method.params i q (ap (λ (y : HeadTree). slice_get y.params i) t.is ∙ e) in
+      let z = each_at (λ i v. param P (R P F H) H t.number t.method i v) 0 t.method.params i q (ap (λ y. slice_get y i) t.params ∙ e) in
       (z.1, z.2, ap (λ j. param P (R P F H) H t.number t.method j z.1) (let d = z.4 in omega (arith, d)) ∙ z.3)
 
   pub param_free : (x : MethodAt) (q : Param) → Contains (methods_in (tree P F H)) x → Contains x.head.params q → is_type_name types q.name ≡ false

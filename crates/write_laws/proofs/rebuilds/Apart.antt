@@ -1,7 +1,8 @@
 -- Where no obligation on names is broken, the names of types differ from each other, from those of the holders and from String.
-use Rattle.std.proofs.Common.{◌≡◌, ◌≢◌, ℕ, suc, ◌&&◌, ◌||◌, Bool, true, false, List, [], ◌∷◌, Some, None, refl, sym, ap, ◌∙◌, subst, ⊎_elim}
+use Rattle.std.proofs.Common.{◌≡◌, ◌≢◌, ℕ, suc, ◌&&◌, ◌||◌, Bool, true, false, List, [], ◌∷◌, Option, Some, None, refl, sym, ap, ◌∙◌, subst, ⊎_elim}
 use Rattle.std.specs.Prelude.{not, length, slice_get, codes, ◌==◌}
 use Rattle.std.specs.List.{list_any}
+use Rattle.std.specs.Option.{option_map}
 use Rattle.std.specs.Str.{bytes_eq}
 use Rattle.std.proofs.lemmas.Bool.{false≢true, and_from, and_parts, or_parts, ne_eqb, cases_eq, cases_Bool, or_cases, eqb-true}
 use Rattle.std.proofs.lemmas.Option.{same_Some}
@@ -13,14 +14,15 @@ use Rattle.kaba_order.specs.Orders.{is_live}
 use Rattle.java_core.specs.Programs.{Plain, PlainClass, PlainField, PlainMethod}
 use Rattle.java_core.specs.Formed.{IsFormed}
 use Rattle.fact_model.specs.declared.facts.Facts.{Facts}
+use Rattle.fact_model.specs.declared.facts.MakerNames.{MakerNames}
 use Rattle.fact_model.specs.declared.sets.PointsTo.{PointsTo}
 use Rattle.hier_model.specs.Hierarchies.{Hierarchy, type_name}
 use Rattle.hier_model.proofs.AnyLemmas.{any_below_none}
 use Rattle.hier_rules.specs.declared.broken.Rule.TheVariants.{B8}
 use Rattle.hier_rules.specs.Instances.{of_node}
-use Rattle.hier_rules.specs.Names.{known_names, is_reserved, is_variable, is_named, is_other_type, is_taken_type, taken_type}
+use Rattle.hier_rules.specs.Names.{known_names, is_makers_holder, is_makers_local, is_holder_name, is_reserved, is_variable, is_named, is_other_type, is_taken_type, taken_type}
 use Rattle.hier_rules.specs.First.{first_broken}
-use Rattle.flow_rules.specs.Facts.{is_holder, IsFactsOf}
+use Rattle.flow_rules.specs.Facts.{is_holder, PlainMakers, makers_seen, makers_of, IsFactsOf}
 use Rattle.flow_laws.proofs.order.Classes.{class_at, class_there}
 use Rattle.hier_laws.proofs.Unbroken.{none_broken}
 
@@ -70,7 +72,7 @@ module _ (F : Facts) (pt : PointsTo) (H : Hierarchy) (none : first_broken F pt H
 
   pub no_text : (n : ℕ) → is_live H.order n ≡ true → bytes_eq (codes "String") (type_name H n) ≡ false
   no_text n h =
-      let known = (or_parts (list_any (λ k. k.holder && bytes_eq k.name (type_name H n)) F.classes.items)
+      let known = (or_parts (is_holder_name F (type_name H n))
       (list_any (λ k. bytes_eq k (type_name H n)) known_names) (unreserved n h)).1 in
       let rest = (or_parts (bytes_eq (codes "Object") (type_name H n))
       (list_any (λ k. bytes_eq k (type_name H n)) (codes "String" ∷ codes "System" ∷ [])) known).1 in
@@ -80,10 +82,40 @@ module _ (F : Facts) (pt : PointsTo) (H : Hierarchy) (none : first_broken F pt H
       → slice_get P.classes c ≡ Some k
       → type_name H n ≢ k.name
   no_holder P facts n c k ln h e same =
-      let none = (or_parts (list_any (λ k. k.holder && bytes_eq k.name (type_name H n)) F.classes.items)
-      (list_any (λ k. bytes_eq k (type_name H n)) known_names) (unreserved n ln)).0 in
+      let none = (or_parts (list_any (λ k. k.holder && bytes_eq k.name (type_name H n)) F.classes.items) (is_makers_holder F.makers (type_name H n))
+      (or_parts (is_holder_name F (type_name H n)) (list_any (λ k. bytes_eq k (type_name H n)) known_names) (unreserved n ln)).0).0 in
       let i = class_there P F facts c k e in
       let z = class_at P F facts c i.0 i.1 in
       let name : i.0.name ≡ type_name H n = z.name ∙ ap (λ (y : PlainClass). y.name) (same_Some _ _ (sym z.stands ∙ e)) ∙ sym same in
       false≢true (sym none ∙ any_passes_from_place (λ k. k.holder && bytes_eq k.name (type_name H n)) F.classes.items c i.0 i.1
       (and_from i.0.holder (bytes_eq i.0.name (type_name H n)) (z.holder ∙ h) ((bytes_eq-Decides i.0.name (type_name H n)).1 name)))
+
+  -- the names of the holder and of the local of the methods that make objects, among the facts
+  module _ (P : Plain) (facts : IsFactsOf P F) (m : PlainMakers) (e : makers_of P ≡ Some m) where
+    seen : (w : MakerNames) × (F.makers ≡ Some w) × (makers_seen w ≡ m)
+    seen = go F.makers refl
+      where
+        go : (o : Option MakerNames) → F.makers ≡ o → (w : MakerNames) × (F.makers ≡ Some w) × (makers_seen w ≡ m)
+        go None h = absurd (cc (sym (ap (option_map makers_seen) h) ∙ facts.makers ∙ e))
+        go (Some w) h = (w, h, same_Some _ m (sym (ap (option_map makers_seen) h) ∙ facts.makers ∙ e))
+
+    pub makers_holder_seen : (x : List ℕ) → m.holder ≡ x → is_makers_holder F.makers x ≡ true
+    makers_holder_seen x same =
+        let w = seen in
+        ap (λ o. is_makers_holder o x) w.1 ∙ (bytes_eq-Decides w.0.holder x).1 (ap (λ (z : PlainMakers). z.holder) w.2 ∙ same)
+
+    makers_local_seen : (x : List ℕ) → m.local ≡ x → is_makers_local F.makers x ≡ true
+    makers_local_seen x same =
+        let w = seen in
+        ap (λ o. is_makers_local o x) w.1 ∙ (bytes_eq-Decides w.0.local x).1 (ap (λ (z : PlainMakers). z.local) w.2 ∙ same)
+
+    pub no_makers : (n : ℕ) → is_live H.order n ≡ true → type_name H n ≢ m.holder
+    no_makers n ln same =
+        let no = (or_parts (list_any (λ k. k.holder && bytes_eq k.name (type_name H n)) F.classes.items) (is_makers_holder F.makers (type_name H n))
+        (or_parts (is_holder_name F (type_name H n)) (list_any (λ k. bytes_eq k (type_name H n)) known_names) (unreserved n ln)).0).1 in
+        false≢true (sym no ∙ makers_holder_seen (type_name H n) (sym same))
+
+    pub no_makers_local : (n : ℕ) → is_live H.order n ≡ true → type_name H n ≢ m.local
+    no_makers_local n ln same =
+        let no = (or_parts (list_any (λ v. bytes_eq v (type_name H n)) F.vars.items) (is_makers_local F.makers (type_name H n)) (taken_parts n ln).1).1 in
+        false≢true (sym no ∙ makers_local_seen (type_name H n) (sym same))

@@ -24,8 +24,8 @@ use Rattle.write_model.specs.Names.{nowhere, modifier, written_type}
 use Rattle.write_model.specs.Members.{field_member, static_field_member, class_members, holder_members}
 use Rattle.write_model.specs.Written.{type_tree, java_tree}
 use Rattle.write_laws.proofs.rebuilds.Outlined.{field_there, field_back, member_field_from, member_field_has}
-use Rattle.write_laws.proofs.rebuilds.Nodes.{by_node, items, tree, node_tree, old_tree, node_at, holder_there, node_number, holder_number, Declares, a_node, a_holder, declares}
-use Rattle.write_laws.proofs.rebuilds.Members.{IsMember, a_field, a_body, a_head, a_filler, class_from, field_has, IsStatic, a_static_field, a_static_method, holder_from, static_field_has}
+use Rattle.write_laws.proofs.rebuilds.Nodes.{by_node, items, tree, node_tree, old_tree, node_at, holder_there, node_number, holder_number, Declares, a_node, a_holder, a_makers, declares}
+use Rattle.write_laws.proofs.rebuilds.Members.{IsMember, a_field, a_body, a_head, a_filler, class_from, field_has, IsStatic, a_static_field, a_static_method, holder_from, static_field_has, no_field_made}
 use Rattle.write_laws.proofs.rebuilds.Retyped.{field_row, type_is}
 use Rattle.write_laws.proofs.rebuilds.Given.{Given, T, Stands, stands_from, column_there, class_there}
 
@@ -133,6 +133,7 @@ module _ {P : Plain} {F : Facts} {pt : PointsTo} {H : Hierarchy} {V : Plain} (G 
   by_declaration i g _ x new e (a_holder c k d holder) h is at =
       let z = member_field_from (suc i) (holder_members P R₀ H c) x h in
       in_holder c i g k x new z.0 e d (holder_from P R₀ H c z.0 z.1) z.2 is at
+  by_declaration i g _ x new e (a_makers mk me) h is at = absurd (no_field_made P R₀ H i x h)
 
   pub origin : (g : ℕ) (new : PlainField) → slice_get V.fields g ≡ Some new → Origin g new
   origin g new e =

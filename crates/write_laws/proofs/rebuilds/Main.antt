@@ -16,15 +16,15 @@ use Rattle.hier_model.specs.Hierarchies.{Hierarchy}
 use Rattle.flow_rules.specs.Operands.{variable_row}
 use Rattle.flow_rules.specs.Ordered.{each, when}
 use Rattle.flow_rules.specs.Facts.{is_holder}
-use Rattle.flow_rules.proofs.Listed.{first, at_contains, each_has, when_has}
+use Rattle.flow_rules.proofs.Listed.{first, at_contains, at_left, each_has, when_has}
 use Rattle.rebuild_model.specs.Renaming.{reclassed, retyped, retyped_if, renaming_of}
 use Rattle.rebuild_model.specs.Matches.{IsStaticMethod}
 use Rattle.rebuild_model.specs.Members.{new_types}
-use Rattle.write_laws.proofs.rebuilds.Nodes.{tree, old_tree, nodes, holders, tree_is, holder_number}
+use Rattle.write_laws.proofs.rebuilds.Nodes.{tree, old_tree, nodes, holders, makers, tree_is, holder_number}
 use Rattle.write_laws.proofs.rebuilds.Apart.{holder_class}
 use Rattle.write_laws.proofs.rebuilds.Given.{Given, T, R}
 use Rattle.write_laws.proofs.rebuilds.Resolved.{BodiesMatch}
-use Rattle.write_laws.proofs.rebuilds.Origins.{static_method, each_static_method}
+use Rattle.write_laws.proofs.rebuilds.Origins.{IsOldStatic, static_method, each_static_method}
 use Rattle.rebuild_laws.proofs.looks.Fields.{method_holder}
 
 get_right : {A : Type 0} (xs ys : List A) (i j : ℕ) → j ≡ length xs + i → slice_get (xs ++ ys) j ≡ slice_get ys i
@@ -118,7 +118,7 @@ module _ {P : Plain} {F : Facts} {pt : PointsTo} {H : Hierarchy} {V : Plain} (G 
 
   in_tree : (i : ℕ) (d : DeclTree) → slice_get (holders P F H) i ≡ Some d → slice_get (tree P F H) (length (nodes P F H) + i) ≡ Some d
   in_tree i d e = ap (λ w. slice_get w (length (nodes P F H) + i)) (tree_is P F H)
-      ∙ get_right (nodes P F H) (holders P F H) i (length (nodes P F H) + i) refl ∙ e
+      ∙ get_right (nodes P F H) (holders P F H ++ makers P F H) i (length (nodes P F H) + i) refl ∙ at_left (holders P F H) (makers P F H) i d e
 
   pub holder_order : (c d : ℕ) → is_holder P c ≡ true → is_holder P d ≡ true → c < d → (T G).holder_of c < (T G).holder_of d
   holder_order c d a b lt =
@@ -163,10 +163,9 @@ module _ {P : Plain} {F : Facts} {pt : PointsTo} {H : Hierarchy} {V : Plain} (G 
   unfolding renaming_of
   holder_is c o e = e
 
-  pub main_is : IsStaticMethod P V (R G) P.main V.main
-  main_is =
+  of_static : (z : (m : ℕ) × IsOldStatic G match m V.main) → IsStaticMethod P V (R G) P.main V.main
+  of_static z =
       let N = G.new in
-      let z = static_method G match V.main N.main N.main_stands N.main_is.static in
       let s = z.1.same in
       let made : s.new ≡ N.main = same_Some _ _ (sym s.new_stands ∙ N.main_stands) in
       let old : IsMain s.old = record {
@@ -201,3 +200,12 @@ module _ {P : Plain} {F : Facts} {pt : PointsTo} {H : Hierarchy} {V : Plain} (G 
       (λ gt. absurd (omega (arith, gt, below))) other)
       (cases_order M.owner s.old.owner) in
       subst (λ m. IsStaticMethod P V (R G) m V.main) one s
+
+  -- a method that makes objects gives one back, and `main` gives nothing
+  pub main_is : IsStaticMethod P V (R G) P.main V.main
+  main_is =
+      let N = G.new in
+      ⊎_elim (λ z. of_static z)
+      (λ y. absurd (let z = sym (ap (λ (k : PlainMethod). k.result) (same_Some _ _ (sym y.is.stands ∙ N.main_stands))) ∙ y.is.result in
+      cc (sym N.main_is.result ∙ z)))
+      (static_method G match V.main N.main N.main_stands N.main_is.static)

@@ -1,7 +1,8 @@
 -- What the types of nodes and the holders of the written tree have as members, member by member.
-use Rattle.std.proofs.Common.{◌≡◌, ℕ, ◌&&◌, true, List, [], ◌∷◌, Option, Some, None, Contains, refl, sym, ap, ◌∙◌, subst, arith, ⊎_elim}
+use Rattle.std.proofs.Common.{◌≡◌, ℕ, suc, ◌&&◌, true, List, [], ◌∷◌, Option, Some, None, Contains, refl, sym, ap, ◌∙◌, subst, arith, ⊎_elim}
 use Rattle.std.specs.Prelude.{map, slice_get, ◌==◌}
 use Rattle.std.specs.Option.{option_map_or}
+use Rattle.std.specs.List.{flat_map}
 use Rattle.std.proofs.lemmas.Bool.{and_from, and_parts}
 use Rattle.std.proofs.lemmas.List.Elements.{Contains-append_left, Contains-append_right, Contains-append_cases}
 use Rattle.kaba_base.specs.declared.words.Keyword.TheVariants.{Public, Abstract}
@@ -14,11 +15,18 @@ use Rattle.hier_model.specs.Hierarchies.{Hierarchy, stands_at}
 use Rattle.flow_rules.specs.declared.items.ColumnItem.{ColumnItem}
 use Rattle.flow_rules.specs.declared.items.ColumnItem.TheVariants as column
 use Rattle.flow_rules.specs.Ordered.{each, when}
-use Rattle.flow_rules.proofs.Listed.{first, each_has, each_from_zero, when_has, when_from, one_from, map_has, map_from}
+use Rattle.flow_rules.proofs.Listed.{first, each_has, each_from_zero, when_has, when_from, one_from, map_has, map_from, flat_has, flat_from}
+use Rattle.flow_rules.specs.declared.items.Site.{Site}
+use Rattle.flow_rules.specs.Numbered.{sites_of}
+use Rattle.java_core.specs.Makers.{maker_of}
+use Rattle.java_core.specs.Formed.{IsFormed}
 use Rattle.rebuild_model.specs.Renaming.{Renaming}
 use Rattle.rebuild_model.specs.Members.{is_headed, is_filled}
 use Rattle.write_model.specs.Names.{nowhere, modifier}
-use Rattle.write_model.specs.Members.{is_declaration, filling, head, first_head, slot_head, field_member, body_member, bodyless, is_first_there, heads_of_slot, column_heads, own_member, column_members, filler, class_members, interface_heads, static_field_member, static_method_member, holder_members}
+use Rattle.write_model.specs.Members.{is_declaration, filling, filled_slots, make_member, maker_member, site_member, make_members, head, first_head, slot_head, field_member, body_member, bodyless, is_first_there, heads_of_slot, column_heads, own_member, column_members, filler, slot_filler, class_members, interface_heads, static_field_member, static_method_member, holder_members}
+use Rattle.name_rules.specs.Outline.{FieldAt, fields_of, field_member as declared_field}
+use Rattle.write_laws.proofs.rebuilds.Outlined.{member_field_from}
+use Rattle.write_laws.proofs.rebuilds.FilledSlots.{slot_filled}
 
 option_from : {A B : Type 0} (g : A → B) (o : Option A) (x : B) → Contains (option_map_or (λ k. g k ∷ []) o []) x → (k : A) × (o ≡ Some k) × (g k ≡ x)
 option_from g None x c = absurd (omega (arith, c.1))
@@ -133,14 +141,15 @@ module _ (P : Plain) (R : Renaming) (F : Facts) (H : Hierarchy) where
   columns items n = each (λ c k. when (stands_at H n c) (column_members P R F H items n c k)) 0 F.columns.items
 
   abbrev fillers : ℕ → List MemberTree
-  fillers n = each (filler P R F H n) 0 P.slots
+  fillers n = flat_map (slot_filler P R F H n) (filled_slots P)
 
   pub class_from : (items : List ColumnItem) (n : ℕ) (x : MemberTree) → Contains (class_members P R F H items n) x → IsMember items n x
   class_from items n x c =
       ⊎_elim
       (λ d. let z = each_from_zero (λ c k. when (stands_at H n c) (column_members P R F H items n c k)) F.columns.items x d in
       let w = when_from (stands_at H n z.0) (column_members P R F H items n z.0 z.1) x z.3 in column_from items n z.0 z.1 x z.2 w.0 w.1)
-      (λ d. let z = each_from_zero (filler P R F H n) P.slots x d in filler_from items n z.0 z.1 x z.2 z.3)
+      (λ d. let z = flat_from (slot_filler P R F H n) (filled_slots P) x d in
+      let w = flat_option_from (filler P R F H n z.0) (slice_get P.slots z.0) x z.2 in filler_from items n z.0 w.0 x w.1 w.2)
       (Contains-append_cases (columns items n) (fillers n) x c)
 
   column_has : (items : List ColumnItem) (n c : ℕ) (k : ColumnInfo) (x : MemberTree) → slice_get F.columns.items c ≡ Some k → stands_at H n c ≡ true
@@ -189,17 +198,18 @@ module _ (P : Plain) (R : Renaming) (F : Facts) (H : Hierarchy) where
       (Contains-append_left (map bodyless (column_heads P R F H in_class n c k)) (own_member P R F H (slice_get items c)) (bodyless t)
       (map_has bodyless (column_heads P R F H in_class n c k) t (heads_has in_class n c s k slot m d o h f p q)))
 
-  pub filler_has : (items : List ColumnItem) (n s : ℕ) (slot : PlainSlot) (m : PlainMethod) → slice_get P.slots s ≡ Some slot
+  pub filler_has : IsFormed P → (items : List ColumnItem) (n s : ℕ) (slot : PlainSlot) (m : PlainMethod) → slice_get P.slots s ≡ Some slot
       → slice_get P.methods slot.first ≡ Some m → is_filled F H n s ≡ true
       → Contains (class_members P R F H items n) (MethodTree (head P R H as_filler (R.method_name slot.first) slot.first m)
       (Some (filling slot.result)) nowhere)
-  filler_has items n s slot m e d h =
+  filler_has formed items n s slot m e d h =
       let t = head P R H as_filler (R.method_name slot.first) slot.first m in
       let x = MethodTree t (Some (filling slot.result)) nowhere in
       Contains-append_right (columns items n) (fillers n) x
-      (each_has (filler P R F H n) 0 P.slots s slot x e s (omega arith)
+      (flat_has (slot_filler P R F H n) (filled_slots P) s x (slot_filled P formed s slot e)
+      (subst (λ o. Contains (option_map_or (filler P R F H n s) o []) x) (sym e)
       (when_has (is_filled F H n s) (map (λ h. MethodTree h (Some (filling slot.result)) nowhere) (first_head P R H as_filler slot)) x h
-      (map_has (λ h. MethodTree h (Some (filling slot.result)) nowhere) (first_head P R H as_filler slot) t (first_head_has as_filler slot m d))))
+      (map_has (λ h. MethodTree h (Some (filling slot.result)) nowhere) (first_head P R H as_filler slot) t (first_head_has as_filler slot m d)))))
 
   -- the heads of an interface
   pub interface_from : (n : ℕ) (h : HeadTree) → Contains (interface_heads P R F H n) h → IsHeadAt [] n h
@@ -245,3 +255,66 @@ module _ (P : Plain) (R : Renaming) (H : Hierarchy) where
   static_method_has c m k x e h =
       Contains-append_right (each (static_field_member P R H c) 0 P.fields) (each (static_method_member P R H c) 0 P.methods) x
       (each_has (static_method_member P R H c) 0 P.methods m k x e m (omega arith) h)
+
+  -- a method that makes the objects of a site
+  pub record IsSiteTree (n : ℕ) (z : Site) (x : MemberTree) : Type 0 where
+    pub stands : slice_get (sites_of P) n ≡ Some z
+    pub object : (z.ty.dim == 0) ≡ true
+    pub maker : ℕ
+    pub has : maker_of P z.ty.class.0 ≡ Some maker
+    pub method : PlainMethod
+    pub method_stands : slice_get P.methods maker ≡ Some method
+    pub is : make_member P R H z.number z.ty.class.0 maker method ≡ x
+
+  pub site_from : (s : ℕ) (z : Site) (x : MemberTree) → slice_get (sites_of P) s ≡ Some z → Contains (site_member P R H s z) x → IsSiteTree s z x
+  site_from s z x e c =
+      let w = when_from (z.ty.dim == 0) (option_map_or (maker_member P R H z.number z.ty.class.0) (maker_of P z.ty.class.0) []) x c in
+      let m = flat_option_from (maker_member P R H z.number z.ty.class.0) (maker_of P z.ty.class.0) x w.1 in
+      let k = option_from (λ k. make_member P R H z.number z.ty.class.0 m.0 k) (slice_get P.methods m.0) x m.2 in
+      record { stands = e; object = w.0; maker = m.0; has = m.1; method = k.0; method_stands = k.1; is = k.2 }
+
+  -- one of a site
+  pub record IsMakeTree (x : MemberTree) : Type 0 where
+    pub number : ℕ
+    pub site : Site
+    pub stands : slice_get (sites_of P) number ≡ Some site
+    pub object : (site.ty.dim == 0) ≡ true
+    pub maker : ℕ
+    pub has : maker_of P site.ty.class.0 ≡ Some maker
+    pub method : PlainMethod
+    pub method_stands : slice_get P.methods maker ≡ Some method
+    pub is : make_member P R H site.number site.ty.class.0 maker method ≡ x
+
+  pub makes_from : (x : MemberTree) → Contains (make_members P R H) x → IsMakeTree x
+  makes_from x c =
+      let z = each_from_zero (site_member P R H) (sites_of P) x c in
+      let t = site_from z.0 z.1 x z.2 z.3 in
+      record {
+        number = z.0;
+        site = z.1;
+        stands = z.2;
+        object = t.object;
+        maker = t.maker;
+        has = t.has;
+        method = t.method;
+        method_stands = t.method_stands;
+        is = t.is;
+      }
+
+  pub makes_has : (s m : ℕ) (z : Site) (k : PlainMethod) → slice_get (sites_of P) s ≡ Some z → (z.ty.dim == 0) ≡ true
+      → maker_of P z.ty.class.0 ≡ Some m → slice_get P.methods m ≡ Some k
+      → Contains (make_members P R H) (make_member P R H z.number z.ty.class.0 m k)
+  makes_has s m z k e object has at =
+      let x = make_member P R H z.number z.ty.class.0 m k in
+      each_has (site_member P R H) 0 (sites_of P) s z x e s (omega arith)
+      (when_has (z.ty.dim == 0) (option_map_or (maker_member P R H z.number z.ty.class.0) (maker_of P z.ty.class.0) []) x object
+      (subst (λ o. Contains (option_map_or (maker_member P R H z.number z.ty.class.0) o []) x) (sym has)
+      (subst (λ o. Contains (option_map_or (λ k. make_member P R H z.number z.ty.class.0 m k ∷ []) o []) x) (sym at) (first x []))))
+
+  -- and their holder has no field
+  pub no_field_made : (i : ℕ) (x : FieldAt) → Contains (fields_of (suc i) (make_members P R H)) x → ⊥
+  no_field_made i x h =
+      let z = member_field_from (suc i) (make_members P R H) x h in
+      let t = makes_from z.0 z.1 in
+      let c = subst (λ v. Contains (declared_field (suc i) v) x) (sym t.is) z.2 in
+      omega (arith, c.1)

@@ -385,7 +385,7 @@ module _ {P : Plain} {F : Facts} {pt : PointsTo} {H : Hierarchy} {V : Plain} (G 
       let z = node_at P F H n live in
       let class = made_class n live (and_parts (is_made_at F H n) (offers_slot F H n s && not (offers_body F H n s)) h).0 in
       let t = head P R₀ H (as_filler P R₀ F H) (R₀.method_name q.0.first) q.0.first q.2 in
-      let r = class_method n z.0 t (Some (filling q.0.result)) z.1 class (filler_has P R₀ F H (items P F H) n s q.0 q.2 q.1 q.3 h) in
+      let r = class_method n z.0 t (Some (filling q.0.result)) z.1 class (filler_has P R₀ F H G.formed (items P F H) n s q.0 q.2 q.1 q.3 h) in
       let at : MethodAt = as_method z.0 (is_abstract n) t (Some (filling q.0.result)) in (
         r.0,
         r.1.method,

@@ -1,7 +1,7 @@
 -- What the outline of the written program tells of names: those of nodes and of holders, and the static members.
 use Rattle.std.proofs.Common.{◌≡◌, ◌≢◌, ℕ, suc, Bool, true, false, List, [], ◌∷◌, Some, refl, sym, ap, ◌∙◌}
 use Rattle.std.specs.Prelude.{map, slice_get, codes, position, ◌==◌}
-use Rattle.std.specs.Option.{option_map_or}
+use Rattle.std.specs.Option.{option_map_or, is_some}
 use Rattle.std.specs.Str.{bytes_eq}
 use Rattle.std.proofs.lemmas.Bool.{and_parts, and_from, eqb-true, eq-eqb}
 use Rattle.std.proofs.lemmas.Option.{same_Some}
@@ -18,15 +18,15 @@ use Rattle.fact_model.specs.declared.facts.Facts.{Facts}
 use Rattle.fact_model.specs.declared.sets.PointsTo.{PointsTo}
 use Rattle.hier_model.specs.Hierarchies.{Hierarchy, place_of_row, type_name}
 use Rattle.flow_rules.specs.declared.items.RowItem.{RowItem}
-use Rattle.flow_rules.specs.Facts.{numbers, is_holder}
+use Rattle.flow_rules.specs.Facts.{numbers, is_holder, makers_of}
 use Rattle.flow_rules.proofs.Listed.{map_at, contains_at, position_there}
 use Rattle.rebuild_model.specs.Renaming.{renaming_of}
 use Rattle.rebuild_model.specs.Matches.{IsStaticField, IsStaticMethod}
-use Rattle.write_model.specs.Names.{class_name}
+use Rattle.write_model.specs.Names.{class_name, makers_name}
 use Rattle.write_model.specs.Written.{java_tree}
 use Rattle.write_laws.proofs.rebuilds.Outlined.{class_there}
 use Rattle.write_laws.proofs.rebuilds.Apart.{no_text, holder_class}
-use Rattle.write_laws.proofs.rebuilds.Nodes.{node_named, holder_named, holder_there, old_tree, tree}
+use Rattle.write_laws.proofs.rebuilds.Nodes.{node_named, holder_named, holder_there, old_tree, tree, makers_tree, makers_at, makers_named, makers_called, some_makers}
 use Rattle.write_laws.proofs.rebuilds.Retyped.{row_live}
 use Rattle.write_laws.proofs.rebuilds.Given.{Given, T}
 use Rattle.write_laws.proofs.rebuilds.Fields.{each_static_field}
@@ -112,3 +112,17 @@ module _ {P : Plain} {F : Facts} {pt : PointsTo} {H : Hierarchy} {V : Plain} (G 
         owner = ap (λ (y : PlainMethod). y.owner) z.2 ∙ ow;
         name = ap (λ (y : PlainMethod). y.name) z.2 ∙ name;
       }
+
+  -- the holder of the methods that make objects
+  pub named_makers : is_some (makers_of P) ≡ true → class_named O (makers_name P) ≡ Some (T G).makers
+  named_makers h =
+      let m = some_makers P F H V G.resolves G.new h in
+      ap (λ z. position (λ m. bytes_eq m (makers_name P)) z) (outline_types (java_tree P F H)) ∙ makers_named P F H V G.resolves G.new m.0 m.1
+
+  pub no_field_makers : (f : ℕ) (k : PlainField) → is_some (makers_of P) ≡ true → slice_get O.fields f ≡ Some k → k.name ≢ makers_name P
+  no_field_makers f k h e same =
+      let m = some_makers P F H V G.resolves G.new h in
+      let at = makers_at P F H m.0 m.1 in
+      let class = class_there (tree P F H) V G.resolves G.new at.0 (makers_tree P F H m.0) at.1 in
+      (G.new.fields f k (field_at f k e)).name.no_class (suc at.0)
+      (class_outline (types_in (java_tree P F H)) (makers_tree P F H m.0)) class (sym (same ∙ makers_called P F H V G.resolves G.new m.0 m.1))

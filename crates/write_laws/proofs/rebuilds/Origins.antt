@@ -17,16 +17,18 @@ use Rattle.flow_rules.specs.declared.items.ColumnItem.TheVariants as column
 use Rattle.flow_rules.proofs.Listed.{first, one_from, when_from, when_has}
 use Rattle.rebuild_model.specs.Renaming.{renaming_of}
 use Rattle.rebuild_model.specs.Members.{IsStaticMethodOf}
+use Rattle.rebuild_model.specs.Rebuilds.{IsMakeMethod}
 use Rattle.rebuild_laws.proofs.looks.Fields.{method_holder}
 use Rattle.write_model.specs.Names.{nowhere, modifier}
 use Rattle.write_model.specs.Members.{filling, head, body, static_method_member, holder_members}
 use Rattle.write_model.specs.Written.{type_tree}
 use Rattle.write_model.proofs.NoMaker.{no_maker}
 use Rattle.write_laws.proofs.rebuilds.Outlined.{method_there, method_back, member_method_from, member_method_has}
-use Rattle.write_laws.proofs.rebuilds.Nodes.{items, tree, node_tree, old_tree, holder_there, holder_number, Declares, a_node, a_holder, declares}
+use Rattle.write_laws.proofs.rebuilds.Nodes.{items, tree, node_tree, old_tree, holder_there, holder_number, Declares, a_node, a_holder, a_makers, declares}
 use Rattle.write_laws.proofs.rebuilds.Members.{IsMember, a_field, a_body, a_head, a_filler, in_class as class_mods, IsStatic, a_static_field, a_static_method, holder_from, static_method_has}
 use Rattle.write_laws.proofs.rebuilds.Given.{Given, T, stands_from}
 use Rattle.write_laws.proofs.rebuilds.Resolved.{BodiesMatch, owner_is, name_is, static_is, types_are, code_is}
+use Rattle.write_laws.proofs.rebuilds.Makes.{in_makers}
 use Rattle.write_laws.proofs.rebuilds.Methods.{read, as_method, as_head, IsOldBody, IsOldHead, IsOldFiller, node_body, node_head, node_filler, in_type, is_abstract, old_method}
 
 module _ {P : Plain} {F : Facts} {pt : PointsTo} {H : Hierarchy} {V : Plain} (G : Given P F pt H V) (match : BodiesMatch G) where
@@ -74,7 +76,8 @@ module _ {P : Plain} {F : Facts} {pt : PointsTo} {H : Hierarchy} {V : Plain} (G 
 
   -- what a method of the new program is
   abbrev pub Origin : ℕ → PlainMethod → Type 0
-  Origin g new = (((m : ℕ) × IsOldBody G m new) ⊎ ((n : ℕ) × (m : ℕ) × (IsOldHead G n m new ⊎ IsOldFiller G n m new))) ⊎ ((m : ℕ) × IsOldStatic m g)
+  Origin g new = (((m : ℕ) × IsOldBody G m new) ⊎ ((n : ℕ) × (m : ℕ) × (IsOldHead G n m new ⊎ IsOldFiller G n m new)))
+      ⊎ (((m : ℕ) × IsOldStatic m g) ⊎ IsMakeMethod P F H V (T G) g)
 
   abbrev Made : ℕ → MethodAt → Type 0
   Made g x = (r : Rs x g) → Origin g r.method
@@ -117,7 +120,7 @@ module _ {P : Plain} {F : Facts} {pt : PointsTo} {H : Hierarchy} {V : Plain} (G 
       let w = when_from (old.is_static && (old.owner == c)) _ m y in
       let xs = static_code f old o (and_parts old.is_static (old.owner == c) h).0 in
       subst (Made g) (one_from (as_static i f old) x (subst (λ v. Contains (method_member (suc i) false v) x) (sym (one_from _ m w.1)) z))
-      (λ r. inr (f, holder_method c i f g k old xs.0 e d o h xs.1 r))
+      (λ r. inr (inl (f, holder_method c i f g k old xs.0 e d o h xs.1 r)))
 
   by_declaration : (i g : ℕ) (d : DeclTree) (x : MethodAt) → slice_get (tree P F H) i ≡ Some d → Declares P F H d
       → Contains (methods_declared (suc i) d) x → Made g x
@@ -125,6 +128,7 @@ module _ {P : Plain} {F : Facts} {pt : PointsTo} {H : Hierarchy} {V : Plain} (G 
   by_declaration i g _ x e (a_holder c k d holder) h =
       let z = member_method_from (suc i) false (holder_members P R₀ H c) x h in
       in_holder c i g k x z.0 e d (holder_from P R₀ H c z.0 z.1) z.2
+  by_declaration i g _ x e (a_makers mk me) h = λ r. inr (inr (in_makers G i g mk x me e h r))
 
   pub origin : (g : ℕ) (new : PlainMethod) → slice_get V.methods g ≡ Some new → Origin g new
   origin g new e =
@@ -139,11 +143,17 @@ module _ {P : Plain} {F : Facts} {pt : PointsTo} {H : Hierarchy} {V : Plain} (G 
   pub instance_method : (g : ℕ) (new : PlainMethod) → slice_get V.methods g ≡ Some new → new.is_static ≡ false
       → ((m : ℕ) × IsOldBody G m new) ⊎ ((n : ℕ) × (m : ℕ) × (IsOldHead G n m new ⊎ IsOldFiller G n m new))
   instance_method g new e h =
-      ⊎_elim (λ z. z) (λ z. let s = z.1.same in
-      absurd (false≢true (sym h ∙ ap (λ (o : Option PlainMethod). option_map_or (λ (k : PlainMethod). k.is_static) o false) (sym e ∙ s.new_stands)
-      ∙ s.new_static))) (origin g new e)
+      ⊎_elim (λ z. z) (λ y. absurd (⊎_elim
+      (λ z. let s = z.1.same in no_instance g new s.new e s.new_stands h s.new_static)
+      (λ z. no_instance g new z.is.new e z.is.stands h z.is.static) y)) (origin g new e)
+    where
+      no_instance : (g : ℕ) (new k : PlainMethod) → slice_get V.methods g ≡ Some new → slice_get V.methods g ≡ Some k → new.is_static ≡ false
+          → k.is_static ≡ true → ⊥
+      no_instance g new k e d h s =
+          false≢true (sym h ∙ ap (λ (o : Option PlainMethod). option_map_or (λ (k : PlainMethod). k.is_static) o false) (sym e ∙ d) ∙ s)
 
-  pub static_method : (g : ℕ) (new : PlainMethod) → slice_get V.methods g ≡ Some new → new.is_static ≡ true → (m : ℕ) × IsOldStatic m g
+  pub static_method : (g : ℕ) (new : PlainMethod) → slice_get V.methods g ≡ Some new → new.is_static ≡ true
+      → ((m : ℕ) × IsOldStatic m g) ⊎ IsMakeMethod P F H V (T G) g
   static_method g new e h = ⊎_elim (λ z. absurd (false≢true (sym (instance_of new z) ∙ h))) (λ z. z) (origin g new e)
 
   pub each_static_method : (m : ℕ) (old : PlainMethod) → slice_get P.methods m ≡ Some old → old.is_static ≡ true → (g : ℕ) × IsOldStatic m g

@@ -31,16 +31,17 @@ use Rattle.rebuild_model.specs.Rebuilds.{IsNodeType}
 use Rattle.rebuild_model.specs.Written.{HasFilling, IsFilling, IsWritten}
 use Rattle.rebuild_laws.proofs.given.Apart.{names_apart}
 use Rattle.write_model.specs.Names.{modifier}
-use Rattle.write_model.specs.Members.{filling, head, body, class_members, interface_heads, holder_members}
+use Rattle.write_model.specs.Members.{filling, head, body, class_members, interface_heads, holder_members, make_members}
 use Rattle.write_model.specs.Written.{type_tree, java_tree}
 use Rattle.write_model.proofs.NoMaker.{no_maker}
 use Rattle.write_laws.proofs.rebuilds.Outlined.{IsResolved, method_back, member_method_from}
-use Rattle.write_laws.proofs.rebuilds.Nodes.{by_node, items, tree, node_tree, node_number, node_type, nodes_once, Declares, a_node, a_holder, declares}
-use Rattle.write_laws.proofs.rebuilds.Members.{IsHeadTree, IsMember, a_field, a_body, a_head, a_filler, class_from, as_filler, IsStatic, a_static_field, a_static_method, holder_from}
+use Rattle.write_laws.proofs.rebuilds.Nodes.{by_node, items, tree, node_tree, node_number, node_type, nodes_once, Declares, a_node, a_holder, a_makers, declares}
+use Rattle.write_laws.proofs.rebuilds.Members.{IsHeadTree, IsMember, a_field, a_body, a_head, a_filler, class_from, as_filler, IsStatic, a_static_field, a_static_method, holder_from, makes_from}
 use Rattle.write_laws.proofs.rebuilds.Given.{Given, T, R, Stands, columns, stands_from, column_there, offered_there}
 use Rattle.write_laws.proofs.rebuilds.Resolved.{owner_is, name_is, static_is, public_is, bodyless, types_are}
 use Rattle.write_laws.proofs.rebuilds.Methods.{as_method, as_head, in_type, is_abstract, declared_name, method_slot, first_method, old_method}
 use Rattle.write_laws.proofs.rebuilds.Filled.{filling_is}
+use Rattle.write_laws.proofs.rebuilds.Makes.{as_make}
 
 module _ {P : Plain} {F : Facts} {pt : PointsTo} {H : Hierarchy} {V : Plain} (G : Given P F pt H V) where
   abbrev R₀ : Renaming
@@ -93,6 +94,11 @@ module _ {P : Plain} {F : Facts} {pt : PointsTo} {H : Hierarchy} {V : Plain} (G 
   declared_open i _ x e (a_holder c k d holder) h free =
       let z = member_method_from (suc i) false (holder_members P R₀ H c) x h in
       holder_open c i x z.0 (holder_from P R₀ H c z.0 z.1) z.2
+  declared_open i _ x e (a_makers mk me) h free =
+      let z = member_method_from (suc i) false (make_members P R₀ H) x h in
+      let t = makes_from P R₀ H z.0 z.1 in
+      subst IsOpen (one_from (as_make G i t.site.number t.site.ty.class.0 t.maker t.method) x
+      (subst (λ v. Contains (method_member (suc i) false v) x) (sym t.is) z.2)) refl
 
   pub public_method : (g : ℕ) (new : PlainMethod) → slice_get V.methods g ≡ Some new → new.is_static ≡ false → is_interface V new.owner ≡ false
       → new.is_public ≡ true
@@ -107,13 +113,13 @@ module _ {P : Plain} {F : Facts} {pt : PointsTo} {H : Hierarchy} {V : Plain} (G 
   -- ---- what fills in
 
   -- the columns of a method of one slot have one name
-  method_name_is : (m s c : ℕ) → slot_of_method P m ≡ Some s → is_method (column_kind F c) ≡ true → column_slot F c ≡ Some s
+  pub method_name_is : (m s c : ℕ) → slot_of_method P m ≡ Some s → is_method (column_kind F c) ≡ true → column_slot F c ≡ Some s
       → R₀.method_name m ≡ member_name H c
   method_name_is m s c h k o =
       let a = declared_name G m s h in
       a.1 ∙ G.hierarchy.names a.0 c s a.2 k a.3 o
 
-  slotted_kind : (i : ColumnItem) (s : ℕ) → slot_in P i ≡ Some s → is_method (kind_of i) ≡ true
+  pub slotted_kind : (i : ColumnItem) (s : ℕ) → slot_in P i ≡ Some s → is_method (kind_of i) ≡ true
   slotted_kind (column.Dcl m) s h = refl
   slotted_kind (column.Def m) s h = refl
   slotted_kind (column.Fld f) s h = absurd (cc h)
@@ -232,6 +238,12 @@ module _ {P : Plain} {F : Facts} {pt : PointsTo} {H : Hierarchy} {V : Plain} (G 
   declared_fills i g _ x e (a_holder c k d holder) h =
       let z = member_method_from (suc i) false (holder_members P R₀ H c) x h in
       static_fills c i g x z.0 (holder_from P R₀ H c z.0 z.1) z.2
+  declared_fills i g _ x e (a_makers mk me) h =
+      let z = member_method_from (suc i) false (make_members P R₀ H) x h in
+      let t = makes_from P R₀ H z.0 z.1 in
+      let y : MethodAt = as_make G i t.site.number t.site.ty.class.0 t.maker t.method in
+      subst (Fills g) (one_from y x (subst (λ v. Contains (method_member (suc i) false v) x) (sym t.is) z.2))
+      (λ r a b q. absurd (false≢true (sym q.of.instance ∙ static_is G y g r)))
 
   pub written : IsWritten P F H V (T G)
   written = record {

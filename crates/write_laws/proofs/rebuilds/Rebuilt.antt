@@ -12,6 +12,8 @@ use Rattle.write_laws.proofs.rebuilds.Resolved.{BodiesMatch}
 use Rattle.write_laws.proofs.rebuilds.Methods.{each_body, each_head, each_filler}
 use Rattle.write_laws.proofs.rebuilds.Origins.{instance_method, static_method, each_static_method}
 use Rattle.write_laws.proofs.rebuilds.Main.{main_is}
+use Rattle.write_laws.proofs.rebuilds.Makes.{each_make}
+use Rattle.write_laws.proofs.rebuilds.NewNames.{no_maker_new}
 
 module _ {P : Plain} {F : Facts} {pt : PointsTo} {H : Hierarchy} {V : Plain} (G : Given P F pt H V) (match : BodiesMatch G) where
   unfoldable pub rebuilt : Rebuilds P F H V
@@ -32,6 +34,8 @@ module _ {P : Plain} {F : Facts} {pt : PointsTo} {H : Hierarchy} {V : Plain} (G 
       each_field = each_static_field G;
       methods = static_method G match;
       each_method = each_static_method G match;
+      each_make = each_make G;
     };
     main = main_is G match;
+    makerless = no_maker_new G match;
   }

@@ -24,7 +24,8 @@ use Rattle.flow_rules.specs.Ordered.{each}
 use Rattle.flow_rules.proofs.Listed.{at_left}
 use Rattle.rebuild_model.specs.Renaming.{retyped, retyped_if}
 use Rattle.rebuild_model.specs.Matches.{MatchesSts}
-use Rattle.rebuild_model.specs.Members.{new_types, slot_types, HasTypes, HasSlotTypes, HasCode}
+use Rattle.rebuild_model.specs.Members.{new_types, HasTypes, HasSlotTypes, HasCode}
+use Rattle.rebuild_model.specs.Makes.{slot_types}
 use Rattle.write_model.specs.Names.{written_type}
 use Rattle.write_model.specs.Bodies.{written_sts}
 use Rattle.write_model.specs.Members.{param, head, body, parameters}
@@ -51,7 +52,7 @@ module _ {P : Plain} {F : Facts} {pt : PointsTo} {H : Hierarchy} {V : Plain} (G 
 
   -- ---- the types of a head
 
-  param_names : (m : ℕ) (k : PlainMethod) (n : ℕ) (vs : List PlainLocal)
+  pub param_names : (m : ℕ) (k : PlainMethod) (n : ℕ) (vs : List PlainLocal)
       → map (λ v. v.name) (map (param_outline types) (each (λ i v. param P (by_node P F H) H m k i v ∷ []) n vs)) ≡ map (λ v. v.name) vs
   param_names m k n [] = refl
   param_names m k n (v ∷ vs) = ap (λ z. v.name ∷ z) (param_names m k (n + 1) vs)
@@ -65,7 +66,7 @@ module _ {P : Plain} {F : Facts} {pt : PointsTo} {H : Hierarchy} {V : Plain} (G 
       (type_is P F G.facts H G.hierarchy V G.resolves G.new pt G.unbroken (variable_row m k n) v.ty (f 0 n v (omega arith) refl))
       ∙ ap (λ z. retyped ((R G).row_type (variable_row m k n)) v.ty ∷ z) (param_types m k (n + 1) vs (λ i j w e d. f (suc i) j w (omega (arith, e)) d))
 
-  head_params : (m : ℕ) (k : PlainMethod) → slice_get P.methods m ≡ Some k
+  pub head_params : (m : ℕ) (k : PlainMethod) → slice_get P.methods m ≡ Some k
       → types_of (map (param_outline types) (each (λ i v. param P (by_node P F H) H m k i v ∷ []) 0 k.params)) ≡ new_types (R G) m k 0 k.params
   head_params m k e = param_types m k 0 k.params (λ i j v d s t o.
       variable_has_row P G.formed m k j v e (at_left k.params k.locals j v (ap (slice_get k.params) (omega (arith, d)) ∙ s)) t o)
@@ -93,7 +94,7 @@ module _ {P : Plain} {F : Facts} {pt : PointsTo} {H : Hierarchy} {V : Plain} (G 
       ap (λ i. retyped ((R G).row_type i) v.ty ∷ new_types (R G) m k (n + 1) vs) (f 0 n v (omega arith) refl)
       ∙ ap (λ z. retyped ((R G).row_type (row.Param s n)) v.ty ∷ z) (slot_params m s k (n + 1) vs (λ i j w e d. f (suc i) j w (omega (arith, e)) d))
 
-  of_slot_params : (m s : ℕ) (k : PlainMethod) → k.slot ≡ Some s → new_types (R G) m k 0 k.params ≡ slot_types (R G) s (types_of k.params)
+  pub of_slot_params : (m s : ℕ) (k : PlainMethod) → k.slot ≡ Some s → new_types (R G) m k 0 k.params ≡ slot_types (R G) s (types_of k.params)
   of_slot_params m s k e = slot_params m s k 0 k.params (λ i j v d h. slot_param m s j k e (let lt = slice_get_within k.params i v h in omega (arith, d, lt)))
 
   -- ---- a resolved method
@@ -114,10 +115,10 @@ module _ {P : Plain} {F : Facts} {pt : PointsTo} {H : Hierarchy} {V : Plain} (G 
     pub public_is : made.is_public ≡ has_word is_public_word at.head.mods
     public_is = ap (λ (z : PlainMethod). z.is_public) r.heading ∙ ap (λ b. b || has_word is_public_word at.head.mods) r.other
 
-    params_is : types_of made.params ≡ types_of (map (param_outline types) at.head.params)
+    pub params_is : types_of made.params ≡ types_of (map (param_outline types) at.head.params)
     params_is = ap (λ (z : PlainMethod). types_of z.params) r.heading
 
-    result_is : made.result ≡ option_map (type_meant types) at.head.type
+    pub result_is : made.result ≡ option_map (type_meant types) at.head.type
     result_is = ap (λ (z : PlainMethod). z.result) r.heading
 
     pub bodyless : at.body ≡ None → made.body ≡ None

@@ -11,9 +11,10 @@ use Rattle.write_laws.proofs.bodies.Bodies.{body_matched}
 use Rattle.write_laws.specs.rebuilds.Laws.{IsRebuiltProgram, TreeRebuilds}
 use Rattle.write_laws.proofs.rebuilds.Given.{Given, T}
 use Rattle.write_laws.proofs.rebuilds.Resolved.{BodiesMatch}
-use Rattle.write_laws.proofs.rebuilds.Named.{named_row, named_node, node_no_text, named_holder, no_field_holder, named_static_field, named_static_method}
+use Rattle.write_laws.proofs.rebuilds.Named.{named_row, named_node, node_no_text, named_holder, no_field_holder, named_static_field, named_static_method, named_makers, no_field_makers}
 use Rattle.write_laws.proofs.rebuilds.Rebuilt.{rebuilt}
 use Rattle.write_laws.proofs.rebuilds.Public.{written}
+use Rattle.write_laws.proofs.rebuilds.Makes.{named_make}
 
 module _ {P : Plain} {F : Facts} {pt : PointsTo} {H : Hierarchy} {V : Plain} (G : Given P F pt H V) where
   knows : KnowsNames P H V (outline (java_tree P F H)) (T G)
@@ -25,6 +26,10 @@ module _ {P : Plain} {F : Facts} {pt : PointsTo} {H : Hierarchy} {V : Plain} (G 
     no_field = no_field_holder G;
     static_field = named_static_field G;
     static_method = named_static_method G;
+    makers = named_makers G;
+    makers_no_field = no_field_makers G;
+    make = λ s m g z new e object has at ow name. named_make G s
+        (record { site = z; stands = e; object = object; maker = m; has = has }) g new at ow name;
   }
 
   bodies_match : IsTyped P → HasLocalsInOrder P → BodiesMatch G

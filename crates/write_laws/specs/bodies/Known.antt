@@ -1,19 +1,24 @@
 -- Mirror. What the outline of a written program tells of the names in its bodies, and in which order a program numbers
 -- its locals.
-use Rattle.std.specs.Prelude.{◌≡◌, ◌≢◌, ℕ, true, false, length, Some, slice_get}
+use Rattle.std.specs.Prelude.{◌≡◌, ◌≢◌, ◌==◌, ℕ, true, false, length, Some, slice_get}
+use Rattle.std.specs.Option.{is_some}
 use Rattle.java_core.specs.Trees.{Sts}
 use Rattle.java_core.specs.Programs.{Plain, PlainField, PlainMethod}
 use Rattle.java_core.specs.Classes.{own_field_of}
+use Rattle.java_core.specs.Makers.{maker_of}
 use Rattle.java_core.specs.Formed.{variables_of}
 use Rattle.kaba_order.specs.Orders.{is_live}
 use Rattle.hier_model.specs.Hierarchies.{Hierarchy, type_name, place_of_row}
 use Rattle.flow_rules.specs.declared.items.RowItem.{RowItem}
-use Rattle.flow_rules.specs.Facts.{is_holder, numbers}
+use Rattle.flow_rules.specs.declared.items.Site.{Site}
+use Rattle.flow_rules.specs.Numbered.{sites_of}
+use Rattle.flow_rules.specs.Facts.{is_holder, makers_of, numbers}
 use Rattle.name_rules.specs.Outline.{is_text_type}
 use Rattle.name_rules.specs.Meanings.{class_named}
 use Rattle.name_rules.specs.Resolves.{Counts, declares_all}
-use Rattle.write_model.specs.Names.{class_name}
-use Rattle.rebuild_model.specs.Renaming.{Places, renaming_of}
+use Rattle.write_model.specs.Names.{class_name, makers_name}
+use Rattle.rebuild_model.specs.Renaming.{Places, renaming_of, make_name}
+use Rattle.rebuild_model.specs.Makes.{IsMake}
 use Rattle.rebuild_model.specs.Matches.{IsStaticField, IsStaticMethod}
 
 -- the locals of a body are numbered behind the parameters in the order of the text
@@ -36,3 +41,9 @@ pub record KnowsNames (P : Plain) (H : Hierarchy) (U O : Plain) (T : Places) : T
   pub static_method : (m g : ℕ) (old new : PlainMethod) → slice_get P.methods m ≡ Some old → old.is_static ≡ true
       → slice_get O.methods g ≡ Some new → new.is_static ≡ true → new.owner ≡ T.holder_of old.owner → new.name ≡ old.name
       → IsStaticMethod P U (renaming_of P H T) m g
+  -- the name of the holder of the methods that make objects names it, and no field has that name
+  pub makers : is_some (makers_of P) ≡ true → class_named O (makers_name P) ≡ Some T.makers
+  pub makers_no_field : (f : ℕ) (k : PlainField) → is_some (makers_of P) ≡ true → slice_get O.fields f ≡ Some k → k.name ≢ makers_name P
+  -- what it has under the name of a site's method makes the objects of the site
+  pub make : (s m g : ℕ) (z : Site) (new : PlainMethod) → slice_get (sites_of P) s ≡ Some z → (z.ty.dim == 0) ≡ true → maker_of P z.ty.class.0 ≡ Some m
+      → slice_get O.methods g ≡ Some new → new.owner ≡ T.makers → new.name ≡ make_name P z.number → IsMake P U (renaming_of P H T) z.number m g

@@ -7,6 +7,8 @@ use Rattle.java_core.specs.Trees.{Ex, Exs, no_ex, ex_then, field, index, call, s
 use Rattle.java_meaning.specs.EachStatement.{OfOption, Asked}
 use Rattle.hier_model.specs.Hierarchies.{Hierarchy}
 use Rattle.flow_rules.specs.declared.items.RowItem.TheVariants as row
+use Rattle.flow_rules.specs.declared.items.Site.{Site}
+use Rattle.flow_rules.specs.Numbered.{sites_of}
 use Rattle.flow_rules.specs.Operands.{variable_row}
 use Rattle.rebuild_model.specs.Renaming.{Renaming}
 use Rattle.name_rules.specs.declared.Refusal.{Refusal}
@@ -26,6 +28,14 @@ IsKnownType O u = (r : Refusal) → IsUnknownType O u r → ⊥
 abbrev pub IsKnownCast : Plain → TypeName → Type 0
 IsKnownCast O u = (r : Refusal) → IsUnknownCast O u r → ⊥
 
+-- a creation of objects of a class is a site
+pub record IsSiteOf (P : Plain) (n c : ℕ) : Type 0 where
+  pub number : ℕ
+  pub site : Site
+  pub stands : slice_get (sites_of P) number ≡ Some site
+  pub is : site.number ≡ n
+  pub type : site.ty ≡ record { class = record { 0 = c }; dim = 0 }
+
 -- in the method m of the program, with the outline O of the tree
 module _ (P : Plain) (R : Renaming) (H : Hierarchy) (m : ℕ) (k : PlainMethod) (O : Plain) where
   abbrev mutual
@@ -38,7 +48,7 @@ module _ (P : Plain) (R : Renaming) (H : Hierarchy) (m : ℕ) (k : PlainMethod) 
     KnownEx (super_call t x es) = KnownExs es
     KnownEx (unary t o e) = KnownEx e
     KnownEx (binary t o e d) = KnownEx e × KnownEx d
-    KnownEx (create t n c es) = IsKnownName O (row_name P H (R.row_type (row.New n)) c) × KnownExs es
+    KnownEx (create t n c es) = IsKnownName O (row_name P H (R.row_type (row.New n)) c) × IsSiteOf P n c × KnownExs es
     KnownEx (create_array t n v e) = IsKnownType O (written_type P H (R.row_type (row.New n)) v) × KnownEx e
     KnownEx (cast t n v e) = IsKnownCast O (written_type P H (R.row_type (row.Cast n)) v) × KnownEx e
     KnownEx (instance_of t n e c) = IsKnownName O (row_name P H (R.row_type (row.Test n)) c) × KnownEx e
