@@ -7,7 +7,7 @@ use Rattle.java_core.specs.Programs.{Plain, program_of}
 use Rattle.java_meaning.specs.Moment as meaning
 use Rattle.java_run.specs.Outcomes.{meant}
 use Rattle.fact_model.specs.declared.facts.Facts.{Facts}
-use Rattle.flow_rules.specs.Facts.{maker_class, IsWithinLimits}
+use Rattle.flow_rules.specs.Facts.{IsWithinLimits}
 use Rattle.edit_script.specs.declared.lines.Line.{Line}
 use Rattle.kaba_words.specs.Commands.{Cmd, run, table, lattice, base, why, sure, same, edit, regen, make, help, version, usual_concepts}
 use Rattle.kaba_top.specs.TextPrograms.{IsTypedText}
@@ -24,11 +24,10 @@ use Rattle.kaba_top.specs.ScriptAnswers.{HasLattice, ScriptAnswers, refusals}
 use Rattle.kaba_top.specs.EditAnswers.{ShowsHierarchy, EditOf}
 use Rattle.kaba_top.specs.RegenAnswers.{IsRegeneration, RegenOf}
 use Rattle.kaba_top.specs.Answers.{FileAnswers, NamedAnswers, EditAnswers, RegenAnswers, CommandAnswers}
-use Rattle.kaba_top.specs.OneAnswer.{OfSmallFile, IsTaken, IsTakenPlain, IsTakenWithin, HasFewConcepts, IsTakenFor, HasFewImplications, IsTakenForBase, IsAcceptedScript, HasAllInput, IsDoneWith, IsComplete}
+use Rattle.kaba_top.specs.OneAnswer.{OfSmallFile, IsTaken, IsTakenWithin, HasFewConcepts, IsTakenFor, HasFewImplications, IsTakenForBase, IsAcceptedScript, HasAllInput, IsDoneWith, IsComplete}
 use Rattle.kaba_words.proofs.OneCommand.{one_command}
 use Rattle.kaba_top.proofs.OneText.{one_program, not_both}
 use Rattle.kaba_top.proofs.Absent.{none_some}
-use Rattle.kaba_top.proofs.NamedClass.{named_in}
 
 module _ (status : ℕ) (out err : List ℕ) where
   -- the file is there with its bytes
@@ -49,9 +48,7 @@ module _ (status : ℕ) (out err : List ℕ) where
   -- the program has facts
   of_facts : (J : Facts → ℕ → List ℕ → List ℕ → Type 0) (D : Type 0) (p : Program) → IsWithinLimits (program_of p)
       → ((F : Facts) → HasFacts p F → J F status out err → D) → AnalysisAnswers J p status out err → D
-  of_facts J D p w f (inl (inl a)) =
-      absurd (none_some (ap (named_in (program_of p)) w.no_maker) a.named)
-  of_facts J D p w f (inl (inr a)) = absurd (none_some w.counts a.over)
+  of_facts J D p w f (inl a) = absurd (none_some w.counts a.over)
   of_facts J D p w f (inr a) = f a.facts a.has a.answers
 
   text_facts : (p : Program) (F : Facts) → HasFacts p F → HasTextFacts (program_of p) F
@@ -66,8 +63,8 @@ module _ (status : ℕ) (out err : List ℕ) where
   of_script bound script p F A D h few ok f (inr a) = f a.has a.edits a.answers
 
   -- the program of a file that is told by its name
-  of_named : (K : Program → ℕ → List ℕ → List ℕ → Type 0) (D : Type 0) (files : Files) (file : List ℕ) → OfSmallFile files file IsTakenPlain
-      → ((p : Program) → maker_class (program_of p) ≡ None → K p status out err → D) → NamedAnswers K files file status out err → D
+  of_named : (K : Program → ℕ → List ℕ → List ℕ → Type 0) (D : Type 0) (files : Files) (file : List ℕ) → OfSmallFile files file IsTaken
+      → ((p : Program) → K p status out err → D) → NamedAnswers K files file status out err → D
   of_named K D files file r f (inl a) = absurd (none_some a.missing r.there)
   of_named K D files file r f (inr (inl a)) =
       let n = ap length (same_Some a.answers.bytes r.bytes (sym a.answers.there ∙ r.there)) in absurd (omega (arith, n, a.answers.large, r.small))
@@ -75,15 +72,12 @@ module _ (status : ℕ) (out err : List ℕ) where
       let e = same_Some a.bytes r.bytes (sym a.there ∙ r.there) in
       ⊎_elim
       (λ b. absurd (not_both r.bytes status out (line b.text) r.holds.0 (subst (λ z. IsRefusedText z status out (line b.text)) e b.answers) r.holds.1))
-      (λ b. let same = one_program r.bytes (program_of b.program) r.holds.0 (subst (λ z. IsTypedText z (program_of b.program)) e b.is) r.holds.1 in
-      f b.program (ap maker_class same ∙ r.holds.2) b.answers) a.answers
+      (λ b. f b.program b.answers) a.answers
 
-  -- two programs without constructors are compared
-  of_same : (file next : List ℕ) (p q : Program) → maker_class (program_of p) ≡ None → maker_class (program_of q) ≡ None → SameOf file next p q status out err
-      → (status ≡ 0) ⊎ (status ≡ 1)
-  of_same file next p q u v (inl a) = absurd (none_some (ap (named_in (program_of p)) u) a.found)
-  of_same file next p q u v (inr (inl a)) = absurd (none_some (ap (named_in (program_of q)) v) a.refused.found)
-  of_same file next p q u v (inr (inr a)) = ⊎_elim (λ one. inl one.gives.status_is) (λ apart. inr apart.says.status_is) a.answers
+  -- two programs are compared
+  of_same : (file next : List ℕ) (p q : Program) → SameOf file next p q status out err → (status ≡ 0) ⊎ (status ≡ 1)
+  of_same file next p q (inl one) = inl one.gives.status_is
+  of_same file next p q (inr apart) = inr apart.says.status_is
 
   by_end : (e : meaning.End) (bytes : List ℕ) → EndGives e bytes status out err → (status ≡ 0) ⊎ ((status ≡ 10) ⊎ (status ≡ 11))
   by_end meaning.Ended bytes a = inl a.status_is
@@ -146,8 +140,7 @@ module _ (status : ℕ) (out err : List ℕ) where
       (λ p e c. of_facts SureOf (status ≡ 0) p (subst IsWithinLimits e t.2) (λ F h g. g.gives.status_is) c) b) a
   done (same file other) first second r a =
       of_named (λ p. NamedAnswers (SameOf file other p) second other) ((status ≡ 0) ⊎ (status ≡ 1)) first file r.0
-      (λ p u b. of_named (SameOf file other p) ((status ≡ 0) ⊎ (status ≡ 1)) second other r.1
-      (λ q v c. of_same file other p q u v c) b) a
+      (λ p b. of_named (SameOf file other p) ((status ≡ 0) ⊎ (status ≡ 1)) second other r.1 (λ q c. of_same file other p q c) b) a
   done (edit bound file script) first second r a =
       of_file (λ bytes. FileAnswers (EditAnswers bound bytes) second script) (IsTakenFor bound) ((status ≡ 0) ⊎ (status ≡ 4)) first file r.0
       (λ bytes t b. of_file (EditAnswers bound bytes) IsAcceptedScript ((status ≡ 0) ⊎ (status ≡ 4)) second script r.1

@@ -30,7 +30,6 @@ pub mod WhyLemmas
 pub mod OneSure
 pub mod OneSame
 pub mod Absent
-pub mod NamedClass
 pub mod Naming
 pub mod OneEach
 pub mod Completing

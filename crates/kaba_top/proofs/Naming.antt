@@ -1,11 +1,9 @@
 -- From what a file gave to the answers that tell its name.
-use Rattle.std.proofs.Common.{◌≡◌, ◌⊎◌, inl, inr, ⊎_elim, ℕ, ◌≤◌, List, [], Option, None, Result, Ok, Err, IfOk, refl, ◌∙◌, sym, subst, arith}
+use Rattle.std.proofs.Common.{◌≡◌, ◌⊎◌, inl, inr, ⊎_elim, ℕ, ◌≤◌, List, [], Option, Some, None, Result, Ok, Err, IfOk, refl, ◌∙◌, sym, subst, arith}
 use Rattle.std.specs.declared.alloc.AllocError.{AllocError}
 use Rattle.kaba_base.specs.Outside.{Files}
 use Rattle.java_core.specs.declared.Program.{Program}
 use Rattle.java_core.specs.Programs.{program_of}
-use Rattle.flow_rules.specs.declared.faults.FactsFault.TheVariants as fault
-use Rattle.flow_rules.specs.Facts.{maker_class, IsFactsRefusal}
 use Rattle.kaba_words.specs.Commands.{same}
 use Rattle.kaba_top.specs.declared.reply.Reply.{Reply}
 use Rattle.kaba_top.specs.declared.same.Found.{Found}
@@ -13,7 +11,6 @@ use Rattle.kaba_top.specs.declared.same.Found.TheVariants as founds
 use Rattle.kaba_top.specs.Lines.{Says, line}
 use Rattle.kaba_top.specs.Agreement.{Agrees}
 use Rattle.kaba_top.specs.Reading.{IsRefusedText}
-use Rattle.kaba_top.specs.FactsAnswers.{has_constructor}
 use Rattle.kaba_top.specs.SameAnswers.{named, IsFileNamed, AreFoundOne, AreFoundApart, SameOf}
 use Rattle.kaba_top.specs.Answers.{IsTooLarge, IsShelfFault, NamedAnswers, CommandReplies}
 use Rattle.kaba_top.specs.Fetching.{IsThere, IsFileRefused}
@@ -173,26 +170,3 @@ module _ (file other : List ℕ) where
     answers = any_named (λ p. NamedAnswers (SameOf file other p) r.files other) r.files file reply.status reply.out.items reply.err.items r.refused;
   })
   none_named told before now reply (inr f) = inr (record { file = file; names = inl refl; fault = f })
-
--- ---- what `same` answers for two programs
-
-module _ (file other : List ℕ) (p q : Program) where
-  pub first_constructed : (name : List ℕ) (r : Result Reply AllocError) → IsFactsRefusal (program_of p) (fault.HasConstructor name)
-      → IfOk r (λ reply. Says 75 (named file (has_constructor name)) reply.status reply.out.items reply.err.items)
-      → IfOk r (λ reply. SameOf file other p q reply.status reply.out.items reply.err.items)
-  first_constructed name (Err e) f h = tt
-  first_constructed name (Ok reply) f h = inl (record { name = name; found = f; says = h })
-
-  pub other_constructed : (name : List ℕ) (r : Result Reply AllocError) → maker_class (program_of p) ≡ None
-      → IsFactsRefusal (program_of q) (fault.HasConstructor name)
-      → IfOk r (λ reply. Says 75 (named other (has_constructor name)) reply.status reply.out.items reply.err.items)
-      → IfOk r (λ reply. SameOf file other p q reply.status reply.out.items reply.err.items)
-  other_constructed name (Err e) n f h = tt
-  other_constructed name (Ok reply) n f h = inr (inl (record { none = n; refused = record { name = name; found = f; says = h } }))
-
-  pub both_compared : (r : Result Reply AllocError) → maker_class (program_of p) ≡ None → maker_class (program_of q) ≡ None
-      → IfOk r (λ reply. AreFoundOne p q reply.status reply.out.items reply.err.items
-      ⊎ AreFoundApart file other p q reply.status reply.out.items reply.err.items)
-      → IfOk r (λ reply. SameOf file other p q reply.status reply.out.items reply.err.items)
-  both_compared (Err e) n m h = tt
-  both_compared (Ok reply) n m h = inr (inr (record { none = n; other_none = m; answers = h }))

@@ -43,13 +43,12 @@ use Rattle.kaba_top.specs.declared.cause_words.Cause.TheVariants as cause
 use Rattle.kaba_top.specs.CauseWords.{cause_text}
 use Rattle.kaba_top.specs.Lines.{Says, GivesReply, line}
 use Rattle.kaba_top.specs.TextFacts.{shown}
-use Rattle.kaba_top.specs.FactsAnswers.{has_constructor, AnalysisAnswers, TableOf, LatticeOf, too_many_concepts}
+use Rattle.kaba_top.specs.FactsAnswers.{AnalysisAnswers, TableOf, LatticeOf, too_many_concepts}
 use Rattle.kaba_top.specs.ScriptAnswers.{HasLattice, ScriptAnswers, bad_script, too_many_edits, edited, refusals}
 use Rattle.kaba_top.specs.ScriptAnswers as script
 use Rattle.kaba_top.specs.EditAnswers.{edit_status, ShowsHierarchy, EditOf}
 use Rattle.kaba_top.specs.RegenAnswers.{IsRegeneration, RegenOf}
 use Rattle.kaba_top.specs.OneAnswer.{AreOneKind}
-use Rattle.kaba_top.proofs.NamedClass.{named_in, named_class}
 use Rattle.kaba_top.proofs.SameSets.{one_points, one_set_rows, one_width, one_table}
 use Rattle.kaba_top.proofs.SameHierarchies.{start_is}
 use Rattle.kaba_top.proofs.SameSteps.{applied_is, grows_on}
@@ -72,25 +71,13 @@ no_some e = cc e
 
 module _ (J L : Facts → ℕ → List ℕ → List ℕ → Type 0) (one : (F G : Facts) → AreSameFacts F G → AreOneKind (J F) (L G)) where
   pub one_analysis : (p q : Program) → program_of p ≡ program_of q → AreOneKind (AnalysisAnswers J p) (AnalysisAnswers L q)
-  one_analysis p q same s t o r e f (inl (inl a)) (inl (inl b)) =
-      said 75 (has_constructor a.name) (has_constructor b.name)
-      (ap has_constructor (same_Some a.name b.name (sym a.named ∙ ap named_class same ∙ b.named)))
-      s t o r e f a.says b.says
-  one_analysis p q same s t o r e f (inl (inl a)) (inl (inr b)) =
-      absurd (no_some (sym a.named ∙ ap named_class same ∙ ap (named_in (program_of q)) b.no_maker))
-  one_analysis p q same s t o r e f (inl (inl a)) (inr b) =
-      absurd (no_some (sym a.named ∙ ap named_class same ∙ ap (named_in (program_of q)) b.has.within.no_maker))
-  one_analysis p q same s t o r e f (inl (inr a)) (inl (inl b)) =
-      absurd (no_some (sym b.named ∙ ap named_class (sym same) ∙ ap (named_in (program_of p)) a.no_maker))
-  one_analysis p q same s t o r e f (inr a) (inl (inl b)) =
-      absurd (no_some (sym b.named ∙ ap named_class (sym same) ∙ ap (named_in (program_of p)) a.has.within.no_maker))
-  one_analysis p q same s t o r e f (inl (inr a)) (inl (inr b)) =
+  one_analysis p q same s t o r e f (inl a) (inl b) =
       let over = same_Some (record { what = a.what; number = a.number }) (record { what = b.what; number = b.number })
       (sym a.over ∙ ap too_many same ∙ b.over) in
       said 67 (codes "too large: " ++ cause_text (cause.Limit a.what)) (codes "too large: " ++ cause_text (cause.Limit b.what))
       (ap (λ (z : TooMany). codes "too large: " ++ cause_text (cause.Limit z.what)) over) s t o r e f a.says b.says
-  one_analysis p q same s t o r e f (inl (inr a)) (inr b) = absurd (no_some (sym a.over ∙ ap too_many same ∙ b.has.within.counts))
-  one_analysis p q same s t o r e f (inr a) (inl (inr b)) = absurd (no_some (sym b.over ∙ ap too_many (sym same) ∙ a.has.within.counts))
+  one_analysis p q same s t o r e f (inl a) (inr b) = absurd (no_some (sym a.over ∙ ap too_many same ∙ b.has.within.counts))
+  one_analysis p q same s t o r e f (inr a) (inl b) = absurd (no_some (sym b.over ∙ ap too_many (sym same) ∙ a.has.within.counts))
   one_analysis p q same s t o r e f (inr a) (inr b) =
       one a.facts b.facts (same_facts (program_of q) a.facts b.facts (subst (λ z. AreProgramFacts z a.facts) same a.has) b.has) s t o r e f a.answers b.answers
 

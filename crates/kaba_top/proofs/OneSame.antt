@@ -8,10 +8,7 @@ use Rattle.java_core.specs.Programs.{Plain, program_of}
 use Rattle.rebuild_model.specs.OnePrograms as programs
 use Rattle.kaba_top.specs.Lines.{line, cannot_read}
 use Rattle.kaba_top.specs.Reading.{IsRefusedText}
-use Rattle.flow_rules.specs.Facts.{maker_class}
-use Rattle.kaba_top.proofs.NamedClass.{named_in, named_class}
-use Rattle.kaba_top.specs.FactsAnswers.{has_constructor}
-use Rattle.kaba_top.specs.SameAnswers.{named, IsFileNamed, SameOf, IsConstructedFile, AreFoundOne, AreFoundApart}
+use Rattle.kaba_top.specs.SameAnswers.{named, IsFileNamed, SameOf, AreFoundOne, AreFoundApart}
 use Rattle.kaba_top.specs.Answers.{IsTooLarge, NamedTextAnswers, NamedAnswers, SameAnswers}
 use Rattle.kaba_top.specs.OneAnswer.{AreOneKind}
 use Rattle.kaba_top.proofs.OneText.{one_program, not_both, one_refusal}
@@ -74,14 +71,15 @@ module _ (file : List ℕ) where
         one_named_text b.bytes s t o p e f
         (subst (λ z. NamedTextAnswers file K z s o e) (same_Some a.bytes b.bytes (sym a.there ∙ b.there)) a.answers) b.answers
 
-one_compared : (file other : List ℕ) (p q u v : Program) → program_of p ≡ program_of u → program_of q ≡ program_of v
-    → AreOneKind (λ s o e. AreFoundOne p q s o e ⊎ AreFoundApart file other p q s o e) (λ s o e. AreFoundOne u v s o e ⊎ AreFoundApart file other u v s o e)
-one_compared file other p q u v x y s t o r e f (inl a) (inl b) = given 0 0 [] [] [] [] refl refl refl s t o r e f a.gives b.gives
-one_compared file other p q u v x y s t o r e f (inl a) (inr b) =
+-- whether two programs are one is asked of what they are as trees
+one_sameness : (file other : List ℕ) (p q u v : Program) → program_of p ≡ program_of u → program_of q ≡ program_of v
+    → AreOneKind (SameOf file other p q) (SameOf file other u v)
+one_sameness file other p q u v x y s t o r e f (inl a) (inl b) = given 0 0 [] [] [] [] refl refl refl s t o r e f a.gives b.gives
+one_sameness file other p q u v x y s t o r e f (inl a) (inr b) =
     absurd (b.apart (subst (λ (z : Plain). programs.AreOne z (program_of v)) x (subst (λ (z : Plain). programs.AreOne (program_of p) z) y a.one)))
-one_compared file other p q u v x y s t o r e f (inr a) (inl b) =
+one_sameness file other p q u v x y s t o r e f (inr a) (inl b) =
     absurd (a.apart (subst (λ (z : Plain). programs.AreOne z (program_of q)) (sym x) (subst (λ (z : Plain). programs.AreOne (program_of u) z) (sym y) b.one)))
-one_compared file other p q u v x y s t o r e f (inr a) (inr b) = record {
+one_sameness file other p q u v x y s t o r e f (inr a) (inr b) = record {
   status = a.says.status_is ∙ sym b.says.status_is;
   out = inl (a.says.out_is ∙ sym b.says.out_is);
   err = inr (inr (inr (record {
@@ -95,30 +93,6 @@ one_compared file other p q u v x y s t o r e f (inr a) (inr b) = record {
     two = b;
   })));
 }
-
--- a constructor is told by the same name
-one_constructed : (file : List ℕ) (p u : Program) → program_of p ≡ program_of u → AreOneKind (IsConstructedFile file p) (IsConstructedFile file u)
-one_constructed file p u x s t o r e f a b =
-    said 75 (named file (has_constructor a.name)) (named file (has_constructor b.name))
-    (ap (λ n. named file (has_constructor n)) (same_Some a.name b.name (sym a.found ∙ ap named_class x ∙ b.found))) s t o r e f a.says b.says
-
--- a class that is named is there
-not_named : {file : List ℕ} (p u : Program) {s : ℕ} {o e : List ℕ} → program_of p ≡ program_of u → IsConstructedFile file p s o e
-    → maker_class (program_of u) ≡ None → ⊥
-not_named p u x a none = none_some (ap (named_in (program_of u)) none) (sym (ap named_class x) ∙ a.found)
-
--- whether two programs are one is asked of what they are as trees
-one_sameness : (file other : List ℕ) (p q u v : Program) → program_of p ≡ program_of u → program_of q ≡ program_of v
-    → AreOneKind (SameOf file other p q) (SameOf file other u v)
-one_sameness file other p q u v x y s t o r e f (inl a) (inl b) = one_constructed file p u x s t o r e f a b
-one_sameness file other p q u v x y s t o r e f (inl a) (inr (inl b)) = absurd (not_named p u x a b.none)
-one_sameness file other p q u v x y s t o r e f (inl a) (inr (inr b)) = absurd (not_named p u x a b.none)
-one_sameness file other p q u v x y s t o r e f (inr (inl a)) (inl b) = absurd (not_named u p (sym x) b a.none)
-one_sameness file other p q u v x y s t o r e f (inr (inr a)) (inl b) = absurd (not_named u p (sym x) b a.none)
-one_sameness file other p q u v x y s t o r e f (inr (inl a)) (inr (inl b)) = one_constructed other q v y s t o r e f a.refused b.refused
-one_sameness file other p q u v x y s t o r e f (inr (inl a)) (inr (inr b)) = absurd (not_named q v y a.refused b.other_none)
-one_sameness file other p q u v x y s t o r e f (inr (inr a)) (inr (inl b)) = absurd (not_named v q (sym y) b.refused a.other_none)
-one_sameness file other p q u v x y s t o r e f (inr (inr a)) (inr (inr b)) = one_compared file other p q u v x y s t o r e f a.answers b.answers
 
 pub one_same : (file other : List ℕ) (first second : Files) → AreOneKind (SameAnswers file other first second) (SameAnswers file other first second)
 one_same file other first second =

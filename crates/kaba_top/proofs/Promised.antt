@@ -21,8 +21,6 @@ use Rattle.stem_base.proofs.Laws.{are_a_base, none_shorter}
 use Rattle.java_meaning.proofs.UntaggedRuns.{same_aside}
 use Rattle.write_model.proofs.Nowhere.{without_places}
 use Rattle.write_model.proofs.NoMaker as written
-use Rattle.flow_facts.proofs.FirstMakers.{no_maker}
-use Rattle.java_core.specs.Makers.{HasNoMaker}
 use Rattle.name_place_laws.specs.Laws.{HasNoPlaces}
 use Rattle.name_place_laws.proofs.Whole.{has_no_places}
 use Rattle.sure_laws.specs.Laws.{IsTrueOfRuns, ReportsAreTrue}
@@ -55,7 +53,7 @@ use Rattle.kaba_top.specs.Answers.{FileAnswers, NamedAnswers, EditAnswers, Regen
 use Rattle.kaba_top.specs.Promise.{ShowsLattice, ShowsBase, ShowsTrail, ShowsSure, IsSameProgram, JudgesEdits, IsRebuilt, TellsEdits, WritesProgram, FindsNoTree, OfFile, Promises, IsPromised}
 
 -- programs that are one have the same run
-runs_alike : (P Q : Plain) → IsFormed P → IsTyped P → IsFormed Q → HasNoMaker P → HasNoMaker Q → AreOne P Q → HasSameRun P Q
+runs_alike : (P Q : Plain) → IsFormed P → IsTyped P → IsFormed Q → AreOne P Q → HasSameRun P Q
 unfolding OneRunsTheSame
 runs_alike = one_runs_the_same
 
@@ -105,8 +103,7 @@ module _ (status : ℕ) (out err : List ℕ) (j : IsJudging status) where
 
   in_facts : (J : Facts → ℕ → List ℕ → List ℕ → Type 0) (R : Type 0) (p : Program) → ((F : Facts) → HasFacts p F → J F status out err → R)
       → AnalysisAnswers J p status out err → R
-  in_facts J R p f (inl (inl a)) = absurd (other 75 status (omega arith) (omega arith) a.says.status_is j)
-  in_facts J R p f (inl (inr a)) = absurd (other 67 status (omega arith) (omega arith) a.says.status_is j)
+  in_facts J R p f (inl a) = absurd (other 67 status (omega arith) (omega arith) a.says.status_is j)
   in_facts J R p f (inr a) = f a.facts a.has a.answers
 
   in_run : (bound : ℕ) (script : List ℕ) (F : Facts) (A : HasLattice bound F → List Line → ℕ → List ℕ → List ℕ → Type 0) (R : Type 0)
@@ -165,19 +162,15 @@ module _ (status : ℕ) (out err : List ℕ) (j : IsJudging status) where
 
   found_one : (file next : List ℕ) (bytes others : List ℕ) (p q : Program) → IsTypedText bytes (program_of p) → IsTypedText others (program_of q)
       → SameOf file next p q status out err → IsSameProgram bytes others
-  found_one file next bytes others p q text again (inl a) = absurd (other 75 status (omega arith) (omega arith) a.says.status_is j)
-  found_one file next bytes others p q text again (inr (inl a)) = absurd (other 75 status (omega arith) (omega arith) a.refused.says.status_is j)
-  found_one file next bytes others p q text again (inr (inr a)) = ⊎_elim
-      (λ b. record {
-        program = p;
-        other = q;
-        text = text;
-        other_text = again;
-        one = b.one;
-        same = runs_alike (program_of p) (program_of q) text.formed text.typed again.formed (no_maker (program_of p) a.none)
-            (no_maker (program_of q) a.other_none) b.one;
-      })
-      (λ b. absurd (not_one b.says.status_is j)) a.answers
+  found_one file next bytes others p q text again (inl b) = record {
+    program = p;
+    other = q;
+    text = text;
+    other_text = again;
+    one = b.one;
+    same = runs_alike (program_of p) (program_of q) text.formed text.typed again.formed b.one;
+  }
+  found_one file next bytes others p q text again (inr b) = absurd (not_one b.says.status_is j)
 
   trail_shown : (row column : ℕ) (bytes : List ℕ) (p : Program) → IsTypedText bytes (program_of p) → (F : Facts) → HasFacts p F
       → WhyOf row column F status out err → ShowsTrail row column bytes out
@@ -356,7 +349,7 @@ module _ (status : ℕ) (out err : List ℕ) (z : status ≡ 5) where
   in_script : (bound : ℕ) (bytes script : List ℕ) → RegenAnswers bound bytes script status out err → FindsNoTree bytes script out err
   in_script bound bytes script (inl a) = absurd (five_refused bytes a)
   in_script bound bytes script (inr a) = elim a.answers as (λ _. FindsNoTree bytes script out err) [
-    | inl b ↦ ⊎_elim (λ m. absurd (not_five 75 (omega arith) m.says.status_is)) (λ m. absurd (not_five 67 (omega arith) m.says.status_is)) b
+    | inl m ↦ absurd (not_five 67 (omega arith) m.says.status_is)
     | inr b ↦ five_run bound bytes script a.program a.is b.facts b.has b.answers
   ]
 

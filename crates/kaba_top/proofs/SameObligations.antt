@@ -1,12 +1,14 @@
 -- Facts that are the same, with sets that are the same: the first instance against each obligation is the same.
-use Rattle.std.proofs.Common.{◌≡◌, ℕ, ◌==◌, ◌&&◌, ◌||◌, max, not, List, length, None, sym, ap, ◌∙◌}
+use Rattle.std.proofs.Common.{◌≡◌, ℕ, ◌==◌, ◌&&◌, ◌||◌, max, not, Bool, false, List, length, Option, Some, None, refl, sym, ap, ◌∙◌}
 use Rattle.std.specs.Prelude.{nat_lt, cond, option_and_then}
+use Rattle.std.specs.Option.{option_map, option_map_or}
 use Rattle.std.specs.List.{list_any}
 use Rattle.std.specs.Str.{bytes_eq}
 use Rattle.kaba_base.specs.Words.{is_name}
 use Rattle.kaba_bits.specs.Sets.{bit, row, or_else, first_below, when}
 use Rattle.kaba_order.specs.Orders.{is_le, is_live, differ}
 use Rattle.fact_model.specs.declared.facts.Facts.{Facts}
+use Rattle.fact_model.specs.declared.facts.MakerNames.{MakerNames}
 use Rattle.fact_model.specs.declared.facts.StoreInfo.{StoreInfo}
 use Rattle.fact_model.specs.declared.facts.TestInfo.{TestInfo}
 use Rattle.fact_model.specs.declared.sets.PointsTo.{PointsTo}
@@ -22,11 +24,17 @@ use Rattle.hier_rules.specs.Names.{is_member, known_names, is_reserved, is_varia
 use Rattle.hier_rules.specs.First.{first_changed_run, first_of_edit}
 use Rattle.hier_rules.specs.Instances.{of_both, of_row, of_column, of_node, of_three}
 use Rattle.flow_rules.specs.Lists.{PlainCall}
-use Rattle.flow_rules.specs.Facts.{ClassFacts, class_seen, call_seen}
+use Rattle.flow_rules.specs.Facts.{ClassFacts, class_seen, call_seen, PlainMakers, makers_seen}
 use Rattle.flow_program.specs.Same.{AreSameFacts}
 use Rattle.kaba_top.proofs.SameLists.{any_set, bound_set, any_seen, bound_seen}
 use Rattle.kaba_top.proofs.SameFacts.{site_at_is, site_class_is, site_row_is, row_class_is, column_class_is, kind_is, slot_is, below_is, finds_is}
 use Rattle.kaba_top.proofs.SameHierarchies.{class_node_is}
+
+-- what is asked of the names that are fixed is asked of them as they are seen
+asked_seen : (f : PlainMakers → Bool) (o : Option MakerNames) → option_map_or (λ m. f (makers_seen m)) o false
+    ≡ option_map_or f (option_map makers_seen o) false
+asked_seen f None = refl
+asked_seen f (Some m) = refl
 
 module _ {F G : Facts} (s : AreSameFacts F G) where
   -- ---- what the obligations ask of the facts
@@ -50,15 +58,22 @@ module _ {F G : Facts} (s : AreSameFacts F G) where
       λ i. max (bound_of (λ (x : TestInfo). x.place.at) (s.tests i))
       (bound_set (λ (x : StoreInfo). x.place.at) F.stores.items G.stores.items s.stores i)
 
+  static_is : (name : List ℕ) → list_any (λ k. k.holder && bytes_eq k.name name) F.classes.items ≡ list_any (λ k. k.holder && bytes_eq k.name name) G.classes.items
+  static_is name =
+      any_seen class_seen (λ (k : ClassFacts). k.holder && bytes_eq k.name name) F.classes.items
+      ∙ ap (list_any (λ (k : ClassFacts). k.holder && bytes_eq k.name name)) s.classes
+      ∙ sym (any_seen class_seen (λ (k : ClassFacts). k.holder && bytes_eq k.name name) G.classes.items)
+
+  makers_is : (f : PlainMakers → Bool) → option_map_or (λ m. f (makers_seen m)) F.makers false ≡ option_map_or (λ m. f (makers_seen m)) G.makers false
+  makers_is f = asked_seen f F.makers ∙ ap (λ z. option_map_or f z false) s.makers ∙ sym (asked_seen f G.makers)
+
   reserved_is : (name : List ℕ) → is_reserved F name ≡ is_reserved G name
   reserved_is name =
-      ap (λ b. b || list_any (λ k. bytes_eq k name) known_names)
-      (any_seen class_seen (λ (k : ClassFacts). k.holder && bytes_eq k.name name) F.classes.items
-      ∙ ap (list_any (λ (k : ClassFacts). k.holder && bytes_eq k.name name)) s.classes
-      ∙ sym (any_seen class_seen (λ (k : ClassFacts). k.holder && bytes_eq k.name name) G.classes.items))
+      λ i. (static_is name i || makers_is (λ m. bytes_eq m.holder name) i) || list_any (λ k. bytes_eq k name) known_names
 
   variable_is : (name : List ℕ) → is_variable F name ≡ is_variable G name
-  variable_is name = any_set (λ v. bytes_eq v name) F.vars.items G.vars.items s.vars
+  variable_is name =
+      λ i. any_set (λ v. bytes_eq v name) F.vars.items G.vars.items s.vars i || makers_is (λ m. bytes_eq m.local name) i
 
   -- ---- obligations without sets
 

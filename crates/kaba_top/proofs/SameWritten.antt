@@ -1,7 +1,8 @@
 -- Facts that are the same: the tree that is written of a program and a hierarchy is the same.
 use Rattle.std.proofs.Common.{◌≡◌, ℕ, ◌==◌, ◌&&◌, ◌||◌, Bool, true, false, not, List, [], ◌∷◌, ◌++◌, length, map, Option, Some, None, refl, ap, ◌∙◌}
 use Rattle.std.specs.Prelude.{slice_get}
-use Rattle.std.specs.Option.{option_map}
+use Rattle.std.specs.Option.{option_map, option_map_or}
+use Rattle.std.specs.List.{flat_map}
 use Rattle.kaba_base.specs.declared.words.Keyword.TheVariants.{Public, Abstract}
 use Rattle.kaba_bits.specs.Sets as sets
 use Rattle.kaba_order.specs.Orders.{is_le}
@@ -20,9 +21,9 @@ use Rattle.flow_rules.specs.Numbered.{columns_of}
 use Rattle.rebuild_model.specs.Renaming.{Renaming, renaming_of}
 use Rattle.rebuild_model.specs.Members.{is_made_at, offers_body, is_headed, is_filled}
 use Rattle.write_model.specs.Names.{modifier, by_number}
-use Rattle.write_model.specs.Members.{is_declaration, filling, first_head, slot_head, bodyless, is_first_there, heads_of_slot, column_heads, own_member, column_members, filler, class_members, interface_heads}
+use Rattle.write_model.specs.Members.{is_declaration, filling, first_head, slot_head, bodyless, is_first_there, heads_of_slot, column_heads, own_member, column_members, filler, slot_filler, filled_slots, class_members, interface_heads}
 use Rattle.write_model.specs.Supers.{is_above, is_cover, nodes_that, is_class_above, superclass, type_id, extended, implemented, covering}
-use Rattle.write_model.specs.Written.{class_modifiers, class_tree, interface_tree, type_tree, type_trees, holder_trees, java_tree}
+use Rattle.write_model.specs.Written.{class_modifiers, class_tree, interface_tree, type_tree, type_trees, holder_trees, makers_trees, java_tree}
 use Rattle.flow_program.specs.Same.{AreSameFacts}
 use Rattle.kaba_top.proofs.SameFacts.{site_at_is, site_row_is, kind_is, slot_is}
 use Rattle.kaba_top.proofs.SameHierarchies.{class_node_is}
@@ -83,9 +84,13 @@ module _ {F G : Facts} (s : AreSameFacts F G) (H : Hierarchy) where
     filler_is n x k =
         λ i. when (filled_is n x i) (map (λ h. MethodTree h (Some (filling k.result)) nowhere) (first_head P R H (modifier Public ∷ []) k))
 
+    slot_filler_is : (n x : ℕ) → slot_filler P R F H n x ≡ slot_filler P R G H n x
+    slot_filler_is n x = λ i. option_map_or (λ k. filler_is n x k i) (slice_get P.slots x) []
+
     class_members_are : (items : List ColumnItem) (n : ℕ) → class_members P R F H items n ≡ class_members P R G H items n
     class_members_are items n =
-        λ i. each (λ c k. when (stands_at H n c) (column_members_are items n c k i)) 0 (s.columns i) ++ each (λ x k. filler_is n x k i) 0 P.slots
+        λ i. each (λ c k. when (stands_at H n c) (column_members_are items n c k i)) 0 (s.columns i)
+        ++ flat_map (λ x. slot_filler_is n x i) (filled_slots P)
 
     interface_heads_are : (n : ℕ) → interface_heads P R F H n ≡ interface_heads P R G H n
     interface_heads_are n = λ i. each (λ c k. when (stands_at H n c) (column_heads_are [] n c k i)) 0 (s.columns i)
@@ -109,4 +114,6 @@ module _ {F G : Facts} (s : AreSameFacts F G) (H : Hierarchy) where
 
   pub tree_is : (P : Plain) → java_tree P F H ≡ java_tree P G H
   unfolding java_tree
-  tree_is P = λ i. types_are P (renaming_of P H by_number) (map (λ c. c.item) (columns_of P)) i ++ holder_trees P (renaming_of P H by_number) H
+  tree_is P =
+      λ i. types_are P (renaming_of P H by_number) (map (λ c. c.item) (columns_of P)) i
+      ++ holder_trees P (renaming_of P H by_number) H ++ makers_trees P (renaming_of P H by_number) H

@@ -62,8 +62,7 @@ run_other : (steps : ℕ) (words : List (List ℕ)) (p : Program) → AreOther (
 run_other steps words p = end_other (meant (program_of p) words steps).end (meant (program_of p) words steps).out
 
 analysis_other : (J : Facts → ℕ → List ℕ → List ℕ → Type 0) → ((f : Facts) → AreOther (J f)) → (p : Program) → AreOther (AnalysisAnswers J p)
-analysis_other J o p status out err (inl (inl a)) = said 75 (omega arith, omega arith) _ status out err a.says
-analysis_other J o p status out err (inl (inr a)) = said 67 (omega arith, omega arith) _ status out err a.says
+analysis_other J o p status out err (inl a) = said 67 (omega arith, omega arith) _ status out err a.says
 analysis_other J o p status out err (inr a) = o a.facts status out err a.answers
 
 table_other : (f : Facts) → AreOther (TableOf f)
@@ -127,10 +126,8 @@ file_other K o files name status out err (inr (inl a)) = said 67 (omega arith, o
 file_other K o files name status out err (inr (inr a)) = o a.bytes status out err a.answers
 
 same_other : (file other : List ℕ) (p q : Program) → AreOther (SameOf file other p q)
-same_other file other p q status out err (inl a) = said 75 (omega arith, omega arith) _ status out err a.says
-same_other file other p q status out err (inr (inl a)) = said 75 (omega arith, omega arith) _ status out err a.refused.says
-same_other file other p q status out err (inr (inr a)) = ⊎_elim (λ b. gave 0 (omega arith, omega arith) _ _ status out err b.gives)
-    (λ b. said 1 (omega arith, omega arith) _ status out err b.says) a.answers
+same_other file other p q status out err (inl b) = gave 0 (omega arith, omega arith) _ _ status out err b.gives
+same_other file other p q status out err (inr b) = said 1 (omega arith, omega arith) _ status out err b.says
 
 named_other : (K : Program → ℕ → List ℕ → List ℕ → Type 0) → ((p : Program) → AreOther (K p)) → (files : Files) (name : List ℕ)
     → AreOther (NamedAnswers K files name)

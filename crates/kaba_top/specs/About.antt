@@ -21,7 +21,7 @@ help_text =
     ++ (codes "\n"
     ++ (codes "status: 0 done, 1 programs differ, 4 edits refused, 5 no tree, 10 fault of the run, 11 run not at its end,\n"
     ++ (codes "  64 usage, 65 text refused, 66 cannot read, 67 too large, 68 too many concepts, 69 bad script, 70 no memory,\n"
-    ++ (codes "  71 no entry, 72 no words, 74 cannot write, 75 has constructor\n"
+    ++ (codes "  71 no entry, 72 no words, 74 cannot write\n"
     ++ codes "documents: README.md and docs/ of the repository; docs/COMMANDS.md says each word, line and status\n")))))))))))))))))
 
 -- what `--version` prints

@@ -1,6 +1,5 @@
 -- Believed. The answers of `table` and `lattice`, for the program of their file.
-use Rattle.std.specs.Prelude.{◌≡◌, ◌⊎◌, ℕ, ◌≤◌, Bool, List, [], ◌++◌, length, codes, Some, None}
-use Rattle.std.specs.Str.{encode_utf8_all}
+use Rattle.std.specs.Prelude.{◌≡◌, ◌⊎◌, ℕ, ◌≤◌, Bool, List, [], ◌++◌, length, codes, Some}
 use Rattle.std.specs.Fmt.{decimal}
 use Rattle.java_core.specs.declared.Program.{Program}
 use Rattle.java_core.specs.Programs.{program_of}
@@ -10,8 +9,7 @@ use Rattle.fact_model.specs.declared.sets.Lattice.{Lattice}
 use Rattle.fact_model.specs.Entries.{IsTable}
 use Rattle.fact_model.specs.Concepts.{AreMoreThan, IsLatticeOf}
 use Rattle.flow_rules.specs.declared.faults.Counted.{Counted}
-use Rattle.flow_rules.specs.declared.faults.FactsFault.TheVariants as fault
-use Rattle.flow_rules.specs.Facts.{maker_class, too_many, IsFactsRefusal}
+use Rattle.flow_rules.specs.Facts.{too_many}
 use Rattle.flow_program.specs.Known.{AreProgramFacts}
 use Rattle.lattice_view.specs.Table.{table_text}
 use Rattle.kaba_top.specs.declared.cause_words.Cause.TheVariants as cause
@@ -19,21 +17,10 @@ use Rattle.kaba_top.specs.CauseWords.{cause_text}
 use Rattle.kaba_top.specs.Lines.{Says, GivesReply}
 use Rattle.kaba_top.specs.TextFacts.{shown}
 
--- the text that says that a class has a constructor
-abbrev pub has_constructor : List ℕ → List ℕ
-has_constructor name = codes "has constructor " ++ encode_utf8_all name
-
--- the program has no facts, since a class has a constructor: the first that writes one is named
-pub record HasConstructor (program : Program) (status : ℕ) (out err : List ℕ) : Type 0 where
-  pub name : List ℕ
-  pub named : IsFactsRefusal (program_of program) (fault.HasConstructor name)
-  pub says : Says 75 (has_constructor name) status out err
-
 -- the program has no facts, since there is too much of something
 pub record IsOverLimit (program : Program) (status : ℕ) (out err : List ℕ) : Type 0 where
   pub what : Counted
   pub number : ℕ
-  pub no_maker : maker_class (program_of program) ≡ None
   pub over : too_many (program_of program) ≡ Some (record { what = what; number = number })
   pub says : Says 67 (codes "too large: " ++ cause_text (cause.Limit what)) status out err
 
@@ -48,13 +35,9 @@ pub record IsAnalysed (J : Facts → ℕ → List ℕ → List ℕ → Type 0) (
   pub has : HasFacts program facts
   pub answers : J facts status out err
 
--- the program has no facts
-abbrev pub HasNoFacts : Program → ℕ → List ℕ → List ℕ → Type 0
-HasNoFacts program status out err = HasConstructor program status out err ⊎ IsOverLimit program status out err
-
 -- the answers for a program, where J are those for its facts
 abbrev pub AnalysisAnswers : (Facts → ℕ → List ℕ → List ℕ → Type 0) → Program → ℕ → List ℕ → List ℕ → Type 0
-AnalysisAnswers J program status out err = HasNoFacts program status out err ⊎ IsAnalysed J program status out err
+AnalysisAnswers J program status out err = IsOverLimit program status out err ⊎ IsAnalysed J program status out err
 
 -- the text of the table
 pub record TableOf (facts : Facts) (status : ℕ) (out err : List ℕ) : Type 0 where

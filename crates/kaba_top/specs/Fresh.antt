@@ -19,7 +19,8 @@ use Rattle.hier_tree.specs.Reached.{IsFresh}
 abbrev pub DeclaresNoInterface : Program → Type 0
 DeclaresNoInterface program = list_any (λ k. k.is_interface) (program_of program).classes ≡ false
 
--- an edit drops a node, or gives a name that no type, no class with static members, and no field or method then bears
+-- an edit drops a node, or gives a name that no type, no class with static members, no holder of the methods that make objects, and no field or
+-- method then bears
 abbrev pub IsDropOrFresh : Facts → Hierarchy → Edit → Type 0
 IsDropOrFresh F H (Drop n) = Unit {0}
 IsDropOrFresh F H (TypeName n name) = IsFresh F H name

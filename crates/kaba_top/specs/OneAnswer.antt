@@ -7,7 +7,7 @@ use Rattle.fact_model.specs.declared.sets.Table.{Table}
 use Rattle.fact_model.specs.Entries.{IsTable}
 use Rattle.fact_model.specs.Concepts.{AreMoreThan}
 use Rattle.stem_base.specs.Base.{common, AreMoreStems}
-use Rattle.flow_rules.specs.Facts.{maker_class, IsWithinLimits}
+use Rattle.flow_rules.specs.Facts.{IsWithinLimits}
 use Rattle.edit_script.specs.Script.{IsFirstBadLine, HasTooManyEdits}
 use Rattle.kaba_words.specs.Commands.{Cmd, run, table, lattice, base, why, sure, same, edit, regen, make, help, version, Fits, usual_concepts}
 use Rattle.kaba_top.specs.Lines.{line, most_bytes}
@@ -91,10 +91,6 @@ pub record OfSmallFile (files : Files) (file : List ℕ) (K : List ℕ → Type 
 abbrev pub IsTaken : List ℕ → Type 0
 IsTaken bytes = (P : Plain) × IsTypedText bytes P
 
--- the text of a typed program without constructors
-abbrev pub IsTakenPlain : List ℕ → Type 0
-IsTakenPlain bytes = (P : Plain) × IsTypedText bytes P × (maker_class P ≡ None)
-
 -- the text of a typed program within the limits
 abbrev pub IsTakenWithin : List ℕ → Type 0
 IsTakenWithin bytes = (P : Plain) × IsTypedText bytes P × IsWithinLimits P
@@ -127,7 +123,7 @@ HasAllInput (lattice json bound file) first second = OfSmallFile first file (IsT
 HasAllInput (base file) first second = OfSmallFile first file IsTakenForBase
 HasAllInput (why file row column) first second = OfSmallFile first file IsTakenWithin
 HasAllInput (sure file) first second = OfSmallFile first file IsTakenWithin
-HasAllInput (same file other) first second = OfSmallFile first file IsTakenPlain × OfSmallFile second other IsTakenPlain
+HasAllInput (same file other) first second = OfSmallFile first file IsTaken × OfSmallFile second other IsTaken
 HasAllInput (edit bound file script) first second = OfSmallFile first file (IsTakenFor bound) × OfSmallFile second script IsAcceptedScript
 HasAllInput (regen bound file script) first second = OfSmallFile first file (IsTakenFor bound) × OfSmallFile second script IsAcceptedScript
 HasAllInput (make prints number) first second = ⊥

@@ -1,16 +1,13 @@
 -- Believed. The answers of `same`, for the programs of its two files.
-use Rattle.std.specs.Prelude.{◌≡◌, ◌⊎◌, ℕ, List, [], ◌++◌, None, codes}
+use Rattle.std.specs.Prelude.{◌≡◌, ◌⊎◌, ℕ, List, [], ◌++◌, codes}
 use Rattle.std.specs.Fmt.{decimal}
 use Rattle.java_core.specs.declared.Program.{Program}
 use Rattle.java_core.specs.Programs.{program_of}
-use Rattle.flow_rules.specs.declared.faults.FactsFault.TheVariants as fault
-use Rattle.flow_rules.specs.Facts.{maker_class, IsFactsRefusal}
 use Rattle.rebuild_model.specs.OnePrograms.{AreOne}
 use Rattle.same_program.specs.declared.Parting.{Parting}
 use Rattle.kaba_top.specs.declared.cause_words.Cause.TheVariants as cause
 use Rattle.kaba_top.specs.CauseWords.{cause_text}
 use Rattle.kaba_top.specs.Lines.{Says, GivesReply, line}
-use Rattle.kaba_top.specs.FactsAnswers.{has_constructor}
 
 -- a line with the name of a file before its text
 abbrev pub named : List ℕ → List ℕ → List ℕ
@@ -40,24 +37,6 @@ pub record AreFoundApart (file other : List ℕ) (first second : Program) (statu
   pub parting : Parting
   pub says : Says 1 (parting_text file other parting) status out err
 
--- the program of a file has a constructor: the first class that writes one is named
-pub record IsConstructedFile (file : List ℕ) (program : Program) (status : ℕ) (out err : List ℕ) : Type 0 where
-  pub name : List ℕ
-  pub found : IsFactsRefusal (program_of program) (fault.HasConstructor name)
-  pub says : Says 75 (named file (has_constructor name)) status out err
-
--- the program of the second file has one, and that of the first has none
-pub record IsConstructedOther (other : List ℕ) (first second : Program) (status : ℕ) (out err : List ℕ) : Type 0 where
-  pub none : maker_class (program_of first) ≡ None
-  pub refused : IsConstructedFile other second status out err
-
--- neither has one, and they are compared
-pub record AreCompared (file other : List ℕ) (first second : Program) (status : ℕ) (out err : List ℕ) : Type 0 where
-  pub none : maker_class (program_of first) ≡ None
-  pub other_none : maker_class (program_of second) ≡ None
-  pub answers : AreFoundOne first second status out err ⊎ AreFoundApart file other first second status out err
-
 -- the answers of `same` for two programs, of files of these names
 abbrev pub SameOf : List ℕ → List ℕ → Program → Program → ℕ → List ℕ → List ℕ → Type 0
-SameOf file other first second status out err = IsConstructedFile file first status out err
-    ⊎ (IsConstructedOther other first second status out err ⊎ AreCompared file other first second status out err)
+SameOf file other first second status out err = AreFoundOne first second status out err ⊎ AreFoundApart file other first second status out err

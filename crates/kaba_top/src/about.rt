@@ -32,7 +32,7 @@ pub fn help_reply(alloc: Global) -> Tried<Reply>
         \n\
         status: 0 done, 1 programs differ, 4 edits refused, 5 no tree, 10 fault of the run, 11 run not at its end,\n\
         \x20 64 usage, 65 text refused, 66 cannot read, 67 too large, 68 too many concepts, 69 bad script, 70 no memory,\n\
-        \x20 71 no entry, 72 no words, 74 cannot write, 75 has constructor\n\
+        \x20 71 no entry, 72 no words, 74 cannot write\n\
         documents: README.md and docs/ of the repository; docs/COMMANDS.md says each word, line and status\n",
     )?;
     Ok(Reply {

@@ -33,11 +33,6 @@ pub fn analyse(alloc: Global, program: &Checked) -> Tried<Analysed>
 {
     match facts(alloc, program) {
         Ok(facts) => Ok(Analysed::Found(facts)),
-        Err(FactsFault::HasConstructor(name)) => {
-            let name = name.as_str();
-            let text = format!(in alloc; "has constructor {name}")?;
-            Ok(Analysed::Refused(Reply::line(alloc, 75, text.as_bytes())?))
-        }
         Err(FactsFault::TooMany(what, _)) => {
             let limit = cause_text(Cause::Limit(what));
             let text = format!(in alloc; "too large: {limit}")?;

@@ -7,7 +7,6 @@ ghost use Rattle.java_core.specs.Formed.{IsFormed};
 ghost use Rattle.kaba_words.specs.Commands.{same};
 ghost use Rattle.kaba_top.specs.Answers.{CommandReplies};
 ghost use Rattle.kaba_top.specs.SameAnswers.{named, parting_text, AreFoundOne, AreFoundApart, SameOf};
-ghost use Rattle.kaba_top.specs.FactsAnswers.{has_constructor};
 ghost use Rattle.kaba_top.specs.Named.{IsProgramFound, IsNamedReading, NamedReplies};
 
 use crate::Tried;
@@ -15,9 +14,8 @@ use crate::cause_words::{Cause, cause_text};
 use crate::fetching::{Fetched, fetch_file};
 use crate::reading::{Reading, read_program};
 use crate::reply::Reply;
-use flow_program::maker_class;
 use java_core::Checked;
-use kaba_base::{Name, Shelf};
+use kaba_base::Shelf;
 use same_program::{Parting, same};
 use std::alloc::{AllocError, Global};
 
@@ -87,15 +85,6 @@ fn apart(alloc: Global, file: &String, other: &String, parting: Parting) -> Trie
     Reply::line(alloc, 1, text.as_bytes())
 }
 
-/// The reply that the program of a file has a constructor.
-fn constructed(alloc: Global, file: &String, name: &Name) -> Tried<Reply>
-    ensures { IfOk result (λ reply. Says 75 (named (string_bytes file.now) (has_constructor name.now)) reply.status reply.out.items reply.err.items) }
-{
-    let name = name.as_str();
-    let text = format!(in alloc; "{file}: has constructor {name}")?;
-    Reply::line(alloc, 75, text.as_bytes())
-}
-
 /// The reply whether two programs are one.
 fn same_programs(
     alloc: Global,
@@ -106,26 +95,6 @@ fn same_programs(
 ) -> Tried<Reply>
     ensures { IfOk result (λ reply. SameOf (string_bytes file.now) (string_bytes other.now) first.now second.now reply.status reply.out.items
         reply.err.items) }
-{
-    if let Some(name) = maker_class(first.program()) {
-        return constructed(alloc, file, name);
-    }
-    if let Some(name) = maker_class(second.program()) {
-        return constructed(alloc, other, name);
-    }
-    compared(alloc, file, other, first, second)
-}
-
-/// The reply whether two programs without constructors are one.
-fn compared(
-    alloc: Global,
-    file: &String,
-    other: &String,
-    first: &Checked,
-    second: &Checked,
-) -> Tried<Reply>
-    ensures { IfOk result (λ reply. AreFoundOne first.now second.now reply.status reply.out.items reply.err.items
-        ⊎ AreFoundApart (string_bytes file.now) (string_bytes other.now) first.now second.now reply.status reply.out.items reply.err.items) }
 {
     match same(alloc, first.program(), second.program())? {
         None => Ok(Reply {
