@@ -104,8 +104,11 @@ def check_explain_all(tests):
     fits = status == 10 and "1:29: in A.A" in out and "3:45: in Main.main" in out
     tests.check("explain of a fault in a constructor", fits, out + err)
     file = tests.file("maker.java", UP + "A() { super(1); }\n}\n")
-    tests.one_line("a report of a constructor", 75, tests.tool("report", file))
-    tests.one_line("a hierarchy with a constructor", 75, tests.tool("hierarchy", "--json", file))
+    status, out, err = tests.tool("report", file)
+    tests.check("a report of a constructor", status == 0 and "A.A" in out, out + err)
+    status, out, err = tests.tool("hierarchy", "--json", file)
+    tests.check("a hierarchy with a constructor", status == 0 and "def(A.A)" in out, out + err)
+    tests.one_line("a proposal for a constructor", 75, tests.tool("propose", file))
     status, out, err = tests.tool("explain", tests.file("sub.java", SUBCLASS))
     tests.check("explain of an init that clashes", "3:33: Overload" in out and "call it initB here" in out, out + err)
     status, out, err = tests.tool("explain", "examples/java/Shop.java")

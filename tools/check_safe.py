@@ -66,7 +66,12 @@ def faulty_rows(contracts, rows, definitions):
     """What is wrong in the rows: calls, clauses and definitions that are not there."""
     for row in rows:
         if row[0].startswith("`"):
-            yield without_clauses(contracts, CODE.findall(row[0])[0], CODE.findall(row[-1]))
+            call = CODE.findall(row[0])[0]
+            # What is a part of another call has that one's clauses.
+            whole = CODE.findall(row[2])[0] if row[2].startswith("as `") else call
+            yield without_clauses(contracts, whole, CODE.findall(row[-1]))
+            if not clauses_of(contracts, call):
+                yield f"{PAGE}: no {call}"
         else:
             yield without_clauses(contracts, "kaba_top::kaba", CODE.findall(row[2]))
             for name in CODE.findall("".join(row[3:])):

@@ -251,17 +251,17 @@ def looking_at_words(program):
     return Looking
 
 
-def compare_regen(program, count, seed, run):
-    """Judges the examples and COUNT random programs, and counts."""
+def compare_regen(kind, count, seed, run):
+    """Judges the examples and COUNT random programs, of the classes that kind gives for their seeds, and counts."""
     folder = Path(tempfile.mkdtemp(prefix="compare-java-"))
-    programs, looking = [], looking_at_words(program)
+    programs = []
     for path in sorted((HERE / "examples").glob("*.java")):
         text = path.read_text()
         main = re.findall(r"class (\w+)", text[: text.index("void main(")])[-1]
         programs.append(Judged(f"{path.stem}-example", text, main, folder, seed))
     for n in range(seed, seed + count):
         name = f"P{n}"
-        text = looking(n, name).text().replace("static void main", "public static void main")
+        text = looking_at_words(kind(n))(n, name).text().replace("static void main", "public static void main")
         programs.append(Judged(name, text, name, folder, n))
     judged_by_java(programs, folder, run)
     left = collections.Counter(program.left_out for program in programs if program.left_out)

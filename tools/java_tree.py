@@ -21,6 +21,10 @@ class NoTree(Exception):
     """The tokens are not those of a program."""
 
 
+class HasConstructor(NoTree):
+    """The program has a constructor, which plans, proposals and patches do not take."""
+
+
 class Form:
     """A form of the tree: its kind, its first and last token, and its parts under their names."""
 
@@ -371,6 +375,9 @@ class Declared(Statements):
     def member(self):
         first = self.at
         mods = self.modifiers()
+        if self.is_name() and self.text(1) == "(":
+            line = self.source.line_of(self.tokens[self.at])
+            raise HasConstructor(f"line {line}: a constructor is not in plans, proposals and patches; kaba edit and kaba regen take it")
         result = Named("void", self.take()) if self.text() == "void" else self.type()
         name = self.name()
         if self.text() != "(":

@@ -24,13 +24,15 @@ class Analysis:
         self.row_lines = self.lines_of_rows()
 
     def lines_of_rows(self):
-        """The line of each row: of a creation, cast or test its own, else that of the variable so called."""
+        """The line of each row: of a creation, cast or test its own, else that of the variable so called; of an implied one its class's."""
         left = {}
         for variable in self.declared.variables:
             if variable.type.split("[")[0] not in NO_CLASS:
                 left.setdefault(variable.label, []).append(variable.line)
         labels = self.lattice.rows
-        return [int(label.rsplit("@", 1)[1]) if "@" in label else (left.get(label) or [0]).pop(0) for label in labels]
+        classes = self.declared.classes
+        at = lambda label: (left.get(label) or [classes.get(label.split(".")[0], 0)]).pop(0)
+        return [int(label.rsplit("@", 1)[1]) if "@" in label else at(label) for label in labels]
 
     def kind(self, c):
         """What a column is: field, declaration, body or mark."""
@@ -41,9 +43,10 @@ class Analysis:
         return self.lattice.columns[c].split("(")[1].rstrip(")")
 
     def column_line(self, c):
+        """The line of a member; that of its class where it is not written, as an implied constructor."""
         name = self.member(c)
         key = f"{name}()" if self.is_method(c) else name
-        return self.declared.members.get(key) or self.declared.classes.get(name, 0)
+        return self.declared.members.get(key) or self.declared.classes.get(name.split(".")[0], 0)
 
     def is_method(self, c):
         return self.lattice.columns[c][:3] in ("dcl", "def")

@@ -2,7 +2,7 @@
 import difflib
 import re
 
-from java_tree import NoTree, tree_of
+from java_tree import HasConstructor, NoTree, tree_of
 from kaba_layout import LINE_END, Pieces
 from kaba_match import NoMatch, is_static, placed_members
 from kaba_tools import Source, fail
@@ -129,5 +129,7 @@ def patch_of(source, written, nodes, labels):
     """The patch of a program's text to what was written of it, over the nodes after the steps to the tree."""
     try:
         return Patch(source, Source(written), nodes, labels)
+    except HasConstructor as error:
+        fail(str(error), 75)
     except (NoTree, NoMatch) as error:
         fail(f"the written program is not that of the old text ({type(error).__name__}: {error})", 70)

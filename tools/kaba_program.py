@@ -1,9 +1,9 @@
 """A program as a plan speaks of it: its classes, members, variables and creations by name, and where each stands."""
-from java_tree import tree_of
+from java_tree import NoTree, tree_of
 from kaba_access import Types, Uses
 from kaba_analysis import NO_CLASS, analyse_given
 from kaba_match import is_static
-from kaba_tools import class_of
+from kaba_tools import class_of, fail
 
 TOP = "Object"
 
@@ -101,7 +101,10 @@ class Program:
         self.lattice, declared = self.analysis.lattice, self.analysis.declared
         self.classes, self.parents = list(declared.classes), declared.parents
         self.class_lines = declared.classes
-        self.tree = tree_of(self.analysis.source)
+        try:
+            self.tree = tree_of(self.analysis.source)
+        except NoTree as error:
+            fail(f"{given.name}: {error}", 75)
         self.with_statics = {it.name.name for it in self.tree if any(is_static(member) for member in it.members)}
         self.node_of_column = {c: k for k, at in enumerate(self.lattice.own_columns) for c in at}
         self.node_of_row = {r: k for k, at in enumerate(self.lattice.own_rows) for r in at}

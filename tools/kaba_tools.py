@@ -20,7 +20,6 @@ HERE = Path(__file__).resolve().parent.parent
 # Where `rt ci` and tools/build make the program, and where `./kaba` keeps a copy of it.
 BUILT, KEPT = HERE / "crates" / "kaba" / "out" / "kaba", HERE / "out" / "kaba"
 FILE_LIMIT, USAGE = 1048576, 64
-NO_MAKERS = "`run` takes constructors, the analysis does not yet: write a method such as init in place of each (docs/JAVA.md)"
 
 Token = namedtuple("Token", "kind text at")  # kind: word, number, char, string or mark; at: the place of its first byte
 Declared = namedtuple("Declared", "label type line")  # a variable: the label of its row, the text of its type, and its line
@@ -98,7 +97,7 @@ class Words(argparse.ArgumentParser):
 
 def fail_as(status, error, file):
     """Ends the tool with what the program says of a file, and with where more is said of it."""
-    more = {65: f"; tools/explain {file} says more", 75: f"; {NO_MAKERS}"}.get(status, "")
+    more = f"; tools/explain {file} says more" if status == 65 else ""
     fail((error or f"the program ends with {status}") + more, status)
 
 
