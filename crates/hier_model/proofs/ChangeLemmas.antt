@@ -17,7 +17,8 @@ use Rattle.hier_model.specs.Alike.{AreAlike}
 use Rattle.hier_model.specs.Differences.{each_below, only_if, is_same_origin, lives_on, node_change, pair_change, changed_place, column_change, row_change, type_change, member_change, origin_change, node_changes, pair_changes, column_changes, row_changes, type_changes, member_changes, origin_changes, changes, named_node, named_pair}
 use Rattle.hier_model.specs.declared.differences.Change.{Change}
 use Rattle.hier_model.specs.declared.differences.Change.TheVariants.{Node, Pair, Column, Row, TypeName, MemberName, Origin}
-use Rattle.hier_model.proofs.EachLemmas.{each_below-same, each_below-none, flat_map-each, one_if, none_if, All-only, All-each, flipped_nowhere, flipped_at, flipped_only}
+use Rattle.hier_model.proofs.EachLemmas.{each_below-same, each_below-none, flat_map-each, one_if, none_if, flipped_nowhere, flipped_at, flipped_only}
+use Rattle.kaba_order.proofs.WrittenLemmas.{All-only, All-each}
 use Rattle.hier_model.proofs.EditedLemmas.{IsSameOutside}
 
 -- whether a place is another

@@ -5,7 +5,7 @@ use Rattle.kaba_order.specs.Orders.{Ordered, is_le, is_live, IsPartialOrder, dif
 use Rattle.hier_model.specs.Hierarchies.{Hierarchy, node}
 use Rattle.hier_model.specs.Differences.{each_below, only_if, pair_change}
 use Rattle.hier_model.specs.declared.differences.Change.TheVariants.{Pair}
-use Rattle.hier_model.proofs.EachLemmas.{each_below-more}
+use Rattle.kaba_order.proofs.WrittenLemmas.{each_below-more}
 
 -- what stands below what lives
 pub le_lives : (o : Ordered) → IsPartialOrder o → (a b : ℕ) → is_le o a b ≡ (is_live o a && is_live o b && is_le o a b)

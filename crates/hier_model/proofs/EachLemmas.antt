@@ -6,11 +6,8 @@ use Rattle.std.proofs.lemmas.List.{append-nil}
 use Rattle.std.proofs.lemmas.List.Concat.{flat_map-append}
 use Rattle.std.proofs.lemmas.List.Elements.{All-append}
 use Rattle.kaba_order.specs.Flips.{flip_where, is_flipped}
-use Rattle.hier_model.specs.Differences.{each_below, only_if}
+use Rattle.kaba_order.specs.Written.{each_below, only_if}
 use Rattle.kaba_order.proofs.FlipLemmas.{flip_none, is_flipped-append}
-
-pub each_below-more : {A : Type 0} (n : ℕ) (f : ℕ → List A) → each_below (n + 1) f ≡ each_below n f ++ f n
-each_below-more n f = ap (λ m. each_below m f) (add-one n)
 
 pub each_below-same : {A : Type 0} (n : ℕ) (f g : ℕ → List A) → ((k : ℕ) → f k ≡ g k) → each_below n f ≡ each_below n g
 each_below-same zero f g e = refl
@@ -43,17 +40,6 @@ one_if h false x y e = refl
 pub none_if : {A B : Type 0} (h : A → List B) (t : Bool) (x : A) → h x ≡ [] → flat_map h (only_if t x) ≡ []
 none_if h true x e = append-nil (h x) ∙ e
 none_if h false x e = refl
-
-pub All-only : {A : Type 0} (P : A → Type 0) (t : Bool) (x : A) → (t ≡ true → P x) → All P (only_if t x)
-All-only P true x h = λ i d lt. elim i as (λ j. j < 1 → P (get_or (x ∷ []) j d)) [
-  | zero ↦ λ _. h refl
-  | suc j ↦ λ below. absurd (omega (arith, below))
-] lt
-All-only P false x h = λ i d lt. absurd (omega (arith, lt))
-
-pub All-each : {A : Type 0} (P : A → Type 0) (n : ℕ) (f : ℕ → List A) → ((k : ℕ) → k < n → All P (f k)) → All P (each_below n f)
-All-each P zero f h = λ i d lt. absurd (omega (arith, lt))
-All-each P (suc n) f h = All-append P (each_below n f) (f n) (All-each P n f (λ k lt. h k (omega (arith, lt)))) (h n (omega arith))
 
 -- exchanges of which each number's are seen at that number alone
 pub flipped_nowhere : {A : Type 0} (p : A → Bool) (n : ℕ) (f : ℕ → List A) → ((k : ℕ) → k < n → is_flipped p (f k) ≡ false)

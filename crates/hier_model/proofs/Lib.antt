@@ -20,3 +20,4 @@ pub mod ChangeSteps
 pub mod UndoLemmas
 pub mod WorkedUndo
 pub mod PlacesLemmas
+pub mod CoverLemmas

@@ -10,7 +10,9 @@ use Rattle.kaba_order.specs.Orders.{Ordered, is_le, is_live, IsPartialOrder, IsS
 use Rattle.kaba_order.proofs.MergeLemmas.{has_any_some, among-All}
 use Rattle.hier_model.specs.Hierarchies.{node}
 use Rattle.kaba_order.specs.Orders.{IsMerged, IsLeastMerged, IsUnder, IsLeastWith, IsDropped, stays}
+use Rattle.kaba_order.specs.declared.Merged.{Merged}
 use Rattle.kaba_order.specs.declared.OrderFault.{OrderFault}
+use Rattle.kaba_order.specs.declared.keep.Former.{Former}
 use Rattle.kaba_order.specs.declared.OrderFault.TheVariants as fault
 use Rattle.hier_model.specs.Edits.{least_of, first_between, merged_order, under_order, dropped_order, fault_of}
 use Rattle.hier_model.specs.declared.edits.ChangeFault.TheVariants.{Memory, Cycle}
@@ -104,12 +106,12 @@ merged_is o old new set e m least pairs =
     made_order o (λ a. is_live o a && stays set m a) (λ a b. (is_le o a b || (is_below_some o set a && is_above_some o set b)) && stays set m a &&
     stays set m b) new least_o.order least_o.count least_o.live pairs_o
 
-pub merged_none : (o old : Ordered) (set : List NodeId) (m : NodeId) → IsPartialOrder o → old ≡ o
-    → ((x : NodeId) → (◌≡◌ {A = Result NodeId OrderFault} (Ok m) (Err (fault.Cycle x)) ↔ IsFirstBetween old set x.0)) → first_between o set ≡ None
+pub merged_none : (o old : Ordered) (set : List NodeId) (m : Merged) → IsPartialOrder o → old ≡ o
+    → ((x : NodeId) → (◌≡◌ {A = Result Merged OrderFault} (Ok m) (Err (fault.Cycle x)) ↔ IsFirstBetween old set x.0)) → first_between o set ≡ None
 merged_none o old set m p e cycle = between_none o set p (λ x f. let h = (cycle x).1 (subst (λ y. IsFirstBetween y set x.0) (sym e) f) in absurd (cc h))
 
 pub merged_fault : (o old : Ordered) (set : List NodeId) (f : OrderFault) → IsPartialOrder o → old ≡ o
-    → ((x : NodeId) → (◌≡◌ {A = Result NodeId OrderFault} (Err f) (Err (fault.Cycle x)) ↔ IsFirstBetween old set x.0))
+    → ((x : NodeId) → (◌≡◌ {A = Result Merged OrderFault} (Err f) (Err (fault.Cycle x)) ↔ IsFirstBetween old set x.0))
     → (fault_of f ≡ Memory) ⊎ ((x : NodeId) × (fault_of f ≡ Cycle x) × (first_between o set ≡ Some x))
 merged_fault o old set fault.Memory p e cycle = inl refl
 merged_fault o old set (fault.Cycle x) p e cycle = inr (x, refl, between_some o set p x (subst (λ y. IsFirstBetween y set x.0) e ((cycle x).0 refl)))
@@ -122,7 +124,7 @@ under_is o old new n p e least pairs =
     (λ a. ap (λ l. bit l a) (least.live ∙ ap (λ (x : Ordered). x.live) e)) (subst (λ x. IsUnder x n p new) e pairs)
 
 pub under_fault : (o old : Ordered) (n p : NodeId) (f : OrderFault) → old ≡ o
-    → ((x : NodeId) → (◌≡◌ {A = Result (Unit {0}) OrderFault} (Err f) (Err (fault.Cycle x)) ↔ ((x ≡ n) × IsStrictlyBelow old p.0 n.0)))
+    → ((x : NodeId) → (◌≡◌ {A = Result Former OrderFault} (Err f) (Err (fault.Cycle x)) ↔ ((x ≡ n) × IsStrictlyBelow old p.0 n.0)))
     → (fault_of f ≡ Memory) ⊎ ((fault_of f ≡ Cycle n) × ((is_le o p.0 n.0 && not (p.0 == n.0)) ≡ true))
 under_fault o old n p fault.Memory e cycle = inl refl
 under_fault o old n p (fault.Cycle x) e cycle =

@@ -12,11 +12,12 @@ use Rattle.kaba_order.specs.Orders.{is_le, is_live, differ}
 use Rattle.hier_model.specs.Hierarchies.{Hierarchy, node, place_of_column, place_of_row, type_name, member_name, origin_of, is_at}
 use Rattle.hier_model.specs.Alike.{AreAlike}
 use Rattle.hier_model.specs.Differences.{each_below, only_if, is_same_origin, lives_on, node_change, pair_change, changed_place, column_change, row_change, type_change, member_change, origin_change, node_changes, pair_changes, column_changes, row_changes, type_changes, member_changes, origin_changes, changes}
-use Rattle.hier_model.specs.Restored.{written, column_write, row_write, type_write, member_write, origin_write, restored, FitsIn}
+use Rattle.kaba_order.specs.Written.{written}
+use Rattle.hier_model.specs.Restored.{column_write, row_write, type_write, member_write, origin_write, restored, FitsIn}
 use Rattle.hier_model.specs.declared.differences.Change.{Change}
 use Rattle.hier_model.specs.declared.differences.Change.TheVariants.{Node, Pair, Column, Row, TypeName, MemberName, Origin}
-use Rattle.hier_model.proofs.EachLemmas.{one_if, All-only, All-each}
-use Rattle.hier_model.proofs.WrittenLemmas.{written-append, length-written, written_kept, written_put, written_back}
+use Rattle.hier_model.proofs.EachLemmas.{one_if}
+use Rattle.kaba_order.proofs.WrittenLemmas.{All-only, All-each, written-append, length-written, written_kept, written_put, written_back}
 use Rattle.hier_model.proofs.EditedLemmas.{IsSameOutside}
 use Rattle.hier_model.proofs.ChangeLemmas.{is_moved, is_lost, nil_2, nil_3, nil_4, nil_5, seen, seen_each, no_nodes, no_pairs, no_columns, no_rows, no_types, no_members, no_origins}
 

@@ -6,66 +6,11 @@ use Rattle.std.proofs.lemmas.List.{ext_get_or, get_or-set_same, get_or-set_other
 use Rattle.std.proofs.lemmas.List.Concat.{flat_map-append}
 use Rattle.std.proofs.lemmas.List.Elements.{All-pop}
 use Rattle.hier_model.specs.Hierarchies.{Hierarchy}
-use Rattle.hier_model.specs.Differences.{each_below, only_if}
-use Rattle.hier_model.specs.Restored.{written, column_write, row_write, type_write, member_write, origin_write, restored, FitsIn}
+use Rattle.kaba_order.proofs.WrittenLemmas.{written-append, length-written}
+use Rattle.kaba_order.specs.Written.{written}
+use Rattle.hier_model.specs.Restored.{column_write, row_write, type_write, member_write, origin_write, restored, FitsIn}
 use Rattle.hier_model.specs.declared.differences.Change.{Change}
 use Rattle.hier_model.specs.declared.differences.Change.TheVariants.{Node, Pair, Column, Row, TypeName, MemberName, Origin}
-
-pub written-append : {X : Type 0} (xs : List X) (ws vs : List (ℕ × X)) → written xs (ws ++ vs) ≡ written (written xs vs) ws
-written-append xs [] vs = refl
-written-append xs (w ∷ ws) vs = ap (λ l. set l w.0 w.1) (written-append xs ws vs)
-
-pub length-written : {X : Type 0} (xs : List X) (ws : List (ℕ × X)) → length (written xs ws) ≡ length xs
-length-written xs [] = refl
-length-written xs (w ∷ ws) = length-set (written xs ws) w.0 w.1 ∙ length-written xs ws
-
-module _ {X : Type 0} (d : X) (t : ℕ → Bool) (v : ℕ → X) where
-  abbrev writes : ℕ → List (ℕ × X)
-  writes n = each_below n (λ k. only_if (t k) (k, v k))
-
-  one_kept : (b : Bool) (n k : ℕ) (xs : List X) → (k ≡ n → b ≡ false) → get_or (written xs (only_if b (n, v n))) k d ≡ get_or xs k d
-  one_kept true n k xs h = get_or-set_other xs n k (v n) d (λ e. false≢true (sym (h e)))
-  one_kept false n k xs h = refl
-
-  one_put : (b : Bool) (n : ℕ) (xs : List X) → n < length xs → b ≡ true → get_or (written xs (only_if b (n, v n))) n d ≡ v n
-  one_put true n xs lt h = get_or-set_same xs n (v n) d lt
-  one_put false n xs lt h = absurd (false≢true h)
-
-  -- where nothing is written the list is as before
-  pub written_kept : (n k : ℕ) (xs : List X) → (k < n → t k ≡ false) → get_or (written xs (writes n)) k d ≡ get_or xs k d
-  written_kept zero k xs h = refl
-  written_kept (suc n) k xs h =
-      let one : List (ℕ × X) = only_if (t n) (n, v n) in
-      ap (λ l. get_or l k d) (written-append xs (writes n) one)
-      ∙ (written_kept n k (written xs one) (λ lt. h (omega (arith, lt)))
-      ∙ one_kept (t n) n k xs (λ e. ap t (sym e) ∙ h (omega (arith, e))))
-
-  -- where something is written, that is there
-  pub written_put : (n k : ℕ) (xs : List X) → k < n → n ≤ length xs → t k ≡ true → get_or (written xs (writes n)) k d ≡ v k
-  written_put zero k xs lt le h = absurd (omega (arith, lt))
-  written_put (suc n) k xs lt le h =
-      let one : List (ℕ × X) = only_if (t n) (n, v n) in
-      ap (λ l. get_or l k d) (written-append xs (writes n) one)
-      ∙ ⊎_elim
-      (λ e. written_kept n k (written xs one) (λ below. absurd (omega (arith, below, e)))
-      ∙ (ap (λ j. get_or (written xs one) j d) e ∙ (one_put (t n) n xs (omega (arith, le)) (ap t (sym e) ∙ h) ∙ ap v (sym e))))
-      (λ ne. written_put n k (written xs one) (omega (arith, lt, ne)) (omega (arith, le, length-written xs one)) h)
-      (cases_eq k n)
-
--- a list is another again, where each item that differs is written
-pub written_back : {X : Type 0} (d : X) (xs target : List X) (n : ℕ) (t : ℕ → Bool) → length xs ≡ length target → n ≡ length target
-    → ((k : ℕ) → k < n → t k ≡ false → get_or xs k d ≡ get_or target k d)
-    → written xs (each_below n (λ k. only_if (t k) (k, get_or target k d))) ≡ target
-written_back d xs target n t len count same =
-    let v : ℕ → _ = λ k. get_or target k d in
-    let ws : List (ℕ × _) = each_below n (λ k. only_if (t k) (k, v k)) in
-    ext_get_or d (written xs ws) target (length-written xs ws ∙ len)
-    (λ k lt.
-    let below : k < n = omega (arith, lt, length-written xs ws, len, count) in
-    ⊎_elim
-    (λ yes. written_put d t v n k xs below (omega (arith, count, len)) yes)
-    (λ no. written_kept d t v n k xs (λ _. no) ∙ same k below no)
-    (cases_Bool (t k)))
 
 -- a change more, which is put back first
 more_written : {X : Type 0} (w : Change → List (ℕ × X)) (xs : List X) (cs : List Change) (c : Change)

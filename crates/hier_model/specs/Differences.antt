@@ -4,6 +4,7 @@ use Rattle.std.specs.List.{flat_map}
 use Rattle.std.specs.Str.{bytes_eq}
 use Rattle.kaba_base.specs.declared.NodeId.{NodeId}
 use Rattle.kaba_base.specs.declared.ClassId.{ClassId}
+pub use Rattle.kaba_order.specs.Written.{each_below, only_if}
 use Rattle.kaba_order.specs.Orders.{is_le, is_live, differ}
 use Rattle.fact_model.specs.InRange.{InRange}
 use Rattle.fact_model.specs.declared.facts.Facts.{Facts}
@@ -13,16 +14,6 @@ use Rattle.hier_model.specs.declared.edits.Edit.{Edit}
 use Rattle.hier_model.specs.declared.differences.Change.{Change}
 use Rattle.hier_model.specs.declared.differences.Change.TheVariants.{Node, Pair, Column, Row, TypeName, MemberName, Origin}
 use Rattle.hier_model.specs.declared.differences.Undo.{Undo}
-
--- what is listed at each number below n, in rising order
-abbrev pub each_below : {A : Type 0} → ℕ → (ℕ → List A) → List A
-each_below zero f = []
-each_below (suc n) f = each_below n f ++ f n
-
--- an item, where a test holds
-abbrev pub only_if : {A : Type 0} → Bool → A → List A
-only_if true x = x ∷ []
-only_if false x = []
 
 -- whether two origins are the same class, or both are none
 abbrev pub is_same_origin : Option ClassId → Option ClassId → Bool

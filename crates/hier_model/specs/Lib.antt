@@ -10,3 +10,4 @@ pub mod Kinds
 pub mod Alike
 pub mod Restored
 pub mod Places
+pub mod Covers

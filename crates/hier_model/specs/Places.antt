@@ -1,19 +1,21 @@
 -- Mirror. What a join makes anew of a hierarchy: a merge, or a node put under another.
-use Rattle.std.specs.Prelude.{Result, Ok, Err}
+use Rattle.std.specs.Prelude.{◌≡◌, Option, Some, None}
+use Rattle.kaba_order.specs.Formers.{IsFormerOf}
 use Rattle.hier_model.specs.declared.edits.Edit.{Edit}
 use Rattle.hier_model.specs.declared.edits.Edit.TheVariants as edit
-use Rattle.hier_model.specs.declared.edits.ChangeFault.{ChangeFault}
+use Rattle.hier_model.specs.declared.places.Before.{Before}
 use Rattle.hier_model.specs.declared.places.Places.{Places}
 use Rattle.hier_model.specs.Hierarchies.{Hierarchy}
 
--- a hierarchy with another order, other places and other origins
-abbrev pub with_places : Hierarchy → Places → Hierarchy
-with_places H p = record H { order = p.order; columns = p.columns.items; rows = p.rows.items; origins = p.origins.items }
+-- a hierarchy with other places and origins, where there are some
+abbrev pub with_places : Hierarchy → Option Places → Hierarchy
+with_places H None = H
+with_places H (Some p) = record H { columns = p.columns.items; rows = p.rows.items; origins = p.origins.items }
 
--- the hierarchy with these, or why there is none
-abbrev pub placed : Hierarchy → Result Places ChangeFault → Result Hierarchy ChangeFault
-placed H (Ok p) = Ok (with_places H p)
-placed H (Err fault) = Err fault
+-- a hierarchy is another again, where what was kept of that is put back
+pub record IsFormer (old new : Hierarchy) (kept : Before) : Type 0 where
+  pub order : IsFormerOf old.order new.order kept.order
+  pub rest : with_places (record new { order = old.order }) kept.places ≡ old
 
 -- a merge, or a node put under another
 abbrev pub JoinsNodes : Edit → Type 0

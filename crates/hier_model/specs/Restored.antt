@@ -2,15 +2,11 @@
 use Rattle.std.specs.Prelude.{ℕ, ◌<◌, List, [], ◌∷◌, length, Option, Some, slice_set}
 use Rattle.std.specs.List.{flat_map}
 use Rattle.kaba_base.specs.declared.NodeId.{NodeId}
+use Rattle.kaba_order.specs.Written.{written}
 use Rattle.kaba_base.specs.declared.ClassId.{ClassId}
 use Rattle.hier_model.specs.Hierarchies.{Hierarchy}
 use Rattle.hier_model.specs.declared.differences.Change.{Change}
 use Rattle.hier_model.specs.declared.differences.Change.TheVariants.{Node, Pair, Column, Row, TypeName, MemberName, Origin}
-
--- a list in which items were written at places, the last first
-abbrev pub written : {X : Type 0} → List X → List (ℕ × X) → List X
-written xs [] = xs
-written xs (w ∷ ws) = slice_set (written xs ws) w.0 w.1
 
 -- the place of a column that a change holds
 abbrev pub column_write : Change → List (ℕ × Option NodeId)

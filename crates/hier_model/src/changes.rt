@@ -6,11 +6,10 @@ ghost use Rattle.fact_model.specs.InRange.{InRange, IsCol};
 ghost use Rattle.fact_model.specs.Items.{column_kind};
 ghost use Rattle.hier_model.specs.Hierarchies.{IsHierarchyOf};
 ghost use Rattle.hier_model.specs.Edits.{changed, moved, is_placed, is_used, is_mark, NamesSome};
-ghost use Rattle.hier_model.specs.Places.{with_places};
+ghost use Rattle.hier_model.specs.Places.{JoinsNodes};
 
 use crate::moves::{copy_names, has_column, has_row, is_mark, moved_rows, renamed_members};
 use crate::orders::dropped_order;
-use crate::places::Places;
 use crate::{ChangeFault, Edit, Hier, column_at};
 use fact_model::Facts;
 use kaba_base::{ColId, Name, NodeId};
@@ -32,8 +31,7 @@ impl Hier {
         ensures fits { IfOk result (IsHierarchyOf facts.now) }
     {
         match edit {
-            Edit::Merge(set) => self.merge(alloc, facts, set),
-            Edit::Under(n, p) => self.put_under(alloc, facts, *n, *p),
+            Edit::Merge(_) | Edit::Under(_, _) => self.joined(alloc, facts, edit),
             Edit::Move(c, n) => self.move_column(alloc, facts, *c, *n),
             Edit::TypeName(n, name) => self.name_type(alloc, facts, *n, name),
             Edit::MemberName(c, name) => self.name_member(alloc, facts, *c, name),
@@ -41,31 +39,17 @@ impl Hier {
         }
     }
 
-    /// One node of those of a list.
-    fn merge(&self, alloc: Global, facts: &Facts, set: &Vec<NodeId>) -> Result<Hier, ChangeFault>
+    /// The same of a join.
+    fn joined(&self, alloc: Global, facts: &Facts, edit: &Edit) -> Result<Hier, ChangeFault>
         requires range { InRange facts.now }
         requires hierarchy { IsHierarchyOf facts.now self.now }
-        requires some { 0 < length set.now.items }
-        ensures { (result ≡ Err ChangeFault.Memory) ⊎ (result ≡ changed facts.now self.now (Edit.Merge set.now)) }
+        requires some { NamesSome edit.now }
+        requires join { JoinsNodes edit.now }
+        ensures { (result ≡ Err ChangeFault.Memory) ⊎ (result ≡ changed facts.now self.now edit.now) }
     {
-        let places = self.merged_places(alloc, facts, set)?;
-        let hier = self.with_places(alloc, places)?;
+        let mut hier = self.copy(alloc)?;
+        let _before = hier.join(alloc, facts, edit)?;
         Ok(hier)
-    }
-
-    /// The hierarchy with what a join made anew, and with the same names and the same table.
-    fn with_places(&self, alloc: Global, places: Places) -> Result<Hier, AllocError>
-        ensures { IfOk result (λ h. h ≡ with_places self.now places) }
-    {
-        Ok(Hier {
-            order: places.order,
-            columns: places.columns,
-            rows: places.rows,
-            types: copy_names(alloc, &self.types)?,
-            members: copy_names(alloc, &self.members)?,
-            origins: places.origins,
-            table: copy_rows(alloc, &self.table)?,
-        })
     }
 
     /// The same hierarchy once more.
@@ -81,22 +65,6 @@ impl Hier {
             origins: self.origins.as_slice().to_vec(alloc)?,
             table: copy_rows(alloc, &self.table)?,
         })
-    }
-
-    /// One node below another.
-    fn put_under(
-        &self,
-        alloc: Global,
-        facts: &Facts,
-        n: NodeId,
-        p: NodeId,
-    ) -> Result<Hier, ChangeFault>
-        requires hierarchy { IsHierarchyOf facts.now self.now }
-        ensures { (result ≡ Err ChangeFault.Memory) ⊎ (result ≡ changed facts.now self.now (Edit.Under n p)) }
-    {
-        let places = self.places_under(alloc, facts, n, p)?;
-        let hier = self.with_places(alloc, places)?;
-        Ok(hier)
     }
 
     /// The hierarchy in another order.

@@ -1,13 +1,14 @@
-//! The order of the nodes after an edit.
+//! What an edit makes of the order of the nodes.
 
-ghost use Rattle.std.specs.Prelude.{◌≡◌, ℕ, ◌<◌, ◌==◌, ◌&&◌, ◌⊎◌, not, true, false, length, IfOk, IfErr, All, Some, None};
+ghost use Rattle.std.specs.Prelude.{◌≡◌, ◌<◌, ◌==◌, ◌&&◌, ◌⊎◌, not, true, false, length, IfOk, IfErr, OnOk, OnErr, All, Some, None};
+ghost use Rattle.kaba_order.specs.Formers.{IsFormerOf};
 ghost use Rattle.kaba_order.specs.Orders.{is_le, is_live, IsPartialOrder};
 ghost use Rattle.hier_model.specs.Edits.{merged_order, under_order, dropped_order, least_of, first_between, first_unknown, fault_of};
 ghost use Rattle.hier_model.specs.declared.edits.ChangeFault.TheVariants.{Memory, Cycle};
 
 use crate::ChangeFault;
 use kaba_base::NodeId;
-use kaba_order::{Order, OrderFault};
+use kaba_order::{Former, Order, OrderFault};
 use std::alloc::{AllocError, Global};
 
 /// The first of some nodes that is not live.
@@ -22,31 +23,24 @@ pub fn first_unknown(order: &Order, nodes: &[NodeId]) -> Option<NodeId>
     None
 }
 
-/// An order in which nodes became one, and the number of that.
-#[derive(Drop)]
-pub struct Merged {
-    pub order: Order,
-    pub node: NodeId,
-}
-
-/// The order in which the nodes of a list are one, the least of them. `Cycle` comes exactly where a node
-/// outside lies strictly between two of them, and holds the least such.
-pub fn merged_order(alloc: Global, order: &Order, set: &Vec<NodeId>) -> Result<Merged, ChangeFault>
-    requires order { IsPartialOrder order.now }
+/// Makes the nodes of a list one, the least of them, and gives what of the order was before. `Cycle` comes exactly where
+/// a node outside lies strictly between two of them, and holds the least such.
+pub fn merge_order(
+    alloc: Global,
+    order: &mut Order,
+    set: &Vec<NodeId>,
+) -> Result<Former, ChangeFault>
+    requires order { IsPartialOrder order.old }
     requires some { 0 < length set.now.items }
-    requires live { All (λ s. is_live order.now s.0 ≡ true) set.now.items }
-    ensures node { IfOk result (λ m. m.node.0 ≡ least_of order.now set.now.items) }
-    ensures live { IfOk result (λ m. is_live order.now m.node.0 ≡ true) }
-    ensures order { IfOk result (λ m. m.order ≡ merged_order order.now set.now.items m.node.0) }
-    ensures none { IfOk result (λ _. first_between order.now set.now.items ≡ None) }
-    ensures fault { IfErr result (λ e. (e ≡ Memory) ⊎ ((x : NodeId) × (e ≡ Cycle x) × (first_between order.now set.now.items ≡ Some x))) }
+    requires live { All (λ s. is_live order.old s.0 ≡ true) set.now.items }
+    ensures order { OnOk result (order.new ≡ merged_order order.old set.now.items (least_of order.old set.now.items)) }
+    ensures former { IfOk result (λ f. IsFormerOf order.old order.new f) }
+    ensures none { OnOk result (first_between order.old set.now.items ≡ None) }
+    ensures fault { IfErr result (λ e. (e ≡ Memory) ⊎ ((x : NodeId) × (e ≡ Cycle x) × (first_between order.old set.now.items ≡ Some x))) }
+    ensures kept { OnErr result (order.new ≡ order.old) }
 {
-    let mut merged = order.copy(alloc)?;
-    match merged.merge_set(alloc, set) {
-        Ok(node) => Ok(Merged {
-            order: merged,
-            node,
-        }),
+    match order.merge_set(alloc, set) {
+        Ok(merged) => Ok(merged.former),
         Err(fault) => Err(fault_of(fault)),
     }
 }
@@ -61,18 +55,24 @@ fn fault_of(fault: OrderFault) -> ChangeFault
     }
 }
 
-/// The order in which a node stands below another. `Cycle` comes exactly where the other is strictly below it.
-pub fn under_order(alloc: Global, order: &Order, n: NodeId, p: NodeId) -> Result<Order, ChangeFault>
-    requires order { IsPartialOrder order.now }
-    requires n { is_live order.now n.0 ≡ true }
-    requires p { is_live order.now p.0 ≡ true }
-    ensures order { IfOk result (λ o. o ≡ under_order order.now n.0 p.0) }
-    ensures none { IfOk result (λ _. (is_le order.now p.0 n.0 && not (p.0 == n.0)) ≡ false) }
-    ensures fault { IfErr result (λ e. (e ≡ Memory) ⊎ ((e ≡ Cycle n) × ((is_le order.now p.0 n.0 && not (p.0 == n.0)) ≡ true))) }
+/// Puts a node below another, and gives what of the order was before. `Cycle` comes exactly where the other is strictly
+/// below it.
+pub fn put_under(
+    alloc: Global,
+    order: &mut Order,
+    n: NodeId,
+    p: NodeId,
+) -> Result<Former, ChangeFault>
+    requires n { is_live order.old n.0 ≡ true }
+    requires p { is_live order.old p.0 ≡ true }
+    ensures order { OnOk result (order.new ≡ under_order order.old n.0 p.0) }
+    ensures former { IfOk result (λ f. IsFormerOf order.old order.new f) }
+    ensures none { OnOk result ((is_le order.old p.0 n.0 && not (p.0 == n.0)) ≡ false) }
+    ensures fault { IfErr result (λ e. (e ≡ Memory) ⊎ ((e ≡ Cycle n) × ((is_le order.old p.0 n.0 && not (p.0 == n.0)) ≡ true))) }
+    ensures kept { OnErr result (order.new ≡ order.old) }
 {
-    let mut under = order.copy(alloc)?;
-    match under.put_under(alloc, n, p) {
-        Ok(()) => Ok(under),
+    match order.put_under(alloc, n, p) {
+        Ok(former) => Ok(former),
         Err(fault) => Err(fault_of(fault)),
     }
 }

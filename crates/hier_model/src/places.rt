@@ -1,27 +1,25 @@
-//! What a join makes anew of a hierarchy: a merge, or a node put under another.
+//! Joins: a merge, or a node put under another, made in place and taken back.
 
-ghost use Rattle.std.specs.Prelude.{◌≡◌, ◌<◌, ◌⊎◌, true, length, IfOk, All, Err};
-ghost use Rattle.kaba_order.specs.Orders.{is_live};
+ghost use Rattle.std.specs.Prelude.{◌≡◌, ◌<◌, ◌⊎◌, true, length, All, IfOk, IfErr, OnOk, OnErr, Ok, Err, Some};
+ghost use Rattle.kaba_order.specs.Orders.{is_live, IsPartialOrder};
 ghost use Rattle.fact_model.specs.InRange.{InRange};
-ghost use Rattle.hier_model.specs.Hierarchies.{IsHierarchyOf};
-ghost use Rattle.hier_model.specs.Edits.{changed, merged_as, merged_order, NamesSome};
-ghost use Rattle.hier_model.specs.Places.{with_places, placed, JoinsNodes};
+ghost use Rattle.hier_model.specs.Hierarchies.{Hierarchy, IsHierarchyOf};
+ghost use Rattle.hier_model.specs.Edits.{changed, merged, NamesSome};
+ghost use Rattle.hier_model.specs.Places.{with_places, IsFormer, JoinsNodes};
 
 use crate::moves::{merged_columns, merged_rows};
-use crate::orders::{Merged, first_unknown, merged_order, under_order};
+use crate::orders::{first_unknown, merge_order, put_under};
 use crate::origins::merged_origins;
 use crate::{ChangeFault, Edit, Hier};
 use fact_model::Facts;
 use kaba_base::{ClassId, NodeId};
-use kaba_order::Order;
+use kaba_order::{Former, least_of};
 use std::alloc::{AllocError, Global};
 use std::mem::swap;
 
-/// What a join makes anew of a hierarchy; all names and the table stay.
+/// What a merge makes anew of a hierarchy beside its order; all names and the table stay.
 #[derive(Drop)]
 pub struct Places {
-    /// The order of the nodes.
-    pub order: Order,
     /// The node where each live column stands.
     pub columns: Vec<Option<NodeId>>,
     /// The node where each row stands.
@@ -30,31 +28,57 @@ pub struct Places {
     pub origins: Vec<Option<ClassId>>,
 }
 
+/// What of a hierarchy was before a join.
+#[derive(Drop)]
+pub struct Before {
+    /// What of the order was before.
+    pub order: Former,
+    /// The places and origins before a merge; a node put under another leaves them.
+    pub places: Option<Places>,
+}
+
 impl Hier {
-    /// What a join makes anew of the hierarchy, before its obligations are asked. The faults are those of `changed`.
-    pub fn joined(&self, alloc: Global, facts: &Facts, edit: &Edit) -> Result<Places, ChangeFault>
+    /// Makes one node of those of a list, or puts a node below another, before the obligations are asked, and gives
+    /// what was before. The faults are those of `changed`, and then nothing has changed. No name and not the table is
+    /// copied. The time is in proportion to the number of nodes, columns and rows times that of the list, and to a
+    /// 64th of the number of nodes for each node at or below those that are joined.
+    pub fn join(&mut self, alloc: Global, facts: &Facts, edit: &Edit) -> Result<Before, ChangeFault>
         requires range { InRange facts.now }
-        requires hierarchy { IsHierarchyOf facts.now self.now }
+        requires hierarchy { IsHierarchyOf facts.now self.old }
         requires some { NamesSome edit.now }
         requires join { JoinsNodes edit.now }
-        ensures value { (result ≡ Err ChangeFault.Memory) ⊎ (placed self.now result ≡ changed facts.now self.now edit.now) }
-        ensures fits { IfOk result (λ p. IsHierarchyOf facts.now (with_places self.now p)) }
+        ensures made { OnOk result (changed facts.now self.old edit.now ≡ Ok self.new) }
+        ensures before { IfOk result (IsFormer self.old self.new) }
+        ensures fault { IfErr result (λ e. (e ≡ ChangeFault.Memory) ⊎ (changed facts.now self.old edit.now ≡ Err e)) }
+        ensures kept { OnErr result (self.new ≡ self.old) }
+        ensures fits { IsHierarchyOf facts.now self.new }
     {
         match edit {
-            Edit::Merge(set) => self.merged_places(alloc, facts, set),
-            Edit::Under(n, p) => self.places_under(alloc, facts, *n, *p),
+            Edit::Merge(set) => self.merge(alloc, facts, set),
+            Edit::Under(n, p) => self.put_under(alloc, facts, *n, *p),
             Edit::Move(_, _) | Edit::TypeName(_, _) => unreachable!(),
             Edit::MemberName(_, _) | Edit::Drop(_) => unreachable!(),
         }
     }
 
-    /// Puts what a join made anew into the hierarchy, and gives what stood there.
-    pub fn exchange(&mut self, places: Places) -> Places
-        ensures made { self.new ≡ with_places self.old places }
-        ensures back { with_places self.new result ≡ self.old }
+    /// Makes the hierarchy what it was before a join. It takes no memory.
+    pub fn part(&mut self, before: Before)
+        requires { (old : Hierarchy) × IsPartialOrder old.order × IsFormer old self.old before }
+        ensures { (old : Hierarchy) → IsFormer old self.old before → self.new ≡ old }
+    {
+        let Before { order, places } = before;
+        self.order.put_back(order);
+        if let Some(places) = places {
+            let _joined = self.exchange(places);
+        }
+    }
+
+    /// Puts places and origins into the hierarchy, and gives those that it had.
+    fn exchange(&mut self, places: Places) -> Places
+        ensures made { self.new ≡ with_places self.old (Some places) }
+        ensures back { with_places self.new (Some result) ≡ self.old }
     {
         let mut other = places;
-        swap(&mut self.order, &mut other.order);
         swap(&mut self.columns, &mut other.columns);
         swap(&mut self.rows, &mut other.rows);
         swap(&mut self.origins, &mut other.origins);
@@ -62,43 +86,42 @@ impl Hier {
     }
 
     /// One node of those of a list.
-    pub fn merged_places(
-        &self,
+    fn merge(
+        &mut self,
         alloc: Global,
         facts: &Facts,
         set: &Vec<NodeId>,
-    ) -> Result<Places, ChangeFault>
+    ) -> Result<Before, ChangeFault>
         requires range { InRange facts.now }
-        requires hierarchy { IsHierarchyOf facts.now self.now }
+        requires hierarchy { IsHierarchyOf facts.now self.old }
         requires some { 0 < length set.now.items }
-        ensures { (result ≡ Err ChangeFault.Memory) ⊎ (placed self.now result ≡ changed facts.now self.now (Edit.Merge set.now)) }
+        ensures made { OnOk result (changed facts.now self.old (Edit.Merge set.now) ≡ Ok self.new) }
+        ensures before { IfOk result (IsFormer self.old self.new) }
+        ensures fault { IfErr result (λ e. (e ≡ ChangeFault.Memory) ⊎ (changed facts.now self.old (Edit.Merge set.now) ≡ Err e)) }
+        ensures kept { OnErr result (self.new ≡ self.old) }
     {
         if let Some(n) = first_unknown(&self.order, set) {
             return Err(ChangeFault::UnknownNode(n));
         }
-        let made = merged_order(alloc, &self.order, set)?;
-        let places = self.merged(alloc, facts, set, made)?;
-        Ok(places)
+        let places = self.merged(alloc, facts, set)?;
+        let order = merge_order(alloc, &mut self.order, set)?;
+        let former = self.exchange(places);
+        Ok(Before {
+            order,
+            places: Some(former),
+        })
     }
 
-    /// The places when the nodes of a list are one, in an order where they are.
-    fn merged(
-        &self,
-        alloc: Global,
-        facts: &Facts,
-        set: &[NodeId],
-        made: Merged,
-    ) -> Result<Places, AllocError>
+    /// The places and origins when the nodes of a list are one, the least of them.
+    fn merged(&self, alloc: Global, facts: &Facts, set: &[NodeId]) -> Result<Places, AllocError>
         requires range { InRange facts.now }
         requires hierarchy { IsHierarchyOf facts.now self.now }
+        requires some { 0 < length set.now }
         requires live { All (λ s. is_live self.now.order s.0 ≡ true) set.now }
-        requires node_live { is_live self.now.order made.node.0 ≡ true }
-        requires order { made.order ≡ merged_order self.now.order set.now made.node.0 }
-        ensures { IfOk result (λ p. with_places self.now p ≡ merged_as facts.now self.now set.now made.node.0) }
+        ensures { IfOk result (λ p. with_places self.now (Some p) ≡ record (merged facts.now self.now set.now) { order = self.now.order }) }
     {
-        let least = made.node;
+        let least = least_of(set);
         Ok(Places {
-            order: made.order,
             columns: merged_columns(alloc, &self.columns, set, least)?,
             rows: merged_rows(alloc, &self.rows, set, least)?,
             origins: merged_origins(alloc, facts, &self.origins, set, least)?,
@@ -106,15 +129,18 @@ impl Hier {
     }
 
     /// One node below another.
-    pub fn places_under(
-        &self,
+    fn put_under(
+        &mut self,
         alloc: Global,
         facts: &Facts,
         n: NodeId,
         p: NodeId,
-    ) -> Result<Places, ChangeFault>
-        requires hierarchy { IsHierarchyOf facts.now self.now }
-        ensures { (result ≡ Err ChangeFault.Memory) ⊎ (placed self.now result ≡ changed facts.now self.now (Edit.Under n p)) }
+    ) -> Result<Before, ChangeFault>
+        requires hierarchy { IsHierarchyOf facts.now self.old }
+        ensures made { OnOk result (changed facts.now self.old (Edit.Under n p) ≡ Ok self.new) }
+        ensures before { IfOk result (IsFormer self.old self.new) }
+        ensures fault { IfErr result (λ e. (e ≡ ChangeFault.Memory) ⊎ (changed facts.now self.old (Edit.Under n p) ≡ Err e)) }
+        ensures kept { OnErr result (self.new ≡ self.old) }
     {
         if !self.order.is_live(n) {
             return Err(ChangeFault::UnknownNode(n));
@@ -122,20 +148,10 @@ impl Hier {
         if !self.order.is_live(p) {
             return Err(ChangeFault::UnknownNode(p));
         }
-        let order = under_order(alloc, &self.order, n, p)?;
-        let places = self.same_places(alloc, order)?;
-        Ok(places)
-    }
-
-    /// The same places and origins in another order.
-    fn same_places(&self, alloc: Global, order: Order) -> Result<Places, AllocError>
-        ensures { IfOk result (λ p. with_places self.now p ≡ record self.now { order = order }) }
-    {
-        Ok(Places {
+        let order = put_under(alloc, &mut self.order, n, p)?;
+        Ok(Before {
             order,
-            columns: self.columns.as_slice().to_vec(alloc)?,
-            rows: self.rows.as_slice().to_vec(alloc)?,
-            origins: self.origins.as_slice().to_vec(alloc)?,
+            places: None,
         })
     }
 }

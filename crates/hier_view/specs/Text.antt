@@ -1,15 +1,16 @@
 -- Believed. The text of a hierarchy.
-use Rattle.std.specs.Prelude.{ℕ, suc, zero, ◌==◌, ◌&&◌, Bool, true, false, not, List, [], ◌∷◌, ◌++◌, length, codes, Option, Some, None, slice_get, if◌then◌else◌}
+use Rattle.std.specs.Prelude.{ℕ, suc, zero, ◌==◌, Bool, true, false, List, [], ◌∷◌, ◌++◌, length, codes, Option, Some, None, slice_get, if◌then◌else◌}
 use Rattle.std.specs.List.{flat_map}
 use Rattle.std.specs.Fmt.{decimal}
 use Rattle.std.specs.Str.{encode_utf8_all}
 use Rattle.kaba_base.specs.declared.ClassId.{ClassId}
-use Rattle.kaba_order.specs.Orders.{Ordered, is_le, is_live}
+use Rattle.kaba_order.specs.Orders.{is_live}
 use Rattle.fact_model.specs.Items.{column_kind}
 use Rattle.fact_model.specs.declared.facts.Facts.{Facts}
 use Rattle.fact_model.specs.declared.facts.ClassInfo.{ClassInfo}
 use Rattle.lattice_view.specs.Lists.{part_text}
-use Rattle.hier_model.specs.Hierarchies.{Hierarchy, stands_at, place_of_row, type_name, member_name, origin_of, any_below, is_class_node}
+use Rattle.hier_model.specs.Hierarchies.{Hierarchy, stands_at, place_of_row, type_name, member_name, origin_of, is_class_node}
+use Rattle.hier_model.specs.Covers.{is_cover}
 use Rattle.hier_model.specs.Edits.{is_mark}
 
 -- the numbers below n that pass a test, in rising order
@@ -17,25 +18,13 @@ abbrev pub those_below : ℕ → (ℕ → Bool) → List ℕ
 those_below zero p = []
 those_below (suc n) p = those_below n p ++ (if p n then n ∷ [] else [])
 
--- whether a stands strictly below b
-abbrev pub is_lt : Ordered → ℕ → ℕ → Bool
-is_lt o a b = is_le o a b && not (a == b)
-
--- whether k stands strictly between a and b
-abbrev pub is_between : Ordered → ℕ → ℕ → ℕ → Bool
-is_between o a b k = is_lt o a k && is_lt o k b
-
--- whether b is strictly above a, and none is strictly between
-abbrev pub is_upper_cover : Ordered → ℕ → ℕ → Bool
-is_upper_cover o a b = is_lt o a b && not (any_below (length o.live) (is_between o a b))
-
 -- the numbers of the live nodes, rising
 abbrev pub live_nodes : Hierarchy → List ℕ
 live_nodes H = those_below (length H.order.live) (is_live H.order)
 
 -- the upper covers of a node, by rising number
 abbrev pub covers_of : Hierarchy → ℕ → List ℕ
-covers_of H n = those_below (length H.order.live) (is_upper_cover H.order n)
+covers_of H n = those_below (length H.order.live) (is_cover H.order n)
 
 -- the columns and the rows that stand at a node
 abbrev pub columns_at : Facts → Hierarchy → ℕ → List ℕ

@@ -5,7 +5,8 @@ ghost use Rattle.kaba_order.specs.Beyond.{IsBeyond};
 ghost use Rattle.kaba_order.specs.Orders.{is_live, IsPartialOrder};
 ghost use Rattle.fact_model.specs.InRange.{InRange};
 ghost use Rattle.hier_model.specs.Hierarchies.{IsHierarchyOf, is_at, stands_at, place_of_row};
-ghost use Rattle.hier_view.specs.Text.{those_below, is_upper_cover, live_nodes, covers_of, columns_at, rows_at};
+ghost use Rattle.hier_model.specs.Covers.{is_cover};
+ghost use Rattle.hier_view.specs.Text.{those_below, live_nodes, covers_of, columns_at, rows_at};
 
 use fact_model::Facts;
 use hier_model::Hier;
@@ -36,7 +37,7 @@ fn is_upper_cover(order: &Order, beyond: &BitRow, a: u32, b: u32) -> bool
     requires upper { b < length order.now.live }
     requires width { length beyond.now ≡ length order.now.live }
     requires beyond { IsBeyond order.now a (length order.now.live) beyond.now }
-    ensures { result ≡ is_upper_cover order.now a b }
+    ensures { result ≡ is_cover order.now a b }
 {
     order.is_cover(beyond, NodeId(a), NodeId(b))
 }
@@ -63,7 +64,7 @@ fn covers_by(
     requires node { is_live order.now n.0 ≡ true }
     requires width { length beyond.now ≡ length order.now.live }
     requires beyond { IsBeyond order.now n.0 (length order.now.live) beyond.now }
-    ensures { IfOk result (λ v. v.items ≡ those_below (length order.now.live) (is_upper_cover order.now n.0)) }
+    ensures { IfOk result (λ v. v.items ≡ those_below (length order.now.live) (is_cover order.now n.0)) }
 {
     let mut above = Vec::new(alloc);
     for b in 0..order.count() {

@@ -6,3 +6,5 @@ pub mod UniqueLemmas
 pub mod BeyondLemmas
 pub mod FlipLemmas
 pub mod ChangedLemmas
+pub mod WrittenLemmas
+pub mod FormerLemmas

@@ -1,3 +1,5 @@
 pub mod Orders
 pub mod Beyond
 pub mod Flips
+pub mod Written
+pub mod Formers

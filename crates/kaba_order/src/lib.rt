@@ -5,6 +5,7 @@ ghost use Rattle.std.specs.Prelude.{◌≡◌, ℕ, ◌+◌, ◌<◌, ◌↔◌,
 ghost use Rattle.kaba_bits.specs.Sets.{bit, row, HasWidth, ListsBelow};
 ghost use Rattle.kaba_order.specs.Beyond.{IsBeyond};
 ghost use Rattle.kaba_order.specs.Flips.{IsFlipped, HasFlipped};
+ghost use Rattle.kaba_order.specs.Formers.{rows_with, IsFormerOf};
 ghost use Rattle.kaba_order.specs.Orders.{Ordered, IsPartialOrder, is_le, is_live, IsStrictlyBelow, IsCover, numbers, IsLeastWith, IsUnder, IsDropped, IsBetween, IsFirstBetween, IsLeastOf, IsLeastMerged, IsMerged, differ};
 
 use kaba_base::NodeId;
@@ -13,11 +14,15 @@ use std::alloc::{AllocError, Global};
 use std::marker::Model;
 
 mod flips;
+mod keep;
 mod merge;
 mod rows;
 
 use flips::{flip_live, flip_rows};
-use merge::{has_some, is_among, keep_one, least_of, merge_rows, some_has};
+pub use keep::Former;
+use keep::{put_rows, rows_with};
+pub use merge::least_of;
+use merge::{has_some, is_among, keep_one, merge_rows, some_has};
 
 /// Why an order was not changed.
 #[derive(Clone, Copy)]
@@ -27,6 +32,26 @@ pub enum OrderFault {
     Cycle(NodeId),
     /// No memory is left.
     Memory,
+}
+
+impl From<AllocError> for OrderFault {
+    ghost use Rattle.std.specs.Prelude.{◌≡◌};
+    ghost use Rattle.kaba_order.specs.declared.OrderFault.{OrderFault};
+
+    ghost from_gives = { λ _ e. e ≡ OrderFault.Memory };
+
+    fn from(_e: AllocError) -> OrderFault {
+        OrderFault::Memory
+    }
+}
+
+/// What a merge of nodes has made.
+#[derive(Drop)]
+pub struct Merged {
+    /// The one node of those of the list: the least.
+    pub node: NodeId,
+    /// What of the order was before.
+    pub former: Former,
 }
 
 /// A partial order on its live nodes. A node is a number below the count that the order was made with.
@@ -174,36 +199,51 @@ impl Order {
         Ok(changed)
     }
 
-    /// Makes one node, the least of a list, of all its nodes, and closes the order; the list is not empty
-    /// and its nodes are live. `Cycle(x)` comes exactly where a node outside lies strictly between two of
-    /// the list, and `x` is the least such; the order is then as it was.
-    pub fn merge_set(&mut self, alloc: Global, set: &Vec<NodeId>) -> Result<NodeId, OrderFault>
+    /// Makes one node, the least of a list, of all its nodes, and closes the order, and gives what was before; the list
+    /// is not empty and its nodes are live. `Cycle(x)` comes exactly where a node outside lies strictly between two of
+    /// the list, and `x` is the least such; the order is then as it was. The time is in proportion to the number of
+    /// nodes times that of the list, and to a 64th of the number of nodes for each node at or below the list.
+    pub fn merge_set(&mut self, alloc: Global, set: &Vec<NodeId>) -> Result<Merged, OrderFault>
         requires some { 0 < length set.now.items }
         requires live { All (λ s. is_live self.old s.0 ≡ true) set.now.items }
-        ensures node { IfOk result (λ m. IsLeastOf set.now.items m.0) }
-        ensures least { IfOk result (λ m. IsLeastMerged self.old set.now.items m.0 self.new) }
-        ensures pairs { IfOk result (λ m. IsMerged self.old set.now.items m.0 self.new) }
+        ensures node { IfOk result (λ m. IsLeastOf set.now.items m.node.0) }
+        ensures least { IfOk result (λ m. IsLeastMerged self.old set.now.items m.node.0 self.new) }
+        ensures pairs { IfOk result (λ m. IsMerged self.old set.now.items m.node.0 self.new) }
+        ensures former { IfOk result (λ m. IsFormerOf self.old self.new m.former) }
         ensures cycle { (x : NodeId) → ((result ≡ Err (OrderFault.Cycle x)) ↔ IsFirstBetween self.old set.now.items x.0) }
         ensures unchanged { OnErr result (self.new ≡ self.old) }
     {
-        self.merge(set)
+        self.merge_kept(alloc, set)
     }
 
-    /// Puts `n` below `p`, and closes the order under that; both are live. `Cycle(n)` comes exactly
-    /// where `p` is strictly below `n`, and leaves the order as it was.
-    pub fn put_under(&mut self, alloc: Global, n: NodeId, p: NodeId) -> Result<(), OrderFault>
+    /// Puts `n` below `p`, and closes the order under that, and gives what was before; both are live. `Cycle(n)` comes
+    /// exactly where `p` is strictly below `n`, and leaves the order as it was. The time is in proportion to the number
+    /// of nodes, and to a 64th of it for each node at or below `n`.
+    pub fn put_under(&mut self, alloc: Global, n: NodeId, p: NodeId) -> Result<Former, OrderFault>
         requires n { is_live self.old n.0 ≡ true }
         requires p { is_live self.old p.0 ≡ true }
         ensures least { OnOk result (IsLeastWith self.old n.0 p.0 self.new) }
         ensures pairs { OnOk result (IsUnder self.old n.0 p.0 self.new) }
+        ensures former { IfOk result (λ f. IsFormerOf self.old self.new f) }
         ensures cycle { (x : NodeId) → ((result ≡ Err (OrderFault.Cycle x)) ↔ ((x ≡ n) × IsStrictlyBelow self.old p.0 n.0)) }
         ensures unchanged { OnErr result (self.new ≡ self.old) }
     {
         if self.is_strictly_below(p, n) {
             return Err(OrderFault::Cycle(n));
         }
-        rows::close_under(&mut self.le, n.0, p.0);
-        Ok(())
+        let former = self.keep(alloc, &[n])?;
+        self.close_under(n, p);
+        Ok(former)
+    }
+
+    /// Makes the order what it was before nodes were joined. It takes no memory.
+    pub fn put_back(&mut self, former: Former)
+        requires { (old : Ordered) × IsPartialOrder old × IsFormerOf old self.old former }
+        ensures { (old : Ordered) → IsFormerOf old self.old former → self.new ≡ old }
+    {
+        let Former { live, rows } = former;
+        self.live = live;
+        put_rows(&mut self.le, rows);
     }
 
     /// Removes a live node, and keeps the order of the rest.
@@ -273,22 +313,60 @@ impl Order {
     }
 
     /// The same as `merge_set`, over a slice.
-    fn merge(&mut self, set: &[NodeId]) -> Result<NodeId, OrderFault>
+    fn merge_kept(&mut self, alloc: Global, set: &[NodeId]) -> Result<Merged, OrderFault>
         requires some { 0 < length set.now }
         requires live { All (λ s. is_live self.old s.0 ≡ true) set.now }
-        ensures node { IfOk result (λ m. IsLeastOf set.now m.0) }
-        ensures least { IfOk result (λ m. IsLeastMerged self.old set.now m.0 self.new) }
-        ensures pairs { IfOk result (λ m. IsMerged self.old set.now m.0 self.new) }
+        ensures node { IfOk result (λ m. IsLeastOf set.now m.node.0) }
+        ensures least { IfOk result (λ m. IsLeastMerged self.old set.now m.node.0 self.new) }
+        ensures pairs { IfOk result (λ m. IsMerged self.old set.now m.node.0 self.new) }
+        ensures former { IfOk result (λ m. IsFormerOf self.old self.new m.former) }
         ensures cycle { (x : NodeId) → ((result ≡ Err (OrderFault.Cycle x)) ↔ IsFirstBetween self.old set.now x.0) }
         ensures unchanged { OnErr result (self.new ≡ self.old) }
     {
         if let Some(x) = self.first_between(set) {
             return Err(OrderFault::Cycle(x));
         }
+        let former = self.keep(alloc, set)?;
+        let node = self.merge(set);
+        Ok(Merged { node, former })
+    }
+
+    /// The rows of the nodes at or below those of a list, and the live nodes, once more.
+    fn keep(&self, alloc: Global, set: &[NodeId]) -> Result<Former, AllocError>
+        requires { All (λ s. is_live self.now s.0 ≡ true) set.now }
+        ensures order { IsPartialOrder self.now }
+        ensures live { IfOk result (λ f. f.live ≡ self.now.live) }
+        ensures rows { IfOk result (λ f. f.rows.items ≡ rows_with self.now.le set.now) }
+    {
+        let live = self.live.copy(alloc)?;
+        let rows = rows_with(alloc, &self.le, set, self.live.width())?;
+        Ok(Former { live, rows })
+    }
+
+    /// Makes one node of a list, the least, of all its nodes.
+    fn merge(&mut self, set: &[NodeId]) -> NodeId
+        requires some { 0 < length set.now }
+        requires live { All (λ s. is_live self.old s.0 ≡ true) set.now }
+        requires none { (x : ℕ) → IsBetween self.old set.now x → ⊥ }
+        ensures node { IsLeastOf set.now result.0 }
+        ensures least { IsLeastMerged self.old set.now result.0 self.new }
+        ensures pairs { IsMerged self.old set.now result.0 self.new }
+    {
         let m = least_of(set);
         keep_one(&mut self.live, set, m.0);
         merge_rows(&mut self.le, set, m.0);
-        Ok(m)
+        m
+    }
+
+    /// Puts a node below another that is not strictly below it.
+    fn close_under(&mut self, n: NodeId, p: NodeId)
+        requires n { is_live self.old n.0 ≡ true }
+        requires p { is_live self.old p.0 ≡ true }
+        requires apart { IsStrictlyBelow self.old p.0 n.0 → ⊥ }
+        ensures least { IsLeastWith self.old n.0 p.0 self.new }
+        ensures pairs { IsUnder self.old n.0 p.0 self.new }
+    {
+        rows::close_under(&mut self.le, n.0, p.0);
     }
 
     /// The least node outside a list that lies strictly between two of it.

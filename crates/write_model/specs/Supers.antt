@@ -1,21 +1,14 @@
 -- Believed. The supertypes that the type of a node names.
-use Rattle.std.specs.Prelude.{ℕ, ◌==◌, ◌&&◌, Bool, not, List, map, filter, length, Option}
+use Rattle.std.specs.Prelude.{ℕ, ◌&&◌, Bool, not, List, map, filter, length, Option}
 use Rattle.std.specs.Option.{option_map}
 use Rattle.std.specs.List.{range_with_len}
 use Rattle.java_tree.specs.declared.Id.{Id}
 use Rattle.kaba_bits.specs.Sets.{first_below, when}
 use Rattle.kaba_order.specs.Orders.{Ordered, is_le}
 use Rattle.fact_model.specs.declared.facts.Facts.{Facts}
+pub use Rattle.hier_model.specs.Covers.{is_above, is_cover}
 use Rattle.hier_model.specs.Hierarchies.{Hierarchy, type_name, any_below, is_class_node}
 use Rattle.write_model.specs.Names.{id}
-
--- whether b is strictly above a, and whether moreover none is strictly between
-abbrev pub is_above : Ordered → ℕ → ℕ → Bool
-is_above o a b = is_le o a b && not (a == b)
-
--- whether b is an upper cover of a: strictly above it, and none is strictly between
-abbrev pub is_cover : Ordered → ℕ → ℕ → Bool
-is_cover o a b = is_above o a b && not (any_below (length o.live) (λ k. is_above o a k && is_above o k b))
 
 -- the nodes that pass a test, in rising number
 abbrev pub nodes_that : Ordered → (ℕ → Bool) → List ℕ

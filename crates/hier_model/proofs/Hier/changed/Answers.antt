@@ -1,16 +1,10 @@
-use Rattle.std.proofs.Common.{subst}
-use Rattle.hier_model.specs.Edits.{NamesSome}
 use Rattle.hier_model.specs.declared.edits.Edit.TheVariants as edit
 use Rattle.hier_model.proofs.FitLemmas.{fits_of}
 use Rattle.hier_model.proofs.Hier.changed.Goals as goal
 
 pub returns-in-Merge-clause-fits : goal.returns-in-Merge-clause-fits
-returns-in-Merge-clause-fits c = fits_of c.args.facts.now c.requires.range c.args.self.now c.requires.hierarchy (edit.Merge c.in-Merge.set)
-    (subst NamesSome c.in-Merge.is c.requires.some) c.merge.result c.merge.ensures
-
-pub returns-in-Under-clause-fits : goal.returns-in-Under-clause-fits
-returns-in-Under-clause-fits c = fits_of c.args.facts.now c.requires.range c.args.self.now c.requires.hierarchy (edit.Under c.in-Under.n c.in-Under.p)
-    tt c.put_under.result c.put_under.ensures
+returns-in-Merge-clause-fits c = fits_of c.args.facts.now c.requires.range c.args.self.now c.requires.hierarchy c.args.edit.now c.requires.some
+    c.joined.result c.joined.ensures
 
 pub returns-in-Move-clause-fits : goal.returns-in-Move-clause-fits
 returns-in-Move-clause-fits c = fits_of c.args.facts.now c.requires.range c.args.self.now c.requires.hierarchy (edit.Move c.in-Move.c c.in-Move.n) tt

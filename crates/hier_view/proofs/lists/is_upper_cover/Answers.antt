@@ -1,4 +1,4 @@
-use Rattle.hier_view.proofs.OrderLemmas.{cover_test}
+use Rattle.hier_model.proofs.CoverLemmas.{cover_test}
 use Rattle.hier_view.proofs.lists.is_upper_cover.Goals as goal
 
 pub returns : goal.returns

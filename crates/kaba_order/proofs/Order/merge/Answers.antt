@@ -6,10 +6,10 @@ use Rattle.kaba_order.specs.Orders.{Ordered, is_live, IsPartialOrder, IsMerged, 
 use Rattle.kaba_order.proofs.MergeLemmas.{least_merged, among-All}
 use Rattle.kaba_order.proofs.StepLemmas.{ordered, stored}
 use Rattle.kaba_order.proofs.Order.merge.Goals as goal
-use Rattle.kaba_order.proofs.Order.merge.Goals.{After-least_of-m, After-merge_rows}
+use Rattle.kaba_order.proofs.Order.merge.Goals.{After-keep_one, After-merge_rows}
 
 -- what is known of the order and of the node that is made of others
-known : (c : After-least_of-m) → IsPartialOrder c.args.self.now × (c.self.inside.le.items ≡ c.args.self.now.le)
+known : (c : After-keep_one) → IsPartialOrder c.args.self.now × (c.self.inside.le.items ≡ c.args.self.now.le)
     × (is_live c.args.self.now c.least_of-m.result.0 ≡ true)
 known c = (
   subst IsPartialOrder c.self.view_is c.self.invariant,
@@ -19,12 +19,12 @@ known c = (
 
 pub merge_rows-requires-clause-m : goal.merge_rows-requires-clause-m
 merge_rows-requires-clause-m c =
-    let k = known (goal.at.merge_rows-requires-clause-m c).After-least_of-m in
+    let k = known (goal.at.merge_rows-requires-clause-m c).After-keep_one in
     omega (arith, bit-below c.args.self.now.live c.least_of-m.result.0 k.2, ap (λ l. length l) (c.deref_mut.ensures.value ∙ k.1), k.0.count)
 
 pub merge_rows-requires-clause-reflexive : goal.merge_rows-requires-clause-reflexive
 merge_rows-requires-clause-reflexive c =
-    let k = known (goal.at.merge_rows-requires-clause-reflexive c).After-least_of-m in
+    let k = known (goal.at.merge_rows-requires-clause-reflexive c).After-keep_one in
     let m = c.least_of-m.result.0 in
     subst (λ l. bit (row l m) m ≡ true) (sym (c.deref_mut.ensures.value ∙ k.1)) (k.0.reflexive m k.2)
 
@@ -48,7 +48,7 @@ least c =
     let widths : HasWidth (length c.keep_one.new.live) c.merge_rows.new.le = subst (λ w. HasWidth w c.merge_rows.new.le) (sym c.merge_rows.ensures.size.len
     ∙ count) c.merge_rows.ensures.size.widths in
     least_merged old (made c) set m order count widths n_count n_live pairs c.least_of-m.ensures.among
-    (among-All (λ s. is_live old s ≡ true) set c.requires.live) c.in_default.ensures
+    (among-All (λ s. is_live old s ≡ true) set c.requires.live) c.requires.none
 
 -- the field after the call is the list that the call left
 whole : (c : After-merge_rows) → made c ≡ ordered c.keep_one.new.live (take c.self.inside.le.len (c.merge_rows.new.le ++ drop (length c.merge_rows.new.le)
