@@ -1,15 +1,15 @@
 -- What an edit leaves unbroken of what was: a join (a merge, or a node put under another) and a name.
-use Rattle.std.proofs.Common.{◌≡◌, ℕ, ◌<◌, ◌&&◌, ◌||◌, ◌==◌, eqb, not, Bool, true, false, List, length, get_or, Option, Some, None, refl, sym, ap, ◌∙◌, subst, arith, ⊎_elim}
+use Rattle.std.proofs.Common.{◌≡◌, ℕ, ◌<◌, ◌&&◌, ◌||◌, ◌==◌, not, Bool, true, false, List, length, get_or, Option, Some, None, refl, sym, ap, ◌∙◌, subst, arith, ⊎_elim}
 use Rattle.std.specs.Prelude.{nat_lt, []}
 use Rattle.std.specs.Str.{bytes_eq}
-use Rattle.std.proofs.lemmas.Bool.{eqb-true, cases_Bool, false≢true, and_parts, and_from, or_cases, or_left, or_right}
+use Rattle.std.proofs.lemmas.Bool.{eqb-true, false≢true, and_parts, and_from, or_cases, or_left, or_right}
 use Rattle.kaba_base.specs.declared.NodeId.{NodeId}
 use Rattle.kaba_base.specs.Words.{is_name}
 use Rattle.kaba_base.proofs.TestLemmas.{refuted}
 use Rattle.kaba_bits.specs.Sets.{bit, row, or_else, first_below, when}
 use Rattle.kaba_bits.proofs.SetLemmas.{bit-below}
-use Rattle.kaba_bits.proofs.FirstLemmas.{first_below_None, first_below_clear, or_else-None, when-None, cases_Option}
-use Rattle.kaba_order.specs.Orders.{is_le, is_live, is_among}
+use Rattle.kaba_bits.proofs.FirstLemmas.{first_below_None, first_below_clear, or_else-None, when-None}
+use Rattle.kaba_order.specs.Orders.{is_live, is_among}
 use Rattle.fact_model.specs.Items.{site_row, column_kind, column_slot}
 use Rattle.fact_model.specs.Classes.{is_def}
 use Rattle.fact_model.specs.declared.facts.Facts.{Facts}
@@ -18,7 +18,6 @@ use Rattle.hier_model.specs.Hierarchies.{Hierarchy, IsHierarchyOf, place_of_colu
 use Rattle.hier_model.specs.Names.{is_field}
 use Rattle.hier_model.specs.Edits.{is_one_slot}
 use Rattle.hier_model.proofs.AnyLemmas.{any_below_some, any_below_has}
-use Rattle.hier_rules.specs.declared.broken.Broken.{Broken}
 use Rattle.hier_rules.specs.declared.broken.Rule.TheVariants.{B2, B3, B6, B8}
 use Rattle.hier_rules.specs.Asked.{is_tie}
 use Rattle.hier_rules.specs.Instances.{of_both, of_row, of_column, of_node}

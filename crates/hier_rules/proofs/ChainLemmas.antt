@@ -1,193 +1,194 @@
--- Class nodes above a node form a chain where each at or above it is the top or has one above it with one fewer above.
-use Rattle.std.proofs.Common.{◌≡◌, ◌≢◌, ℕ, suc, zero, ◌+◌, ◌<◌, ◌≤◌, ◌⊎◌, ◌&&◌, ◌||◌, eqb, not, cond, Bool, true, false, None, refl, sym, ap, ◌∙◌, subst, arith, inl, inr, ⊎_elim, length}
-use Rattle.std.specs.Prelude.{nat_lt}
-use Rattle.std.proofs.lemmas.Bool.{cases_Bool, cases_eq, and_parts, and_from, or_cases, or_left, or_right, eqb-true, eq-eqb, ne_eqb, lt-ltb, false≢true}
-use Rattle.kaba_bits.specs.Sets.{first_below, when}
+-- Class nodes at or above a node that form a chain, and the search for two that are not ordered.
+use Rattle.std.proofs.Common.{◌≡◌, ◌≢◌, ℕ, ◌+◌, ◌<◌, ◌⊎◌, ◌&&◌, ◌||◌, eqb, not, Bool, true, false, List, length, Option, Some, None, refl, ◌↔◌, IsTrue, sym, ap, ◌∙◌, subst, arith, inl, inr, ⊎_elim}
+use Rattle.std.specs.Prelude.{nat_lt, slice_set}
+use Rattle.std.specs.Bool.{OnTrue}
+use Rattle.std.proofs.lemmas.Bool.{cases_eq, cases_lt, cases_order, and_parts, and_from, or_cases, not-true, ne_eqb, eq-eqb, lt-ltb, ltb-true, false≢true, false_from_ne_true}
+use Rattle.std.proofs.lemmas.List.{get_or-set_other, length-set}
+use Rattle.kaba_bits.specs.Sets.{bit, row, first_below, when, IsNoneFrom, IsSubset}
 use Rattle.kaba_bits.proofs.SetLemmas.{bit-below}
-use Rattle.kaba_bits.proofs.FirstLemmas.{first_below_clear}
+use Rattle.kaba_bits.proofs.FirstLemmas.{first_below_clear, first_below_None, first_below_more, when-None}
 use Rattle.kaba_order.specs.Orders.{is_le, IsPartialOrder}
 use Rattle.fact_model.specs.declared.facts.Facts.{Facts}
-use Rattle.hier_model.specs.Hierarchies.{Hierarchy, is_class_node, any_below}
-use Rattle.hier_model.proofs.AnyLemmas.{any_below_some}
+use Rattle.hier_model.specs.Hierarchies.{Hierarchy, is_class_node}
 use Rattle.hier_rules.specs.declared.broken.Broken.{Broken}
 use Rattle.hier_rules.specs.declared.broken.Rule.TheVariants.{B9}
 use Rattle.hier_rules.specs.Instances.{of_three}
 use Rattle.hier_rules.specs.Obligations.{is_class_above, unchained}
-use Rattle.hier_rules.specs.Chains.{count_below, is_over, class_count, is_next, is_loose}
+use Rattle.hier_rules.specs.Chains.{is_over, first_unchained_at, AreChained}
 
--- a step of two counts
-le_step : (a b : Bool) (m k : ℕ) → (a ≡ true → b ≡ true) → m ≤ k → cond a (m + 1) m ≤ cond b (k + 1) k
-le_step true true m k h le = omega (arith, le)
-le_step true false m k h le = absurd (false≢true (h refl))
-le_step false true m k h le = omega (arith, le)
-le_step false false m k h le = le
+-- ---- a search among the numbers of a set
+module _ {B : Type 0} (f : ℕ → Option B) (set : List Bool) (outside : (k : ℕ) → bit set k ≡ false → f k ≡ None) where
+  -- where the set has none, none is found
+  pub search_past : (at to : ℕ) → first_below at f ≡ None → IsNoneFrom (bit set) at to → first_below to f ≡ None
+  search_past at to before none =
+      first_below_clear f to (λ k lt. ⊎_elim (λ low. first_below_None f at k before low) (λ high. outside k (none k high lt)) (cases_lt k at))
 
-lt_step : (a b : Bool) (m k : ℕ) → (a ≡ true → b ≡ true) → m < k → cond a (m + 1) m < cond b (k + 1) k
-lt_step true true m k h lt = omega (arith, lt)
-lt_step true false m k h lt = absurd (false≢true (h refl))
-lt_step false true m k h lt = omega (arith, lt)
-lt_step false false m k h lt = lt
+  pub search_more : (at z : ℕ) → first_below at f ≡ None → IsNoneFrom (bit set) at z → f z ≡ None → first_below (z + 1) f ≡ None
+  search_more at z before none here = first_below_more f z (search_past at z before none) here
 
--- where each number that passes p passes q, q passes as many
-count_le : (p q : ℕ → Bool) → ((k : ℕ) → p k ≡ true → q k ≡ true) → (n : ℕ) → count_below n p ≤ count_below n q
-count_le p q sub zero = omega arith
-count_le p q sub (suc n) = le_step (p n) (q n) (count_below n p) (count_below n q) (sub n) (count_le p q sub n)
+-- what a set has that gained a number
+pub bit_gained : (set : List Bool) (n x : ℕ) → bit (slice_set set n true) x ≡ true → (x ≡ n) ⊎ (bit set x ≡ true)
+bit_gained set n x h = ⊎_elim inl (λ ne. inr (sym (get_or-set_other set n x true false ne) ∙ h)) (cases_eq x n)
 
--- and more where one more passes q
-count_more : (p q : ℕ → Bool) → ((k : ℕ) → p k ≡ true → q k ≡ true) → (w n : ℕ) → w < n → q w ≡ true → p w ≡ false → count_below n p < count_below n q
-count_more p q sub w zero lt h k = absurd (omega (arith, lt))
-count_more p q sub w (suc n) lt h k =
-    ⊎_elim
-    (λ e. rw (subst (λ j. p j ≡ false) e k, subst (λ j. q j ≡ true) e h) (omega (arith, count_le p q sub n)))
-    (λ ne. lt_step (p n) (q n) (count_below n p) (count_below n q) (sub n) (count_more p q sub w n (omega (arith, lt, ne)) h k))
-    (cases_eq w n)
+-- ---- chains
+none_of : (a b c d e : Bool) (v : Broken) → (a ≡ true → b ≡ true → (d ≡ true) ⊎ (e ≡ true)) → when (a && (b && c && not d && not e)) v ≡ None
+none_of false b c d e v h = refl
+none_of true false c d e v h = refl
+none_of true true false d e v h = refl
+none_of true true true true e v h = refl
+none_of true true true false true v h = refl
+none_of true true true false false v h = absurd (⊎_elim (λ x. false≢true x) (λ x. false≢true x) (h refl refl))
 
--- and two more where two do
-count_two : (p q : ℕ → Bool) → ((k : ℕ) → p k ≡ true → q k ≡ true) → (w v n : ℕ) → w < n → v < n → w ≢ v → q w ≡ true → q v ≡ true → p w ≡ false
-    → p v ≡ false → count_below n p + 1 < count_below n q
-count_two p q sub w v n wn vn ne qw qv pw pv =
-    let mid : ℕ → Bool = λ k. p k || eqb k w in
-    let one = count_more p mid (λ k h. or_left (p k) (eqb k w) h) w n wn (or_right (p w) (eqb w w) (eq-eqb w w refl)) pw in
-    let two = count_more mid q (λ k h. ⊎_elim (sub k) (λ e. subst (λ j. q j ≡ true) (sym (eqb-true k w e)) qw) (or_cases (p k) (eqb k w) h)) v n vn qv
-    (rw (pv, ne_eqb v w (λ e. ne (sym e))) refl) in
-    omega (arith, one, two)
+one_of : (a b c d e : Bool) → (a && (b && c && not d && not e)) ≡ false → a ≡ true → b ≡ true → c ≡ true → (d ≡ true) ⊎ (e ≡ true)
+one_of true true true true e h ha hb hc = inl refl
+one_of true true true false true h ha hb hc = inr refl
+one_of true true true false false h ha hb hc = absurd (false≢true (sym h))
+one_of true true false d e h ha hb hc = absurd (false≢true hc)
+one_of true false c d e h ha hb hc = absurd (false≢true hb)
+one_of false b c d e h ha hb hc = absurd (false≢true ha)
 
-module _
-    (n : ℕ) (up : ℕ → ℕ → Bool) (within : (a b : ℕ) → up a b ≡ true → b < n) (lower : (a b : ℕ) → up a b ≡ true → up a a ≡ true) (upper : (a b : ℕ)
-    → up a b ≡ true → up b b ≡ true)
-    (through : (a b c : ℕ) → up a b ≡ true → up b c ≡ true → up a c ≡ true) (both : (a b : ℕ) → up a b ≡ true → up b a ≡ true → a ≡ b) where
-  abbrev over : ℕ → ℕ → Bool
-  over a x = up a x && not (eqb x a)
+not_after : (a b c d e : Bool) (v : Broken) → c ≡ false → when (a && (b && c && not d && not e)) v ≡ None
+not_after false b c d e v h = refl
+not_after true false c d e v h = refl
+not_after true true c d e v h = rw h refl
 
-  abbrev count : ℕ → ℕ
-  count a = count_below n (over a)
+all_of : (a b c d e : Bool) (v : Broken) → a ≡ true → b ≡ true → c ≡ true → d ≡ false → e ≡ false → when (a && (b && c && not d && not e)) v ≡ Some v
+all_of a b c d e v ha hb hc hd he = rw (ha, hb, hc, hd, he) refl
 
-  over_is : (a x : ℕ) → over a x ≡ true → (up a x ≡ true) × (x ≢ a)
-  over_is a x h =
-      let p = and_parts (up a x) (not (eqb x a)) h in
-      (p.0, λ e. false≢true (sym (ap not (eq-eqb x a e)) ∙ p.1))
-
-  is_over_of : (a x : ℕ) → up a x ≡ true → x ≢ a → over a x ≡ true
-  is_over_of a x h ne = and_from (up a x) (not (eqb x a)) h (ap not (ne_eqb x a ne))
-
-  -- the top, or one has one fewer above it
-  abbrev pub Tight : ℕ → Type 0
-  Tight m = (count m ≡ 0) ⊎ ((z : ℕ) × (over m z ≡ true) × (count z + 1 ≡ count m))
-
-  -- what is strictly above a node is one of those that have one fewer above them, or above that
-  covered : (a z w : ℕ) → over a z ≡ true → count z + 1 ≡ count a → over a w ≡ true → up z w ≡ true
-  covered a z w oz e ow = ⊎_elim (λ same. subst (λ j. up z j ≡ true) (sym same) (upper a z (over_is a z oz).0))
-      (λ ne. ⊎_elim (λ h. (over_is z w h).0) (apart ne) (cases_Bool (over z w))) (cases_eq w z)
-    where
-      inner : (k : ℕ) → over z k ≡ true → over a k ≡ true
-      inner k h =
-          is_over_of a k (through a z k (over_is a z oz).0 (over_is z k h).0)
-          (λ back. (over_is a z oz).1 (both z a (subst (λ j. up z j ≡ true) back (over_is z k h).0) (over_is a z oz).0))
-
-      itself : over z z ≡ false
-      itself = ⊎_elim (λ h. absurd ((over_is z z h).1 refl)) (λ f. f) (cases_Bool (over z z))
-
-      apart : w ≢ z → over z w ≡ false → up z w ≡ true
-      apart ne f =
-          let two = count_two (over z) (over a) inner w z n (within a w (over_is a w ow).0) (within a z (over_is a z oz).0) ne ow oz f itself in
-          absurd (omega (arith, two, e))
-
-  top : (a x : ℕ) → over a x ≡ true → count a ≡ 0 → ⊥
-  top a x o z =
-      let more = count_more (λ k. false) (over a) (λ k h. absurd (false≢true h)) x n (within a x (over_is a x o).0) o refl in
-      omega (arith, more, z)
-
-  -- where each at or above a node is tight, those are a chain
-  pub chain : (k a : ℕ) → count a < k → ((m : ℕ) → up a m ≡ true → Tight m) → (x y : ℕ) → up a x ≡ true → up a y ≡ true → (up x y ≡ true) ⊎ (up y x ≡ true)
-  chain zero a lt tight x y hx hy = absurd (omega (arith, lt))
-  chain (suc k) a lt tight x y hx hy =
-      ⊎_elim
-      (λ e. inl (subst (λ j. up j y ≡ true) (sym e) hy))
-      (λ nx. ⊎_elim
-      (λ e. inr (subst (λ j. up j x ≡ true) (sym e) hx))
-      (λ ny.
-      let ox = is_over_of a x hx nx in
-      let oy = is_over_of a y hy ny in
-      ⊎_elim
-      (λ z. absurd (top a x ox z))
-      (λ r.
-      let up_r = (over_is a r.0 r.1).0 in
-      chain k r.0 (omega (arith, lt, r.2)) (λ m h. tight m (through a r.0 m up_r h)) x y (covered a r.0 x r.1 r.2 ox) (covered a r.0 y r.1 r.2 oy))
-      (tight a (lower a x hx)))
-      (cases_eq y a))
-      (cases_eq x a)
-
-module _ (F : Facts) (H : Hierarchy) (P : IsPartialOrder H.order) where
+module _ (F : Facts) (H : Hierarchy) where
   abbrev up : ℕ → ℕ → Bool
   up = is_class_above F H
 
-  abbrev class : ℕ → Bool
-  class = is_class_node F H
+  -- the class nodes at or above a node are ordered
+  abbrev pub IsChain : ℕ → Type 0
+  IsChain n = (x y : ℕ) → up n x ≡ true → up n y ≡ true → (is_le H.order x y ≡ true) ⊎ (is_le H.order y x ≡ true)
 
-  record Says (a b : ℕ) : Type 0 where
-    low : class a ≡ true
-    high : class b ≡ true
-    le : is_le H.order a b ≡ true
+  pub record Says (a b : ℕ) : Type 0 where
+    pub low : is_class_node F H a ≡ true
+    pub high : is_class_node F H b ≡ true
+    pub le : is_le H.order a b ≡ true
 
-  says : (a b : ℕ) → up a b ≡ true → Says a b
+  pub says : (a b : ℕ) → up a b ≡ true → Says a b
   says a b h =
-      let p = and_parts (class a && class b) (is_le H.order a b) h in
-      let q = and_parts (class a) (class b) p.0 in
+      let p = and_parts (is_class_node F H a && is_class_node F H b) (is_le H.order a b) h in
+      let q = and_parts (is_class_node F H a) (is_class_node F H b) p.0 in
       record { low = q.0; high = q.1; le = p.1 }
 
-  said : (a b : ℕ) → Says a b → up a b ≡ true
-  said a b s = and_from (class a && class b) (is_le H.order a b) (and_from (class a) (class b) s.low s.high) s.le
+  pub said : (a b : ℕ) → Says a b → up a b ≡ true
+  said a b s =
+      and_from (is_class_node F H a && is_class_node F H b) (is_le H.order a b)
+      (and_from (is_class_node F H a) (is_class_node F H b) s.low s.high) s.le
 
-  within : (a b : ℕ) → up a b ≡ true → b < length H.order.live
-  within a b h = bit-below H.order.live b (P.upper_lives a b (says a b h).le)
-
-  lower : (a b : ℕ) → up a b ≡ true → up a a ≡ true
-  lower a b h = let s = says a b h in said a a (record { low = s.low; high = s.low; le = P.reflexive a (P.lower_lives a b s.le) })
-
-  upper : (a b : ℕ) → up a b ≡ true → up b b ≡ true
-  upper a b h = let s = says a b h in said b b (record { low = s.high; high = s.high; le = P.reflexive b (P.upper_lives a b s.le) })
-
-  through : (a b c : ℕ) → up a b ≡ true → up b c ≡ true → up a c ≡ true
-  through a b c h k = let s = says a b h in let t = says b c k in said a c (record { low = s.low; high = t.high; le = P.transitive a b c s.le t.le })
-
-  both : (a b : ℕ) → up a b ≡ true → up b a ≡ true → a ≡ b
-  both a b h k = P.antisymmetric a b (says a b h).le (says b a k).le
-
-  tight : (m : ℕ) → is_loose F H m ≡ false → Tight (length H.order.live) up within lower upper through both m
-  tight m f = ⊎_elim counted (λ none. inl (zero_of (class_count F H m) none)) (cases_Bool (nat_lt 0 (class_count F H m)))
-    where
-      zero_of : (k : ℕ) → nat_lt 0 k ≡ false → k ≡ 0
-      zero_of zero h = refl
-      zero_of (suc k) h = absurd (false≢true (sym h ∙ lt-ltb 0 (suc k) (omega arith)))
-
-      second : (a b : Bool) → (a && not b) ≡ false → a ≡ true → b ≡ true
-      second true true h e = refl
-      second true false h e = absurd (false≢true (sym h))
-      second false b h e = absurd (false≢true e)
-
-      counted : nat_lt 0 (class_count F H m) ≡ true → Tight (length H.order.live) up within lower upper through both m
-      counted some =
-          let any = second (nat_lt 0 (class_count F H m)) (any_below (length H.order.live) (is_next F H m)) f some in
-          let z = any_below_some (is_next F H m) (length H.order.live) any in
-          let p = and_parts (is_over F H m z.0) (eqb (class_count F H z.0 + 1) (class_count F H m)) z.2 in
-          inr (z.0, p.0, eqb-true (class_count F H z.0 + 1) (class_count F H m) p.1)
-
-  none_of : (a b c d e : Bool) (v : Broken) → (a ≡ true → b ≡ true → (d ≡ true) ⊎ (e ≡ true)) → when (a && (b && c && not d && not e)) v ≡ None
-  none_of false b c d e v h = refl
-  none_of true false c d e v h = refl
-  none_of true true false d e v h = refl
-  none_of true true true true e v h = refl
-  none_of true true true false true v h = refl
-  none_of true true true false false v h = absurd (⊎_elim (λ x. false≢true x) (λ x. false≢true x) (h refl refl))
-
-  -- no two class nodes at or above a node are unordered where no loose one is at or above it
-  pub no_loose : (n : ℕ) → ((m : ℕ) → up n m ≡ true → is_loose F H m ≡ false)
-      → first_below (length H.order.live) (λ x. first_below (length H.order.live) (unchained F H n x)) ≡ None
-  no_loose n none =
+  -- none is found where they are a chain
+  pub chained : (n : ℕ) → IsChain n → first_unchained_at F H n ≡ None
+  chained n chain =
       first_below_clear (λ x. first_below (length H.order.live) (unchained F H n x)) (length H.order.live) (λ x xn.
       first_below_clear (unchained F H n x) (length H.order.live) (λ y yn.
-      none_of (up n x) (up n y) (nat_lt x y) (is_le H.order x y) (is_le H.order y x) (of_three B9 n x y) (λ hx hy.
-      ⊎_elim (λ h. inl (says x y h).le) (λ h. inr (says y x h).le)
-      (chain (length H.order.live) up within lower upper through both (class_count F H n + 1) n (omega arith)
-      (λ m h. tight m (none m h))
-      x y hx hy))))
+      none_of (up n x) (up n y) (nat_lt x y) (is_le H.order x y) (is_le H.order y x) (of_three B9 n x y) (chain x y)))
+
+  pub ordered : (n x y : ℕ) → (is_le H.order x y ≡ true) ⊎ (is_le H.order y x ≡ true) → unchained F H n x y ≡ None
+  ordered n x y h = none_of (up n x) (up n y) (nat_lt x y) (is_le H.order x y) (is_le H.order y x) (of_three B9 n x y) (λ hx hy. h)
+
+  pub none_before : (n x : ℕ) → first_below (x + 1) (unchained F H n x) ≡ None
+  none_before n x =
+      first_below_clear (unchained F H n x) (x + 1) (λ y lt.
+      let off : nat_lt x y ≡ false = false_from_ne_true (nat_lt x y) (λ h. let gt = ltb-true x y h in omega (arith, lt, gt)) in
+      not_after (up n x) (up n y) (nat_lt x y) (is_le H.order x y) (is_le H.order y x) (of_three B9 n x y) off)
+
+  module _ (P : IsPartialOrder H.order) where
+    within : (a b : ℕ) → up a b ≡ true → b < length H.order.live
+    within a b h = bit-below H.order.live b (P.upper_lives a b (says a b h).le)
+
+    -- and only there
+    pub chain_of : (n : ℕ) → first_unchained_at F H n ≡ None → IsChain n
+    chain_of n none x y hx hy =
+        ⊎_elim
+        (λ e. inl (subst (λ k. is_le H.order x k ≡ true) e (P.reflexive x (P.upper_lives n x (says n x hx).le))))
+        (⊎_elim (λ lt. rises x y lt hx hy) (λ gt. ⊎_elim inr inl (rises y x gt hy hx)))
+        (cases_order x y)
+      where
+        rises : (x y : ℕ) → x < y → up n x ≡ true → up n y ≡ true → (is_le H.order x y ≡ true) ⊎ (is_le H.order y x ≡ true)
+        rises x y lt hx hy =
+            let here = first_below_None (unchained F H n x) (length H.order.live) y
+            (first_below_None (λ x. first_below (length H.order.live) (unchained F H n x)) (length H.order.live) x none (within n x hx)) (within n y hy) in
+            one_of (up n x) (up n y) (nat_lt x y) (is_le H.order x y) (is_le H.order y x)
+            (when-None (up n x && (up n y && nat_lt x y && not (is_le H.order x y) && not (is_le H.order y x))) (of_three B9 n x y) here) hx hy (lt-ltb x y lt)
+
+    through : (n a b : ℕ) → up n a ≡ true → up a b ≡ true → up n b ≡ true
+    through n a b h k =
+        let s = says n a h in
+        let t = says a b k in
+        said n b (record { low = s.low; high = t.high; le = P.transitive n a b s.le t.le })
+
+    -- what is above a chained node is chained
+    pub chained_above : (n a : ℕ) → first_unchained_at F H n ≡ None → up n a ≡ true → first_unchained_at F H a ≡ None
+    chained_above n a none h = chained a (λ x y hx hy. chain_of n none x y (through n a x h hx) (through n a y h hy))
+
+    module _ (n : ℕ) (over : List Bool) (exact : (x : ℕ) → bit over x ≡ is_over F H n x) where
+      pub over_says : (x : ℕ) → bit over x ≡ true → (Says n x) × (x ≢ n)
+      over_says x h =
+          let p = and_parts (up n x) (not (eqb x n)) (sym (exact x) ∙ h) in
+          (says n x p.0, λ e. false≢true (sym (not-true (eqb x n) p.1) ∙ eq-eqb x n e))
+
+      -- a class node at or above a node is that, or strictly above it
+      same_or_over : (x : ℕ) → up n x ≡ true → (x ≡ n) ⊎ (bit over x ≡ true)
+      same_or_over x h =
+          ⊎_elim inl (λ ne. inr (exact x ∙ and_from (up n x) (not (eqb x n)) h (ap not (ne_eqb x n ne)))) (cases_eq x n)
+
+      same_if_not : (x : ℕ) → bit over x ≡ false → up n x ≡ true → x ≡ n
+      same_if_not x off h = ⊎_elim (λ e. e) (λ t. absurd (false≢true (sym off ∙ t))) (same_or_over x h)
+
+      -- only what is strictly above a node is unordered
+      pub no_first : (k : ℕ) → bit over k ≡ false → first_below (length H.order.live) (unchained F H n k) ≡ None
+      no_first k off =
+          first_below_clear (unchained F H n k) (length H.order.live) (λ y yn.
+          none_of (up n k) (up n y) (nat_lt k y) (is_le H.order k y) (is_le H.order y k) (of_three B9 n k y)
+          (λ hk hy. inl (subst (λ j. is_le H.order j y ≡ true) (sym (same_if_not k off hk)) (says n y hy).le)))
+
+      pub no_second : (x k : ℕ) → bit over k ≡ false → unchained F H n x k ≡ None
+      no_second x k off =
+          none_of (up n x) (up n k) (nat_lt x k) (is_le H.order x k) (is_le H.order k x) (of_three B9 n x k)
+          (λ hx hk. inr (subst (λ j. is_le H.order j x ≡ true) (sym (same_if_not k off hk)) (says n x hx).le))
+
+      pub unordered : (x y : ℕ) → bit over x ≡ true → bit over y ≡ true → x < y → is_le H.order x y ≡ false → is_le H.order y x ≡ false
+          → unchained F H n x y ≡ Some (of_three B9 n x y)
+      unordered x y hx hy lt le ge =
+          all_of (up n x) (up n y) (nat_lt x y) (is_le H.order x y) (is_le H.order y x) (of_three B9 n x y) (said n x (over_says x hx).0)
+          (said n y (over_says y hy).0) (lt-ltb x y lt) le ge
+
+      -- a node with no class node strictly above it is chained, and one where the lowest of them is
+      pub chained_alone : IsNoneFrom (bit over) 0 (length over) → first_unchained_at F H n ≡ None
+      chained_alone none =
+          first_below_clear (λ x. first_below (length H.order.live) (unchained F H n x)) (length H.order.live) (λ x xn.
+          no_first x (false_from_ne_true (bit over x) (λ t. false≢true (sym (none x (omega arith) (bit-below over x t)) ∙ t))))
+
+      pub chained_by : (z : ℕ) → bit over z ≡ true → first_unchained_at F H z ≡ None → (b : Bool)
+          → (IsTrue b ↔ IsSubset over (row H.order.le z)) → OnTrue b (first_unchained_at F H n ≡ None)
+      chained_by z hz none false within = tt
+      chained_by z hz none true within = chained n at
+        where
+          up_z : (x : ℕ) → bit over x ≡ true → up z x ≡ true
+          up_z x h = said z x (record { low = (over_says z hz).0.high; high = (over_says x h).0.high; le = within.0 refl x h })
+
+          at : IsChain n
+          at x y hx hy =
+              ⊎_elim
+              (λ e. inl (subst (λ j. is_le H.order j y ≡ true) (sym e) (says n y hy).le))
+              (λ ox. ⊎_elim
+              (λ e. inr (subst (λ j. is_le H.order j x ≡ true) (sym e) (says n x hx).le))
+              (λ oy. chain_of z none x y (up_z x ox) (up_z y oy))
+              (same_or_over y hy))
+              (same_or_over x hx)
+
+      pub gained : (old mid : List Bool) → AreChained F H old → length mid ≡ length old → ((x : ℕ) → bit mid x ≡ (bit old x || bit over x))
+          → first_unchained_at F H n ≡ None → AreChained F H (slice_set mid n true)
+      gained old mid are len join none = record {
+        width = length-set mid n true ∙ (len ∙ are.width);
+        each = λ x h. ⊎_elim
+            (λ e. subst (λ j. first_unchained_at F H j ≡ None) (sym e) none)
+            (λ m. ⊎_elim
+            (λ b. are.each x b)
+            (λ o. chained_above n x none (said n x (over_says x o).0))
+            (or_cases (bit old x) (bit over x) (sym (join x) ∙ m)))
+            (bit_gained mid n x h);
+      }

@@ -1,5 +1,5 @@
 -- Columns of one name, and those that a node offers.
-use Rattle.std.proofs.Common.{◌≡◌, ℕ, suc, zero, ◌+◌, ◌<◌, ◌-◌, ◌≤◌, ◌⊎◌, ◌&&◌, cond, Bool, true, false, List, [], ◌∷◌, ◌++◌, length, get_or, Contains, Option, Some, None, add-one, refl, sym, ap, ◌∙◌, subst, arith, ⊎_elim, inl, inr}
+use Rattle.std.proofs.Common.{◌≡◌, ℕ, suc, zero, ◌+◌, ◌<◌, ◌-◌, ◌≤◌, ◌⊎◌, ◌&&◌, ◌||◌, cond, Bool, true, false, List, [], ◌∷◌, ◌++◌, length, get_or, Contains, Option, Some, None, add-one, refl, sym, ap, ◌∙◌, subst, arith, ⊎_elim, inl, inr}
 use Rattle.std.specs.Str.{bytes_eq}
 use Rattle.std.specs.List.Sorted.{IsNonDecreasingBy}
 use Rattle.std.proofs.lemmas.List.Sorted.{IsNonDecreasingBy-push}
@@ -8,13 +8,16 @@ use Rattle.std.proofs.lemmas.List.{get_or_append_left, get_or_push, length_push,
 use Rattle.std.proofs.lemmas.List.Elements.{Contains-append_left, Contains-push, Contains-push_cases, Contains-get_or}
 use Rattle.kaba_bits.specs.Sets.{first_below, when}
 use Rattle.kaba_bits.proofs.FirstLemmas.{first_below_clear, first_below_found}
+use Rattle.fact_model.specs.Items.{column_kind, column_slot}
 use Rattle.fact_model.specs.declared.facts.Facts.{Facts}
 use Rattle.hier_model.specs.Hierarchies.{Hierarchy, is_offered, member_name, any_below}
+use Rattle.hier_model.specs.Names.{is_field}
 use Rattle.hier_model.proofs.AnyLemmas.{any_below_some, any_below_has}
 use Rattle.hier_rules.specs.declared.broken.Rule.TheVariants.{B8}
 use Rattle.hier_rules.specs.declared.clashes.ClashPair.{ClashPair}
 use Rattle.hier_rules.specs.Instances.{of_column}
-use Rattle.hier_rules.specs.Names.{clash, is_confused, confused}
+use Rattle.hier_rules.specs.Asked.{are_two_slots}
+use Rattle.hier_rules.specs.Names.{clash, is_confused, confused, method_slot}
 use Rattle.hier_rules.specs.Namesakes.{last_of, AreLinks, AreClashes, offers_both}
 
 pub last_next : (H : Hierarchy) (name : List ℕ) (c : ℕ) → last_of H name (c + 1) ≡ cond (bytes_eq (member_name H c) name) (Some c) (last_of H name c)
@@ -235,3 +238,20 @@ link_more H n links more o e A h =
           get_or_push links o None c (omega (arith, w, same)) ∙ h ∙ ap (λ k. last_of H (member_name H k) k) same)
           (cases_lt c (length links));
     })
+
+-- what clashes is said by the names alone
+pub clash_same : (F : Facts) (H K : Hierarchy) → K.members ≡ H.members → (c d : ℕ) → clash F K c d ≡ clash F H c d
+clash_same F H K e c d =
+    let kinds = (is_field (column_kind F c) && is_field (column_kind F d))
+    || are_two_slots (method_slot (column_kind F c) (column_slot F c)) (method_slot (column_kind F d) (column_slot F d)) in
+    ap (λ (names : List (List ℕ)). bytes_eq (get_or names c []) (get_or names d []) && kinds) e
+
+pub clashes_same : (F : Facts) (H K : Hierarchy) (d k : ℕ) (xs : List ClashPair) → K.members ≡ H.members → AreClashes F H d k xs → AreClashes F K d k xs
+clashes_same F H K d k xs e A = record {
+  order = A.order;
+  within = A.within;
+  last = A.last;
+  is = λ x m. clash_same F H K e x.first x.second ∙ A.is x m;
+  all = λ x less w here h. A.all x less w here (sym (clash_same F H K e x.first x.second) ∙ h);
+  rising = A.rising;
+}

@@ -1,5 +1,5 @@
 -- A merge, and a node put under another, are joins; and what an edit of a name leaves to be asked.
-use Rattle.std.proofs.Common.{◌≡◌, ◌⊎◌, ℕ, ◌<◌, ◌&&◌, ◌||◌, ◌==◌, not, Bool, true, false, cond, List, [], ◌∷◌, length, map, get_or, Option, Some, None, Result, Ok, Err, All, refl, sym, ap, ◌∙◌, subst, arith, ⊎_elim, inl, inr}
+use Rattle.std.proofs.Common.{◌≡◌, ◌⊎◌, ℕ, ◌<◌, ◌&&◌, ◌==◌, not, Bool, true, false, cond, List, [], ◌∷◌, length, map, get_or, Option, Some, None, Result, Ok, Err, All, refl, sym, ap, ◌∙◌, subst, arith, ⊎_elim, inl, inr}
 use Rattle.std.specs.Prelude.{slice_set}
 use Rattle.std.specs.Option.{option_map}
 use Rattle.std.specs.declared.vec.Vec.{Vec}
@@ -11,7 +11,7 @@ use Rattle.kaba_base.specs.declared.NodeId.{NodeId}
 use Rattle.kaba_base.specs.declared.ColId.{ColId}
 use Rattle.kaba_bits.specs.Sets.{bit, or_else}
 use Rattle.kaba_bits.proofs.SetLemmas.{bit-below}
-use Rattle.kaba_bits.proofs.FirstLemmas.{or_else-None, cases_Option}
+use Rattle.kaba_bits.proofs.FirstLemmas.{or_else-None}
 use Rattle.kaba_order.specs.Orders.{is_le, is_live, is_among, merged_to, stays, IsLeastMerged}
 use Rattle.kaba_order.proofs.MergeLemmas.{among-All}
 use Rattle.fact_model.specs.Items.{column_kind}
@@ -157,6 +157,39 @@ module _ (F : Facts) (H : Hierarchy) (fit : IsHierarchyOf F H) where
         (made_le H.order (λ a. is_live H.order a && stays set m a) (merged_le H.order p set m) (merged_live H.order p set m) (merged_below H.order p set m))
         column_of row_of
 
+  module _ (K : Hierarchy) (x : Edit) (e : changed F H x ≡ Ok K) where
+    -- what a merge leaves above all that is not at or below the merged nodes
+    pub merge_local : (set : Vec NodeId Global) → x ≡ edit.Merge set → NamesSome x
+        → IsLocal set.items H K × All (λ s. s.0 < length K.order.live) set.items × IsJoin set.items H K
+    merge_local set is names =
+        let some : 0 < length set.items = subst NamesSome is names in
+        let made : changed F H (edit.Merge set) ≡ Ok K = subst (λ (y : Edit). changed F H y ≡ Ok K) is e in
+        let a = unless_ok (first_unknown H.order set.items) UnknownNode (unless (first_between H.order set.items) Cycle (Ok (merged F H set.items))) K made in
+        let b = unless_ok (first_between H.order set.items) Cycle (Ok (merged F H set.items)) K a.1 in
+        let live = all_live H.order set.items a.0 in
+        let same = is_ok (merged F H set.items) K b.1 in
+        let join = subst (IsJoin set.items H) same (merged_join set.items some live b.0) in (
+          subst (IsLocal set.items H) same (one_local set.items some live b.0),
+          λ k s lt.
+              let l = bit-below H.order.live (get_or set.items k s).0 (live k s lt) in omega (arith, l, join.count),
+          join,
+        )
+
+    -- and a node that was put under another, above all that is not at or below it
+    pub put_local : (n p : NodeId) → x ≡ edit.Under n p → IsLocal (n ∷ []) H K × (n.0 < length K.order.live) × IsJoin [] H K
+    put_local n p is =
+        let under : Hierarchy = record H { order = under_order H.order n.0 p.0 } in
+        let test = is_le H.order p.0 n.0 && not (p.0 == n.0) in
+        let made : changed F H (edit.Under n p) ≡ Ok K = subst (λ (y : Edit). changed F H y ≡ Ok K) is e in
+        let a = unless_ok (first_unknown H.order (n ∷ p ∷ [])) UnknownNode (cond test (Err (Cycle n)) (Ok under)) K made in
+        let same = (if_ok test (Cycle n) under K a.1).1 in
+        let join = subst (IsJoin [] H) same (under_join n.0 p.0) in
+        let l = bit-below H.order.live n.0 (all_live H.order (n ∷ p ∷ []) a.0 0 n (omega arith)) in (
+          subst (IsLocal (n ∷ []) H) same (under_local H under n p.0 (under_pairs H.order fit.sized.order n.0 p.0) refl refl),
+          omega (arith, l, join.count),
+          join,
+        )
+
   module _ (pt : PointsTo) (meets : MeetsEdit F pt H) (K : Hierarchy) (x : Edit) (e : changed F H x ≡ Ok K) where
     -- after a merge B4 to B7 and the last part of B8 are to be asked, and B6 at the merged nodes alone
     pub merge_after : (set : Vec NodeId Global) → x ≡ edit.Merge set → NamesSome x
@@ -185,31 +218,14 @@ module _ (F : Facts) (H : Hierarchy) (fit : IsHierarchyOf F H) where
     pub merge_kept : IsHierarchyOf F K → (set : Vec NodeId Global) → x ≡ edit.Merge set → NamesSome x
         → AreKeptOutside F pt K set.items × All (λ s. s.0 < length K.order.live) set.items
     merge_kept fits set is names =
-        let some : 0 < length set.items = subst NamesSome is names in
-        let made : changed F H (edit.Merge set) ≡ Ok K = subst (λ (y : Edit). changed F H y ≡ Ok K) is e in
-        let a = unless_ok (first_unknown H.order set.items) UnknownNode (unless (first_between H.order set.items) Cycle (Ok (merged F H set.items))) K made in
-        let b = unless_ok (first_between H.order set.items) Cycle (Ok (merged F H set.items)) K a.1 in
-        let live = all_live H.order set.items a.0 in
-        let same = is_ok (merged F H set.items) K b.1 in
-        let local = subst (IsLocal set.items H) same (one_local set.items some live b.0) in
-        let join = subst (IsJoin set.items H) same (merged_join set.items some live b.0) in (
-          kept_outside F pt H K fits set.items local meets,
-          λ k s lt.
-              let l = bit-below H.order.live (get_or set.items k s).0 (live k s lt) in omega (arith, l, join.count),
-        )
+        let local = merge_local K x e set is names in
+        (kept_outside F H K fits set.items local.0 pt local.2.count local.2.members meets, local.1)
 
     -- after a node was put under another none but at or below it
     pub under_kept : IsHierarchyOf F K → (n p : NodeId) → x ≡ edit.Under n p → AreKeptOutside F pt K (n ∷ []) × (n.0 < length K.order.live)
     under_kept fits n p is =
-        let under : Hierarchy = record H { order = under_order H.order n.0 p.0 } in
-        let test = is_le H.order p.0 n.0 && not (p.0 == n.0) in
-        let made : changed F H (edit.Under n p) ≡ Ok K = subst (λ (y : Edit). changed F H y ≡ Ok K) is e in
-        let a = unless_ok (first_unknown H.order (n ∷ p ∷ [])) UnknownNode (cond test (Err (Cycle n)) (Ok under)) K made in
-        let same = (if_ok test (Cycle n) under K a.1).1 in
-        let local = subst (IsLocal (n ∷ []) H) same (under_local H under n p.0 (under_pairs H.order fit.sized.order n.0 p.0) refl refl) in
-        let join = subst (IsJoin [] H) same (under_join n.0 p.0) in
-        let l = bit-below H.order.live n.0 (all_live H.order (n ∷ p ∷ []) a.0 0 n (omega arith)) in
-        (kept_outside F pt H K fits (n ∷ []) local meets, omega (arith, l, join.count))
+        let local = put_local K x e n p is in
+        (kept_outside F H K fits (n ∷ []) local.0 pt local.2.count local.2.members meets, local.1)
 
     -- where only names are other ones, only B8 is to be asked
     names_left : (Z : Hierarchy) → first_unoffered F Z ≡ first_unoffered F H → first_untied F pt Z ≡ first_untied F pt H

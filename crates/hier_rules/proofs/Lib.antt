@@ -7,10 +7,10 @@ pub mod StandingLemmas
 pub mod OutcomeLemmas
 pub mod NeedLemmas
 pub mod ChainLemmas
-pub mod OverLemmas
 pub mod Worked
 pub mod FoundLemmas
 pub mod AfterLemmas
 pub mod LocalLemmas
 pub mod JoinLemmas
 pub mod MetLemmas
+pub mod IndexLemmas

@@ -1,32 +1,33 @@
 -- What a join leaves as it was: all that stands above a node which is at or below none of those that were joined.
-use Rattle.std.proofs.Common.{◌≡◌, ⊎_elim, ℕ, ◌<◌, ◌&&◌, ◌||◌, ◌==◌, not, Bool, true, false, cond, List, [], ◌∷◌, length, get_or, Option, Some, None, refl, sym, ap, ◌∙◌, subst, eq-eqb, zero, suc, ◌+◌, All, arith}
+use Rattle.std.proofs.Common.{◌≡◌, ⊎_elim, ℕ, ◌<◌, ◌&&◌, ◌||◌, ◌==◌, not, Bool, true, false, cond, List, [], ◌∷◌, length, get_or, Option, Some, None, refl, sym, ap, ◌∙◌, subst, eq-eqb, zero, suc, All, arith, inl, inr}
 use Rattle.std.specs.Prelude.{nat_lt}
 use Rattle.std.specs.Option.{option_map, option_and_then}
-use Rattle.std.specs.List.{list_any}
 use Rattle.std.proofs.lemmas.Bool.{cases_Bool, false≢true, and_parts, and_from, or_cases, or_left, or_right, lt-ltb}
 use Rattle.kaba_base.specs.declared.NodeId.{NodeId}
 use Rattle.kaba_base.proofs.TestLemmas.{same_truth, refuted}
-use Rattle.kaba_bits.specs.Sets.{row, or_else, first_below, when}
+use Rattle.kaba_bits.specs.Sets.{bit, row, or_else, first_below, when}
 use Rattle.kaba_bits.proofs.SetLemmas.{bit-below}
 use Rattle.kaba_bits.proofs.FirstLemmas.{first_below_None, first_below_clear, or_else-None, when-None}
-use Rattle.kaba_order.specs.Orders.{Ordered, differ, is_le, is_live, is_among, is_below_some, is_above_some, merged_to, stays, IsLeastMerged}
+use Rattle.kaba_order.specs.Orders.{Ordered, differ, is_le, is_live, is_among, is_below_some, is_above_some, merged_to, stays, IsLeastMerged, IsPartialOrder}
 use Rattle.kaba_order.proofs.MergeLemmas.{has_any_some, stays-merged}
 use Rattle.kaba_order.proofs.MergeSteps.{has_any_among}
-use Rattle.fact_model.specs.Items.{site_row, site_class, row_class, column_class}
+use Rattle.fact_model.specs.Items.{site_at, site_row, site_class, row_class, column_class, column_kind}
 use Rattle.fact_model.specs.Classes.{below, finds}
 use Rattle.fact_model.specs.declared.facts.Facts.{Facts}
-use Rattle.fact_model.specs.declared.facts.SuperInfo.{SuperInfo}
 use Rattle.fact_model.specs.declared.sets.PointsTo.{PointsTo}
-use Rattle.hier_model.specs.Hierarchies.{Hierarchy, IsHierarchyOf, node, place_of_column, place_of_row, is_offered, any_below, is_above as stands_over}
+use Rattle.hier_model.specs.Hierarchies.{Hierarchy, IsHierarchyOf, node, place_of_column, place_of_row, is_offered, any_below, is_above as stands_over, is_of_class, has_class_member, has_object, is_class_node}
 use Rattle.hier_model.proofs.AnyLemmas.{any_below_some, any_below_has}
-use Rattle.hier_rules.specs.declared.broken.Rule.TheVariants.{B4, B5, B7}
-use Rattle.hier_rules.specs.Asked.{is_super, meets, is_called, slots_of, is_other_body, is_pair}
-use Rattle.hier_rules.specs.Instances.{of_both, of_row}
-use Rattle.hier_rules.specs.Obligations.{is_below, is_strictly_above, column_le, is_above, place_of_site, is_nearer, has_nearer, wrong_body, wrong_need, first_wrong_need, is_between, has_between, wrong_super, first_wrong_super, first_unoffered, first_untied, first_two_bodies, row_le, wrong_outcome, first_wrong_outcome}
-use Rattle.hier_rules.specs.Names.{first_misnamed}
+use Rattle.hier_rules.specs.declared.broken.Rule.TheVariants.{B4, B5, B7, B8}
+use Rattle.hier_rules.specs.Asked.{is_super, meets, is_called, slots_of, is_other_body}
+use Rattle.hier_rules.specs.Instances.{of_both, of_row, of_column}
+use Rattle.hier_rules.specs.Obligations.{is_below, is_strictly_above, column_le, is_above, place_of_site, is_nearer, has_nearer, wrong_body, wrong_need, first_wrong_need, is_between, has_between, wrong_super, first_wrong_super, first_unoffered, first_untied, first_two_bodies, row_le, wrong_outcome, first_wrong_outcome, is_class_above}
+use Rattle.hier_rules.specs.Names.{first_misnamed, clash, is_confused, confused, first_unwritable, first_taken_type, first_taken_field, first_confused}
 use Rattle.hier_rules.specs.First.{first_changed_run, MeetsEdit}
 use Rattle.hier_rules.specs.After.{AreKeptOutside}
+use Rattle.hier_rules.specs.Chains.{first_unchained_at, AreChained}
+use Rattle.hier_rules.proofs.ChainLemmas.{says, said, chained, chain_of}
 use Rattle.hier_rules.proofs.NeedLemmas.{none_anywhere}
+use Rattle.hier_rules.proofs.ClashLemmas.{clash_same}
 
 -- above the nodes that are at or below no root, all is as it was
 pub record IsLocal (roots : List NodeId) (H K : Hierarchy) : Type 0 where
@@ -58,7 +59,7 @@ or_false : (x : Bool) → (x || false) ≡ x
 or_false true = refl
 or_false false = refl
 
-module _ (F : Facts) (pt : PointsTo) (H K : Hierarchy) (fit : IsHierarchyOf F K) (roots : List NodeId) (L : IsLocal roots H K) where
+module _ (F : Facts) (H K : Hierarchy) (fit : IsHierarchyOf F K) (roots : List NodeId) (L : IsLocal roots H K) where
   abbrev C : ℕ
   C = length F.columns.items
 
@@ -131,7 +132,65 @@ module _ (F : Facts) (pt : PointsTo) (H K : Hierarchy) (fit : IsHierarchyOf F K)
             let j : is_le K.order a p.0 ≡ true = L.le a p.0 live out ∙ q.0 in
             ap (is_strictly_above K.order a) (L.stands a c p live out e j) ∙ and_from (is_le K.order a p.0) (not (a == p.0)) j q.1
 
-  module _ (s : ℕ) (live : is_live K.order (place_of_site F K s) ≡ true) (out : is_below_some K.order roots (place_of_site F K s) ≡ false) where
+    confused_none : K.members ≡ H.members → (d : ℕ) → confused F H a d ≡ None → confused F K a d ≡ None
+    confused_none members d h =
+        none_if (is_confused F K a d) (is_confused F H a d) (of_column B8 a d) (of_column B8 a d) (λ t.
+        let old : ℕ → Bool = λ c. is_offered H a c && clash F H c d in
+        let new : ℕ → Bool = λ c. is_offered K a c && clash F K c d in
+        let x = and_parts (is_offered K a d) (any_below d new) t in
+        and_from (is_offered H a d) (any_below d old) (offered_before d x.0)
+        (any_rest new old d (λ c k.
+        let y = and_parts (is_offered K a c) (clash F K c d) k in
+        and_from (is_offered H a c) (clash F H c d) (offered_before c y.0) (sym (clash_same F H K members c d) ∙ y.1)) x.1)) h
+
+    class_before : is_class_node F K a ≡ true → is_class_node F H a ≡ true
+    class_before h =
+        or_more (has_class_member F K a) (has_object F K a) (has_class_member F H a) (has_object F H a)
+        (any_rest (λ c. is_of_class (column_kind F c) && is_offered K a c) (λ c. is_of_class (column_kind F c) && is_offered H a c) C (λ c t.
+        let x = and_parts (is_of_class (column_kind F c)) (is_offered K a c) t in
+        and_from (is_of_class (column_kind F c)) (is_offered H a c) x.0 (offered_before c x.1)))
+        (any_rest (λ s. ((site_at F s).dim == 0) && is_le K.order a (place_of_site F K s))
+        (λ s. ((site_at F s).dim == 0) && is_le H.order a (place_of_site F H s)) (length F.sites.items) (λ s t.
+        let x = and_parts ((site_at F s).dim == 0) (is_le K.order a (place_of_site F K s)) t in
+        and_from ((site_at F s).dim == 0) (is_le H.order a (place_of_site F H s)) x.0 (sym (L.over a (site_row F s) live out) ∙ x.1)))
+        h
+
+  -- what was chained stays so
+  module _ (a : ℕ) (live : is_live K.order a ≡ true) (out : is_below_some K.order roots a ≡ false) where
+    says_before : (x : ℕ) → is_class_above F K a x ≡ true → (is_class_above F H a x ≡ true) × (is_live K.order x ≡ true)
+        × (is_below_some K.order roots x ≡ false)
+    says_before x h =
+        let s = says F K a x h in
+        let lives = fit.sized.order.upper_lives a x s.le in
+        let above = up a live out x s.le in (
+          said F H a x (record { low = class_before a live out s.low; high = class_before x lives above s.high; le = sym (L.le a x live out) ∙ s.le }),
+          lives,
+          above,
+        )
+
+    pub chained_still : IsPartialOrder H.order → first_unchained_at F H a ≡ None → first_unchained_at F K a ≡ None
+    chained_still P none =
+        chained F K a (λ x y hx hy.
+        let bx = says_before x hx in
+        let by = says_before y hy in
+        ⊎_elim (λ h. inl (L.le x y bx.1 bx.2 ∙ h)) (λ h. inr (L.le y x by.1 by.2 ∙ h)) (chain_of F H P a none x y bx.0 by.0))
+
+  pub chained_left : IsPartialOrder H.order → length K.order.live ≡ length H.order.live → (old new : List Bool) → AreChained F H old
+      → length new ≡ length old → ((n : ℕ) → bit new n ≡ true → bit old n ≡ true)
+      → ((n : ℕ) → bit new n ≡ true → (is_live K.order n && is_below_some K.order roots n) ≡ false) → AreChained F K new
+  chained_left P count old new are len was left = record {
+    width = len ∙ (are.width ∙ sym count);
+    each = λ n h. ⊎_elim (kept n h) (dead n) (cases_Bool (is_live K.order n));
+  }
+    where
+      kept : (n : ℕ) → bit new n ≡ true → is_live K.order n ≡ true → first_unchained_at F K n ≡ None
+      kept n h live =
+          chained_still n live (subst (λ b. (b && is_below_some K.order roots n) ≡ false) live (left n h)) P (are.each n (was n h))
+
+      dead : (n : ℕ) → is_live K.order n ≡ false → first_unchained_at F K n ≡ None
+      dead n off = chained F K n (λ x y hx hy. absurd (false≢true (sym off ∙ fit.sized.order.lower_lives n x (says F K n x hx).le)))
+
+  module _ (pt : PointsTo) (s : ℕ) (live : is_live K.order (place_of_site F K s) ≡ true) (out : is_below_some K.order roots (place_of_site F K s) ≡ false) where
     body_none : (d : ℕ) → wrong_body F H s d ≡ None → wrong_body F K s d ≡ None
     body_none d h =
         let a = place_of_site F K s in
@@ -192,8 +251,8 @@ module _ (F : Facts) (pt : PointsTo) (H K : Hierarchy) (fit : IsHierarchyOf F K)
         (between_before c) x.1))
         h
 
-  pub kept_outside : MeetsEdit F pt H → AreKeptOutside F pt K roots
-  kept_outside meets =
+  pub kept_outside : (pt : PointsTo) → length K.order.live ≡ length H.order.live → K.members ≡ H.members → MeetsEdit F pt H → AreKeptOutside F pt K roots
+  kept_outside pt count members meets =
       let a = or_else-None (first_unoffered F H) (or_else (first_untied F pt H) (or_else (first_changed_run F pt H) (first_misnamed F H))) meets in
       let b = or_else-None (first_untied F pt H) (or_else (first_changed_run F pt H) (first_misnamed F H)) a.1 in
       let c = or_else-None (first_changed_run F pt H) (first_misnamed F H) b.1 in
@@ -201,37 +260,25 @@ module _ (F : Facts) (pt : PointsTo) (H K : Hierarchy) (fit : IsHierarchyOf F K)
       let e = or_else-None (first_wrong_super F H) (or_else (first_two_bodies F H) (first_wrong_outcome F pt H)) d.1 in
       record {
         needs = λ s ls live out. first_below_clear (wrong_need F pt K s) (slots_of F) (λ x lx.
-            need_none s live out x (first_below_None (wrong_need F pt H s) (slots_of F) x
+            need_none pt s live out x (first_below_None (wrong_need F pt H s) (slots_of F) x
             (first_below_None (λ s. first_below (slots_of F) (wrong_need F pt H s)) (length F.sites.items) s d.0 ls) lx));
         supers = λ r lr live out. first_below_clear (wrong_super F K r) C (λ c lc.
             super_none r live out c (first_below_None (wrong_super F H r) C c
             (first_below_None (λ r. first_below C (wrong_super F H r)) (length F.rows.items) r e.0 lr) lc));
         outcomes = λ p t s lt ls live out.
             let g = or_else-None (first_two_bodies F H) (first_wrong_outcome F pt H) e.1 in
-            outcome_none s live out p t (first_below_None (wrong_outcome F pt H p t) (length F.sites.items) s
+            outcome_none pt s live out p t (first_below_None (wrong_outcome F pt H p t) (length F.sites.items) s
             (first_below_None (λ t. first_below (length F.sites.items) (wrong_outcome F pt H p t)) (length F.rows.items) t
             (none_anywhere F pt H g.1 p) lt) ls);
+        names = λ n live out.
+            let u = or_else-None (first_unwritable F H) (or_else (first_taken_type F H) (or_else (first_taken_field F H) (first_confused F H))) c.1 in
+            let v = or_else-None (first_taken_type F H) (or_else (first_taken_field F H) (first_confused F H)) u.1 in
+            let w = or_else-None (first_taken_field F H) (first_confused F H) v.1 in
+            first_below_clear (confused F K n) C (λ d ld.
+            confused_none n live out members d (first_below_None (confused F H n) C d
+            (first_below_None (λ n. first_below C (confused F H n)) (length H.order.live) n w.1
+            (let l = bit-below K.order.live n live in omega (arith, l, count))) ld));
       }
-
--- where no super call is in the method of a row
-pub no_super : (F : Facts) (H : Hierarchy) (r : ℕ) → list_any (λ (x : SuperInfo). x.row.0 == r) F.supers.items ≡ false
-    → first_below (length F.columns.items) (wrong_super F H r) ≡ None
-no_super F H r none = first_below_clear (wrong_super F H r) (length F.columns.items) (λ c lc.
-    let b = place_of_row H r in
-    let old = not (is_above H b c) || has_between F H r c in
-    ⊎_elim
-    (λ t. absurd (false≢true (sym none ∙ some c F.supers.items t)))
-    (λ f. ap (λ t. when (t && old) (of_both B5 b r c)) f)
-    (cases_Bool (is_super F r c)))
-  where
-    some : (c : ℕ) (xs : List SuperInfo) → list_any (λ (x : SuperInfo). is_pair x.row.0 x.column.0 r c) xs ≡ true
-        → list_any (λ (x : SuperInfo). x.row.0 == r) xs ≡ true
-    some c [] h = h
-    some c (x ∷ xs) h =
-        or_more (is_pair x.row.0 x.column.0 r c) (list_any (λ (x : SuperInfo). is_pair x.row.0 x.column.0 r c) xs) (x.row.0 == r)
-        (list_any (λ (x : SuperInfo). x.row.0 == r) xs)
-        (λ k. (and_parts (x.row.0 == r) (x.column.0 == c) k).0)
-        (some c xs) h
 
 module _ (H K : Hierarchy) where
   -- a node put under another: nothing changes above what is not at or below it

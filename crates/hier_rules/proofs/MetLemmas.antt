@@ -1,8 +1,8 @@
--- Where no site that is asked of at a place is at a node of a set, and outcomes hold outside of it, none is wrong there.
-use Rattle.std.proofs.Common.{◌≡◌, ℕ, ◌<◌, ◌&&◌, eqb, Bool, true, false, List, length, None, sym, ap, ◌∙◌, ⊎_elim}
+-- Where no site that is asked of at a place is of a set, and outcomes hold outside of it, none is wrong there.
+use Rattle.std.proofs.Common.{◌≡◌, ℕ, ◌&&◌, eqb, Bool, true, List, length, None, ap, ◌∙◌, ⊎_elim}
 use Rattle.std.specs.List.{list_any}
-use Rattle.std.proofs.lemmas.Bool.{cases_Bool, and_parts, and_from, or_cases, or_left, or_right, false≢true, false_from_ne_true}
-use Rattle.kaba_bits.specs.Sets.{bit, row, first_below, when}
+use Rattle.std.proofs.lemmas.Bool.{cases_Bool, and_parts, and_from, or_cases, or_left, or_right, false_from_ne_true}
+use Rattle.kaba_bits.specs.Sets.{bit, row, first_below, when, Meet}
 use Rattle.kaba_bits.proofs.FirstLemmas.{first_below_clear}
 use Rattle.kaba_order.specs.Orders.{differ}
 use Rattle.fact_model.specs.Items.{site_class, site_row, row_class}
@@ -11,13 +11,13 @@ use Rattle.fact_model.specs.declared.facts.Facts.{Facts}
 use Rattle.fact_model.specs.declared.facts.TestInfo.{TestInfo}
 use Rattle.fact_model.specs.declared.facts.StoreInfo.{StoreInfo}
 use Rattle.fact_model.specs.declared.sets.PointsTo.{PointsTo}
-use Rattle.hier_model.specs.Hierarchies.{Hierarchy, any_below, place_of_row}
-use Rattle.hier_model.proofs.AnyLemmas.{any_below_has}
+use Rattle.hier_model.specs.Hierarchies.{Hierarchy, place_of_row}
 use Rattle.hier_rules.specs.declared.broken.Rule.TheVariants.{B7}
 use Rattle.hier_rules.specs.Asked.{is_element, is_test_at, is_store_at, is_tested, is_stored, meets, has_array}
 use Rattle.hier_rules.specs.Instances.{of_row}
 use Rattle.hier_rules.specs.Obligations.{row_le, place_of_site, wrong_outcome, first_wrong_of_place}
 use Rattle.hier_rules.specs.Touched.{OutcomesHold, is_at_place}
+use Rattle.hier_rules.specs.Index.{IsTestRow}
 use Rattle.hier_rules.proofs.AnyLemmas.{any_weaker}
 
 module _ (F : Facts) (pt : PointsTo) where
@@ -44,20 +44,13 @@ module _ (F : Facts) (pt : PointsTo) where
       and_from (is_element x.column && eqb x.place.at p) (bit (row pt.points.items x.value) s) z.0 y.1) F.stores.items b))
       (or_cases (is_tested F pt p t s) (is_stored F pt p t s) h)
 
-  pub no_low : (H : Hierarchy) (p : ℕ) (sites low : List Bool) → ((s : ℕ) → bit sites s ≡ is_at_place F pt p s) → OutcomesHold F pt H low
-      → any_below (length F.sites.items) (λ s. bit sites s && bit low (place_of_site F H s)) ≡ false → first_wrong_of_place F pt H p ≡ None
+  pub no_low : (H : Hierarchy) (p : ℕ) (sites low : List Bool) → IsTestRow (length F.sites.items) (is_at_place F pt p) sites → OutcomesHold F pt H low
+      → (Meet sites low → ⊥) → first_wrong_of_place F pt H p ≡ None
   no_low H p sites low is hold none =
       first_below_clear (λ t. first_below (length F.sites.items) (wrong_outcome F pt H p t)) (length F.rows.items) (λ t lt.
       first_below_clear (wrong_outcome F pt H p t) (length F.sites.items) (λ s ls.
       ⊎_elim
-      (λ m. hold.each p t s lt ls (high t s ls m))
+      (λ m. hold.each p t s lt ls (false_from_ne_true (bit low s) (λ h. none (s, is.exact s ls ∙ met_at p t s m, h))))
       (λ f. ap (λ b. when (b && differ (row_le H (site_row F s) t) (below F (site_class F s) (row_class F t)))
       (of_row B7 (place_of_site F H s) (place_of_row H t) (site_row F s))) f)
       (cases_Bool (meets F pt p t s))))
-    where
-      high : (t s : ℕ) → s < length F.sites.items → meets F pt p t s ≡ true → bit low (place_of_site F H s) ≡ false
-      high t s ls m = false_from_ne_true (bit low (place_of_site F H s)) (λ h.
-          false≢true
-          (sym none
-          ∙ any_below_has (λ s. bit sites s && bit low (place_of_site F H s)) (length F.sites.items) s ls
-          (and_from (bit sites s) (bit low (place_of_site F H s)) (is s ∙ met_at p t s m) h)))

@@ -10,6 +10,7 @@ use Rattle.hier_model.specs.Edits.{changed}
 use Rattle.hier_model.specs.declared.edits.Edit.{Edit}
 use Rattle.hier_rules.specs.Asked.{slots_of}
 use Rattle.hier_rules.specs.Obligations.{place_of_site, wrong_need, wrong_super, wrong_outcome, two_bodies}
+use Rattle.hier_rules.specs.Names.{confused}
 use Rattle.hier_rules.specs.First.{MeetsEdit}
 
 -- an edit made this hierarchy of one that met its obligations
@@ -24,7 +25,7 @@ abbrev pub AreApartOutside : Facts → Hierarchy → List NodeId → Type 0
 AreApartOutside F H set = (n : ℕ) → n < length H.order.live → is_among set n ≡ false
     → first_below (length F.columns.items) (λ c. first_below (length F.columns.items) (two_bodies F H n c)) ≡ None
 
--- no need of a site, no super call of a row's method and no outcome of a site is broken at a node that is at or below none of a list
+-- no need of a site, no super call of a row's method, no outcome of a site and no name is broken at a node that is at or below none of a list
 pub record AreKeptOutside (F : Facts) (pt : PointsTo) (H : Hierarchy) (roots : List NodeId) : Type 0 where
   pub needs : (s : ℕ) → s < length F.sites.items → is_live H.order (place_of_site F H s) ≡ true → is_below_some H.order roots (place_of_site F H s) ≡ false
       → first_below (slots_of F) (wrong_need F pt H s) ≡ None
@@ -32,3 +33,4 @@ pub record AreKeptOutside (F : Facts) (pt : PointsTo) (H : Hierarchy) (roots : L
       → first_below (length F.columns.items) (wrong_super F H r) ≡ None
   pub outcomes : (p t s : ℕ) → t < length F.rows.items → s < length F.sites.items → is_live H.order (place_of_site F H s) ≡ true
       → is_below_some H.order roots (place_of_site F H s) ≡ false → wrong_outcome F pt H p t s ≡ None
+  pub names : (n : ℕ) → is_live H.order n ≡ true → is_below_some H.order roots n ≡ false → first_below (length F.columns.items) (confused F H n) ≡ None

@@ -1,16 +1,14 @@
--- Mirror. What the search for unordered class nodes makes.
-use Rattle.std.specs.Prelude.{◌≡◌, ℕ, suc, zero, ◌+◌, ◌<◌, ◌==◌, ◌&&◌, nat_lt, not, cond, length, List, Bool, slice_index_or}
-use Rattle.kaba_bits.specs.Sets.{bit}
+-- Mirror. What the search for unordered class nodes knows, and what an edit leaves of it.
+use Rattle.std.specs.Prelude.{◌≡◌, ℕ, ◌==◌, ◌&&◌, not, length, List, Bool, Option, None, Ok, true}
+use Rattle.kaba_bits.specs.Sets.{bit, first_below}
 use Rattle.fact_model.specs.declared.facts.Facts.{Facts}
-use Rattle.hier_model.specs.Hierarchies.{Hierarchy, IsHierarchyOf, any_below}
+use Rattle.hier_model.specs.Hierarchies.{Hierarchy, IsHierarchyOf}
 use Rattle.hier_model.specs.Classes.{AreClassNodes}
+use Rattle.hier_model.specs.Edits.{changed}
+use Rattle.hier_model.specs.declared.edits.Edit.{Edit}
+use Rattle.hier_rules.specs.declared.broken.Broken.{Broken}
 use Rattle.hier_rules.specs.declared.chains.ClassNodes.{ClassNodes}
-use Rattle.hier_rules.specs.Obligations.{is_class_above}
-
--- how many numbers below n pass a test
-abbrev pub count_below : ℕ → (ℕ → Bool) → ℕ
-count_below zero p = 0
-count_below (suc n) p = cond (p n) (count_below n p + 1) (count_below n p)
+use Rattle.hier_rules.specs.Obligations.{is_class_above, unchained}
 
 -- a hierarchy, and the set of its class nodes
 pub record HasClassNodes (nodes : ClassNodes) : Type 0 where
@@ -22,24 +20,18 @@ module _ (F : Facts) (H : Hierarchy) where
   abbrev pub is_over : ℕ → ℕ → Bool
   is_over n x = is_class_above F H n x && not (x == n)
 
-  -- how many class nodes are strictly above a node
-  abbrev pub class_count : ℕ → ℕ
-  class_count n = count_below (length H.order.live) (is_over n)
+  -- the first two class nodes at or above a node that are not ordered
+  abbrev pub first_unchained_at : ℕ → Option Broken
+  first_unchained_at n = first_below (length H.order.live) (λ x. first_below (length H.order.live) (unchained F H n x))
 
-  -- whether a class node is strictly above another, and has one fewer above it
-  abbrev pub is_next : ℕ → ℕ → Bool
-  is_next n z = is_over n z && (class_count z + 1 == class_count n)
+  -- the nodes of the set are chained: the class nodes at or above each of them form a chain
+  pub record AreChained (chained : List Bool) : Type 0 where
+    pub width : length chained ≡ length H.order.live
+    pub each : (n : ℕ) → bit chained n ≡ true → first_unchained_at n ≡ None
 
-  -- whether class nodes are above a node, and none of them has one fewer above it
-  abbrev pub is_loose : ℕ → Bool
-  is_loose n = nat_lt 0 (class_count n) && not (any_below (length H.order.live) (is_next n))
-
-  -- for each node how many class nodes are strictly above it
-  pub record AreCounts (counts : List ℕ) : Type 0 where
-    pub width : length counts ≡ length H.order.live
-    pub exact : (n : ℕ) → n < length counts → slice_index_or counts n 0 ≡ class_count n
-
-  -- the set of the loose nodes
-  pub record AreLooseNodes (nodes : List Bool) : Type 0 where
-    pub width : length nodes ≡ length H.order.live
-    pub exact : (n : ℕ) → bit nodes n ≡ (nat_lt n (length H.order.live) && is_loose n)
+-- an edit made this hierarchy of one in which the nodes of the set were chained
+pub record WereChained (F : Facts) (K : Hierarchy) (edit : Edit) (chained : List Bool) : Type 0 where
+  pub before : Hierarchy
+  pub fits : IsHierarchyOf F before
+  pub were : AreChained F before chained
+  pub made : changed F before edit ≡ Ok K

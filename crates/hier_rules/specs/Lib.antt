@@ -11,3 +11,4 @@ pub mod Words
 pub mod Pairs
 pub mod After
 pub mod Touched
+pub mod Index

@@ -8,6 +8,7 @@ use Rattle.fact_model.specs.declared.facts.Facts.{Facts}
 use Rattle.fact_model.specs.declared.sets.PointsTo.{PointsTo}
 use Rattle.hier_model.specs.Hierarchies.{Hierarchy, place_of_row}
 use Rattle.hier_rules.specs.Asked.{slots_of, is_element}
+use Rattle.hier_rules.specs.Names.{confused}
 use Rattle.hier_rules.specs.Obligations.{place_of_site, wrong_need, wrong_super, wrong_outcome}
 
 -- the set of the live nodes that are at or below some node of a list
@@ -25,10 +26,15 @@ pub record SupersHold (F : Facts) (H : Hierarchy) (low : List Bool) : Type 0 whe
   pub width : length low ≡ length H.order.live
   pub each : (r : ℕ) → r < length F.rows.items → bit low (place_of_row H r) ≡ false → first_below (length F.columns.items) (wrong_super F H r) ≡ None
 
--- no site at a node outside a set meets a target with another outcome
-pub record OutcomesHold (F : Facts) (pt : PointsTo) (H : Hierarchy) (low : List Bool) : Type 0 where
+-- no site outside a set meets a target with another outcome
+pub record OutcomesHold (F : Facts) (pt : PointsTo) (H : Hierarchy) (sites : List Bool) : Type 0 where
+  pub width : length sites ≡ length F.sites.items
+  pub each : (p t s : ℕ) → t < length F.rows.items → s < length F.sites.items → bit sites s ≡ false → wrong_outcome F pt H p t s ≡ None
+
+-- no node outside a set offers two columns of one name that clash
+pub record NamesHold (F : Facts) (H : Hierarchy) (low : List Bool) : Type 0 where
   pub width : length low ≡ length H.order.live
-  pub each : (p t s : ℕ) → t < length F.rows.items → s < length F.sites.items → bit low (place_of_site F H s) ≡ false → wrong_outcome F pt H p t s ≡ None
+  pub each : (n : ℕ) → bit low n ≡ false → first_below (length F.columns.items) (confused F H n) ≡ None
 
 -- whether a site is in the operand of a test, or in the value of a store of an element, at a place
 abbrev pub is_at_place : Facts → PointsTo → ℕ → ℕ → Bool

@@ -4,13 +4,16 @@ ghost use Rattle.std.specs.Prelude.{◌≡◌, ◌<◌, length, All, IfOk};
 ghost use Rattle.hier_rules.specs.Words.{or_else, IsObligationInput, NamesSome};
 ghost use Rattle.hier_rules.specs.First.{first_changed_run, first_of_edit};
 ghost use Rattle.hier_rules.specs.Names.{first_confused};
+ghost use Rattle.hier_model.specs.Places.{JoinsNodes};
+ghost use Rattle.hier_rules.specs.Index.{IsIndexOf, AreClashesOf};
 ghost use Rattle.hier_rules.specs.After.{IsAfterEdit, AreApartOutside, AreKeptOutside};
 
 use crate::bodies::first_two_bodies_among;
 use crate::broken::Broken;
-use crate::clashes::first_confused;
+use crate::clashes::{ClashPair, first_confused_among, name_clashes};
 use crate::first_of_edit;
-use crate::met::first_wrong_outcome_among;
+use crate::index::JoinIndex;
+use crate::met::{first_wrong_outcome_among, low_sites};
 use crate::names::first_misnamed;
 use crate::places::Asked;
 use crate::touched::{first_wrong_need_among, first_wrong_super_among, touched};
@@ -25,16 +28,20 @@ use std::alloc::{AllocError, Global};
 pub fn first_broken_after(
     alloc: Global,
     asked: &Asked,
+    index: &JoinIndex,
     edit: &Edit,
 ) -> Result<Option<Broken>, AllocError>
     requires asked { IsObligationInput asked.now }
+    requires index { IsIndexOf asked.now.facts.now asked.now.pt.now index.now }
     requires some { NamesSome edit.now }
     requires after { IsAfterEdit asked.now.facts.now asked.now.pt.now asked.now.hier.now edit.now }
     ensures first { IfOk result (λ b. b ≡ first_of_edit asked.now.facts.now asked.now.pt.now asked.now.hier.now) }
 {
     match edit {
-        Edit::Merge(set) => first_after_join(alloc, asked, set, set),
-        Edit::Under(n, _) => first_after_join(alloc, asked, &[], &[*n]),
+        Edit::Merge(_) | Edit::Under(_, _) => {
+            let clashes = name_clashes(alloc, asked)?;
+            first_broken_joined(alloc, asked, index, &clashes, edit)
+        }
         Edit::TypeName(_, _) => first_misnamed(alloc, asked),
         Edit::MemberName(_, _) => first_misnamed(alloc, asked),
         Edit::Move(_, _) => first_of_edit(alloc, asked),
@@ -42,16 +49,46 @@ pub fn first_broken_after(
     }
 }
 
+/// The same after a join, a merge or a node put under another, by what is found of the names of members too, which no join
+/// changes. An error comes only for want of memory. The time is in proportion to the number of nodes, rows, columns and
+/// sites, for each asked place to a 64th of the number of sites, and to what stands at or below the joined nodes.
+pub fn first_broken_joined(
+    alloc: Global,
+    asked: &Asked,
+    index: &JoinIndex,
+    clashes: &Vec<ClashPair>,
+    edit: &Edit,
+) -> Result<Option<Broken>, AllocError>
+    requires asked { IsObligationInput asked.now }
+    requires some { NamesSome edit.now }
+    requires join { JoinsNodes edit.now }
+    requires index { IsIndexOf asked.now.facts.now asked.now.pt.now index.now }
+    requires clashes { AreClashesOf asked.now.facts.now asked.now.hier.now.members clashes.now.items }
+    requires after { IsAfterEdit asked.now.facts.now asked.now.pt.now asked.now.hier.now edit.now }
+    ensures first { IfOk result (λ b. b ≡ first_of_edit asked.now.facts.now asked.now.pt.now asked.now.hier.now) }
+{
+    match edit {
+        Edit::Merge(set) => first_after_join(alloc, asked, index, clashes, set, set),
+        Edit::Under(n, _) => first_after_join(alloc, asked, index, clashes, &[], &[*n]),
+        Edit::Move(_, _) | Edit::TypeName(_, _) => unreachable!(),
+        Edit::MemberName(_, _) | Edit::Drop(_) => unreachable!(),
+    }
+}
+
 /// The first instance against B4 to B7, and then against the last part of B8, where a node outside a list has no two bodies
-/// of one slot, and no need, no super call and no outcome is broken but at or below the nodes of another. An error comes only
-/// for want of memory.
+/// of one slot, and no need, no super call, no outcome and no name is broken but at or below the nodes of another. An error
+/// comes only for want of memory.
 fn first_after_join(
     alloc: Global,
     asked: &Asked,
+    index: &JoinIndex,
+    clashes: &Vec<ClashPair>,
     joined: &[NodeId],
     roots: &[NodeId],
 ) -> Result<Option<Broken>, AllocError>
     requires asked { IsObligationInput asked.now }
+    requires index { IsIndexOf asked.now.facts.now asked.now.pt.now index.now }
+    requires clashes { AreClashesOf asked.now.facts.now asked.now.hier.now.members clashes.now.items }
     requires others { AreApartOutside asked.now.facts.now asked.now.hier.now joined.now }
     requires kept { AreKeptOutside asked.now.facts.now asked.now.pt.now asked.now.hier.now roots.now }
     requires roots { All (λ s. s.0 < length asked.now.hier.now.order.live) roots.now }
@@ -59,17 +96,18 @@ fn first_after_join(
         (first_confused asked.now.facts.now asked.now.hier.now)) }
 {
     let low = touched(alloc, asked, roots)?;
-    if let Some(found) = first_wrong_need_among(alloc, asked, &low)? {
+    if let Some(found) = first_wrong_need_among(alloc, asked, index, &low)? {
         return Ok(Some(found));
     }
-    if let Some(found) = first_wrong_super_among(alloc, asked, &low)? {
+    if let Some(found) = first_wrong_super_among(asked, index, &low) {
         return Ok(Some(found));
     }
-    if let Some(found) = first_two_bodies_among(asked, joined) {
+    if let Some(found) = first_two_bodies_among(asked, index, joined) {
         return Ok(Some(found));
     }
-    match first_wrong_outcome_among(alloc, asked, &low)? {
+    let sites = low_sites(alloc, asked, &low)?;
+    match first_wrong_outcome_among(alloc, asked, index, &sites)? {
         Some(found) => Ok(Some(found)),
-        None => first_confused(alloc, asked),
+        None => Ok(first_confused_among(asked, clashes, &low)),
     }
 }

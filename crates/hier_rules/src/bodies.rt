@@ -1,6 +1,6 @@
 //! B4, B5 and B6: the bodies that calls and super calls run, and bodies at one node.
 
-ghost use Rattle.std.specs.Prelude.{◌≡◌, ℕ, ◌<◌, ◌↔◌, ◌==◌, ◌++◌, ◌∷◌, [], true, cond, length, IfOk, OnOk, Contains};
+ghost use Rattle.std.specs.Prelude.{◌≡◌, ℕ, ◌<◌, ◌↔◌, ◌==◌, ◌++◌, ◌∷◌, [], true, cond, None, length, IfOk, OnOk, Contains};
 ghost use Rattle.hier_rules.specs.Words.{IsNonDecreasing, bit, row, first_below, is_live, IsObligationInput};
 ghost use Rattle.std.specs.Option.{option_and_then};
 ghost use Rattle.kaba_order.specs.Orders.{is_among};
@@ -8,12 +8,15 @@ ghost use Rattle.fact_model.specs.Items.{site_class, column_kind, column_class, 
 ghost use Rattle.fact_model.specs.Classes.{is_def, finds};
 ghost use Rattle.hier_rules.specs.Asked.{is_super, is_called, slots_of, is_other_body};
 ghost use Rattle.hier_rules.specs.Instances.{of_column};
+ghost use Rattle.std.specs.Bool.{OnFalse};
 ghost use Rattle.hier_rules.specs.Pairs.{IsPairsRow};
+ghost use Rattle.hier_rules.specs.Index.{IsTestRow, IsIndexOf};
 ghost use Rattle.hier_rules.specs.After.{AreApartOutside};
 ghost use Rattle.hier_rules.specs.Obligations.{is_nearer, has_nearer, wrong_body, wrong_need, first_wrong_need, is_between, has_between, wrong_super, first_wrong_super, is_body_at, two_bodies, first_two_bodies};
 ghost use Rattle.hier_model.specs.Edits.{is_one_slot};
 
 use crate::broken::{Broken, Nodes, Rule};
+use crate::index::JoinIndex;
 use crate::pairs::super_rows;
 use crate::places::{Asked, column_le, is_above, is_offered, node_count, place_of_row, stands_at};
 use crate::rows::of_both;
@@ -66,7 +69,7 @@ fn are_of_one_slot(facts: &Facts, c: u32, d: u32) -> bool
 }
 
 /// Whether `e` is another body of the slot of `d`.
-fn is_other_body(facts: &Facts, d: u32, e: u32) -> bool
+pub fn is_other_body(facts: &Facts, d: u32, e: u32) -> bool
     requires body { d < length facts.now.columns.items }
     requires other { e < length facts.now.columns.items }
     ensures { result ≡ is_other_body facts.now d e }
@@ -75,7 +78,7 @@ fn is_other_body(facts: &Facts, d: u32, e: u32) -> bool
 }
 
 /// Whether `e` is another body of the slot of `d`, is offered at a node, and stands at or below `d`.
-fn is_nearer(asked: &Asked, n: NodeId, d: u32, e: u32) -> bool
+pub fn is_nearer(asked: &Asked, n: NodeId, d: u32, e: u32) -> bool
     requires asked { IsObligationInput asked.now }
     requires node { is_live asked.now.hier.now.order n.0 ≡ true }
     requires body { d < length asked.now.facts.now.columns.items }
@@ -262,17 +265,19 @@ pub fn first_two_bodies(asked: &Asked) -> Option<Broken>
 
 /// The same, where no node outside a list has two bodies of one slot.
 #[tactic(auto, using(kaba_bits::proofs::FirstLemmas::first_below_found))]
-pub fn first_two_bodies_among(asked: &Asked, nodes: &[NodeId]) -> Option<Broken>
+pub fn first_two_bodies_among(asked: &Asked, index: &JoinIndex, nodes: &[NodeId]) -> Option<Broken>
     requires asked { IsObligationInput asked.now }
+    requires index { IsIndexOf asked.now.facts.now asked.now.pt.now index.now }
     requires others { AreApartOutside asked.now.facts.now asked.now.hier.now nodes.now }
     ensures { result ≡ first_two_bodies asked.now.facts.now asked.now.hier.now }
 {
-    first_below!(n < node_count(asked.hier); first_two_bodies_if(asked, nodes, n))
+    first_below!(n < node_count(asked.hier); first_two_bodies_if(asked, index, nodes, n))
 }
 
 /// The first two bodies of one slot at a node, by whether it is one of a list outside of which no node has such.
-fn first_two_bodies_if(asked: &Asked, nodes: &[NodeId], n: u32) -> Option<Broken>
+fn first_two_bodies_if(asked: &Asked, index: &JoinIndex, nodes: &[NodeId], n: u32) -> Option<Broken>
     requires asked { IsObligationInput asked.now }
+    requires index { IsIndexOf asked.now.facts.now asked.now.pt.now index.now }
     requires others { AreApartOutside asked.now.facts.now asked.now.hier.now nodes.now }
     requires node { n < length asked.now.hier.now.order.live }
     ensures { result ≡ first_below (length asked.now.facts.now.columns.items)
@@ -281,7 +286,34 @@ fn first_two_bodies_if(asked: &Asked, nodes: &[NodeId], n: u32) -> Option<Broken
     if !is_among(nodes, n) {
         return None;
     }
+    if !has_two_bodies(asked, index, n) {
+        return None;
+    }
     first_two_bodies_at(asked, n)
+}
+
+/// Whether two bodies of one slot stand at a node.
+#[tactic(auto, using(kaba_bits::proofs::FirstLemmas::first_below_more))]
+fn has_two_bodies(asked: &Asked, index: &JoinIndex, n: u32) -> bool
+    requires asked { IsObligationInput asked.now }
+    requires index { IsIndexOf asked.now.facts.now asked.now.pt.now index.now }
+    ensures { OnFalse result (first_below (length asked.now.facts.now.columns.items)
+        (λ c. first_below (length asked.now.facts.now.columns.items) (two_bodies asked.now.facts.now asked.now.hier.now n c)) ≡ None) }
+{
+    any_below!(c < asked.facts.columns.len() as u32; has_rival_at(asked, row_at(&index.rivals, c as usize), n, c))
+}
+
+/// Whether `c`, if that is a body, and one of the other bodies of its slot stand at a node.
+fn has_rival_at(asked: &Asked, rivals: &BitRow, n: u32, c: u32) -> bool
+    requires asked { IsObligationInput asked.now }
+    requires column { c < length asked.now.facts.now.columns.items }
+    requires rivals { IsTestRow (length asked.now.facts.now.columns.items) (is_other_body asked.now.facts.now c) rivals.now }
+    ensures { OnFalse result (first_below (length asked.now.facts.now.columns.items) (two_bodies asked.now.facts.now asked.now.hier.now n c) ≡ None) }
+{
+    if !is_body_at(asked, n, c) {
+        return false;
+    }
+    any_in!(e in rivals; stands_at(asked, n, e))
 }
 
 /// Whether a number is that of a node of a list.

@@ -1,12 +1,12 @@
 //! B9: the class nodes at or above each class node form a chain.
 
-ghost use Rattle.std.specs.Prelude.{◌≡◌, ℕ, ◌+◌, ◌<◌, ◌==◌, ◌&&◌, ◌||◌, true, false, length, IfOk};
-ghost use Rattle.std.specs.Bool.{OnFalse};
-ghost use Rattle.hier_rules.specs.Words.{bit, row, first_below, is_le, InRange};
-ghost use Rattle.hier_model.specs.Hierarchies.{IsHierarchyOf, any_below};
+ghost use Rattle.std.specs.Prelude.{◌≡◌, ℕ, ◌<◌, true, length, None, IfOk};
+ghost use Rattle.std.specs.Bool.{OnTrue};
+ghost use Rattle.hier_rules.specs.Words.{bit, first_below, is_le, InRange};
+ghost use Rattle.hier_model.specs.Hierarchies.{IsHierarchyOf};
 ghost use Rattle.hier_rules.specs.Instances.{of_three};
-ghost use Rattle.hier_rules.specs.Obligations.{is_class_above, unchained, first_unchained};
-ghost use Rattle.hier_rules.specs.Chains.{HasClassNodes, AreCounts, AreLooseNodes, is_over, class_count, is_next, is_loose};
+ghost use Rattle.hier_rules.specs.Obligations.{unchained, first_unchained};
+ghost use Rattle.hier_rules.specs.Chains.{HasClassNodes, AreChained, is_over, first_unchained_at};
 
 use crate::broken::{Broken, Nodes, Rule};
 use crate::places::{is_le, node_count};
@@ -46,16 +46,6 @@ fn class_le(nodes: &ClassNodes, a: u32, b: u32) -> bool
     is_le(nodes.hier, a, b)
 }
 
-/// Whether a class node is at or above another.
-fn is_class_above(nodes: &ClassNodes, n: u32, x: u32) -> bool
-    requires nodes { HasClassNodes nodes.now }
-    requires lower { n < length nodes.now.hier.now.order.live }
-    requires upper { x < length nodes.now.hier.now.order.live }
-    ensures { result ≡ is_class_above nodes.now.facts.now nodes.now.hier.now n x }
-{
-    nodes.classes.has(n) && nodes.classes.has(x) && class_le(nodes, n, x)
-}
-
 /// Makes a set that of the class nodes strictly above a node, if it is a class node, and else empty.
 fn fill_over(nodes: &ClassNodes, n: u32, over: &mut BitRow)
     requires nodes { HasClassNodes nodes.now }
@@ -73,155 +63,136 @@ fn fill_over(nodes: &ClassNodes, n: u32, over: &mut BitRow)
     over.remove(n);
 }
 
-/// How many class nodes are strictly above a node.
-fn class_count(nodes: &ClassNodes, over: &BitRow, n: u32) -> u32
-    requires width { length over.now ≡ length nodes.now.hier.now.order.live }
-    requires over { (x : ℕ) → bit over.now x ≡ is_over nodes.now.facts.now nodes.now.hier.now n x }
-    ensures { result ≡ class_count nodes.now.facts.now nodes.now.hier.now n }
+/// One of the nodes of a set of class nodes, of which one is given: that which is at or below all others, if there is one.
+fn lowest(nodes: &ClassNodes, set: &BitRow, first: u32) -> u32
+    requires nodes { HasClassNodes nodes.now }
+    requires classes { (x : ℕ) → bit set.now x ≡ true → bit nodes.now.classes.now x ≡ true }
+    requires first { bit set.now first ≡ true }
+    ensures { bit set.now result ≡ true }
 {
-    if over.is_empty() {
-        return 0;
+    let _width = set.width();
+    let mut low = first;
+    let mut at = 0;
+    'scan: while let Some(x) = set.next(at) {
+        if class_le(nodes, x, low) {
+            low = x;
+        }
+        at = x + 1;
     }
-    over.count()
+    low
 }
 
-/// The same, by a set that is made on the way.
-fn count_over(nodes: &ClassNodes, n: u32, over: &mut BitRow) -> u32
+/// Whether a node is known to be chained by the lowest class node strictly above it.
+fn is_chained(nodes: &ClassNodes, over: &BitRow, n: u32, chained: &BitRow) -> bool
+    requires nodes { HasClassNodes nodes.now }
+    requires width { length over.now ≡ length nodes.now.hier.now.order.live }
+    requires over { (x : ℕ) → bit over.now x ≡ is_over nodes.now.facts.now nodes.now.hier.now n x }
+    requires chained { AreChained nodes.now.facts.now nodes.now.hier.now chained.now }
+    ensures { OnTrue result (first_unchained_at nodes.now.facts.now nodes.now.hier.now n ≡ None) }
+{
+    match over.next(0) {
+        None => true,
+        Some(first) => {
+            let low = lowest(nodes, over, first);
+            chained.has(low) && over.is_subset(nodes.hier.order().above(NodeId(low)))
+        }
+    }
+}
+
+/// The first class node strictly above a node that is after another of them, and not ordered with it.
+fn first_unchained_with(nodes: &ClassNodes, over: &BitRow, n: u32, x: u32) -> Option<Broken>
+    requires nodes { HasClassNodes nodes.now }
+    requires width { length over.now ≡ length nodes.now.hier.now.order.live }
+    requires over { (z : ℕ) → bit over.now z ≡ is_over nodes.now.facts.now nodes.now.hier.now n z }
+    requires first { bit over.now x ≡ true }
+    ensures { result ≡ first_below (length nodes.now.hier.now.order.live) (unchained nodes.now.facts.now nodes.now.hier.now n x) }
+{
+    let _width = over.width();
+    let mut at = x + 1;
+    'scan: while let Some(y) = over.next(at) {
+        if !class_le(nodes, x, y) && !class_le(nodes, y, x) {
+            return Some(of_three(Rule::B9, n, x, y));
+        }
+        at = y + 1;
+    }
+    None
+}
+
+/// The first two class nodes strictly above a node that are not ordered.
+fn first_unchained_over(nodes: &ClassNodes, over: &BitRow, n: u32) -> Option<Broken>
+    requires nodes { HasClassNodes nodes.now }
+    requires width { length over.now ≡ length nodes.now.hier.now.order.live }
+    requires over { (x : ℕ) → bit over.now x ≡ is_over nodes.now.facts.now nodes.now.hier.now n x }
+    ensures { result ≡ first_unchained_at nodes.now.facts.now nodes.now.hier.now n }
+{
+    let _width = over.width();
+    let mut at = 0;
+    'scan: while let Some(x) = over.next(at) {
+        if let Some(found) = first_unchained_with(nodes, over, n, x) {
+            return Some(found);
+        }
+        at = x + 1;
+    }
+    None
+}
+
+/// The same, at once where the node is known to be chained by the lowest class node strictly above it.
+fn first_unchained_at(nodes: &ClassNodes, over: &BitRow, n: u32, chained: &BitRow) -> Option<Broken>
+    requires nodes { HasClassNodes nodes.now }
+    requires width { length over.now ≡ length nodes.now.hier.now.order.live }
+    requires over { (x : ℕ) → bit over.now x ≡ is_over nodes.now.facts.now nodes.now.hier.now n x }
+    requires chained { AreChained nodes.now.facts.now nodes.now.hier.now chained.now }
+    ensures { result ≡ first_unchained_at nodes.now.facts.now nodes.now.hier.now n }
+{
+    if is_chained(nodes, over, n, chained) {
+        return None;
+    }
+    first_unchained_over(nodes, over, n)
+}
+
+/// Adds a chained node, and the class nodes strictly above it.
+fn add_chained(nodes: &ClassNodes, over: &BitRow, n: u32, chained: &mut BitRow)
+    requires nodes { HasClassNodes nodes.now }
+    requires node { n < length nodes.now.hier.now.order.live }
+    requires width { length over.now ≡ length nodes.now.hier.now.order.live }
+    requires over { (x : ℕ) → bit over.now x ≡ is_over nodes.now.facts.now nodes.now.hier.now n x }
+    requires chain { first_unchained_at nodes.now.facts.now nodes.now.hier.now n ≡ None }
+    requires chained { AreChained nodes.now.facts.now nodes.now.hier.now chained.old }
+    ensures { AreChained nodes.now.facts.now nodes.now.hier.now chained.new }
+{
+    chained.or_into(over);
+    chained.set(n);
+}
+
+/// The first two class nodes at or above a node that are not ordered; where there are none, the node joins the chained ones.
+fn first_unchained_above(
+    nodes: &ClassNodes,
+    n: u32,
+    over: &mut BitRow,
+    chained: &mut BitRow,
+) -> Option<Broken>
     requires nodes { HasClassNodes nodes.now }
     requires node { n < length nodes.now.hier.now.order.live }
     requires width { length over.old ≡ length nodes.now.hier.now.order.live }
+    requires chained { AreChained nodes.now.facts.now nodes.now.hier.now chained.old }
+    ensures first { result ≡ first_unchained_at nodes.now.facts.now nodes.now.hier.now n }
     ensures width { length over.new ≡ length nodes.now.hier.now.order.live }
-    ensures count { result ≡ class_count nodes.now.facts.now nodes.now.hier.now n }
+    ensures chained { AreChained nodes.now.facts.now nodes.now.hier.now chained.new }
 {
-    if !nodes.classes.has(n) {
-        return 0;
+    if chained.has(n) {
+        return None;
     }
     fill_over(nodes, n, over);
-    class_count(nodes, over, n)
-}
-
-/// The same for each node. An error comes only for want of memory.
-fn class_counts(alloc: Global, nodes: &ClassNodes) -> Result<Vec<u32>, AllocError>
-    requires nodes { HasClassNodes nodes.now }
-    ensures { IfOk result (λ v. AreCounts nodes.now.facts.now nodes.now.hier.now v.items) }
-{
-    let mut over = BitRow::new(alloc, node_count(nodes.hier))?;
-    let mut counts = Vec::new(alloc);
-    for n in 0..node_count(nodes.hier) {
-        counts.push(count_over(nodes, n, &mut over))?;
+    if let Some(found) = first_unchained_at(nodes, over, n, chained) {
+        return Some(found);
     }
-    Ok(counts)
-}
-
-/// Whether a number is one less than another.
-fn is_one_fewer(a: u32, b: u32) -> bool
-    ensures { result ≡ (a + 1 == b) }
-{
-    a < b && b - a == 1
-}
-
-/// Whether a node at or above a class node is another class node, with one fewer above it.
-fn is_next(nodes: &ClassNodes, counts: &[u32], n: u32, z: u32) -> bool
-    requires nodes { HasClassNodes nodes.now }
-    requires counts { AreCounts nodes.now.facts.now nodes.now.hier.now counts.now }
-    requires node { n < length nodes.now.hier.now.order.live }
-    requires other { z < length nodes.now.hier.now.order.live }
-    requires lower { bit nodes.now.classes.now n ≡ true }
-    requires upper { is_le nodes.now.hier.now.order n z ≡ true }
-    ensures { result ≡ is_next nodes.now.facts.now nodes.now.hier.now n z }
-{
-    nodes.classes.has(z) && z != n && is_one_fewer(counts[z as usize], counts[n as usize])
-}
-
-/// Whether one of the class nodes strictly above a node has one fewer above it.
-fn has_next(nodes: &ClassNodes, counts: &[u32], n: u32) -> bool
-    requires nodes { HasClassNodes nodes.now }
-    requires counts { AreCounts nodes.now.facts.now nodes.now.hier.now counts.now }
-    requires node { n < length nodes.now.hier.now.order.live }
-    ensures { result ≡ any_below (length nodes.now.hier.now.order.live) (is_next nodes.now.facts.now nodes.now.hier.now n) }
-{
-    if !nodes.classes.has(n) {
-        return false;
-    }
-    has_next_in(nodes, counts, n, nodes.hier.order().above(NodeId(n)))
-}
-
-/// The same of a class node, by the nodes at or above it.
-fn has_next_in(nodes: &ClassNodes, counts: &[u32], n: u32, above: &BitRow) -> bool
-    requires nodes { HasClassNodes nodes.now }
-    requires counts { AreCounts nodes.now.facts.now nodes.now.hier.now counts.now }
-    requires node { n < length nodes.now.hier.now.order.live }
-    requires lower { bit nodes.now.classes.now n ≡ true }
-    requires above { above.now ≡ row nodes.now.hier.now.order.le n }
-    requires width { length above.now ≡ length nodes.now.hier.now.order.live }
-    ensures { result ≡ any_below (length nodes.now.hier.now.order.live) (is_next nodes.now.facts.now nodes.now.hier.now n) }
-{
-    let _width = above.width();
-    let mut at = 0;
-    'scan: while let Some(z) = above.next(at) {
-        if is_next(nodes, counts, n, z) {
-            return true;
-        }
-        at = z + 1;
-    }
-    false
-}
-
-/// Whether class nodes are above a node, and none of them has one fewer above it.
-fn is_loose(nodes: &ClassNodes, counts: &[u32], n: u32) -> bool
-    requires nodes { HasClassNodes nodes.now }
-    requires counts { AreCounts nodes.now.facts.now nodes.now.hier.now counts.now }
-    requires node { n < length nodes.now.hier.now.order.live }
-    ensures { result ≡ is_loose nodes.now.facts.now nodes.now.hier.now n }
-{
-    0 < counts[n as usize] && !has_next(nodes, counts, n)
-}
-
-/// Adds a node, if it is loose.
-fn add_loose(nodes: &ClassNodes, counts: &[u32], n: u32, loose: &mut BitRow)
-    requires nodes { HasClassNodes nodes.now }
-    requires counts { AreCounts nodes.now.facts.now nodes.now.hier.now counts.now }
-    requires node { n < length nodes.now.hier.now.order.live }
-    requires width { length loose.old ≡ length nodes.now.hier.now.order.live }
-    ensures width { length loose.new ≡ length loose.old }
-    ensures added { (x : ℕ) → bit loose.new x ≡ (bit loose.old x || ((n == x) && is_loose nodes.now.facts.now nodes.now.hier.now n)) }
-{
-    if is_loose(nodes, counts, n) {
-        loose.set(n);
-    }
-}
-
-/// The loose nodes. An error comes only for want of memory.
-fn loose_nodes(alloc: Global, nodes: &ClassNodes) -> Result<BitRow, AllocError>
-    requires nodes { HasClassNodes nodes.now }
-    ensures { IfOk result (λ v. AreLooseNodes nodes.now.facts.now nodes.now.hier.now v) }
-{
-    let counts = class_counts(alloc, nodes)?;
-    let mut loose = BitRow::new(alloc, node_count(nodes.hier))?;
-    for n in 0..node_count(nodes.hier) {
-        add_loose(nodes, &counts, n, &mut loose);
-    }
-    Ok(loose)
-}
-
-/// Whether a loose class node may be at or above a node: if not, none is.
-fn may_have_loose(nodes: &ClassNodes, loose: &BitRow, n: u32) -> bool
-    requires nodes { HasClassNodes nodes.now }
-    requires loose { AreLooseNodes nodes.now.facts.now nodes.now.hier.now loose.now }
-    requires node { n < length nodes.now.hier.now.order.live }
-    ensures { OnFalse result ((m : ℕ) → is_class_above nodes.now.facts.now nodes.now.hier.now n m ≡ true
-        → is_loose nodes.now.facts.now nodes.now.hier.now m ≡ false) }
-{
-    if !nodes.classes.has(n) {
-        return false;
-    }
-    nodes.hier.order().above(NodeId(n)).meets(loose)
+    add_chained(nodes, over, n, chained);
+    None
 }
 
 /// The first instance against B9. An error comes only for want of memory. The time is in proportion to a 64th of the square
 /// of the number of nodes, to the number of columns and sites, and to that of the pairs of class nodes of which one is
 /// above the other.
-#[tactic(auto, using(kaba_bits::proofs::FirstLemmas::first_below_found))]
 pub fn first_unchained(
     alloc: Global,
     facts: &Facts,
@@ -231,60 +202,33 @@ pub fn first_unchained(
     requires hier { IsHierarchyOf facts.now hier.now }
     ensures { IfOk result (λ b. b ≡ first_unchained facts.now hier.now) }
 {
+    let mut chained = BitRow::new(alloc, node_count(hier))?;
+    first_unchained_beyond(alloc, facts, hier, &mut chained)
+}
+
+/// The same where some nodes are known to be chained: the class nodes at or above each of them form a chain. The set gains
+/// the nodes that are found to be so, and is right also where an error comes. Only for the other nodes is there a search:
+/// the time of each is in proportion to a 64th of the number of nodes, and to the number of class nodes above it, where the
+/// lowest of these is known to be chained, and else to the number of their pairs.
+#[tactic(auto, using(kaba_bits::proofs::FirstLemmas::first_below_found))]
+pub fn first_unchained_beyond(
+    alloc: Global,
+    facts: &Facts,
+    hier: &Hier,
+    chained: &mut BitRow,
+) -> Result<Option<Broken>, AllocError>
+    requires facts { InRange facts.now }
+    requires hier { IsHierarchyOf facts.now hier.now }
+    requires chained { AreChained facts.now hier.now chained.old }
+    ensures first { IfOk result (λ b. b ≡ first_unchained facts.now hier.now) }
+    ensures chained { AreChained facts.now hier.now chained.new }
+{
     let classes = hier.class_nodes(alloc, facts)?;
+    let mut over = BitRow::new(alloc, node_count(hier))?;
     let nodes = ClassNodes {
         facts,
         hier,
         classes: &classes,
     };
-    let loose = loose_nodes(alloc, &nodes)?;
-    first_found_below!(n < node_count(hier); first_unchained_above(&nodes, &loose, n))
-}
-
-/// The first two class nodes at or above a node that are not ordered: none, where no loose one is at or above it.
-fn first_unchained_above(nodes: &ClassNodes, loose: &BitRow, n: u32) -> Option<Broken>
-    requires nodes { HasClassNodes nodes.now }
-    requires loose { AreLooseNodes nodes.now.facts.now nodes.now.hier.now loose.now }
-    requires node { n < length nodes.now.hier.now.order.live }
-    ensures { result ≡ first_below (length nodes.now.hier.now.order.live) (λ x. first_below (length nodes.now.hier.now.order.live)
-        (unchained nodes.now.facts.now nodes.now.hier.now n x)) }
-{
-    if !may_have_loose(nodes, loose, n) {
-        return None;
-    }
-    first_unchained_at(nodes, n)
-}
-
-/// The first two class nodes at or above a node that are not ordered.
-#[tactic(auto, using(kaba_bits::proofs::FirstLemmas::first_below_found))]
-fn first_unchained_at(nodes: &ClassNodes, n: u32) -> Option<Broken>
-    requires nodes { HasClassNodes nodes.now }
-    requires node { n < length nodes.now.hier.now.order.live }
-    ensures { result ≡ first_below (length nodes.now.hier.now.order.live) (λ x. first_below (length nodes.now.hier.now.order.live)
-        (unchained nodes.now.facts.now nodes.now.hier.now n x)) }
-{
-    first_below!(x < node_count(nodes.hier); first_unchained_with(nodes, n, x))
-}
-
-/// The first class node at or above a node that is not ordered with one before it.
-#[tactic(auto, using(kaba_bits::proofs::FirstLemmas::first_below_found))]
-fn first_unchained_with(nodes: &ClassNodes, n: u32, x: u32) -> Option<Broken>
-    requires nodes { HasClassNodes nodes.now }
-    requires node { n < length nodes.now.hier.now.order.live }
-    requires first { x < length nodes.now.hier.now.order.live }
-    ensures { result ≡ first_below (length nodes.now.hier.now.order.live) (unchained nodes.now.facts.now nodes.now.hier.now n x) }
-{
-    if !is_class_above(nodes, n, x) {
-        return None;
-    }
-    for y in 0..node_count(nodes.hier) {
-        if is_class_above(nodes, n, y)
-            && x < y
-            && !class_le(nodes, x, y)
-            && !class_le(nodes, y, x)
-        {
-            return Some(of_three(Rule::B9, n, x, y));
-        }
-    }
-    None
+    first_found_below!(n < node_count(hier); first_unchained_above(&nodes, n, &mut over, chained))
 }

@@ -6,6 +6,8 @@ ghost use Rattle.std.specs.Str.{bytes_eq, encode_utf8_all};
 ghost use Rattle.indexmap.specs.IndexMap.{get_by_text};
 ghost use Rattle.hier_rules.specs.Asked.{are_two_slots};
 ghost use Rattle.hier_rules.specs.Names.{method_slot, clash, confused, first_confused};
+ghost use Rattle.hier_rules.specs.Touched.{NamesHold};
+ghost use Rattle.hier_rules.specs.Index.{AreClashesOf};
 ghost use Rattle.hier_rules.specs.Namesakes.{AreLinks, AreClashes, offers_both};
 
 use crate::bodies::of_column;
@@ -16,6 +18,7 @@ use fact_model::{ColKind, ColumnInfo};
 use hier_model::column_at;
 use indexmap::IndexMap;
 use kaba_base::{ColId, Name, NodeId};
+use kaba_bits::BitRow;
 use std::alloc::{AllocError, Global};
 
 /// Two columns that no type offers both.
@@ -149,6 +152,16 @@ fn all_clashes(alloc: Global, asked: &Asked) -> Result<Vec<ClashPair>, AllocErro
     Ok(clashes)
 }
 
+/// All clashes, of hierarchies whose members have the names that they have in this one: no merge, and no node put under
+/// another, changes them. An error comes only for want of memory.
+pub fn name_clashes(alloc: Global, asked: &Asked) -> Result<Vec<ClashPair>, AllocError>
+    requires { IsObligationInput asked.now }
+    ensures { IfOk result (λ v. AreClashesOf asked.now.facts.now asked.now.hier.now.members v.items) }
+{
+    let clashes = all_clashes(alloc, asked)?;
+    Ok(clashes)
+}
+
 /// Whether a live node offers both columns of a clash.
 fn offers_both(asked: &Asked, n: u32, x: ClashPair) -> bool
     requires asked { IsObligationInput asked.now }
@@ -186,4 +199,31 @@ pub fn first_confused(alloc: Global, asked: &Asked) -> Result<Option<Broken>, Al
 {
     let clashes = all_clashes(alloc, asked)?;
     first_found_below!(n < node_count(asked.hier); first_confused_at(asked, &clashes, n))
+}
+
+/// The same, by all clashes, where no node outside a set offers two.
+#[tactic(auto, using(kaba_bits::proofs::FirstLemmas::first_below_found))]
+pub fn first_confused_among(asked: &Asked, clashes: &[ClashPair], low: &BitRow) -> Option<Broken>
+    requires asked { IsObligationInput asked.now }
+    requires clashes { AreClashes asked.now.facts.now asked.now.hier.now (length asked.now.facts.now.columns.items)
+        (length asked.now.facts.now.columns.items) clashes.now }
+    requires others { NamesHold asked.now.facts.now asked.now.hier.now low.now }
+    ensures { result ≡ first_confused asked.now.facts.now asked.now.hier.now }
+{
+    first_below!(n < node_count(asked.hier); first_confused_if(asked, clashes, low, n))
+}
+
+/// The first column that a node offers with one before it that clashes with it, if the node is of the set.
+fn first_confused_if(asked: &Asked, clashes: &[ClashPair], low: &BitRow, n: u32) -> Option<Broken>
+    requires asked { IsObligationInput asked.now }
+    requires clashes { AreClashes asked.now.facts.now asked.now.hier.now (length asked.now.facts.now.columns.items)
+        (length asked.now.facts.now.columns.items) clashes.now }
+    requires others { NamesHold asked.now.facts.now asked.now.hier.now low.now }
+    requires node { n < length asked.now.hier.now.order.live }
+    ensures { result ≡ first_below (length asked.now.facts.now.columns.items) (confused asked.now.facts.now asked.now.hier.now n) }
+{
+    if !low.has(n) {
+        return None;
+    }
+    first_confused_at(asked, clashes, n)
 }

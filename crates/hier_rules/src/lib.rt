@@ -18,6 +18,21 @@ macro_rules! any_below {
     }};
 }
 
+/// Whether one of the numbers of a set passes a test.
+macro_rules! any_in {
+    ($number:ident in $set:expr; $test:expr) => {{
+        let _width = $set.width();
+        let mut at = 0;
+        'scan: while let Some($number) = $set.next(at) {
+            if $test {
+                return true;
+            }
+            at = $number + 1;
+        }
+        false
+    }};
+}
+
 /// What is found at the first of the numbers below a count at which something is.
 macro_rules! first_below {
     ($number:ident < $count:expr; $found:expr) => {{
@@ -47,6 +62,8 @@ mod bodies;
 mod broken;
 mod chains;
 mod clashes;
+mod index;
+mod kept;
 mod met;
 mod names;
 mod outcomes;
@@ -56,10 +73,13 @@ mod rows;
 mod taken;
 mod touched;
 
-pub use after::first_broken_after;
+pub use after::{first_broken_after, first_broken_joined};
 use bodies::{first_two_bodies, first_wrong_need, first_wrong_super};
 pub use broken::{Broken, Nodes, Rule};
-pub use chains::first_unchained;
+pub use chains::{first_unchained, first_unchained_beyond};
+pub use clashes::{ClashPair, name_clashes};
+pub use index::{JoinIndex, join_index};
+pub use kept::keep_chained;
 use names::first_misnamed;
 use outcomes::first_wrong_outcome;
 pub use places::Asked;
