@@ -2,17 +2,20 @@
 #![tactic(auto)]
 
 ghost use Rattle.std.specs.Prelude.{◌≡◌, ◌≢◌, ◌⊎◌, Ok, Err, IfErr, IfOk, OnErr, OnOk};
-ghost use Rattle.std.specs.Bool.{OnTrue};
 ghost use Rattle.hier_rules.specs.Words.{InRange, AreSets, IsHierarchyOf, NamesSome, MeetsEdit};
-ghost use Rattle.hier_model.specs.Edits.{changed};
-ghost use Rattle.hier_model.specs.Places.{with_places, JoinsNodes};
+ghost use Rattle.hier_model.specs.Hierarchies.{Hierarchy};
+ghost use Rattle.hier_model.specs.Places.{IsFormer, JoinsNodes};
 ghost use Rattle.hier_rules.specs.After.{IsAfterEdit};
+ghost use Rattle.hier_rules.specs.Index.{IsIndexOf};
 ghost use Rattle.hier_edit.specs.Applied.{applied, tested, fault_of};
+ghost use Rattle.hier_edit.specs.Joins.{AreJoinTests, IsJoined};
 ghost use Rattle.hier_edit.specs.declared.ApplyFault.TheVariants as ApplyFault;
 
 use fact_model::{Facts, PointsTo};
-use hier_model::{ChangeFault, Edit, Hier, Places};
-use hier_rules::{Asked, Broken, Nodes, Rule, first_broken_after};
+use hier_model::{Before, ChangeFault, Edit, Hier};
+use hier_rules::{
+    Asked, Broken, ClashPair, JoinIndex, Nodes, Rule, first_broken_after, first_broken_joined,
+};
 use kaba_base::{ColId, NodeId};
 use std::alloc::Global;
 
@@ -49,34 +52,6 @@ fn fault_of(fault: ChangeFault) -> ApplyFault
     }
 }
 
-/// Whether the hierarchy after an edit of one that met its obligations meets them too; if not, why the edit is refused.
-fn judge(
-    alloc: Global,
-    hier: &Hier,
-    edit: &Edit,
-    facts: &Facts,
-    sets: &PointsTo,
-) -> Result<(), ApplyFault>
-    requires range { InRange facts.now }
-    requires sets { AreSets facts.now sets.now }
-    requires some { NamesSome edit.now }
-    requires hierarchy { IsHierarchyOf facts.now hier.now }
-    requires after { IsAfterEdit facts.now sets.now hier.now edit.now }
-    ensures meets { OnOk result (MeetsEdit facts.now sets.now hier.now) }
-    ensures refused { IfErr result (λ fault. fault ≢ ApplyFault.Memory → tested facts.now sets.now hier.now ≡ Err fault) }
-{
-    let asked = Asked {
-        facts,
-        pt: sets,
-        hier,
-    };
-    match first_broken_after(alloc, &asked, edit) {
-        Ok(None) => Ok(()),
-        Ok(Some(broken)) => Err(ApplyFault::Breaks(broken)),
-        Err(_) => Err(ApplyFault::Memory),
-    }
-}
-
 /// The hierarchy after an edit of one that met its obligations, where it meets them.
 fn tested(
     alloc: Global,
@@ -84,9 +59,11 @@ fn tested(
     edit: &Edit,
     facts: &Facts,
     sets: &PointsTo,
+    index: &JoinIndex,
 ) -> Result<Hier, ApplyFault>
     requires range { InRange facts.now }
     requires sets { AreSets facts.now sets.now }
+    requires index { IsIndexOf facts.now sets.now index.now }
     requires some { NamesSome edit.now }
     requires hierarchy { IsHierarchyOf facts.now made }
     requires after { IsAfterEdit facts.now sets.now made edit.now }
@@ -94,9 +71,15 @@ fn tested(
     ensures meets { IfOk result (MeetsEdit facts.now sets.now) }
     ensures fits { IfOk result (IsHierarchyOf facts.now) }
 {
-    match judge(alloc, &made, edit, facts, sets) {
-        Ok(()) => Ok(made),
-        Err(fault) => Err(fault),
+    let asked = Asked {
+        facts,
+        pt: sets,
+        hier: &made,
+    };
+    match first_broken_after(alloc, &asked, index, edit) {
+        Ok(None) => Ok(made),
+        Ok(Some(broken)) => Err(ApplyFault::Breaks(broken)),
+        Err(_) => Err(ApplyFault::Memory),
     }
 }
 
@@ -109,10 +92,12 @@ pub fn edited(
     hier: &Hier,
     facts: &Facts,
     sets: &PointsTo,
+    index: &JoinIndex,
     edit: &Edit,
 ) -> Result<Hier, ApplyFault>
     requires range { InRange facts.now }
     requires sets { AreSets facts.now sets.now }
+    requires index { IsIndexOf facts.now sets.now index.now }
     requires hierarchy { IsHierarchyOf facts.now hier.now }
     requires meets { MeetsEdit facts.now sets.now hier.now }
     requires some { NamesSome edit.now }
@@ -122,110 +107,98 @@ pub fn edited(
     ensures fits { IfOk result (IsHierarchyOf facts.now) }
 {
     match hier.changed(alloc, facts, edit) {
-        Ok(changed) => tested(alloc, changed, edit, facts, sets),
+        Ok(changed) => tested(alloc, changed, edit, facts, sets, index),
         Err(fault) => Err(fault_of(fault)),
     }
 }
 
-/// Makes an edit of a hierarchy that meets the obligations B1 to B8 where the hierarchy after it meets them
-/// too (after Streckenbach and Snelting, 2004).
+/// What joins are tested by: facts, their sets, and what is found of these and of the names once, since no join changes it.
+#[derive(Clone, Copy)]
+pub struct JoinTests<'a> {
+    /// The facts.
+    pub facts: &'a Facts,
+    /// Their sets.
+    pub sets: &'a PointsTo,
+    /// What is found of both.
+    pub index: &'a JoinIndex,
+    /// What is found of the names of members.
+    pub clashes: &'a Vec<ClashPair>,
+}
+
+/// Makes a merge, or puts a node below another, in a hierarchy that meets the obligations B1 to B8, where the hierarchy
+/// after it meets them too (after Streckenbach and Snelting, 2004).
 ///
-/// After a refusal, and where memory is short, the hierarchy is the one before. The refusals are those of
-/// `edited`. A merge, and a node put under another, copy no name and not the table.
-pub fn apply(
+/// After a refusal, and where memory is short, the hierarchy is the one before. The refusals are those of `edited`. No
+/// name and not the table is copied.
+pub fn join(
     alloc: Global,
     hier: &mut Hier,
-    facts: &Facts,
-    sets: &PointsTo,
+    tests: &JoinTests,
     edit: &Edit,
 ) -> Result<(), ApplyFault>
-    requires range { InRange facts.now }
-    requires sets { AreSets facts.now sets.now }
-    requires hierarchy { IsHierarchyOf facts.now hier.old }
-    requires meets { MeetsEdit facts.now sets.now hier.old }
-    requires some { NamesSome edit.now }
-    ensures accepted { OnOk result (applied facts.now sets.now hier.old edit.now ≡ Ok hier.new) }
-    ensures meets { OnOk result (MeetsEdit facts.now sets.now hier.new) }
-    ensures refused { IfErr result (λ fault. fault ≢ ApplyFault.Memory → applied facts.now sets.now hier.old edit.now ≡ Err fault) }
-    ensures kept { OnErr result (hier.new ≡ hier.old) }
-    ensures is { IsHierarchyOf facts.now hier.new }
-{
-    if is_join(edit) {
-        return join(alloc, hier, facts, sets, edit);
-    }
-    match edited(alloc, hier, facts, sets, edit) {
-        Ok(made) => {
-            *hier = made;
-            Ok(())
-        }
-        Err(fault) => Err(fault),
-    }
-}
-
-/// Whether an edit is a merge, or puts a node under another.
-fn is_join(edit: &Edit) -> bool
-    ensures { OnTrue result (JoinsNodes edit.now) }
-{
-    match edit {
-        Edit::Merge(_) | Edit::Under(_, _) => true,
-        _ => false,
-    }
-}
-
-/// Makes such an edit, as `apply` does.
-fn join(
-    alloc: Global,
-    hier: &mut Hier,
-    facts: &Facts,
-    sets: &PointsTo,
-    edit: &Edit,
-) -> Result<(), ApplyFault>
-    requires range { InRange facts.now }
-    requires sets { AreSets facts.now sets.now }
-    requires hierarchy { IsHierarchyOf facts.now hier.old }
-    requires meets { MeetsEdit facts.now sets.now hier.old }
+    requires tests { AreJoinTests tests.now hier.old.members }
+    requires hierarchy { IsHierarchyOf tests.now.facts.now hier.old }
+    requires meets { MeetsEdit tests.now.facts.now tests.now.sets.now hier.old }
     requires some { NamesSome edit.now }
     requires join { JoinsNodes edit.now }
-    ensures accepted { OnOk result (applied facts.now sets.now hier.old edit.now ≡ Ok hier.new) }
-    ensures meets { OnOk result (MeetsEdit facts.now sets.now hier.new) }
-    ensures refused { IfErr result (λ fault. fault ≢ ApplyFault.Memory → applied facts.now sets.now hier.old edit.now ≡ Err fault) }
+    ensures accepted { OnOk result (applied tests.now.facts.now tests.now.sets.now hier.old edit.now ≡ Ok hier.new) }
+    ensures meets { OnOk result (MeetsEdit tests.now.facts.now tests.now.sets.now hier.new) }
+    ensures refused { IfErr result (λ fault. fault ≢ ApplyFault.Memory → applied tests.now.facts.now tests.now.sets.now hier.old edit.now ≡ Err fault) }
     ensures kept { OnErr result (hier.new ≡ hier.old) }
-    ensures is { IsHierarchyOf facts.now hier.new }
+    ensures members { hier.new.members ≡ hier.old.members }
+    ensures is { IsHierarchyOf tests.now.facts.now hier.new }
 {
-    match hier.joined(alloc, facts, edit) {
-        Ok(places) => put(alloc, hier, places, edit, facts, sets),
+    match hier.join(alloc, tests.facts, edit) {
+        Ok(before) => keep(alloc, hier, tests, before, edit),
         Err(fault) => Err(fault_of(fault)),
     }
 }
 
-/// Puts what a join made anew into the hierarchy, where that then meets its obligations.
-fn put(
+/// Keeps a join of a hierarchy that met its obligations, where it meets them after it, and else takes it back.
+fn keep(
     alloc: Global,
     hier: &mut Hier,
-    places: Places,
+    tests: &JoinTests,
+    before: Before,
     edit: &Edit,
-    facts: &Facts,
-    sets: &PointsTo,
 ) -> Result<(), ApplyFault>
-    requires range { InRange facts.now }
-    requires sets { AreSets facts.now sets.now }
-    requires before { IsHierarchyOf facts.now hier.old }
-    requires met { MeetsEdit facts.now sets.now hier.old }
+    requires tests { AreJoinTests tests.now hier.old.members }
     requires some { NamesSome edit.now }
-    requires hierarchy { IsHierarchyOf facts.now (with_places hier.old places) }
-    requires after { changed facts.now hier.old edit.now ≡ Ok (with_places hier.old places) }
-    ensures made { OnOk result (hier.new ≡ with_places hier.old places) }
-    ensures meets { OnOk result (MeetsEdit facts.now sets.now hier.new) }
-    ensures refused { IfErr result (λ fault. fault ≢ ApplyFault.Memory → tested facts.now sets.now (with_places hier.old places) ≡ Err fault) }
-    ensures kept { OnErr result (hier.new ≡ hier.old) }
-    ensures is { IsHierarchyOf facts.now hier.new }
+    requires join { JoinsNodes edit.now }
+    requires hierarchy { IsHierarchyOf tests.now.facts.now hier.old }
+    requires joined { IsJoined tests.now.facts.now tests.now.sets.now edit.now hier.old before }
+    ensures made { OnOk result (hier.new ≡ hier.old) }
+    ensures meets { OnOk result (MeetsEdit tests.now.facts.now tests.now.sets.now hier.new) }
+    ensures refused { IfErr result (λ fault. fault ≢ ApplyFault.Memory → tested tests.now.facts.now tests.now.sets.now hier.old ≡ Err fault) }
+    ensures kept { OnErr result ((old : Hierarchy) → IsFormer old hier.old before → hier.new ≡ old) }
 {
-    let former = hier.exchange(places);
-    match judge(alloc, hier, edit, facts, sets) {
+    match judge(alloc, hier, tests, edit) {
         Ok(()) => Ok(()),
         Err(fault) => {
-            let _made = hier.exchange(former);
+            hier.part(before);
             Err(fault)
         }
+    }
+}
+
+/// Whether the hierarchy after a join of one that met its obligations meets them too; if not, why the join is refused.
+fn judge(alloc: Global, hier: &Hier, tests: &JoinTests, edit: &Edit) -> Result<(), ApplyFault>
+    requires tests { AreJoinTests tests.now hier.now.members }
+    requires some { NamesSome edit.now }
+    requires join { JoinsNodes edit.now }
+    requires hierarchy { IsHierarchyOf tests.now.facts.now hier.now }
+    requires after { IsAfterEdit tests.now.facts.now tests.now.sets.now hier.now edit.now }
+    ensures meets { OnOk result (MeetsEdit tests.now.facts.now tests.now.sets.now hier.now) }
+    ensures refused { IfErr result (λ fault. fault ≢ ApplyFault.Memory → tested tests.now.facts.now tests.now.sets.now hier.now ≡ Err fault) }
+{
+    let asked = Asked {
+        facts: tests.facts,
+        pt: tests.sets,
+        hier,
+    };
+    match first_broken_joined(alloc, &asked, tests.index, tests.clashes, edit) {
+        Ok(None) => Ok(()),
+        Ok(Some(found)) => Err(ApplyFault::Breaks(found)),
+        Err(_) => Err(ApplyFault::Memory),
     }
 }

@@ -4,6 +4,7 @@
 ghost use Rattle.std.specs.Prelude.{◌≡◌, ◌≢◌, Ok, Err, length, IfErr, IfOk, OnErr};
 ghost use Rattle.hier_model.specs.Hierarchies.{Hierarchy};
 ghost use Rattle.hier_model.specs.Differences.{IsOneEdit, IsUndoOf};
+ghost use Rattle.hier_rules.specs.Index.{IsIndexOf};
 ghost use Rattle.hier_rules.specs.Words.{InRange, AreSets, IsHierarchyOf, NamesSome, MeetsEdit};
 ghost use Rattle.hier_edit.specs.Applied.{applied};
 ghost use Rattle.hier_edit.specs.declared.ApplyFault.TheVariants as ApplyFault;
@@ -11,9 +12,10 @@ ghost use Rattle.hier_edit.specs.declared.ApplyFault.TheVariants as ApplyFault;
 use fact_model::{Facts, PointsTo};
 use hier_edit::{ApplyFault, edited};
 use hier_model::{Edit, Hier, Undo};
+use hier_rules::JoinIndex;
 use std::alloc::Global;
 
-/// Makes an edit as `hier_edit::apply` does, with the same refusals, and gives what takes it back: the differences
+/// Makes an edit as `hier_edit::edited` does, with the same refusals, and gives what takes it back: the differences
 /// between the hierarchy before it and the one after it. After a refusal, and where memory is short, the hierarchy is
 /// the one before.
 pub fn apply_kept(
@@ -21,10 +23,12 @@ pub fn apply_kept(
     hier: &mut Hier,
     facts: &Facts,
     sets: &PointsTo,
+    index: &JoinIndex,
     edit: &Edit,
 ) -> Result<Undo, ApplyFault>
     requires range { InRange facts.now }
     requires sets { AreSets facts.now sets.now }
+    requires index { IsIndexOf facts.now sets.now index.now }
     requires hierarchy { IsHierarchyOf facts.now hier.old }
     requires meets { MeetsEdit facts.now sets.now hier.old }
     requires some { NamesSome edit.now }
@@ -35,7 +39,7 @@ pub fn apply_kept(
     ensures kept { OnErr result (hier.new ≡ hier.old) }
     ensures is { IsHierarchyOf facts.now hier.new }
 {
-    match edited(alloc, hier, facts, sets, edit) {
+    match edited(alloc, hier, facts, sets, index, edit) {
         Ok(made) => replace(alloc, hier, made),
         Err(fault) => Err(fault),
     }
@@ -79,17 +83,19 @@ pub fn apply_and_take_back(
     hier: &mut Hier,
     facts: &Facts,
     sets: &PointsTo,
+    index: &JoinIndex,
     edit: &Edit,
 ) -> Result<(), ApplyFault>
     requires range { InRange facts.now }
     requires sets { AreSets facts.now sets.now }
+    requires index { IsIndexOf facts.now sets.now index.now }
     requires hierarchy { IsHierarchyOf facts.now hier.old }
     requires meets { MeetsEdit facts.now sets.now hier.old }
     requires some { NamesSome edit.now }
     ensures same { hier.new ≡ hier.old }
     ensures refused { IfErr result (λ fault. fault ≢ ApplyFault.Memory → applied facts.now sets.now hier.old edit.now ≡ Err fault) }
 {
-    match apply_kept(alloc, hier, facts, sets, edit) {
+    match apply_kept(alloc, hier, facts, sets, index, edit) {
         Ok(kept) => {
             take_back(hier, kept);
             Ok(())

@@ -12,6 +12,7 @@ use Rattle.hier_model.specs.declared.edits.Edit.{Edit}
 use Rattle.hier_rules.specs.declared.broken.Broken.{Broken}
 use Rattle.hier_rules.specs.Obligations.{first_unchained}
 use Rattle.hier_rules.specs.First.{MeetsEdit}
+use Rattle.hier_rules.specs.Index.{IsIndexOf}
 use Rattle.hier_edit.specs.declared.ApplyFault.{ApplyFault}
 use Rattle.hier_edit.specs.declared.ApplyFault.TheVariants.{Breaks}
 use Rattle.hier_edit.specs.declared.ApplyFault.TheVariants as fault
@@ -23,10 +24,11 @@ use Rattle.tree_merge.specs.declared.steps.TreeStep.{TreeStep}
 use Rattle.tree_merge.specs.declared.steps.Turn.{Turn}
 use Rattle.tree_merge.specs.declared.steps.Turn.TheVariants as turn
 
--- tries are made for facts in range, and their sets
+-- tries are made for facts in range, their sets, and what is found of both
 pub record IsTryInput (given : Given) : Type 0 where
   pub range : InRange given.facts.now
   pub sets : AreSets given.facts.now given.sets.now
+  pub index : IsIndexOf given.facts.now given.sets.now given.index.now
 
 -- the sum of what each number below n gives
 abbrev pub sum_below : ℕ → (ℕ → ℕ) → ℕ

@@ -2,11 +2,12 @@
 
 ghost use Rattle.std.specs.Prelude.{◌≡◌, ◌<◌, length, All, IfOk, OnErr};
 ghost use Rattle.hier_rules.specs.Words.{IsHierarchyOf, MeetsEdit};
+ghost use Rattle.hier_rules.specs.Index.{AreClashesOf};
 ghost use Rattle.hier_edit.specs.declared.ApplyFault.TheVariants as ApplyFault;
 ghost use Rattle.tree_merge.specs.Attempts.{IsTryInput, IsTryOf, IsOfTry, IsAttempt, IsTried};
 
 use crate::given::Given;
-use hier_edit::{ApplyFault, apply};
+use hier_edit::{ApplyFault, JoinTests, join};
 use hier_model::{Edit, Hier};
 use hier_rules::Broken;
 use std::alloc::AllocError;
@@ -39,12 +40,20 @@ fn attempt_one(given: &Given, hier: &mut Hier, edit: &Edit) -> Result<Option<Bro
     requires given { IsTryInput given.now }
     requires hierarchy { IsHierarchyOf given.now.facts.now hier.old }
     requires meets { MeetsEdit given.now.facts.now given.now.sets.now hier.old }
+    requires names { AreClashesOf given.now.facts.now hier.old.members given.now.clashes.now.items }
     requires edit { IsTryOf hier.old edit.now }
     ensures attempt { IfOk result (IsAttempt given.now.facts.now given.now.sets.now hier.old hier.new edit.now) }
     ensures kept { OnErr result (hier.new ≡ hier.old) }
     ensures is { IsHierarchyOf given.now.facts.now hier.new }
+    ensures members { hier.new.members ≡ hier.old.members }
 {
-    match apply(given.alloc, hier, given.facts, given.sets, edit) {
+    let tests = JoinTests {
+        facts: given.facts,
+        sets: given.sets,
+        index: given.index,
+        clashes: given.clashes,
+    };
+    match join(given.alloc, hier, &tests, edit) {
         Ok(()) => Ok(None),
         Err(fault) => {
             let broken = broken_of(fault)?;
@@ -59,11 +68,13 @@ pub fn first_accepted(given: &Given, hier: &mut Hier, tries: &[Edit]) -> Result<
     requires given { IsTryInput given.now }
     requires hierarchy { IsHierarchyOf given.now.facts.now hier.old }
     requires meets { MeetsEdit given.now.facts.now given.now.sets.now hier.old }
+    requires names { AreClashesOf given.now.facts.now hier.old.members given.now.clashes.now.items }
     requires some { 0 < length tries.now }
     requires tries { All (IsTryOf hier.old) tries.now }
     ensures tried { IfOk result (IsTried given.now.facts.now given.now.sets.now hier.old hier.new tries.now) }
     ensures kept { OnErr result (hier.new ≡ hier.old) }
     ensures is { IsHierarchyOf given.now.facts.now hier.new }
+    ensures members { hier.new.members ≡ hier.old.members }
 {
     let mut k = 0;
     'tries: loop {

@@ -1,6 +1,8 @@
 //! The tree of a hierarchy's class nodes.
 
 ghost use Rattle.std.specs.Prelude.{◌≡◌, None, IfErr, IfOk, OnOk};
+ghost use Rattle.hier_rules.specs.Chains.{AreChained};
+ghost use Rattle.hier_rules.specs.Index.{IsIndexOf, AreClashesOf};
 ghost use Rattle.hier_rules.specs.Words.{InRange, AreSets, IsHierarchyOf, MeetsEdit, first_broken};
 ghost use Rattle.fact_model.specs.declared.sets.Table.{Table};
 ghost use Rattle.fact_model.specs.declared.sets.Lattice.{Lattice};
@@ -15,9 +17,10 @@ use crate::given::Given;
 use crate::steps::{TreeStep, Turn, step};
 use fact_model::{Facts, PointsTo};
 use hier_model::Hier;
-use hier_rules::Broken;
+use hier_rules::{Asked, Broken, ClashPair, JoinIndex, join_index, name_clashes};
 use hier_tree::Conflict;
-use std::alloc::Global;
+use kaba_bits::BitRow;
+use std::alloc::{AllocError, Global};
 
 /// A conflict of which no try is accepted.
 #[derive(Drop)]
@@ -37,6 +40,40 @@ pub enum TreeFault {
     NoTree(NoTree),
     /// Memory is short.
     Memory,
+}
+
+/// What is found once for all steps, and the nodes that are known to be chained: none when they begin.
+#[derive(Drop)]
+struct Prepared {
+    index: JoinIndex,
+    clashes: Vec<ClashPair>,
+    chained: BitRow,
+}
+
+/// The same of a hierarchy. An error comes only for want of memory.
+fn prepare(
+    alloc: Global,
+    hier: &Hier,
+    facts: &Facts,
+    sets: &PointsTo,
+) -> Result<Prepared, AllocError>
+    requires range { InRange facts.now }
+    requires sets { AreSets facts.now sets.now }
+    requires hierarchy { IsHierarchyOf facts.now hier.now }
+    ensures index { IfOk result (λ p. IsIndexOf facts.now sets.now p.index) }
+    ensures clashes { IfOk result (λ p. AreClashesOf facts.now hier.now.members p.clashes.items) }
+    ensures chained { IfOk result (λ p. AreChained facts.now hier.now p.chained) }
+{
+    let asked = Asked {
+        facts,
+        pt: sets,
+        hier,
+    };
+    Ok(Prepared {
+        index: join_index(alloc, &asked)?,
+        clashes: name_clashes(alloc, &asked)?,
+        chained: BitRow::new(alloc, hier.order().count())?,
+    })
 }
 
 /// Brings the class nodes of a hierarchy into a tree, and gives the log of the steps (after
@@ -66,10 +103,24 @@ pub fn make_tree(
     ensures found { IfErr result (λ fault. (t : Table) (l : Lattice) → AreAnalysed facts.now sets.now t l → HasNoInterface facts.now → IsReached facts.now sets.now t l hier.old → fault ≡ TreeFault.Memory) }
     ensures is { IsHierarchyOf facts.now hier.new }
 {
-    let given = Given { alloc, facts, sets };
+    let Prepared {
+        index,
+        clashes,
+        mut chained,
+    } = match prepare(alloc, hier, facts, sets) {
+        Ok(prepared) => prepared,
+        Err(_) => return Err(TreeFault::Memory),
+    };
+    let given = Given {
+        alloc,
+        facts,
+        sets,
+        index: &index,
+        clashes: &clashes,
+    };
     let mut log = Vec::new(alloc);
     'steps: loop {
-        match step(&given, hier) {
+        match step(&given, hier, &mut chained) {
             Ok(Turn::Done) => return Ok(log),
             Ok(Turn::Taken(step)) => match log.push(step) {
                 Ok(()) => {}

@@ -1,6 +1,17 @@
 use Rattle.std.proofs.Common.{sym, ◌∙◌}
-use Rattle.tree_merge.proofs.AttemptLemmas.{same_outcome, of_try, is_accepted}
+use Rattle.tree_merge.proofs.AttemptLemmas.{same_outcome, joins_nodes, of_try, is_accepted}
 use Rattle.tree_merge.proofs.attempts.attempt_one.Goals as goal
+
+pub join-requires-clause-tests : goal.join-requires-clause-tests
+join-requires-clause-tests c = record {
+  range = c.requires.given.range;
+  sets = c.requires.given.sets;
+  index = c.requires.given.index;
+  clashes = c.requires.names;
+}
+
+pub join-requires-clause-join : goal.join-requires-clause-join
+join-requires-clause-join c = joins_nodes c.args.given.now.facts.now c.args.given.now.sets.now c.args.edit.now c.requires.edit.is
 
 pub broken_of-requires : goal.broken_of-requires
 broken_of-requires c = of_try c.args.given.now.facts.now c.args.given.now.sets.now c.args.hier.now c.args.edit.now c.requires.edit c.in-Err.fault
@@ -12,5 +23,5 @@ returns-in-Ok-clause-attempt c =
     let pt = c.args.given.now.sets.now in
     let H = c.args.hier.now in
     let e = c.args.edit.now in
-    is_accepted F pt H c.apply.new.hier c.requires.hierarchy.sized.order e c.requires.edit
+    is_accepted F pt H c.join.new.hier c.requires.hierarchy.sized.order e c.requires.edit
     (sym (same_outcome F pt H e c.requires.edit.is) ∙ c.in-Ok.ensures.accepted)

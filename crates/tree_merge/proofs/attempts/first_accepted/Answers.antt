@@ -1,12 +1,18 @@
-use Rattle.std.proofs.Common.{◌≡◌, ◌+◌, ◌<◌, length, get_or, Err, sym, ◌∙◌, subst, arith}
+use Rattle.std.proofs.Common.{◌≡◌, ℕ, List, ◌+◌, ◌<◌, length, get_or, Err, sym, ◌∙◌, subst, arith}
 use Rattle.hier_model.specs.Hierarchies.{Hierarchy}
 use Rattle.hier_model.specs.declared.edits.Edit.{Edit}
 use Rattle.hier_edit.specs.declared.ApplyFault.TheVariants.{Breaks}
 use Rattle.hier_rules.specs.First.{MeetsEdit}
+use Rattle.hier_rules.specs.Index.{AreClashesOf}
 use Rattle.hier_tree.specs.Trees.{tried, try_of}
 use Rattle.tree_merge.specs.Attempts.{IsAttempt}
 use Rattle.tree_merge.proofs.AttemptLemmas.{refused_at, last_more}
 use Rattle.tree_merge.proofs.attempts.first_accepted.Goals as goal
+
+pub attempt_one-requires-clause-names : goal.attempt_one-requires-clause-names
+attempt_one-requires-clause-names c =
+    subst (λ (m : List (List ℕ)). AreClashesOf c.args.given.now.facts.now m c.args.given.now.clashes.now.items)
+    (sym c.tries.invariant.members) c.requires.names
 
 pub tries-preserved : goal.tries-preserved
 tries-preserved c =
@@ -30,4 +36,5 @@ tries-preserved c =
       last = sym (last_more T k e more) ∙ c.tries.invariant.last;
       is = c.attempt_one.ensures.is;
       meets = subst (MeetsEdit F pt) (sym a.0) c.tries.invariant.meets;
+      members = c.attempt_one.ensures.members ∙ c.tries.invariant.members;
     }

@@ -13,6 +13,7 @@ invariant-tries l = record {
   last : last_try (map try_of (drop l.k l.tries)) ≡ last_try (map try_of l.tries);
   is : IsHierarchyOf l.given.facts.now l.hier;
   meets : MeetsEdit l.given.facts.now l.given.sets.now l.hier;
+  members : l.hier.members ≡ l.initial.hier.members;
 }
 
 abbrev pub decreases-tries : goal.decreases-tries

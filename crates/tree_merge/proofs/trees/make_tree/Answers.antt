@@ -1,4 +1,5 @@
-use Rattle.std.proofs.Common.{subst, sym, [], ◌∷◌, ◌++◌}
+use Rattle.std.proofs.Common.{ℕ, List, refl, subst, sym, ◌∙◌, [], ◌∷◌, ◌++◌}
+use Rattle.hier_rules.specs.Index.{AreClashesOf}
 use Rattle.hier_tree.specs.Trees.{Leads, Stuck, begun}
 use Rattle.hier_tree.proofs.TreeIsFound.{tree_is_found}
 use Rattle.tree_merge.specs.Attempts.{IsTurn}
@@ -14,7 +15,16 @@ steps-init c =
       edits = none_yet c.new-log.result.items c.new-log.ensures.items;
       meets = c.requires.meets;
       is = c.requires.hierarchy;
+      chained = c.in-Ok.ensures.chained;
+      members = refl;
     }
+
+pub step-requires-clause-names : goal.step-requires-clause-names
+step-requires-clause-names c =
+    subst (λ (m : List (List ℕ)). AreClashesOf c.args.facts.now m c.in-Ok.prepared.clashes.items) (sym c.steps.invariant.members) c.in-Ok.ensures.clashes
+
+pub returns-in-Err-clause-fault : goal.returns-in-Err-clause-fault
+returns-in-Err-clause-fault c = ([], begun)
 
 pub returns-in-Ok-Done-clause-tree : goal.returns-in-Ok-Done-clause-tree
 returns-in-Ok-Done-clause-tree c =
@@ -51,10 +61,12 @@ steps-preserved c =
     let s = c.in-Ok-Taken.step in
     let is = subst (IsTurn F pt c.steps.hier c.step.new.hier) c.in-Ok-Taken.field-0-is c.in-Ok-Taken.ensures.turn in
     record {
-      steps = more_steps F pt c.args.hier.now c.steps.hier c.step.new.hier log more s c.in-Ok.ensures.items c.steps.invariant.steps is;
-      edits = more_edits log more s c.in-Ok.ensures.items c.steps.invariant.edits is.edit;
+      steps = more_steps F pt c.args.hier.now c.steps.hier c.step.new.hier log more s c.in-Ok-push.ensures.items c.steps.invariant.steps is;
+      edits = more_edits log more s c.in-Ok-push.ensures.items c.steps.invariant.edits is.edit;
       meets = is.meets;
       is = c.step.ensures.is;
+      chained = c.in-Ok-Taken.ensures.chained;
+      members = c.step.ensures.members ∙ c.steps.invariant.members;
     }
 
 pub returns-in-Err-push-clause-fault : goal.returns-in-Err-push-clause-fault
