@@ -6,3 +6,4 @@ pub mod Marked
 pub mod Fills
 pub mod SiteMakes
 pub mod Passed
+pub mod Uppers

@@ -1,6 +1,6 @@
 -- The words that several contracts here share, of crates below and of this one.
 pub use Rattle.std.specs.Option.{option_map}
-pub use Rattle.kaba_order.specs.Orders.{is_le, is_live}
+pub use Rattle.kaba_order.specs.Orders.{is_live}
 pub use Rattle.java_core.specs.Programs.{program_of, class_seen, method_seen, code_seen, field_seen, local_seen, slot_seen}
 pub use Rattle.java_core.specs.Formed.{IsFormed}
 pub use Rattle.fact_model.specs.InRange.{InRange}

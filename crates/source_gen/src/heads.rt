@@ -8,7 +8,7 @@ ghost use Rattle.flow_rules.specs.Operands.{result_in};
 ghost use Rattle.write_model.specs.Names as names;
 ghost use Rattle.write_model.specs.Members as members;
 
-use crate::parts::{code_at, slot_at};
+use crate::parts::code_at;
 use java_core::{Code, Local, Slot};
 use java_tree::unplaced::nowhere;
 use java_tree::{Head, Modifier, Param, TypeName};
@@ -124,15 +124,4 @@ pub fn first_head(
     let name = method_name(source, m)?;
     let made = head(source, mods, name, m, &code)?;
     Ok(Some(made))
-}
-
-/// The same of a slot by its number.
-pub fn slot_head(source: &Source, mods: Vec<Modifier>, x: u32) -> Result<Option<Head>, AllocError>
-    requires { IsSource source.now }
-    ensures { IfOk result (λ h. head_if h ≡ members.slot_head (old_program source.now) (renaming source.now) source.now.hier.now mods.items x) }
-{
-    match slot_at(source.program, x) {
-        Some(slot) => first_head(source, mods, slot),
-        None => Ok(None),
-    }
 }

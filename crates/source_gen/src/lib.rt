@@ -29,7 +29,6 @@ use java_tree::Tree;
 use makes::add_makers;
 use parts::Nodes;
 use std::alloc::{AllocError, Global};
-use supers::class_nodes;
 use types::add_types;
 use write_forms::{Numbering, Source};
 
@@ -52,7 +51,7 @@ pub fn generate(
     ensures tree { IfOk result (λ t. tree_of t ≡ written_by (program_of program.now)
         (renamed numbering.now hier.now) facts.now hier.now numbering.now.columns.keys) }
 {
-    let classes = class_nodes(alloc, facts, hier)?;
+    let classes = hier.class_nodes(alloc, facts)?;
     let nodes = Nodes {
         source: Source {
             alloc,

@@ -5,6 +5,7 @@ ghost use Rattle.source_gen.specs.Words.{option_map, program_of, field_seen, cod
 
 use fact_model::Facts;
 use java_core::{Code, Field, Program, Slot};
+use kaba_bits::BitRow;
 use write_forms::Source;
 
 /// What the types of the nodes are written of: the facts of the hierarchy besides, and which nodes of that are classes.
@@ -12,7 +13,7 @@ use write_forms::Source;
 pub struct Nodes<'a> {
     pub source: Source<'a>,
     pub facts: &'a Facts,
-    pub classes: &'a Vec<bool>,
+    pub classes: &'a BitRow,
 }
 
 /// A field by its number.

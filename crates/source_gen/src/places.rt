@@ -1,18 +1,22 @@
 //! What stands at a node, and what a node offers.
 
-ghost use Rattle.std.specs.Prelude.{◌≡◌, ◌<◌, ◌==◌, ◌&&◌, true, cond, length};
+ghost use Rattle.std.specs.Prelude.{◌≡◌, ℕ, ◌<◌, ◌==◌, ◌&&◌, ◌||◌, true, length, IfOk};
 ghost use Rattle.source_gen.specs.Words.{is_live, AreSourceNodes, hierarchy_of};
 ghost use Rattle.fact_model.specs.Items.{site_at, site_row, column_kind, column_slot};
 ghost use Rattle.fact_model.specs.Classes.{is_def, is_slot};
-ghost use Rattle.hier_model.specs.Hierarchies.{place_of_row, stands_at, offers_slot};
-ghost use Rattle.rebuild_model.specs.Members.{is_made_at, offers_body};
+ghost use Rattle.hier_model.specs.Hierarchies.{place_of_row, stands_at};
+ghost use Rattle.kaba_bits.specs.Sets.{bit};
+ghost use Rattle.rebuild_model.specs.Members.{is_made_at};
 ghost use Rattle.write_model.specs.Members.{is_declaration, is_first_there};
 ghost use Rattle.source_gen.specs.Seen.{is_offered_as};
+ghost use Rattle.source_gen.specs.Sources.{AreOffered, AreOffers};
 
 use crate::parts::Nodes;
 use fact_model::{ColKind, is_def, is_slot};
 use hier_model::{column_at, site_at};
 use kaba_base::{ColId, NodeId, SiteId};
+use kaba_bits::BitRow;
+use std::alloc::AllocError;
 
 /// Whether a column is the declaration of a method.
 pub fn is_declaration(kind: ColKind) -> bool
@@ -44,7 +48,7 @@ fn is_object_at(nodes: &Nodes, n: NodeId, s: u32) -> bool
 }
 
 /// Whether objects are created at a node.
-pub fn is_made_at(nodes: &Nodes, n: NodeId) -> bool
+fn is_made_at(nodes: &Nodes, n: NodeId) -> bool
     requires { AreSourceNodes nodes.now }
     ensures { result ≡ is_made_at nodes.now.facts.now (hierarchy_of nodes.now) n.0 }
 {
@@ -56,31 +60,61 @@ pub fn is_made_at(nodes: &Nodes, n: NodeId) -> bool
     false
 }
 
-/// Whether a column is of a slot and a live node offers it, where `bodies` asks for a body.
-fn is_offered_as(nodes: &Nodes, n: NodeId, x: u32, bodies: bool, c: u32) -> bool
+/// What a live node offers: whether objects are created there, the slots of the program that it offers, and those of which it
+/// offers a body.
+#[derive(Drop)]
+pub struct Offers {
+    pub is_made: bool,
+    pub slots: BitRow,
+    pub bodies: BitRow,
+}
+
+/// Adds the slot of a column to a set, if a live node offers it, where `bodies` asks for a body.
+fn add_offered(nodes: &Nodes, n: NodeId, bodies: bool, c: u32, slots: &mut BitRow)
     requires nodes { AreSourceNodes nodes.now }
     requires node { is_live nodes.now.source.hier.now.order n.0 ≡ true }
     requires column { c < length nodes.now.facts.now.columns.items }
-    ensures { result ≡ is_offered_as nodes.now.facts.now (hierarchy_of nodes.now) n.0 x bodies c }
+    ensures width { length slots.new ≡ length slots.old }
+    ensures added { (x : ℕ) → x < length slots.old → bit slots.new x ≡ (bit slots.old x || is_offered_as nodes.now.facts.now
+        (hierarchy_of nodes.now) n.0 x bodies c) }
 {
     let column = column_at(nodes.facts, ColId(c));
-    (!bodies || is_def(column.kind))
-        && (is_slot(column.slot, x) && nodes.source.hier.offers(n, ColId(c)))
+    let Some(x) = column.slot else {
+        return;
+    };
+    let is_offered = (!bodies || is_def(column.kind)) && nodes.source.hier.offers(n, ColId(c));
+    if x < slots.width() && is_offered {
+        slots.set(x);
+    }
 }
 
-/// Whether a live node offers a slot: a body of it, where `bodies` asks for that, and else also a declaration.
-pub fn offers(nodes: &Nodes, n: NodeId, x: u32, bodies: bool) -> bool
+/// The slots of the program that a live node offers, with a body where `bodies` asks for that. An error comes only for want of
+/// memory.
+fn offered(nodes: &Nodes, n: NodeId, bodies: bool) -> Result<BitRow, AllocError>
     requires nodes { AreSourceNodes nodes.now }
     requires node { is_live nodes.now.source.hier.now.order n.0 ≡ true }
-    ensures { result ≡ cond bodies (offers_body nodes.now.facts.now (hierarchy_of nodes.now) n.0 x)
-        (offers_slot nodes.now.facts.now (hierarchy_of nodes.now) n.0 x) }
+    ensures { IfOk result (λ v. AreOffered nodes.now n.0 bodies v) }
 {
+    let mut slots = BitRow::new(nodes.source.alloc, nodes.source.program.slots.len() as u32)?;
     for c in 0..nodes.facts.columns.len() as u32 {
-        if is_offered_as(nodes, n, x, bodies, c) {
-            return true;
-        }
+        add_offered(nodes, n, bodies, c, &mut slots);
     }
-    false
+    Ok(slots)
+}
+
+/// What a live node offers. An error comes only for want of memory.
+pub fn offers_at(nodes: &Nodes, n: NodeId) -> Result<Offers, AllocError>
+    requires nodes { AreSourceNodes nodes.now }
+    requires node { is_live nodes.now.source.hier.now.order n.0 ≡ true }
+    ensures { IfOk result (λ o. AreOffers nodes.now n.0 o) }
+{
+    let slots = offered(nodes, n, false)?;
+    let bodies = offered(nodes, n, true)?;
+    Ok(Offers {
+        is_made: is_made_at(nodes, n),
+        slots,
+        bodies,
+    })
 }
 
 /// Whether a column is a declaration of a slot that stands at a node.

@@ -10,7 +10,7 @@ use crate::columns::{class_members, interface_heads};
 use crate::heads::one_modifier;
 use crate::members::push_decl;
 use crate::parts::Nodes;
-use crate::places::is_made_at;
+use crate::places::offers_at;
 use crate::supers::{covering, extended, implemented, is_class};
 use java_tree::unplaced::nowhere;
 use java_tree::{Decl, Modifier};
@@ -35,11 +35,12 @@ fn class_tree(nodes: &Nodes, n: NodeId) -> Result<Decl, AllocError>
     ensures { IfOk result (λ d. tree.decl_of d ≡ written.class_tree (old_program nodes.now.source) (renaming nodes.now.source) nodes.now.facts.now
         (hierarchy_of nodes.now) nodes.now.source.numbering.now.columns.keys n.0) }
 {
-    let mods = class_modifiers(nodes.source.alloc, is_made_at(nodes, n))?;
+    let offers = offers_at(nodes, n)?;
+    let mods = class_modifiers(nodes.source.alloc, offers.is_made)?;
     let name = nodes.source.hier.type_name(n).copy(nodes.source.alloc)?;
     let parent = extended(nodes, n)?;
     let faces = implemented(nodes, n)?;
-    let members = class_members(nodes, n)?;
+    let members = class_members(nodes, &offers, n)?;
     Ok(Decl::Class {
         mods,
         name,
@@ -59,7 +60,8 @@ fn interface_tree(nodes: &Nodes, n: NodeId) -> Result<Decl, AllocError>
 {
     let name = nodes.source.hier.type_name(n).copy(nodes.source.alloc)?;
     let parents = covering(nodes, n)?;
-    let heads = interface_heads(nodes, n)?;
+    let offers = offers_at(nodes, n)?;
+    let heads = interface_heads(nodes, &offers, n)?;
     Ok(Decl::Interface {
         mods: Vec::new(nodes.source.alloc),
         name,

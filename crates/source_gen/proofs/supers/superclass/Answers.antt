@@ -11,5 +11,5 @@ returns-then-is_superclass-clause-value c =
     let H = c.args.nodes.now.source.hier.now in
     let a = c.loop-a.a in
     let below : a < length H.order.live = omega (arith, ap (λ (o : Ordered). length o.live) c.order.ensures) in
-    sym (first_below_found (λ k. when (is_superclass F H c.args.n k) k) a (length H.order.live) a below c.loop-a.invariant
+    sym (first_below_found (λ k. when (is_superclass F H c.args.n.0 k) k) a (length H.order.live) a below c.loop-a.invariant
     (ap (λ b. when b a) (sym c.is_superclass.ensures ∙ c.if-is_superclass.true)))
