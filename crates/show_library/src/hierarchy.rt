@@ -12,7 +12,7 @@ use concept_build::concepts;
 use fact_model::{Facts, PointsTo};
 use flow_program::facts;
 use hier_model::{Edit, Hier, start};
-use hier_rules::{Asked, Broken, first_broken};
+use hier_rules::{Asked, Broken, first_broken, join_index};
 use hier_undo::apply_and_take_back;
 use java_check::check;
 use java_core::Checked;
@@ -92,7 +92,13 @@ fn add_undone(
     requires meets { MeetsEdit facts.now sets.now hier }
 {
     let edit = Edit::Merge([NodeId(1), NodeId(2)].to_vec(alloc)?);
-    match apply_and_take_back(alloc, &mut hier, facts, sets, &edit) {
+    let asked = Asked {
+        facts,
+        pt: sets,
+        hier: &hier,
+    };
+    let index = join_index(alloc, &asked)?;
+    match apply_and_take_back(alloc, &mut hier, facts, sets, &index, &edit) {
         Ok(()) => text.push_str("a merge is made and taken back\n")?,
         Err(_) => text.push_str("a merge is refused\n")?,
     }

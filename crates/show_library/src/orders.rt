@@ -56,13 +56,13 @@ fn add_change(
     }
     match change {
         Change::Under => match order.put_under(alloc, NodeId(a), NodeId(b)) {
-            Ok(()) => text.push_str("ok\n"),
+            Ok(_) => text.push_str("ok\n"),
             Err(fault) => add_fault(text, fault),
         },
         Change::Union => {
             let set = [NodeId(a), NodeId(b)].to_vec(alloc)?;
             match order.merge_set(alloc, &set) {
-                Ok(m) => write!(text, "{}\n", m.0),
+                Ok(merged) => write!(text, "{}\n", merged.node.0),
                 Err(fault) => add_fault(text, fault),
             }
         }
