@@ -67,9 +67,7 @@ def faulty_rows(contracts, rows, definitions):
     for row in rows:
         if row[0].startswith("`"):
             call = CODE.findall(row[0])[0]
-            # What is a part of another call has that one's clauses.
-            whole = CODE.findall(row[2])[0] if row[2].startswith("as `") else call
-            yield without_clauses(contracts, whole, CODE.findall(row[-1]))
+            yield without_clauses(contracts, call, CODE.findall(row[-1]))
             if not clauses_of(contracts, call):
                 yield f"{PAGE}: no {call}"
         else:
