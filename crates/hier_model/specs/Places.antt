@@ -1,4 +1,4 @@
--- Mirror. What a join makes anew of a hierarchy: a merge, or a node put under another.
+-- Mirror. What of a hierarchy was before a join: a merge, or a node put under another.
 use Rattle.std.specs.Prelude.{◌≡◌, Option, Some, None}
 use Rattle.kaba_order.specs.Formers.{IsFormerOf}
 use Rattle.hier_model.specs.declared.edits.Edit.{Edit}

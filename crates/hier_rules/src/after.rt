@@ -24,7 +24,7 @@ use std::alloc::{AllocError, Global};
 /// The first instance of the first broken obligation of B2 to B8 in the hierarchy after an edit of one that met them; `None`
 /// where all hold. What the edit cannot have broken is not asked: a merge, and a node put under another, only add to what
 /// is offered, and change no name, so that of them B4 to B7 and the last part of B8 are asked, and B6 at the merged nodes
-/// alone, and B4, B5 and B7 at or below the joined nodes alone; of a name only B8. An error comes only for want of memory.
+/// alone, and the others at or below the joined nodes alone; of a name only B8. An error comes only for want of memory.
 pub fn first_broken_after(
     alloc: Global,
     asked: &Asked,
