@@ -1,19 +1,20 @@
 -- Rows that were kept give the order back.
-use Rattle.std.proofs.Common.{◌≡◌, ⊎_elim, ℕ, ◌<◌, ◌&&◌, ◌||◌, Bool, true, false, List, [], ◌∷◌, length, All, refl, sym, ap, ◌∙◌, subst, arith, ◌==◌, eq-eqb}
+use Rattle.std.proofs.Common.{◌≡◌, ⊎_elim, ℕ, ◌<◌, ◌&&◌, ◌||◌, Bool, true, false, List, [], ◌∷◌, length, All, refl, sym, ap, ◌∙◌, subst, arith}
 use Rattle.std.proofs.lemmas.Bool.{cases_Bool, false≢true, and_parts, or_cases, or_left}
 use Rattle.kaba_base.specs.declared.NodeId.{NodeId}
 use Rattle.kaba_base.proofs.TestLemmas.{same_truth}
-use Rattle.kaba_bits.specs.Sets.{row}
+use Rattle.kaba_bits.specs.Sets.{bit, row}
 use Rattle.kaba_bits.proofs.SetLemmas.{same_bits}
 use Rattle.kaba_order.specs.Orders.{Ordered, is_le, is_among, has_any, is_below_some, is_above_some, stays, IsPartialOrder, IsMerged, IsUnder}
 use Rattle.kaba_order.specs.Written.{written, only_if}
-use Rattle.kaba_order.specs.Formers.{rows_with, IsFormerOf}
+use Rattle.kaba_order.specs.Formers.{rows_at, AreBelow, IsFormerOf}
 use Rattle.kaba_order.specs.declared.keep.Former.{Former}
+use Rattle.kaba_order.proofs.ListLemmas.{has_any_one}
 use Rattle.kaba_order.proofs.MergeSteps.{has_any_among}
 use Rattle.kaba_order.proofs.WrittenLemmas.{written_back, All-each, All-only}
 
 module _ (old new : Ordered) (p : IsPartialOrder old) (q : IsPartialOrder new) (count : length new.live ≡ length old.live) (set : List NodeId)
-    (kept : Former) (live : kept.live ≡ old.live) (rows : kept.rows.items ≡ rows_with old.le set) where
+    (low : List Bool) (below : AreBelow old set low) (kept : Former) (live : kept.live ≡ old.live) (rows : kept.rows.items ≡ rows_at old.le low) where
   len : length new.le ≡ length old.le
   len = q.count ∙ (count ∙ sym p.count)
 
@@ -21,14 +22,14 @@ module _ (old new : Ordered) (p : IsPartialOrder old) (q : IsPartialOrder new) (
   pub former_of : ((a : ℕ) → is_below_some old set a ≡ false → (b : ℕ) → is_le new a b ≡ is_le old a b) → IsFormerOf old new kept
   former_of same = record {
     within = subst (All (λ (x : ℕ × List Bool). x.0 < length new.le)) (sym rows)
-        (All-each (λ (x : ℕ × List Bool). x.0 < length new.le) (length old.le) (λ k. only_if (has_any (row old.le k) set) (k, row old.le k))
-        (λ k lt. All-only (λ (x : ℕ × List Bool). x.0 < length new.le) (has_any (row old.le k) set) (k, row old.le k) (λ _. omega (arith, lt, len))));
+        (All-each (λ (x : ℕ × List Bool). x.0 < length new.le) (length old.le) (λ k. only_if (bit low k) (k, row old.le k))
+        (λ k lt. All-only (λ (x : ℕ × List Bool). x.0 < length new.le) (bit low k) (k, row old.le k) (λ _. omega (arith, lt, len))));
     live = live;
     le = ap (written new.le) rows
-        ∙ written_back [] new.le old.le (length old.le) (λ k. has_any (row old.le k) set) len refl
+        ∙ written_back [] new.le old.le (length old.le) (λ k. bit low k) len refl
         (λ k lt none.
         let here : k < length new.le = omega (arith, lt, len) in
-        same_bits (row new.le k) (row old.le k) (q.widths k here ∙ (count ∙ sym (p.widths k lt))) (λ i _. same k none i));
+        same_bits (row new.le k) (row old.le k) (q.widths k here ∙ (count ∙ sym (p.widths k lt))) (λ i _. same k (sym (below.exact k) ∙ none) i));
   }
 
   -- a row that changed has a node of the list
@@ -54,17 +55,9 @@ module _ (old new : Ordered) (p : IsPartialOrder old) (q : IsPartialOrder new) (
 
   pub under_former : (n : NodeId) (t : ℕ) → set ≡ n ∷ [] → IsUnder old n.0 t new → IsFormerOf old new kept
   under_former n t is under = former_of (λ a none b.
-      under a b
-      ∙ ⊎_elim
-      (λ yes.
-      let one : is_among set n.0 ≡ true = subst (λ s. is_among s n.0 ≡ true) (sym is) (own n) in
-      absurd (false≢true (sym none ∙ has_any_among (row old.le a) set n.0 one yes)))
-      (λ no. rw no (none_more (is_le old a b)))
-      (cases_Bool (is_le old a n.0)))
+      let no : is_le old a n.0 ≡ false = sym (has_any_one (row old.le a) n) ∙ (ap (has_any (row old.le a)) (sym is) ∙ none) in
+      under a b ∙ rw no (none_more (is_le old a b)))
     where
-      own : (n : NodeId) → is_among (n ∷ []) n.0 ≡ true
-      own n = or_left (n.0 == n.0) false (eq-eqb n.0 n.0 refl)
-
       none_more : (x : Bool) → (x || false) ≡ x
       none_more true = refl
       none_more false = refl

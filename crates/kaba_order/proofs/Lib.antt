@@ -6,5 +6,8 @@ pub mod UniqueLemmas
 pub mod BeyondLemmas
 pub mod FlipLemmas
 pub mod ChangedLemmas
+pub mod ScanLemmas
 pub mod WrittenLemmas
+pub mod BelowLemmas
 pub mod FormerLemmas
+pub mod LowerLemmas

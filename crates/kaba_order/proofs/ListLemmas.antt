@@ -3,6 +3,7 @@ use Rattle.std.proofs.lemmas.List.Folds.{list_any_more}
 use Rattle.std.proofs.lemmas.Bool.{cases_Bool, eqb-true, ne_eqb}
 use Rattle.std.proofs.lemmas.List.{map-append}
 use Rattle.kaba_base.specs.declared.NodeId.{NodeId}
+use Rattle.kaba_bits.specs.Sets.{bit}
 use Rattle.kaba_order.specs.Orders.{is_among, has_any, stays, numbers}
 
 -- an empty row has none of a list
@@ -10,6 +11,15 @@ pub has_any_none : (set : List NodeId) → has_any [] set ≡ false
 unfolding has_any
 has_any_none [] = refl
 has_any_none (s ∷ set) = has_any_none set
+
+-- a row has some of one where it has that
+pub has_any_one : (r : List Bool) (n : NodeId) → has_any r (n ∷ []) ≡ bit r n.0
+unfolding has_any
+has_any_one r n = or-false (bit r n.0)
+  where
+    or-false : (x : Bool) → (x || false) ≡ x
+    or-false true = refl
+    or-false false = refl
 
 -- one more element of the list
 pub stays_more : (set : List NodeId) (m a i : ℕ) (d : NodeId) → i < length set → stays (take (i + 1) set) m a

@@ -7,7 +7,9 @@ use Rattle.std.proofs.lemmas.Grind.{common_steps}
 use Rattle.kaba_bits.specs.Sets.{bit, HasWidth}
 use Rattle.kaba_bits.proofs.SetLemmas.{bit-below}
 use Rattle.kaba_bits.proofs.RowLemmas.{bit-row-below}
+use Rattle.kaba_order.specs.Lower.{AreLower, IsStored}
 use Rattle.kaba_order.specs.Orders.{Ordered, is_le, is_live, IsPartialOrder, IsUnder, IsLeastWith, IsDropped}
+use Rattle.kaba_order.proofs.LowerLemmas.{lower_less}
 
 -- a set that lost a number
 pub dropped_live : (old new : List Bool) (n : ℕ) → new ≡ set old n false → (a : ℕ) → bit new a ≡ (bit old a && not (a == n))
@@ -37,6 +39,12 @@ module _ (old new : Ordered) (n : ℕ) (o : IsPartialOrder old) (count : length 
     reflexive = λ a h. let x = and_parts (is_live old a) (not (a == n)) (sym (d.live a) ∙ h) in kept a a (o.reflexive a x.0) x.1 x.1;
     antisymmetric = λ a b h k. o.antisymmetric a b (left a b h).0 (left b a k).0;
     transitive = λ a b c h k. let x = left a b h in let y = left b c k in kept a c (o.transitive a b c x.0 y.0) x.1 y.2;
+  }
+
+  pub dropped_stored : (lower : List (List Bool)) → AreLower old.le lower → IsStored new lower
+  dropped_stored lower x = record {
+    order = dropped_order;
+    hints = lower_less old.le new.le lower x (count ∙ (d.count ∙ sym o.count)) (λ a b h. (left a b h).0);
   }
 
 -- what a new pair leads to
@@ -116,6 +124,19 @@ module _ (o : Ordered) (count : length o.le ≡ length o.live) (widths : HasWidt
     transitive = λ a b c h k. subst (λ x. is_le o a x ≡ true) (one b c k) h;
   }
 
+  -- its rows are those sets themselves
+  pub discrete_stored : IsStored o o.le
+  discrete_stored = record {
+    order = discrete_order;
+    hints = record {
+      len = refl;
+      widths = subst (λ w. HasWidth w o.le) (sym count) widths;
+      covers = λ a b lt h.
+          let e = one a b h in
+          subst (λ x. is_le o b x ≡ true) (sym e) (subst (λ x. is_le o x b ≡ true) e h);
+    };
+  }
+
 -- an order by its nodes and its rows
 abbrev pub ordered : List Bool → List (List Bool) → Ordered
 ordered live le = record { live = live; le = le }
@@ -124,3 +145,13 @@ ordered live le = record { live = live; le = le }
 pub stored : (live : List Bool) (v : Vec (List Bool) Global) {old new : List (List Bool)} → length new ≡ length old → old ≡ v.items
     → ordered live new ≡ ordered live (take v.len (new ++ drop (length new) v.items))
 stored live v {new = new} len is = ap (ordered live) (sym (with_items_is v new (len ∙ (ap length is ∙ sym v.ok.0))))
+
+-- such an order with the sets that cover it, both written so
+pub stored_both : (live : List Bool) (v w : Vec (List Bool) Global) (old new later : List (List Bool)) → length new ≡ length old → old ≡ v.items
+    → AreLower v.items w.items → IsPartialOrder (ordered live new) → AreLower new later
+    → IsStored (ordered live (take v.len (new ++ drop (length new) v.items))) (take w.len (later ++ drop (length later) w.items))
+stored_both live v w old new later len is x order lower =
+    let fits : length later ≡ w.len = lower.len ∙ (len ∙ (ap length is ∙ (sym x.len ∙ sym w.ok.0))) in
+    let here : IsStored (ordered live new) later = record { order = order; hints = lower } in
+    subst (λ l. IsStored (ordered live (take v.len (new ++ drop (length new) v.items))) l) (sym (with_items_is w later fits))
+    (subst (λ o. IsStored o later) (stored live v len is) here)

@@ -1,8 +1,9 @@
 -- Lists in which items were written back.
 use Rattle.std.proofs.Common.{◌≡◌, ⊎_elim, ℕ, zero, suc, ◌+◌, ◌<◌, ◌≤◌, Bool, true, false, List, [], ◌∷◌, ◌++◌, length, get_or, set, All, Some, refl, sym, ap, ◌∙◌, arith, add-one}
 use Rattle.std.proofs.lemmas.Bool.{cases_Bool, cases_eq, false≢true}
-use Rattle.std.proofs.lemmas.List.{ext_get_or, get_or-set_same, get_or-set_other, length-set}
+use Rattle.std.proofs.lemmas.List.{ext_get_or, get_or-set_same, get_or-set_other, length-set, append-nil}
 use Rattle.std.proofs.lemmas.List.Elements.{All-append, All-pop}
+use Rattle.kaba_bits.specs.Sets.{IsNoneFrom, IsLeastFrom}
 use Rattle.kaba_order.specs.Written.{written, each_below, only_if}
 
 pub written-append : {X : Type 0} (xs : List X) (ws vs : List (ℕ × X)) → written xs (ws ++ vs) ≡ written (written xs vs) ws
@@ -63,6 +64,29 @@ written_back d xs target n t len count same =
 
 pub each_below-more : {A : Type 0} (n : ℕ) (f : ℕ → List A) → each_below (n + 1) f ≡ each_below n f ++ f n
 each_below-more n f = ap (λ m. each_below m f) (add-one n)
+
+-- numbers that fail the test list nothing
+each_below-past : {A : Type 0} (t : ℕ → Bool) (v : ℕ → A) (at n : ℕ) → at ≤ n → IsNoneFrom t at n
+    → each_below n (λ k. only_if (t k) (v k)) ≡ each_below at (λ k. only_if (t k) (v k))
+each_below-past t v at zero le none = let e : zero ≡ at = omega (arith, le) in ap (λ m. each_below m (λ k. only_if (t k) (v k))) e
+each_below-past t v at (suc n) le none =
+    let f : ℕ → List _ = λ k. only_if (t k) (v k) in
+    ⊎_elim
+    (λ e. ap (λ m. each_below m f) (sym e))
+    (λ ne. ap (λ b. each_below n f ++ only_if b (v n)) (none n (omega (arith, le, ne)) (omega arith))
+    ∙ (append-nil (each_below n f) ∙ each_below-past t v at n (omega (arith, le, ne)) (λ k low below. none k low (omega (arith, below)))))
+    (cases_eq at (suc n))
+
+-- a walk from one number that passes a test to the next
+module _ {A : Type 0} (t : ℕ → Bool) (v : ℕ → A) (at : ℕ) (listed : List A) (is : listed ≡ each_below at (λ k. only_if (t k) (v k))) where
+  pub each_below-next : (k : ℕ) (new : List A) → IsLeastFrom t at k → new ≡ listed ++ v k ∷ [] → new ≡ each_below (k + 1) (λ k. only_if (t k) (v k))
+  each_below-next k new next e =
+      let f : ℕ → List A = λ k. only_if (t k) (v k) in
+      e ∙ (ap (λ l. l ++ v k ∷ []) (is ∙ sym (each_below-past t v at k next.low next.least))
+      ∙ (ap (λ b. each_below k f ++ only_if b (v k)) (sym next.holds) ∙ sym (each_below-more k f)))
+
+  pub each_below-all : (n : ℕ) → at ≤ n → IsNoneFrom t at n → listed ≡ each_below n (λ k. only_if (t k) (v k))
+  each_below-all n le none = is ∙ sym (each_below-past t v at n le none)
 
 pub All-only : {A : Type 0} (P : A → Type 0) (t : Bool) (x : A) → (t ≡ true → P x) → All P (only_if t x)
 All-only P true x h = λ i d lt. elim i as (λ j. j < 1 → P (get_or (x ∷ []) j d)) [

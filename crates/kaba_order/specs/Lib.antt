@@ -3,3 +3,4 @@ pub mod Beyond
 pub mod Flips
 pub mod Written
 pub mod Formers
+pub mod Lower

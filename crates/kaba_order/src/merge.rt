@@ -2,9 +2,11 @@
 
 ghost use Rattle.std.specs.Prelude.{◌≡◌, ◌≢◌, ℕ, ◌<◌, ◌&&◌, ◌||◌, ◌==◌, true, length, All};
 ghost use Rattle.kaba_bits.specs.Sets.{bit, row, HasWidth};
+ghost use Rattle.kaba_order.specs.Lower.{AreLower};
 ghost use Rattle.kaba_order.specs.Orders.{is_among, has_any, any_has, stays, AreAsWide, IsLeastOf};
 
-use crate::rows::drop_from;
+use crate::lower::add_set;
+use crate::rows::{drop_from, spread};
 use kaba_base::NodeId;
 use kaba_bits::{BitRow, join, row_at};
 
@@ -79,33 +81,19 @@ fn gather(le: &mut [BitRow], set: &[NodeId], m: u32)
     }
 }
 
-/// Adds the row `m` to each row that has some node of the list.
-fn spread(le: &mut [BitRow], set: &[NodeId], m: u32)
-    requires m { m < length le.old }
-    requires set { All (λ s. s.0 < length le.old) set.now }
-    requires widths { HasWidth (length le.old) le.old }
-    ensures size { AreAsWide le.old le.new }
-    ensures same { (b : ℕ) → bit (row le.new m) b ≡ bit (row le.old m) b }
-    ensures rows { (a b : ℕ) → a < length le.old → a ≢ m → bit (row le.new a) b ≡ (bit (row le.old a) b || (has_any (row le.old a) set.now && bit (row le.old m) b)) }
-{
-    for a in 0..le.len() {
-        if has_some(row_at(le, a), set) {
-            join(le, m as usize, a);
-        }
-    }
-}
-
-/// Takes the nodes of a list out, but for `m`.
+/// Takes the nodes of a list out, but for `m`. A set has the numbers of all rows with one of them.
 #[tactic(auto, using(crate::proofs::ListLemmas::stays_same, crate::proofs::ListLemmas::stays_less))]
-fn drop_others(le: &mut [BitRow], set: &[NodeId], m: u32)
+fn drop_others(le: &mut [BitRow], set: &[NodeId], low: &BitRow, m: u32)
     requires set { All (λ s. s.0 < length le.old) set.now }
+    requires width { length low.now ≡ length le.old }
+    requires low { (a : ℕ) → has_any (row le.old a) set.now ≡ true → bit low.now a ≡ true }
     requires widths { HasWidth (length le.old) le.old }
     ensures size { AreAsWide le.old le.new }
     ensures rows { (a b : ℕ) → bit (row le.new a) b ≡ (bit (row le.old a) b && stays set.now m a && stays set.now m b) }
 {
     for s in set {
         if s.0 != m {
-            drop_from(le, s.0);
+            drop_from(le, low, s.0);
         }
     }
 }
@@ -123,17 +111,23 @@ pub fn keep_one(live: &mut BitRow, set: &[NodeId], m: u32)
     }
 }
 
-/// Makes the node `m` of a list stand for all of it, in the closed order.
-pub fn merge_rows(le: &mut [BitRow], set: &[NodeId], m: u32)
+/// Makes the node `m` of a list stand for all of it, in the closed order. A set has the numbers of the rows with some
+/// node of the list.
+pub fn merge_rows(le: &mut [BitRow], lower: &mut [BitRow], set: &[NodeId], low: &BitRow, m: u32)
     requires m { m < length le.old }
     requires among { is_among set.now m ≡ true }
     requires reflexive { bit (row le.old m) m ≡ true }
     requires set { All (λ s. s.0 < length le.old) set.now }
+    requires width { length low.now ≡ length le.old }
+    requires low { (a : ℕ) → bit low.now a ≡ has_any (row le.old a) set.now }
     requires widths { HasWidth (length le.old) le.old }
+    requires lower { AreLower le.old lower.old }
     ensures size { AreAsWide le.old le.new }
+    ensures lower { AreLower le.new lower.new }
     ensures rows { (a b : ℕ) → bit (row le.new a) b ≡ ((bit (row le.old a) b || (has_any (row le.old a) set.now && any_has le.old set.now b)) && stays set.now m a && stays set.now m b) }
 {
     gather(le, set, m);
-    spread(le, set, m);
-    drop_others(le, set, m);
+    add_set(lower, row_at(le, m as usize), low);
+    spread(le, low, m);
+    drop_others(le, set, low, m);
 }

@@ -1,9 +1,9 @@
 //! The steps on the rows of an order.
 
-ghost use Rattle.std.specs.Prelude.{◌≡◌, ℕ, ◌<◌, ◌&&◌, ◌||◌, ◌==◌, not, true, false, length, IfOk};
-ghost use Rattle.kaba_bits.specs.Sets.{bit, row, HasWidth, IsEmpty};
+ghost use Rattle.std.specs.Prelude.{◌≡◌, ℕ, ◌<◌, ◌&&◌, ◌||◌, ◌==◌, not, true, length, IfOk};
+ghost use Rattle.kaba_bits.specs.Sets.{bit, row, HasWidth};
 
-use kaba_bits::{BitRow, join, row_at};
+use kaba_bits::{BitRow, join};
 use std::alloc::{AllocError, Global};
 
 /// Rows in which each number has itself alone.
@@ -21,46 +21,53 @@ pub fn diagonal(alloc: Global, count: u32) -> Result<Vec<BitRow>, AllocError>
     Ok(rows)
 }
 
-/// Adds what is at or above `p` to each row that has `n`.
-pub fn close_under(le: &mut [BitRow], n: u32, p: u32)
-    requires n { n < length le.old }
+/// Adds the row `p` to each row of which a set has the number.
+pub fn spread(le: &mut [BitRow], low: &BitRow, p: u32)
     requires p { p < length le.old }
+    requires width { length low.now ≡ length le.old }
     requires widths { HasWidth (length le.old) le.old }
-    requires apart { bit (row le.old p) n ≡ true → p ≡ n }
     ensures len { length le.new ≡ length le.old }
     ensures widths { HasWidth (length le.old) le.new }
-    ensures rows { (a b : ℕ) → bit (row le.new a) b ≡ (bit (row le.old a) b || (bit (row le.old a) n && bit (row le.old p) b)) }
+    ensures rows { (a b : ℕ) → bit (row le.new a) b ≡ (bit (row le.old a) b || (bit low.now a && bit (row le.old p) b)) }
 {
-    for a in 0..le.len() {
-        if row_at(le, a).has(n) {
-            join(le, p as usize, a);
-        }
+    let _width = low.width();
+    let mut at = 0;
+    'scan: while let Some(a) = low.next(at) {
+        join(le, p as usize, a as usize);
+        at = a + 1;
     }
 }
 
-/// Takes `n` out of each row.
-fn forget(le: &mut [BitRow], n: u32)
+/// Takes `n` out of each row of which a set has the number. The set has those of all rows with `n`.
+fn forget(le: &mut [BitRow], low: &BitRow, n: u32)
     requires n { n < length le.old }
+    requires width { length low.now ≡ length le.old }
+    requires low { (a : ℕ) → bit (row le.old a) n ≡ true → bit low.now a ≡ true }
     requires widths { HasWidth (length le.old) le.old }
     ensures len { length le.new ≡ length le.old }
     ensures widths { HasWidth (length le.old) le.new }
     ensures rows { (a b : ℕ) → bit (row le.new a) b ≡ (bit (row le.old a) b && not (b == n)) }
 {
-    for a in 0..le.len() {
-        let row = &mut le[a];
+    let _width = low.width();
+    let mut at = 0;
+    'scan: while let Some(a) = low.next(at) {
+        let row = &mut le[a as usize];
         row.remove(n);
+        at = a + 1;
     }
 }
 
-/// Takes `n` out of each row, and all out of its own.
-pub fn drop_from(le: &mut [BitRow], n: u32)
+/// Takes `n` out of each row of which a set has the number, and all out of its own. The set has those of all rows with `n`.
+pub fn drop_from(le: &mut [BitRow], low: &BitRow, n: u32)
     requires n { n < length le.old }
+    requires width { length low.now ≡ length le.old }
+    requires low { (a : ℕ) → bit (row le.old a) n ≡ true → bit low.now a ≡ true }
     requires widths { HasWidth (length le.old) le.old }
     ensures len { length le.new ≡ length le.old }
     ensures widths { HasWidth (length le.old) le.new }
     ensures rows { (a b : ℕ) → bit (row le.new a) b ≡ (bit (row le.old a) b && not (a == n) && not (b == n)) }
 {
-    forget(le, n);
+    forget(le, low, n);
     let row = &mut le[n as usize];
     row.clear();
 }

@@ -2,7 +2,7 @@ use Rattle.std.proofs.Common.{◌≡◌, length, sym, ◌∙◌, subst, ap, take
 use Rattle.kaba_bits.specs.Sets.{HasWidth}
 use Rattle.kaba_order.specs.Orders.{Ordered, IsPartialOrder}
 use Rattle.kaba_order.specs.Flips.{IsFlipped}
-use Rattle.kaba_order.proofs.StepLemmas.{ordered, stored}
+use Rattle.kaba_order.proofs.StepLemmas.{ordered, stored, stored_both}
 use Rattle.kaba_order.proofs.FlipLemmas.{one_flipped}
 use Rattle.kaba_order.proofs.Order.flip.Goals as goal
 use Rattle.kaba_order.proofs.Order.flip.Goals.{After-flip_rows}
@@ -25,7 +25,7 @@ flipped c =
 partial : (c : After-flip_rows) → IsPartialOrder (made c)
 partial c =
     let old = c.args.self.now in
-    let order : IsPartialOrder old = subst IsPartialOrder c.self.view_is c.self.invariant in
+    let order : IsPartialOrder old = subst IsPartialOrder c.self.view_is c.self.invariant.order in
     let live : c.self.inside.live ≡ old.live = ap (λ (o : Ordered). o.live) c.self.view_is in
     let le : c.self.inside.le.items ≡ old.le = ap (λ (o : Ordered). o.le) c.self.view_is in
     let before : c.deref_mut.result.now ≡ old.le = c.deref_mut.ensures.value ∙ le in
@@ -43,7 +43,10 @@ whole c = stored c.flip_live.new.live c.self.inside.le {old = c.deref_mut.result
     c.deref_mut.ensures.value
 
 pub invariant_of-self : goal.invariant_of-self
-invariant_of-self c = let k = (goal.at.invariant_of-self c).After-flip_rows in subst IsPartialOrder (whole k) (partial k)
+invariant_of-self c =
+    let k = (goal.at.invariant_of-self c).After-flip_rows in
+    stored_both k.flip_live.new.live k.self.inside.le k.self.inside.lower k.deref_mut.result.now k.flip_rows.new.le k.flip_rows.new.lower
+    k.flip_rows.ensures.size.len k.deref_mut.ensures.value k.self.invariant.hints (partial k) k.flip_rows.ensures.lower
 
 pub returns-clause-order : goal.returns-clause-order
 returns-clause-order c = let k = (goal.at.returns-clause-order c).After-flip_rows in subst IsPartialOrder (whole k) (partial k)

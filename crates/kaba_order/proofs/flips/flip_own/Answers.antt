@@ -11,5 +11,6 @@ loop-n-preserved c =
     let d : NodeId = record { 0 = 0 } in
     record {
       widths = grind (arith, common_steps);
-      rows = own_more nodes i d c.args.le.now c.loop-n.le c.flip_pair.new.le (omega arith) c.flip_pair.ensures.rows c.loop-n.invariant.rows;
+      lower = c.flip_both.ensures.lower;
+      rows = own_more nodes i d c.args.le.now c.loop-n.le c.flip_both.new.le (omega arith) c.flip_both.ensures.rows c.loop-n.invariant.rows;
     }

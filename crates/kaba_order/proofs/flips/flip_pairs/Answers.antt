@@ -11,5 +11,6 @@ loop-p-preserved c =
     let n : NodeId = record { 0 = 0 } in
     record {
       widths = grind (arith, common_steps);
-      rows = pairs_more pairs i (n, n) c.args.le.now c.loop-p.le c.flip_pair.new.le (omega arith) c.flip_pair.ensures.rows c.loop-p.invariant.rows;
+      lower = c.flip_both.ensures.lower;
+      rows = pairs_more pairs i (n, n) c.args.le.now c.loop-p.le c.flip_both.new.le (omega arith) c.flip_both.ensures.rows c.loop-p.invariant.rows;
     }

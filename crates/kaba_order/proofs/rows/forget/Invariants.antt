@@ -1,10 +1,14 @@
-use Rattle.std.proofs.Common.{◌≡◌, ℕ, ◌<◌, ◌≤◌, ◌&&◌, ◌==◌, not, length}
+use Rattle.std.proofs.Common.{◌-◌, ◌≤◌, ◌&&◌, ◌==◌, not, length}
 use Rattle.kaba_bits.specs.Sets.{bit, row, HasWidth}
+use Rattle.kaba_order.proofs.ScanLemmas.{AreChanged}
 use Rattle.kaba_order.proofs.rows.forget.Given as goal
 
-abbrev pub invariant-loop-a : goal.invariant-loop-a
-invariant-loop-a l = record {
+abbrev pub invariant-scan : goal.invariant-scan
+invariant-scan l = record {
+  below : l.at ≤ length l.low;
   widths : HasWidth (length l.fn.le) l.le;
-  done : (k : ℕ) → k < l.a → (b : ℕ) → bit (row l.le k) b ≡ (bit (row l.fn.le k) b && not (b == l.n));
-  rest : (k : ℕ) → l.a ≤ k → row l.le k ≡ row l.fn.le k;
+  changed : AreChanged (λ k b. bit (row l.fn.le k) b && not (b == l.n)) l.fn.le l.at l.le;
 }
+
+abbrev pub decreases-scan : goal.decreases-scan
+decreases-scan l = length l.low - l.at
