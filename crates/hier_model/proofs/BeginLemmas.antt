@@ -39,6 +39,7 @@ use Rattle.hier_model.specs.Names.{is_field, named_member, member_names, named_t
 use Rattle.hier_model.specs.Start.{is_filled, is_subset, is_same_set, order_of, concept_at, rows_with, column_place, row_place, is_below_all, lowest, owners, start_origin, origins_of, start_of}
 use Rattle.hier_model.specs.Listed.{extent_of, intent_of, is_above_concept, lists_column, lists_row, listed_column, row_node}
 use Rattle.hier_model.proofs.FitLemmas.{lowest_member}
+use Rattle.hier_model.proofs.Pushed.{each_given}
 use Rattle.hier_model.proofs.SetTests.{filled-some, filled-has, same_set-sound, same_set-complete}
 use Rattle.hier_model.proofs.StartLemmas.{rows_with-bit, int-length, ext-length, order_partial, nodes-count, column_lives, row_lives, this_stands}
 
@@ -203,12 +204,8 @@ module _ (T : List (List Bool)) (w : ℕ) (cs : List Concept) (lattice : IsLatti
 
   pub columns_start : map (listed_column cs) (range_with_len 0 w) ≡ map (column_place T (map pair_of cs)) (range_with_len 0 w)
   columns_start =
-      ext_get_or None (map (listed_column cs) (range_with_len 0 w)) (map (column_place T (map pair_of cs)) (range_with_len 0 w))
-      (length-map-range_with_len (listed_column cs) 0 w ∙ sym (length-map-range_with_len (column_place T (map pair_of cs)) 0 w))
-      (λ i lt.
-      let il : i < w = omega (arith, lt, length-map-range_with_len (listed_column cs) 0 w) in
-      get_or-map-range_with_len (listed_column cs) 0 w i i None il (omega arith) ∙ column_listed i il
-      ∙ sym (get_or-map-range_with_len (column_place T (map pair_of cs)) 0 w i i None il (omega arith)))
+      each_given (column_place T (map pair_of cs)) w None (map (listed_column cs) (range_with_len 0 w)) (length-map-range_with_len (listed_column cs) 0 w)
+      (λ i lt. get_or-map-range_with_len (listed_column cs) 0 w i i None lt (omega arith) ∙ column_listed i lt)
 
   pub rows_start : map (row_node cs) (range_with_len 0 (length T)) ≡ map (row_place (map pair_of cs)) T
   rows_start =

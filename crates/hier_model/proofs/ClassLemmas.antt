@@ -1,10 +1,11 @@
 -- The class nodes, by the nodes where a field, a body or an object site stands; and numbers that are marked one after the other.
-use Rattle.std.proofs.Common.{◌≡◌, ℕ, ◌+◌, ◌<◌, ◌&&◌, ◌||◌, eqb, Bool, true, false, List, length, Option, Some, None, refl, sym, ap, ◌∙◌, subst, arith, ⊎_elim}
-use Rattle.std.specs.Prelude.{nat_lt}
-use Rattle.std.proofs.lemmas.Bool.{cases_order, and_parts, and_from, or_cases, or_left, or_right, eq-eqb, eqb-true, ne_eqb, lt-ltb, ltb-true, false≢true, false_from_ne_true}
+use Rattle.std.proofs.Common.{◌≡◌, ◌≢◌, ℕ, ◌+◌, ◌<◌, ◌&&◌, ◌||◌, eqb, Bool, true, false, List, length, Option, Some, None, refl, sym, ap, ◌∙◌, subst, arith, ⊎_elim}
+use Rattle.std.specs.Prelude.{nat_lt, slice_set}
+use Rattle.std.proofs.lemmas.List.{get_or-set_same, get_or-set_other}
+use Rattle.std.proofs.lemmas.Bool.{cases_eq, cases_lt, cases_order, and_parts, and_from, or_cases, or_left, or_right, eq-eqb, eqb-true, ne_eqb, lt-ltb, ltb-true, false≢true, false_from_ne_true}
 use Rattle.kaba_base.specs.declared.NodeId.{NodeId}
 use Rattle.kaba_base.proofs.TestLemmas.{same_truth}
-use Rattle.kaba_bits.specs.Sets.{bit}
+use Rattle.kaba_bits.specs.Sets.{bit, IsNoneFrom}
 use Rattle.kaba_bits.proofs.SetLemmas.{bit-below}
 use Rattle.kaba_order.specs.Orders.{is_le, is_live, IsPartialOrder}
 use Rattle.fact_model.specs.Items.{site_at, site_row, column_kind}
@@ -46,6 +47,29 @@ marked_next k n old new step known x = step x ∙ ap (λ b. b || (eqb n x && k n
 pub marked_all : (k : ℕ → Bool) (i n : ℕ) (xs : List Bool) → i ≡ n → ((x : ℕ) → bit xs x ≡ (nat_lt x i && k x)) → (x : ℕ) → bit xs x ≡ (nat_lt x n && k x)
 marked_all k i n xs e known x = known x ∙ ap (λ (j : ℕ). nat_lt x j && k x) e
 
+-- the numbers of a set, marked one after the other by a test
+module _ (k : ℕ → Bool) (n : ℕ) (old new : List Bool) (is : new ≡ slice_set old n (k n)) (lt : n < length old) where
+  marked_here : bit new n ≡ k n
+  marked_here = ap (λ l. bit l n) is ∙ get_or-set_same old n (k n) false lt
+
+  marked_other : (x : ℕ) → x ≢ n → bit new x ≡ bit old x
+  marked_other x ne = ap (λ l. bit l x) is ∙ get_or-set_other old n x (k n) false ne
+
+  -- a number that was as the test says stays so
+  pub marked_rest : (unasked : List Bool) → ((x : ℕ) → bit unasked x ≡ false → bit old x ≡ k x) → (x : ℕ) → bit unasked x ≡ false → bit new x ≡ k x
+  marked_rest unasked rest x off =
+      ⊎_elim (λ e. subst (λ y. bit new y ≡ k y) (sym e) marked_here) (λ ne. marked_other x ne ∙ rest x off) (cases_eq x n)
+
+pub marked_done : (k : ℕ → Bool) (at n : ℕ) (old new : List Bool) → new ≡ slice_set old n (k n) → n < length old → (unasked : List Bool)
+    → IsNoneFrom (bit unasked) at n → ((x : ℕ) → x < at → bit old x ≡ k x) → ((x : ℕ) → bit unasked x ≡ false → bit old x ≡ k x)
+    → (x : ℕ) → x < n + 1 → bit new x ≡ k x
+marked_done k at n old new is lt unasked none done rest x less =
+    ⊎_elim
+    (λ e. subst (λ y. bit new y ≡ k y) (sym e) (marked_here k n old new is lt))
+    (λ ne. marked_other k n old new is lt x ne
+    ∙ ⊎_elim (done x) (λ past. rest x (none x past (omega (arith, less, ne)))) (cases_lt x at))
+    (cases_eq x n)
+
 module _ (F : Facts) (H : Hierarchy) (P : IsPartialOrder H.order) where
   -- what a node offers, and what is at or above it, only a live one has
   pub offered_live : (n c : ℕ) → is_offered H n c ≡ true → is_live H.order n ≡ true
@@ -69,12 +93,6 @@ module _ (F : Facts) (H : Hierarchy) (P : IsPartialOrder H.order) where
 
   pub class_within : (n : ℕ) → is_class_node F H n ≡ true → n < length H.order.live
   class_within n h = bit-below H.order.live n (class_live n h)
-
-  pub below_all : (n : ℕ) → (nat_lt n (length H.order.live) && is_class_node F H n) ≡ is_class_node F H n
-  below_all n =
-      same_truth (nat_lt n (length H.order.live) && is_class_node F H n) (is_class_node F H n)
-      (λ h. (and_parts (nat_lt n (length H.order.live)) (is_class_node F H n) h).1)
-      (λ h. and_from (nat_lt n (length H.order.live)) (is_class_node F H n) (lt-ltb n (length H.order.live) (class_within n h)) h)
 
   member_above : (n p c : ℕ) → is_le H.order n p ≡ true → is_member_at F H p c ≡ true → (is_of_class (column_kind F c) && is_offered H n c) ≡ true
   member_above n p c le h =

@@ -367,12 +367,3 @@ module _ (F : Facts) (R : InRange F) (H : Hierarchy) (fit : IsHierarchyOf F H) w
   fits_of e some (Err x) v = tt
   fits_of e some (Ok h) (inl x) = absurd (cc x)
   fits_of e some (Ok h) (inr y) = changed_fits e some h (sym y)
-
-  -- a merge where nothing refuses it
-  pub merge_made : (set : List NodeId) (h : Hierarchy) → first_unknown H.order set ≡ None → first_between H.order set ≡ None → h ≡ merged F H set
-      → ◌≡◌ {A = Result Hierarchy ChangeFault} (Ok h) (unless (first_unknown H.order set) UnknownNode (unless (first_between H.order set) Cycle
-      (Ok (merged F H set))))
-  merge_made set h a b e =
-      let made : Result Hierarchy ChangeFault = Ok (merged F H set) in
-      ap (λ (x : Hierarchy). let r : Result Hierarchy ChangeFault = Ok x in r) e
-      ∙ sym (ap (λ o. unless o UnknownNode (unless (first_between H.order set) Cycle made)) a ∙ ap (λ o. unless o Cycle made) b)

@@ -7,6 +7,7 @@ pub mod EditedOrders
 pub mod FitLemmas
 pub mod Pushed
 pub mod SetTests
+pub mod AboveLemmas
 pub mod StartLemmas
 pub mod BeginLemmas
 pub mod NameLemmas

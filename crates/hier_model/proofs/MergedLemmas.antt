@@ -12,7 +12,7 @@ use Rattle.hier_model.specs.Hierarchies.{node}
 use Rattle.kaba_order.specs.Orders.{IsMerged, IsLeastMerged, IsUnder, IsLeastWith, IsDropped, stays}
 use Rattle.kaba_order.specs.declared.Merged.{Merged}
 use Rattle.kaba_order.specs.declared.OrderFault.{OrderFault}
-use Rattle.kaba_order.specs.declared.keep.Former.{Former}
+use Rattle.kaba_order.specs.declared.Joined.{Joined}
 use Rattle.kaba_order.specs.declared.OrderFault.TheVariants as fault
 use Rattle.hier_model.specs.Edits.{least_of, first_between, merged_order, under_order, dropped_order, fault_of}
 use Rattle.hier_model.specs.declared.edits.ChangeFault.TheVariants.{Memory, Cycle}
@@ -27,12 +27,6 @@ when_true b x h = rw h refl
 
 pub when_false : {B : Type 0} (b : Bool) (x : B) → b ≡ false → when b x ≡ None
 when_false b x h = rw h refl
-
--- the first node that passes a test, where it is found
-pub found_node : {k : ℕ} (n : ℕ) (q : ℕ → Bool) → first_below k (λ j. when (q j) (node j)) ≡ None → q k ≡ true → k < n
-    → Some (node k) ≡ first_below n (λ j. when (q j) (node j))
-found_node {k = k} n q none here lt =
-    sym (first_below_found (λ j. when (q j) (node j)) k n (node k) lt none (when_true (q k) (node k) here))
 
 module _ (o : Ordered) (set : List NodeId) (p : IsPartialOrder o) where
   pub among_below : All (λ s. is_live o s.0 ≡ true) set → (m : ℕ) → is_among set m ≡ true → m < length o.live
@@ -124,7 +118,7 @@ under_is o old new n p e least pairs =
     (λ a. ap (λ l. bit l a) (least.live ∙ ap (λ (x : Ordered). x.live) e)) (subst (λ x. IsUnder x n p new) e pairs)
 
 pub under_fault : (o old : Ordered) (n p : NodeId) (f : OrderFault) → old ≡ o
-    → ((x : NodeId) → (◌≡◌ {A = Result Former OrderFault} (Err f) (Err (fault.Cycle x)) ↔ ((x ≡ n) × IsStrictlyBelow old p.0 n.0)))
+    → ((x : NodeId) → (◌≡◌ {A = Result Joined OrderFault} (Err f) (Err (fault.Cycle x)) ↔ ((x ≡ n) × IsStrictlyBelow old p.0 n.0)))
     → (fault_of f ≡ Memory) ⊎ ((fault_of f ≡ Cycle n) × ((is_le o p.0 n.0 && not (p.0 == n.0)) ≡ true))
 under_fault o old n p fault.Memory e cycle = inl refl
 under_fault o old n p (fault.Cycle x) e cycle =

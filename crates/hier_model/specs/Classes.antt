@@ -1,5 +1,5 @@
 -- Mirror. What the search for the class nodes makes.
-use Rattle.std.specs.Prelude.{◌≡◌, ℕ, ◌==◌, ◌&&◌, ◌||◌, Bool, List, length}
+use Rattle.std.specs.Prelude.{◌≡◌, ℕ, ◌==◌, ◌&&◌, ◌||◌, Bool, false, List, length}
 use Rattle.kaba_bits.specs.Sets.{bit}
 use Rattle.fact_model.specs.Items.{site_at, site_row, column_kind}
 use Rattle.fact_model.specs.declared.facts.Facts.{Facts}
@@ -26,3 +26,9 @@ pub record AreHolders (F : Facts) (H : Hierarchy) (nodes : List Bool) : Type 0 w
 pub record AreClassNodes (F : Facts) (H : Hierarchy) (nodes : List Bool) : Type 0 where
   pub width : length nodes ≡ length H.order.live
   pub exact : (n : ℕ) → bit nodes n ≡ is_class_node F H n
+
+-- the same but for some unasked nodes
+pub record AreClassNodesBut (F : Facts) (H : Hierarchy) (unasked nodes : List Bool) : Type 0 where
+  pub unasked_width : length unasked ≡ length H.order.live
+  pub width : length nodes ≡ length H.order.live
+  pub exact : (n : ℕ) → bit unasked n ≡ false → bit nodes n ≡ is_class_node F H n

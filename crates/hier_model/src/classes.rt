@@ -1,10 +1,10 @@
 //! The class nodes of a hierarchy, found together.
 
-ghost use Rattle.std.specs.Prelude.{◌≡◌, ℕ, ◌<◌, ◌==◌, ◌&&◌, ◌||◌, length, IfOk};
+ghost use Rattle.std.specs.Prelude.{◌≡◌, ℕ, ◌<◌, ◌==◌, ◌&&◌, ◌||◌, length, slice_set, IfOk, OnErr, OnOk};
 ghost use Rattle.kaba_bits.specs.Sets.{bit};
 ghost use Rattle.fact_model.specs.InRange.{InRange};
 ghost use Rattle.hier_model.specs.Hierarchies.{IsHierarchyOf, is_class_node};
-ghost use Rattle.hier_model.specs.Classes.{is_member_at, is_object_at, AreHolders, AreClassNodes};
+ghost use Rattle.hier_model.specs.Classes.{is_member_at, is_object_at, AreHolders, AreClassNodes, AreClassNodesBut};
 
 use crate::Hier;
 use crate::items::{column_at, is_of_class, site_at};
@@ -22,24 +22,49 @@ impl Hier {
         requires hierarchy { IsHierarchyOf facts.now self.now }
         ensures { IfOk result (λ v. AreClassNodes facts.now self.now v) }
     {
-        let holders = self.holders(alloc, facts)?;
+        let unasked = BitRow::full(alloc, self.order.count())?;
         let mut classes = BitRow::new(alloc, self.order.count())?;
-        for n in 0..self.order.count() {
-            self.add_class(facts, &holders, n, &mut classes);
-        }
+        self.mark_class_nodes(alloc, facts, &unasked, &mut classes)?;
         Ok(classes)
     }
 
-    /// Adds a node, if it is a class node.
-    fn add_class(&self, facts: &Facts, holders: &BitRow, n: u32, classes: &mut BitRow)
+    /// Makes a set that of the class nodes that is so but for some nodes, which are asked. An error comes only for want of memory, and
+    /// then the set is as it was. The time is in proportion to the number of columns and sites, and to a 64th of the number
+    /// of nodes for each asked node.
+    pub fn mark_class_nodes(
+        &self,
+        alloc: Global,
+        facts: &Facts,
+        unasked: &BitRow,
+        classes: &mut BitRow,
+    ) -> Result<(), AllocError>
+        requires range { InRange facts.now }
+        requires hierarchy { IsHierarchyOf facts.now self.now }
+        requires others { AreClassNodesBut facts.now self.now unasked.now classes.old }
+        ensures all { OnOk result (AreClassNodes facts.now self.now classes.new) }
+        ensures kept { OnErr result (classes.new ≡ classes.old) }
+    {
+        let holders = self.holders(alloc, facts)?;
+        let _width = unasked.width();
+        let mut at = 0;
+        'scan: while let Some(n) = unasked.next(at) {
+            self.mark_class(facts, &holders, n, classes);
+            at = n + 1;
+        }
+        Ok(())
+    }
+
+    /// Puts a node into a set, or takes it out, as it is a class node or not.
+    fn mark_class(&self, facts: &Facts, holders: &BitRow, n: u32, classes: &mut BitRow)
         requires hierarchy { IsHierarchyOf facts.now self.now }
         requires holders { AreHolders facts.now self.now holders.now }
         requires node { n < length classes.old }
-        ensures width { length classes.new ≡ length classes.old }
-        ensures added { (x : ℕ) → bit classes.new x ≡ (bit classes.old x || ((n == x) && is_class_node facts.now self.now n)) }
+        ensures { classes.new ≡ slice_set classes.old n (is_class_node facts.now self.now n) }
     {
         if self.is_class(facts, holders, NodeId(n)) {
             classes.set(n);
+        } else {
+            classes.remove(n);
         }
     }
 

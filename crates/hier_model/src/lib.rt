@@ -34,7 +34,7 @@ pub use differences::{Change, Undo};
 pub use edits::{Act, ChangeFault, Edit};
 use items::is_of_class;
 pub use items::{column_at, site_at, this_of};
-pub use places::{Before, Places};
+pub use places::{Join, Places};
 
 /// A class hierarchy: nodes in a partial order, the node where each row and each live column stands, the
 /// names of types and members, the class from which each node comes, and the table of its start.

@@ -1,11 +1,12 @@
 //! Joins: a merge, or a node put under another, made in place and taken back.
 
-ghost use Rattle.std.specs.Prelude.{◌≡◌, ◌<◌, ◌⊎◌, true, length, All, IfOk, IfErr, OnOk, OnErr, Ok, Err, Some};
+ghost use Rattle.std.specs.Prelude.{◌≡◌, ◌<◌, ◌⊎◌, ◌∷◌, [], true, length, All, IfOk, IfErr, OnOk, OnErr, Ok, Err, Some};
+ghost use Rattle.kaba_order.specs.Formers.{AreBelow};
 ghost use Rattle.kaba_order.specs.Orders.{is_live, IsPartialOrder};
 ghost use Rattle.fact_model.specs.InRange.{InRange};
 ghost use Rattle.hier_model.specs.Hierarchies.{Hierarchy, IsHierarchyOf};
 ghost use Rattle.hier_model.specs.Edits.{changed, merged, NamesSome};
-ghost use Rattle.hier_model.specs.Places.{with_places, IsFormer, JoinsNodes};
+ghost use Rattle.hier_model.specs.Places.{with_places, IsFormer, JoinsNodes, joined_nodes};
 
 use crate::moves::{merged_columns, merged_rows};
 use crate::orders::{first_unknown, merge_order, put_under};
@@ -13,7 +14,7 @@ use crate::origins::merged_origins;
 use crate::{ChangeFault, Edit, Hier};
 use fact_model::Facts;
 use kaba_base::{ClassId, NodeId};
-use kaba_order::{Former, least_of};
+use kaba_order::{Joined, least_of};
 use std::alloc::{AllocError, Global};
 use std::mem::swap;
 
@@ -28,26 +29,27 @@ pub struct Places {
     pub origins: Vec<Option<ClassId>>,
 }
 
-/// What of a hierarchy was before a join.
+/// What a join made of a hierarchy, and what was before.
 #[derive(Drop)]
-pub struct Before {
-    /// What of the order was before.
-    pub order: Former,
+pub struct Join {
+    /// The nodes at or below those that were joined, and what of the order was before.
+    pub order: Joined,
     /// The places and origins before a merge; a node put under another leaves them.
     pub places: Option<Places>,
 }
 
 impl Hier {
-    /// Makes one node of those of a list, or puts a node below another, before the obligations are asked, and gives
-    /// what was before. The faults are those of `changed`, and then nothing has changed. No name and not the table is
-    /// copied. The time is in proportion to the number of nodes, columns and rows times that of the list, and to a
+    /// Makes one node of those of a list, or puts a node below another, before the obligations are asked, and gives the
+    /// nodes at or below the joined ones and what was before. The faults are those of `changed`, and then nothing has
+    /// changed. No name and not the table is copied. The time is in proportion to the number of nodes, columns and rows times that of the list, and to a
     /// 64th of the number of nodes for each node at or below those that are joined.
-    pub fn join(&mut self, alloc: Global, facts: &Facts, edit: &Edit) -> Result<Before, ChangeFault>
+    pub fn join(&mut self, alloc: Global, facts: &Facts, edit: &Edit) -> Result<Join, ChangeFault>
         requires range { InRange facts.now }
         requires hierarchy { IsHierarchyOf facts.now self.old }
         requires some { NamesSome edit.now }
         requires join { JoinsNodes edit.now }
         ensures made { OnOk result (changed facts.now self.old edit.now ≡ Ok self.new) }
+        ensures low { IfOk result (λ j. AreBelow self.new.order (joined_nodes edit.now) j.order.low) }
         ensures before { IfOk result (IsFormer self.old self.new) }
         ensures fault { IfErr result (λ e. (e ≡ ChangeFault.Memory) ⊎ (changed facts.now self.old edit.now ≡ Err e)) }
         ensures kept { OnErr result (self.new ≡ self.old) }
@@ -62,12 +64,13 @@ impl Hier {
     }
 
     /// Makes the hierarchy what it was before a join. It takes no memory.
-    pub fn part(&mut self, before: Before)
-        requires { (old : Hierarchy) × IsPartialOrder old.order × IsFormer old self.old before }
-        ensures { (old : Hierarchy) → IsFormer old self.old before → self.new ≡ old }
+    pub fn part(&mut self, join: Join)
+        requires { (old : Hierarchy) × IsPartialOrder old.order × IsFormer old self.old join }
+        ensures { (old : Hierarchy) → IsFormer old self.old join → self.new ≡ old }
     {
-        let Before { order, places } = before;
-        self.order.put_back(order);
+        let Join { order, places } = join;
+        let Joined { low: _, former } = order;
+        self.order.put_back(former);
         if let Some(places) = places {
             let _joined = self.exchange(places);
         }
@@ -91,11 +94,12 @@ impl Hier {
         alloc: Global,
         facts: &Facts,
         set: &Vec<NodeId>,
-    ) -> Result<Before, ChangeFault>
+    ) -> Result<Join, ChangeFault>
         requires range { InRange facts.now }
         requires hierarchy { IsHierarchyOf facts.now self.old }
         requires some { 0 < length set.now.items }
         ensures made { OnOk result (changed facts.now self.old (Edit.Merge set.now) ≡ Ok self.new) }
+        ensures low { IfOk result (λ j. AreBelow self.new.order set.now.items j.order.low) }
         ensures before { IfOk result (IsFormer self.old self.new) }
         ensures fault { IfErr result (λ e. (e ≡ ChangeFault.Memory) ⊎ (changed facts.now self.old (Edit.Merge set.now) ≡ Err e)) }
         ensures kept { OnErr result (self.new ≡ self.old) }
@@ -106,7 +110,7 @@ impl Hier {
         let places = self.merged(alloc, facts, set)?;
         let order = merge_order(alloc, &mut self.order, set)?;
         let former = self.exchange(places);
-        Ok(Before {
+        Ok(Join {
             order,
             places: Some(former),
         })
@@ -135,9 +139,10 @@ impl Hier {
         facts: &Facts,
         n: NodeId,
         p: NodeId,
-    ) -> Result<Before, ChangeFault>
+    ) -> Result<Join, ChangeFault>
         requires hierarchy { IsHierarchyOf facts.now self.old }
         ensures made { OnOk result (changed facts.now self.old (Edit.Under n p) ≡ Ok self.new) }
+        ensures low { IfOk result (λ j. AreBelow self.new.order (n ∷ []) j.order.low) }
         ensures before { IfOk result (IsFormer self.old self.new) }
         ensures fault { IfErr result (λ e. (e ≡ ChangeFault.Memory) ⊎ (changed facts.now self.old (Edit.Under n p) ≡ Err e)) }
         ensures kept { OnErr result (self.new ≡ self.old) }
@@ -149,7 +154,7 @@ impl Hier {
             return Err(ChangeFault::UnknownNode(p));
         }
         let order = put_under(alloc, &mut self.order, n, p)?;
-        Ok(Before {
+        Ok(Join {
             order,
             places: None,
         })

@@ -1,17 +1,20 @@
-use Rattle.std.proofs.Common.{◌∙◌, arith, ap, length}
-use Rattle.hier_model.specs.Hierarchies.{Hierarchy}
-use Rattle.hier_model.proofs.ClassLemmas.{marked_next, marked_all, below_all}
+use Rattle.std.proofs.Common.{◌≡◌, ◌<◌, true, length, sym, ap, ◌∙◌, subst, arith}
+use Rattle.std.proofs.lemmas.Bool.{false≢true, false_from_ne_true}
+use Rattle.kaba_bits.specs.Sets.{bit}
+use Rattle.hier_model.specs.Hierarchies.{Hierarchy, is_class_node}
+use Rattle.hier_model.proofs.ClassLemmas.{class_within}
 use Rattle.hier_model.proofs.Hier.class_nodes.Goals as goal
 
-pub loop-n-preserved : goal.loop-n-preserved
-loop-n-preserved c = record {
-  width = c.add_class.ensures.width ∙ c.loop-n.invariant.width;
-  marked = marked_next _ c.loop-n.n _ _ c.add_class.ensures.added c.loop-n.invariant.marked;
-}
-
-pub returns : goal.returns
-returns c = record {
-  width = c.loop-n.invariant.width;
-  exact = λ x. marked_all _ c.loop-n.n _ _ (omega (arith, ap (λ (h : Hierarchy). length h.order.live) c.self.view_is)) c.loop-n.invariant.marked x
-      ∙ below_all c.args.facts.now c.args.self.now c.requires.hierarchy.sized.order x;
-}
+-- at first all are open
+pub mark_class_nodes-requires-clause-others : goal.mark_class_nodes-requires-clause-others
+mark_class_nodes-requires-clause-others c =
+    let F = c.args.facts.now in
+    let H = c.args.self.now in
+    let view = ap (λ (h : Hierarchy). length h.order.live) c.self.view_is in
+    record {
+      unasked_width = c.in_ok-unasked.ensures.width ∙ (c.count.ensures ∙ view);
+      width = c.in_ok-classes.ensures.width ∙ (c.count-2.ensures ∙ view);
+      exact = λ n off. c.in_ok-classes.ensures.empty n ∙ sym (false_from_ne_true (is_class_node F H n) (λ h.
+          let lt = class_within F H c.requires.hierarchy.sized.order n h in
+          false≢true (sym off ∙ c.in_ok-unasked.ensures.full n (omega (arith, lt, c.count.ensures, view)))));
+    }

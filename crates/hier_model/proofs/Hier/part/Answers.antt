@@ -7,12 +7,12 @@ use Rattle.hier_model.proofs.Hier.part.Goals as goal
 pub returns-in-Some : goal.returns-in-Some
 returns-in-Some c = λ old b.
     let view = c.self.view_is in
-    let order = c.put_back.ensures old.order (subst (λ (h : Hierarchy). IsFormerOf old.order h.order c.args.before.order) (sym view) b.order) in
+    let order = c.put_back.ensures old.order (subst (λ (h : Hierarchy). IsFormerOf old.order h.order c.args.join.order.former) (sym view) b.order) in
     c.exchange-joined.ensures.made
-    ∙ parted old c.args.self.now _ c.args.before c.put_back.new.self (Some c.in-Some.places) view order c.in-Some.is b
+    ∙ parted old c.args.self.now _ c.args.join c.put_back.new.self (Some c.in-Some.places) view order c.in-Some.is b
 
-pub returns-in_default : goal.returns-in_default
-returns-in_default c = λ old b.
+pub returns : goal.returns
+returns c = λ old b.
     let view = c.self.view_is in
-    let order = c.put_back.ensures old.order (subst (λ (h : Hierarchy). IsFormerOf old.order h.order c.args.before.order) (sym view) b.order) in
-    parted old c.args.self.now _ c.args.before c.put_back.new.self None view order c.in_default.is b
+    let order = c.put_back.ensures old.order (subst (λ (h : Hierarchy). IsFormerOf old.order h.order c.args.join.order.former) (sym view) b.order) in
+    parted old c.args.self.now _ c.args.join c.put_back.new.self None view order c.in_default.is b

@@ -1,7 +1,13 @@
-use Rattle.hier_model.specs.Listed.{listed_column}
-use Rattle.hier_model.proofs.Pushed.{pushed}
+use Rattle.std.proofs.Common.{◌≡◌, length, None, ap, ◌∙◌, arith}
+use Rattle.kaba_bits.specs.Sets.{first_below, when}
+use Rattle.hier_model.specs.Hierarchies.{node}
+use Rattle.hier_model.specs.Listed.{lists_column, listed_column}
+use Rattle.hier_model.proofs.Pushed.{each_given}
 use Rattle.hier_model.proofs.begin.column_places.Goals as goal
 
-pub loop-c-preserved : goal.loop-c-preserved
-loop-c-preserved c = pushed (listed_column c.args.concepts.now) c.loop-c.c c.listed.result c.loop-c.places.items c.push.new.self.items
-    c.in_ok-push.ensures.items c.listed.ensures c.loop-c.invariant
+pub returns : goal.returns
+returns c =
+    let cs = c.args.concepts.now in
+    let last : c.loop-k.k ≡ length cs = omega (arith, c.loop-k-test.false, c.loop-k.auto.k-end) in
+    each_given (listed_column cs) c.args.width None c.loop-k.places.items c.loop-k.invariant.len
+    (λ i lt. c.loop-k.invariant.each i lt ∙ ap (λ n. first_below n (λ k. when (lists_column cs k i) (node k))) last)

@@ -1,7 +1,11 @@
-use Rattle.std.proofs.Common.{◌≡◌, map}
-use Rattle.std.specs.List.{range_with_len}
-use Rattle.hier_model.specs.Listed.{listed_column}
+use Rattle.std.proofs.Common.{◌≡◌, ℕ, ◌<◌, length, get_or, None}
+use Rattle.kaba_bits.specs.Sets.{first_below, when}
+use Rattle.hier_model.specs.Hierarchies.{node}
+use Rattle.hier_model.specs.Listed.{lists_column}
 use Rattle.hier_model.proofs.begin.column_places.Given as goal
 
-abbrev pub invariant-loop-c : goal.invariant-loop-c
-invariant-loop-c l = l.places.items ≡ map (listed_column l.concepts) (range_with_len 0 l.c)
+abbrev pub invariant-loop-k : goal.invariant-loop-k
+invariant-loop-k l = record {
+  len : length l.places.items ≡ l.width;
+  each : (i : ℕ) → i < l.width → get_or l.places.items i None ≡ first_below l.k (λ k. when (lists_column l.concepts k i) (node k));
+}

@@ -1,11 +1,10 @@
-use Rattle.std.proofs.Common.{◌≡◌, ℕ, ◌<◌, ◌≤◌, false, length}
-use Rattle.kaba_bits.specs.Sets.{bit}
-use Rattle.hier_model.specs.Listed.{is_above_concept}
+use Rattle.std.proofs.Common.{◌≡◌, ℕ, ◌<◌, true, All, get_or, length}
+use Rattle.kaba_bits.specs.Sets.{bit, row}
 use Rattle.hier_model.proofs.begin.row_above.Given as goal
 
-abbrev pub invariant-loop-b : goal.invariant-loop-b
-invariant-loop-b l = record {
+abbrev pub invariant-loop-i : goal.invariant-loop-i
+invariant-loop-i l = record {
   width : length l.above ≡ length l.concepts;
-  done : (j : ℕ) → j < l.b → bit l.above j ≡ is_above_concept l.concepts l.a j;
-  rest : (j : ℕ) → l.b ≤ j → bit l.above j ≡ false;
+  all : (b k : ℕ) → bit l.above b ≡ true → k < l.i-index → bit (row l.having (get_or l.i-items k 0)) b ≡ true;
+  from : (b : ℕ) → All (λ i. bit (row l.having i) b ≡ true) l.i-items → bit l.above b ≡ true;
 }
