@@ -6,9 +6,10 @@ use Rattle.fact_model.specs.declared.facts.Facts.{Facts}
 use Rattle.fact_model.specs.declared.sets.PointsTo.{PointsTo}
 use Rattle.hier_model.specs.Hierarchies.{Hierarchy, IsHierarchyOf}
 use Rattle.hier_model.specs.Edits.{changed}
-use Rattle.hier_model.specs.Places.{IsFormer}
+use Rattle.hier_model.specs.Places.{IsFormer, joined_nodes}
+use Rattle.kaba_order.specs.Formers.{AreBelow}
 use Rattle.hier_model.specs.declared.edits.Edit.{Edit}
-use Rattle.hier_model.specs.declared.places.Before.{Before}
+use Rattle.hier_model.specs.declared.places.Join.{Join}
 use Rattle.hier_rules.specs.First.{MeetsEdit}
 use Rattle.hier_rules.specs.Index.{IsIndexOf, AreClashesOf}
 use Rattle.hier_edit.specs.declared.JoinTests.{JoinTests}
@@ -21,9 +22,10 @@ pub record AreJoinTests (tests : JoinTests) (members : List (List ℕ)) : Type 0
   pub clashes : AreClashesOf tests.facts.now members tests.clashes.now.items
 
 -- an edit made a hierarchy of one that met its obligations, and this is kept of that
-pub record IsJoined (F : Facts) (pt : PointsTo) (edit : Edit) (new : Hierarchy) (kept : Before) : Type 0 where
+pub record IsJoined (F : Facts) (pt : PointsTo) (edit : Edit) (new : Hierarchy) (kept : Join) : Type 0 where
   pub old : Hierarchy
   pub fits : IsHierarchyOf F old
   pub meets : MeetsEdit F pt old
   pub made : changed F old edit ≡ Ok new
   pub before : IsFormer old new kept
+  pub low : AreBelow new.order (joined_nodes edit) kept.order.low

@@ -4,7 +4,8 @@
 ghost use Rattle.std.specs.Prelude.{◌≡◌, ◌≢◌, ◌⊎◌, Ok, Err, IfErr, IfOk, OnErr, OnOk};
 ghost use Rattle.hier_rules.specs.Words.{InRange, AreSets, IsHierarchyOf, NamesSome, MeetsEdit};
 ghost use Rattle.hier_model.specs.Hierarchies.{Hierarchy};
-ghost use Rattle.hier_model.specs.Places.{IsFormer, JoinsNodes};
+ghost use Rattle.hier_model.specs.Places.{IsFormer, JoinsNodes, joined_nodes};
+ghost use Rattle.kaba_order.specs.Formers.{AreBelow};
 ghost use Rattle.hier_rules.specs.After.{IsAfterEdit};
 ghost use Rattle.hier_rules.specs.Index.{IsIndexOf};
 ghost use Rattle.hier_edit.specs.Applied.{applied, tested, fault_of};
@@ -12,11 +13,12 @@ ghost use Rattle.hier_edit.specs.Joins.{AreJoinTests, IsJoined};
 ghost use Rattle.hier_edit.specs.declared.ApplyFault.TheVariants as ApplyFault;
 
 use fact_model::{Facts, PointsTo};
-use hier_model::{Before, ChangeFault, Edit, Hier};
+use hier_model::{ChangeFault, Edit, Hier, Join};
 use hier_rules::{
     Asked, Broken, ClashPair, JoinIndex, Nodes, Rule, first_broken_after, first_broken_joined,
 };
 use kaba_base::{ColId, NodeId};
+use kaba_bits::BitRow;
 use std::alloc::Global;
 
 /// Why an edit is refused.
@@ -128,19 +130,20 @@ pub struct JoinTests<'a> {
 /// Makes a merge, or puts a node below another, in a hierarchy that meets the obligations B1 to B8, where the hierarchy
 /// after it meets them too (after Streckenbach and Snelting, 2004).
 ///
-/// After a refusal, and where memory is short, the hierarchy is the one before. The refusals are those of `edited`. No
-/// name and not the table is copied.
+/// It gives the nodes at or below the joined ones. After a refusal, and where memory is short, the hierarchy is the one
+/// before. The refusals are those of `edited`. No name and not the table is copied.
 pub fn join(
     alloc: Global,
     hier: &mut Hier,
     tests: &JoinTests,
     edit: &Edit,
-) -> Result<(), ApplyFault>
+) -> Result<BitRow, ApplyFault>
     requires tests { AreJoinTests tests.now hier.old.members }
     requires hierarchy { IsHierarchyOf tests.now.facts.now hier.old }
     requires meets { MeetsEdit tests.now.facts.now tests.now.sets.now hier.old }
     requires some { NamesSome edit.now }
     requires join { JoinsNodes edit.now }
+    ensures low { IfOk result (AreBelow hier.new.order (joined_nodes edit.now)) }
     ensures accepted { OnOk result (applied tests.now.facts.now tests.now.sets.now hier.old edit.now ≡ Ok hier.new) }
     ensures meets { OnOk result (MeetsEdit tests.now.facts.now tests.now.sets.now hier.new) }
     ensures refused { IfErr result (λ fault. fault ≢ ApplyFault.Memory → applied tests.now.facts.now tests.now.sets.now hier.old edit.now ≡ Err fault) }
@@ -149,7 +152,7 @@ pub fn join(
     ensures is { IsHierarchyOf tests.now.facts.now hier.new }
 {
     match hier.join(alloc, tests.facts, edit) {
-        Ok(before) => keep(alloc, hier, tests, before, edit),
+        Ok(join) => keep(alloc, hier, tests, join, edit),
         Err(fault) => Err(fault_of(fault)),
     }
 }
@@ -159,34 +162,42 @@ fn keep(
     alloc: Global,
     hier: &mut Hier,
     tests: &JoinTests,
-    before: Before,
+    join: Join,
     edit: &Edit,
-) -> Result<(), ApplyFault>
+) -> Result<BitRow, ApplyFault>
     requires tests { AreJoinTests tests.now hier.old.members }
     requires some { NamesSome edit.now }
     requires join { JoinsNodes edit.now }
     requires hierarchy { IsHierarchyOf tests.now.facts.now hier.old }
-    requires joined { IsJoined tests.now.facts.now tests.now.sets.now edit.now hier.old before }
+    requires joined { IsJoined tests.now.facts.now tests.now.sets.now edit.now hier.old join }
+    ensures low { IfOk result (λ low. low ≡ join.order.low) }
     ensures made { OnOk result (hier.new ≡ hier.old) }
     ensures meets { OnOk result (MeetsEdit tests.now.facts.now tests.now.sets.now hier.new) }
     ensures refused { IfErr result (λ fault. fault ≢ ApplyFault.Memory → tested tests.now.facts.now tests.now.sets.now hier.old ≡ Err fault) }
-    ensures kept { OnErr result ((old : Hierarchy) → IsFormer old hier.old before → hier.new ≡ old) }
+    ensures kept { OnErr result ((old : Hierarchy) → IsFormer old hier.old join → hier.new ≡ old) }
 {
-    match judge(alloc, hier, tests, edit) {
-        Ok(()) => Ok(()),
+    match judge(alloc, hier, tests, edit, &join.order.low) {
+        Ok(()) => Ok(join.order.low),
         Err(fault) => {
-            hier.part(before);
+            hier.part(join);
             Err(fault)
         }
     }
 }
 
 /// Whether the hierarchy after a join of one that met its obligations meets them too; if not, why the join is refused.
-fn judge(alloc: Global, hier: &Hier, tests: &JoinTests, edit: &Edit) -> Result<(), ApplyFault>
+fn judge(
+    alloc: Global,
+    hier: &Hier,
+    tests: &JoinTests,
+    edit: &Edit,
+    low: &BitRow,
+) -> Result<(), ApplyFault>
     requires tests { AreJoinTests tests.now hier.now.members }
     requires some { NamesSome edit.now }
     requires join { JoinsNodes edit.now }
     requires hierarchy { IsHierarchyOf tests.now.facts.now hier.now }
+    requires low { AreBelow hier.now.order (joined_nodes edit.now) low.now }
     requires after { IsAfterEdit tests.now.facts.now tests.now.sets.now hier.now edit.now }
     ensures meets { OnOk result (MeetsEdit tests.now.facts.now tests.now.sets.now hier.now) }
     ensures refused { IfErr result (λ fault. fault ≢ ApplyFault.Memory → tested tests.now.facts.now tests.now.sets.now hier.now ≡ Err fault) }
@@ -196,7 +207,7 @@ fn judge(alloc: Global, hier: &Hier, tests: &JoinTests, edit: &Edit) -> Result<(
         pt: tests.sets,
         hier,
     };
-    match first_broken_joined(alloc, &asked, tests.index, tests.clashes, edit) {
+    match first_broken_joined(alloc, &asked, tests.index, tests.clashes, edit, low) {
         Ok(None) => Ok(()),
         Ok(Some(found)) => Err(ApplyFault::Breaks(found)),
         Err(_) => Err(ApplyFault::Memory),

@@ -9,7 +9,7 @@ use Rattle.kaba_base.proofs.TestLemmas.{refuted}
 use Rattle.kaba_bits.specs.Sets.{bit, row, or_else, first_below, when}
 use Rattle.kaba_bits.proofs.SetLemmas.{bit-below}
 use Rattle.kaba_bits.proofs.FirstLemmas.{first_below_None, first_below_clear, or_else-None, when-None}
-use Rattle.kaba_order.specs.Orders.{is_live, is_among}
+use Rattle.kaba_order.specs.Orders.{is_le, is_live, is_among}
 use Rattle.fact_model.specs.Items.{site_row, column_kind, column_slot}
 use Rattle.fact_model.specs.Classes.{is_def}
 use Rattle.fact_model.specs.declared.facts.Facts.{Facts}
@@ -32,6 +32,9 @@ pub record IsJoin (set : List NodeId) (H K : Hierarchy) : Type 0 where
   pub lives : (n : ℕ) → is_live K.order n ≡ true → is_live H.order n ≡ true
   pub rows : (r v : ℕ) → row_le H r v ≡ true → row_le K r v ≡ true
   pub offers : (r c : ℕ) → is_offered H (place_of_row H r) c ≡ true → is_offered K (place_of_row K r) c ≡ true
+  pub stay : (n : ℕ) → is_among set n ≡ false → is_live H.order n ≡ true → is_live K.order n ≡ true
+  pub offers_on : (n c : ℕ) → is_live K.order n ≡ true → is_offered H n c ≡ true → is_offered K n c ≡ true
+  pub under : (n r : ℕ) → is_live K.order n ≡ true → is_le H.order n (place_of_row H r) ≡ true → is_le K.order n (place_of_row K r) ≡ true
   pub stands : (n c : ℕ) → stands_at K n c ≡ true → (m : ℕ) × (stands_at H m c ≡ true)
   pub apart : (n c : ℕ) → is_among set n ≡ false → stands_at K n c ≡ true → stands_at H n c ≡ true
   pub table : K.table ≡ H.table

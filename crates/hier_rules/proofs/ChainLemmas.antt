@@ -7,7 +7,7 @@ use Rattle.std.proofs.lemmas.List.{get_or-set_other, length-set}
 use Rattle.kaba_bits.specs.Sets.{bit, row, first_below, when, IsNoneFrom, IsSubset}
 use Rattle.kaba_bits.proofs.SetLemmas.{bit-below}
 use Rattle.kaba_bits.proofs.FirstLemmas.{first_below_clear, first_below_None, first_below_more, when-None}
-use Rattle.kaba_order.specs.Orders.{is_le, IsPartialOrder}
+use Rattle.kaba_order.specs.Orders.{is_le, is_live, IsPartialOrder}
 use Rattle.fact_model.specs.declared.facts.Facts.{Facts}
 use Rattle.hier_model.specs.Hierarchies.{Hierarchy, is_class_node}
 use Rattle.hier_rules.specs.declared.broken.Broken.{Broken}
@@ -16,14 +16,14 @@ use Rattle.hier_rules.specs.Instances.{of_three}
 use Rattle.hier_rules.specs.Obligations.{is_class_above, unchained}
 use Rattle.hier_rules.specs.Chains.{is_over, first_unchained_at, AreChained}
 
--- ---- a search among the numbers of a set
-module _ {B : Type 0} (f : ℕ → Option B) (set : List Bool) (outside : (k : ℕ) → bit set k ≡ false → f k ≡ None) where
-  -- where the set has none, none is found
-  pub search_past : (at to : ℕ) → first_below at f ≡ None → IsNoneFrom (bit set) at to → first_below to f ≡ None
+-- ---- a search among the numbers that pass a test
+module _ {B : Type 0} (f : ℕ → Option B) (p : ℕ → Bool) (outside : (k : ℕ) → p k ≡ false → f k ≡ None) where
+  -- where none passes, none is found
+  pub search_past : (at to : ℕ) → first_below at f ≡ None → IsNoneFrom p at to → first_below to f ≡ None
   search_past at to before none =
       first_below_clear f to (λ k lt. ⊎_elim (λ low. first_below_None f at k before low) (λ high. outside k (none k high lt)) (cases_lt k at))
 
-  pub search_more : (at z : ℕ) → first_below at f ≡ None → IsNoneFrom (bit set) at z → f z ≡ None → first_below (z + 1) f ≡ None
+  pub search_more : (at z : ℕ) → first_below at f ≡ None → IsNoneFrom p at z → f z ≡ None → first_below (z + 1) f ≡ None
   search_more at z before none here = first_below_more f z (search_past at z before none) here
 
 -- what a set has that gained a number
@@ -95,9 +95,21 @@ module _ (F : Facts) (H : Hierarchy) where
       let off : nat_lt x y ≡ false = false_from_ne_true (nat_lt x y) (λ h. let gt = ltb-true x y h in omega (arith, lt, gt)) in
       not_after (up n x) (up n y) (nat_lt x y) (is_le H.order x y) (is_le H.order y x) (of_three B9 n x y) off)
 
+  pub unordered : (n x y : ℕ) → is_over F H n x ≡ true → is_over F H n y ≡ true → x < y → is_le H.order x y ≡ false → is_le H.order y x ≡ false
+      → unchained F H n x y ≡ Some (of_three B9 n x y)
+  unordered n x y hx hy lt le ge =
+      all_of (up n x) (up n y) (nat_lt x y) (is_le H.order x y) (is_le H.order y x) (of_three B9 n x y) (and_parts (up n x) (not (eqb x n)) hx).0
+      (and_parts (up n y) (not (eqb y n)) hy).0 (lt-ltb x y lt) le ge
+
   module _ (P : IsPartialOrder H.order) where
     within : (a b : ℕ) → up a b ≡ true → b < length H.order.live
     within a b h = bit-below H.order.live b (P.upper_lives a b (says a b h).le)
+
+    pub over_within : (n x : ℕ) → is_over F H n x ≡ true → x < length H.order.live
+    over_within n x h = within n x (and_parts (up n x) (not (eqb x n)) h).0
+
+    pub over_live : (n x : ℕ) → is_over F H n x ≡ true → is_live H.order x ≡ true
+    over_live n x h = P.upper_lives n x (says n x (and_parts (up n x) (not (eqb x n)) h).0).le
 
     -- and only there
     pub chain_of : (n : ℕ) → first_unchained_at F H n ≡ None → IsChain n
@@ -149,12 +161,6 @@ module _ (F : Facts) (H : Hierarchy) where
       no_second x k off =
           none_of (up n x) (up n k) (nat_lt x k) (is_le H.order x k) (is_le H.order k x) (of_three B9 n x k)
           (λ hx hk. inr (subst (λ j. is_le H.order j x ≡ true) (sym (same_if_not k off hk)) (says n x hx).le))
-
-      pub unordered : (x y : ℕ) → bit over x ≡ true → bit over y ≡ true → x < y → is_le H.order x y ≡ false → is_le H.order y x ≡ false
-          → unchained F H n x y ≡ Some (of_three B9 n x y)
-      unordered x y hx hy lt le ge =
-          all_of (up n x) (up n y) (nat_lt x y) (is_le H.order x y) (is_le H.order y x) (of_three B9 n x y) (said n x (over_says x hx).0)
-          (said n y (over_says y hy).0) (lt-ltb x y lt) le ge
 
       -- a node with no class node strictly above it is chained, and one where the lowest of them is
       pub chained_alone : IsNoneFrom (bit over) 0 (length over) → first_unchained_at F H n ≡ None

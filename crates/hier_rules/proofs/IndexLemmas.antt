@@ -1,5 +1,5 @@
 -- What the rows of an index say of needs, of other bodies, of super calls, and of what is at no low node.
-use Rattle.std.proofs.Common.{◌≡◌, ℕ, ◌+◌, ◌&&◌, ◌||◌, ◌==◌, not, cond, Bool, true, false, List, [], ◌∷◌, ◌++◌, length, Option, Some, None, refl, sym, ap, ◌∙◌, subst, arith, ⊎_elim}
+use Rattle.std.proofs.Common.{◌≡◌, ℕ, ◌+◌, ◌<◌, ◌&&◌, ◌||◌, ◌==◌, not, cond, Bool, true, false, List, [], ◌∷◌, ◌++◌, length, Option, Some, None, refl, sym, ap, ◌∙◌, subst, arith, ⊎_elim}
 use Rattle.std.specs.Prelude.{nat_lt}
 use Rattle.std.specs.Option.{option_and_then}
 use Rattle.std.proofs.lemmas.Bool.{cases_Bool, cases_lt, and_parts, and_from, eqb-true, eq-eqb, ne_eqb, ltb-true, false≢true, false_from_ne_true}
@@ -8,6 +8,7 @@ use Rattle.kaba_base.specs.declared.NodeId.{NodeId}
 use Rattle.kaba_bits.specs.Sets.{bit, row, first_below, when, IsEmpty}
 use Rattle.kaba_bits.proofs.FirstLemmas.{first_below_clear}
 use Rattle.kaba_order.specs.Orders.{is_live, is_below_some}
+use Rattle.kaba_order.specs.Formers.{AreBelow}
 use Rattle.fact_model.specs.Items.{site_class, site_row, column_kind, column_slot}
 use Rattle.fact_model.specs.Classes.{is_def, finds}
 use Rattle.fact_model.specs.InRange.{InRange}
@@ -22,7 +23,7 @@ use Rattle.hier_rules.specs.declared.broken.Rule.TheVariants.{B4, B5, B6}
 use Rattle.hier_rules.specs.Asked.{is_called, slots_of, is_other_body, is_super}
 use Rattle.hier_rules.specs.Instances.{of_both, of_column}
 use Rattle.hier_rules.specs.Obligations.{column_le, is_above, place_of_site, is_nearer, has_nearer, wrong_body, wrong_need, has_between, wrong_super, is_body_at, two_bodies}
-use Rattle.hier_rules.specs.Touched.{IsTouched, OutcomesHold, NamesHold}
+use Rattle.hier_rules.specs.Touched.{TestsHold, OutcomesHold, AllHold}
 use Rattle.hier_rules.specs.After.{AreKeptOutside}
 use Rattle.hier_rules.specs.Index.{is_number, is_needed, IsTestRow, AreTestRows}
 use Rattle.hier_rules.proofs.AnyLemmas.{any_weaker}
@@ -106,22 +107,29 @@ module _ (F : Facts) (pt : PointsTo) (H : Hierarchy) where
   no_super r bodies is empty = first_below_clear (wrong_super F H r) C (λ c lc.
       ap (λ t. when (t && (not (is_above H (place_of_row H r) c) || has_between F H r c)) (of_both B5 (place_of_row H r) r c)) (sym (is c) ∙ empty c))
 
-  module _ (range : InRange F) (fit : IsHierarchyOf F H) (roots : List NodeId) (low : List Bool) (T : IsTouched H.order roots low)
+  -- what is kept outside of what is at or below some nodes holds at no low node
+  module _ (range : InRange F) (fit : IsHierarchyOf F H) (roots : List NodeId) (low : List Bool) (below : AreBelow H.order roots low)
       (kept : AreKeptOutside F pt H roots) where
-    outside : (n : ℕ) → bit low n ≡ false → is_live H.order n ≡ true → is_below_some H.order roots n ≡ false
-    outside n f live = false_from_ne_true (is_below_some H.order roots n) (λ h.
-        false≢true (sym f ∙ (T.exact n ∙ and_from (is_live H.order n) (is_below_some H.order roots n) live h)))
+    outside : (n : ℕ) → bit low n ≡ false → is_below_some H.order roots n ≡ false
+    outside n f = sym (below.exact n) ∙ f
 
-    pub names_hold : NamesHold F H low
-    names_hold = record {
-      width = T.width;
-      each = λ n f. ⊎_elim (λ live. kept.names n live (outside n f live)) (dead_confused F H fit.sized.order n) (cases_Bool (is_live H.order n));
+    site_live : (s : ℕ) → s < length F.sites.items → is_live H.order (place_of_site F H s) ≡ true
+    site_live s ls = fit.placed.rows (site_row F s) (range.sites s _ ls).0
+
+    pub all_hold : AllHold F pt H low
+    all_hold = record {
+      needs = record { width = below.width; each = λ s ls f. kept.needs s ls (site_live s ls) (outside (place_of_site F H s) f) };
+      supers = record { width = below.width; each = λ r lr f. kept.supers r lr (fit.placed.rows r lr) (outside (place_of_row H r) f) };
+      outcomes = λ p t s lt ls f. kept.outcomes p t s lt ls (site_live s ls) (outside (place_of_site F H s) f);
+      names = record {
+        width = below.width;
+        each = λ n f. ⊎_elim (λ live. kept.names n live (outside n f)) (dead_confused F H fit.sized.order n) (cases_Bool (is_live H.order n));
+      };
     }
 
-    pub outcomes_hold : (sites : List Bool) → IsTestRow (length F.sites.items) (λ s. bit low (place_of_site F H s)) sites → OutcomesHold F pt H sites
-    outcomes_hold sites is = record {
-      width = is.width_is;
-      each = λ p t s lt ls f.
-          let live = fit.placed.rows (site_row F s) (range.sites s _ ls).0 in
-          kept.outcomes p t s lt ls live (outside (place_of_site F H s) (sym (is.exact s ls) ∙ f) live);
-    }
+  pub outcomes_hold : (low sites : List Bool) → TestsHold F pt H low → IsTestRow (length F.sites.items) (λ s. bit low (place_of_site F H s)) sites
+      → OutcomesHold F pt H sites
+  outcomes_hold low sites kept is = record {
+    width = is.width_is;
+    each = λ p t s lt ls f. kept p t s lt ls (sym (is.exact s ls) ∙ f);
+  }

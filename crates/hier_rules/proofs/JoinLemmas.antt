@@ -1,10 +1,10 @@
 -- A merge, and a node put under another, are joins; and what an edit of a name leaves to be asked.
-use Rattle.std.proofs.Common.{◌≡◌, ◌⊎◌, ℕ, ◌<◌, ◌&&◌, ◌==◌, not, Bool, true, false, cond, List, [], ◌∷◌, length, map, get_or, Option, Some, None, Result, Ok, Err, All, refl, sym, ap, ◌∙◌, subst, arith, ⊎_elim, inl, inr}
+use Rattle.std.proofs.Common.{◌≡◌, ◌⊎◌, ℕ, ◌<◌, ◌&&◌, ◌||◌, ◌==◌, not, Bool, true, false, cond, List, [], ◌∷◌, length, map, get_or, Option, Some, None, Result, Ok, Err, All, refl, sym, ap, ◌∙◌, subst, arith, ⊎_elim, inl, inr}
 use Rattle.std.specs.Prelude.{slice_set}
 use Rattle.std.specs.Option.{option_map}
 use Rattle.std.specs.declared.vec.Vec.{Vec}
 use Rattle.std.specs.declared.alloc.Global.{Global}
-use Rattle.std.proofs.lemmas.Bool.{eqb-true, eq-eqb, cases_Bool, cases_lt, false≢true, or_left, and_parts}
+use Rattle.std.proofs.lemmas.Bool.{eqb-true, eq-eqb, cases_Bool, cases_lt, false≢true, or_left, and_parts, and_from}
 use Rattle.std.proofs.lemmas.List.{get_or-map, length-map, get_or_past}
 use Rattle.std.proofs.Math.ListN.{get_or-map as get_or_map_default}
 use Rattle.kaba_base.specs.declared.NodeId.{NodeId}
@@ -13,7 +13,7 @@ use Rattle.kaba_bits.specs.Sets.{bit, or_else}
 use Rattle.kaba_bits.proofs.SetLemmas.{bit-below}
 use Rattle.kaba_bits.proofs.FirstLemmas.{or_else-None}
 use Rattle.kaba_order.specs.Orders.{is_le, is_live, is_among, merged_to, stays, IsLeastMerged}
-use Rattle.kaba_order.proofs.MergeLemmas.{among-All}
+use Rattle.kaba_order.proofs.MergeLemmas.{among-All, stays-merged}
 use Rattle.fact_model.specs.Items.{column_kind}
 use Rattle.fact_model.specs.declared.facts.Facts.{Facts}
 use Rattle.fact_model.specs.declared.sets.PointsTo.{PointsTo}
@@ -65,6 +65,9 @@ module _ (F : Facts) (H : Hierarchy) (fit : IsHierarchyOf F H) where
           lives = λ k h. subst (λ l. bit l k ≡ true) live h;
           rows = λ r v h. le_stays (place_of_row H r) (place_of_row H v) h;
           offers = λ r c h. at (place_of_row H r) (place_of_column H c) h;
+          stay = λ k out h. subst (λ l. bit l k ≡ true) (sym live) h;
+          offers_on = λ k c on h. at k (place_of_column H c) h;
+          under = λ k r on h. le_stays k (place_of_row H r) h;
           stands = λ k c h. (k, h);
           apart = λ k c out h. h;
           table = refl;
@@ -111,14 +114,23 @@ module _ (F : Facts) (H : Hierarchy) (fit : IsHierarchyOf F H) where
     rows_stay : (a b : ℕ) → is_le H.order (place_of_row H a) (place_of_row H b) ≡ true → is_le one.order (place_of_row one a) (place_of_row one b) ≡ true
     rows_stay a b h = rw (row_of a, row_of b) (made.holds (place_of_row H a) (place_of_row H b) h)
 
-    offers_stay : (r c : ℕ) → is_offered H (place_of_row H r) c ≡ true → is_offered one (place_of_row one r) c ≡ true
-    offers_stay r c h = at (place_of_column H c) refl h
+    offers_stay : (k n c : ℕ) → n ≡ merged_to set m k → is_offered H k c ≡ true → is_offered one n c ≡ true
+    offers_stay k n c to h = at (place_of_column H c) refl h
       where
-        at : (o : Option NodeId) → place_of_column H c ≡ o → is_above H.order (place_of_row H r) o ≡ true → is_offered one (place_of_row one r) c ≡ true
-        at None e k = absurd (false≢true k)
-        at (Some q) e k =
-            ap (is_above one.order (place_of_row one r)) (column_of c ∙ ap (option_map (merged_node set m)) e)
-            ∙ ap (λ x. is_le one.order x (merged_to set m q.0)) (row_of r) ∙ made.holds (place_of_row H r) q.0 k
+        at : (o : Option NodeId) → place_of_column H c ≡ o → is_above H.order k o ≡ true → is_offered one n c ≡ true
+        at None e h = absurd (false≢true h)
+        at (Some q) e h =
+            ap (is_above one.order n) (column_of c ∙ ap (option_map (merged_node set m)) e)
+            ∙ ap (λ x. is_le one.order x (merged_to set m q.0)) to ∙ made.holds k q.0 h
+
+    -- a node that is there stays the same
+    stays_itself : (n : ℕ) → is_live one.order n ≡ true → n ≡ merged_to set m n
+    stays_itself n on = sym (stays-merged set m n (and_parts (is_live H.order n) (stays set m n) (sym (made.live n) ∙ on)).1)
+
+    rows_under : (n r : ℕ) → is_live one.order n ≡ true → is_le H.order n (place_of_row H r) ≡ true → is_le one.order n (place_of_row one r) ≡ true
+    rows_under n r on h =
+        ap (is_le one.order n) (row_of r)
+        ∙ ap (λ x. is_le one.order x (merged_to set m (place_of_row H r))) (stays_itself n on) ∙ made.holds n (place_of_row H r) h
 
     stood : (n c : ℕ) → stands_at one n c ≡ true → (q : NodeId) × (place_of_column H c ≡ Some q) × (merged_to set m q.0 ≡ n)
     stood n c h = at (place_of_column H c) refl
@@ -142,7 +154,10 @@ module _ (F : Facts) (H : Hierarchy) (fit : IsHierarchyOf F H) where
       count = made.count;
       lives = λ k h. (and_parts (is_live H.order k) (stays set m k) (sym (made.live k) ∙ h)).0;
       rows = rows_stay;
-      offers = offers_stay;
+      offers = λ r c h. offers_stay (place_of_row H r) (place_of_row one r) c (row_of r) h;
+      stay = λ n out h. made.live n ∙ and_from (is_live H.order n) (stays set m n) h (ap (λ b. not b || (n == m)) out);
+      offers_on = λ n c on h. offers_stay n n c (stays_itself n on) h;
+      under = rows_under;
       stands = λ n c h. let q = stood n c h in (q.0.0, ap (is_at q.0.0) q.1 ∙ eq-eqb q.0.0 q.0.0 refl);
       apart = stands_apart;
       table = refl;

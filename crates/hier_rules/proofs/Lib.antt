@@ -14,3 +14,5 @@ pub mod LocalLemmas
 pub mod JoinLemmas
 pub mod MetLemmas
 pub mod IndexLemmas
+pub mod KnownLemmas
+pub mod AboveLemmas

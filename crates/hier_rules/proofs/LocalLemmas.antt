@@ -1,14 +1,13 @@
 -- What a join leaves as it was: all that stands above a node which is at or below none of those that were joined.
 use Rattle.std.proofs.Common.{◌≡◌, ⊎_elim, ℕ, ◌<◌, ◌&&◌, ◌||◌, ◌==◌, not, Bool, true, false, cond, List, [], ◌∷◌, length, get_or, Option, Some, None, refl, sym, ap, ◌∙◌, subst, eq-eqb, zero, suc, All, arith, inl, inr}
-use Rattle.std.specs.Prelude.{nat_lt}
 use Rattle.std.specs.Option.{option_map, option_and_then}
-use Rattle.std.proofs.lemmas.Bool.{cases_Bool, false≢true, and_parts, and_from, or_cases, or_left, or_right, lt-ltb}
+use Rattle.std.proofs.lemmas.Bool.{cases_Bool, false≢true, and_parts, and_from, or_cases, or_left, or_right}
 use Rattle.kaba_base.specs.declared.NodeId.{NodeId}
 use Rattle.kaba_base.proofs.TestLemmas.{same_truth, refuted}
 use Rattle.kaba_bits.specs.Sets.{bit, row, or_else, first_below, when}
 use Rattle.kaba_bits.proofs.SetLemmas.{bit-below}
 use Rattle.kaba_bits.proofs.FirstLemmas.{first_below_None, first_below_clear, or_else-None, when-None}
-use Rattle.kaba_order.specs.Orders.{Ordered, differ, is_le, is_live, is_among, is_below_some, is_above_some, merged_to, stays, IsLeastMerged, IsPartialOrder}
+use Rattle.kaba_order.specs.Orders.{differ, is_le, is_live, is_among, is_below_some, is_above_some, merged_to, stays, IsLeastMerged, IsPartialOrder}
 use Rattle.kaba_order.proofs.MergeLemmas.{has_any_some, stays-merged}
 use Rattle.kaba_order.proofs.MergeSteps.{has_any_among}
 use Rattle.fact_model.specs.Items.{site_at, site_row, site_class, row_class, column_class, column_kind}
@@ -49,10 +48,10 @@ not_more : (x y : Bool) → (y ≡ true → x ≡ true) → not x ≡ true → n
 not_more x true f h = refuted x h (f refl)
 not_more x false f h = refl
 
-or_more : (x y u v : Bool) → (x ≡ true → u ≡ true) → (y ≡ true → v ≡ true) → (x || y) ≡ true → (u || v) ≡ true
+pub or_more : (x y u v : Bool) → (x ≡ true → u ≡ true) → (y ≡ true → v ≡ true) → (x || y) ≡ true → (u || v) ≡ true
 or_more x y u v f g h = ⊎_elim (λ a. or_left u v (f a)) (λ b. or_right u v (g b)) (or_cases x y h)
 
-any_rest : (p q : ℕ → Bool) (n : ℕ) → ((k : ℕ) → p k ≡ true → q k ≡ true) → any_below n p ≡ true → any_below n q ≡ true
+pub any_rest : (p q : ℕ → Bool) (n : ℕ) → ((k : ℕ) → p k ≡ true → q k ≡ true) → any_below n p ≡ true → any_below n q ≡ true
 any_rest p q n f h = let k = any_below_some p n h in any_below_has q n k.0 k.1 (f k.0 k.2)
 
 or_false : (x : Bool) → (x || false) ≡ x
@@ -143,7 +142,7 @@ module _ (F : Facts) (H K : Hierarchy) (fit : IsHierarchyOf F K) (roots : List N
         let y = and_parts (is_offered K a c) (clash F K c d) k in
         and_from (is_offered H a c) (clash F H c d) (offered_before c y.0) (sym (clash_same F H K members c d) ∙ y.1)) x.1)) h
 
-    class_before : is_class_node F K a ≡ true → is_class_node F H a ≡ true
+    pub class_before : is_class_node F K a ≡ true → is_class_node F H a ≡ true
     class_before h =
         or_more (has_class_member F K a) (has_object F K a) (has_class_member F H a) (has_object F H a)
         (any_rest (λ c. is_of_class (column_kind F c) && is_offered K a c) (λ c. is_of_class (column_kind F c) && is_offered H a c) C (λ c t.
@@ -177,7 +176,7 @@ module _ (F : Facts) (H K : Hierarchy) (fit : IsHierarchyOf F K) (roots : List N
 
   pub chained_left : IsPartialOrder H.order → length K.order.live ≡ length H.order.live → (old new : List Bool) → AreChained F H old
       → length new ≡ length old → ((n : ℕ) → bit new n ≡ true → bit old n ≡ true)
-      → ((n : ℕ) → bit new n ≡ true → (is_live K.order n && is_below_some K.order roots n) ≡ false) → AreChained F K new
+      → ((n : ℕ) → bit new n ≡ true → is_below_some K.order roots n ≡ false) → AreChained F K new
   chained_left P count old new are len was left = record {
     width = len ∙ (are.width ∙ sym count);
     each = λ n h. ⊎_elim (kept n h) (dead n) (cases_Bool (is_live K.order n));
@@ -185,7 +184,7 @@ module _ (F : Facts) (H K : Hierarchy) (fit : IsHierarchyOf F K) (roots : List N
     where
       kept : (n : ℕ) → bit new n ≡ true → is_live K.order n ≡ true → first_unchained_at F K n ≡ None
       kept n h live =
-          chained_still n live (subst (λ b. (b && is_below_some K.order roots n) ≡ false) live (left n h)) P (are.each n (was n h))
+          chained_still n live (left n h) P (are.each n (was n h))
 
       dead : (n : ℕ) → is_live K.order n ≡ false → first_unchained_at F K n ≡ None
       dead n off = chained F K n (λ x y hx hy. absurd (false≢true (sym off ∙ fit.sized.order.lower_lives n x (says F K n x hx).le)))
@@ -387,14 +386,6 @@ module _ (H K : Hierarchy) where
             let number : merged_to set m q.0 ≡ p.0 = ap (λ (x : NodeId). x.0) same in
             let f = not_among a q.0 out (subst (λ x. is_le K.order a x ≡ true) (sym number) h) in
             e ∙ ap Some (sym (ap (λ b. node (cond b m q.0)) f) ∙ same)
-
--- a live node is below the count
-pub live_counted : (o : Ordered) (n : ℕ) (y : Bool) → (nat_lt n (length o.live) && (is_live o n && y)) ≡ (is_live o n && y)
-live_counted o n y =
-    same_truth (nat_lt n (length o.live) && (is_live o n && y)) (is_live o n && y)
-    (λ h. (and_parts (nat_lt n (length o.live)) (is_live o n && y) h).1)
-    (λ h. and_from (nat_lt n (length o.live)) (is_live o n && y)
-    (lt-ltb n (length o.live) (bit-below o.live n (and_parts (is_live o n) y h).0)) h)
 
 -- the one node of a list is below a bound
 pub one_in : {k : ℕ} (n : NodeId) → n.0 < k → All (λ (s : NodeId). s.0 < k) (n ∷ [])

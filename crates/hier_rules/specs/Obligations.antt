@@ -1,6 +1,6 @@
 -- Believed. The obligations B2 to B7 and B9: for each the first instance against it, in the order in which they are
 -- asked.
-use Rattle.std.specs.Prelude.{ℕ, ◌==◌, ◌&&◌, ◌||◌, nat_lt, Bool, true, false, not, length, cond, Option, Some, None}
+use Rattle.std.specs.Prelude.{ℕ, ◌==◌, ◌&&◌, ◌||◌, nat_lt, Bool, false, not, length, cond, Option, Some, None}
 use Rattle.std.specs.Option.{option_and_then}
 use Rattle.kaba_base.specs.declared.NodeId.{NodeId}
 use Rattle.kaba_bits.specs.Sets.{bit, row, or_else, first_below, when}

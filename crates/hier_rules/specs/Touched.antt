@@ -1,20 +1,13 @@
 -- Mirror. What an edit touched, and what holds outside of it.
 use Rattle.std.specs.Prelude.{◌≡◌, ℕ, ◌<◌, ◌==◌, ◌&&◌, ◌||◌, false, Bool, List, length, None}
 use Rattle.std.specs.List.{list_any}
-use Rattle.kaba_base.specs.declared.NodeId.{NodeId}
 use Rattle.kaba_bits.specs.Sets.{bit, row, first_below}
-use Rattle.kaba_order.specs.Orders.{Ordered, is_live, is_below_some}
 use Rattle.fact_model.specs.declared.facts.Facts.{Facts}
 use Rattle.fact_model.specs.declared.sets.PointsTo.{PointsTo}
 use Rattle.hier_model.specs.Hierarchies.{Hierarchy, place_of_row}
 use Rattle.hier_rules.specs.Asked.{slots_of, is_element}
 use Rattle.hier_rules.specs.Names.{confused}
 use Rattle.hier_rules.specs.Obligations.{place_of_site, wrong_need, wrong_super, wrong_outcome}
-
--- the set of the live nodes that are at or below some node of a list
-pub record IsTouched (o : Ordered) (roots : List NodeId) (low : List Bool) : Type 0 where
-  pub width : length low ≡ length o.live
-  pub exact : (n : ℕ) → bit low n ≡ (is_live o n && is_below_some o roots n)
 
 -- no need of a site is broken at a node outside a set
 pub record NeedsHold (F : Facts) (pt : PointsTo) (H : Hierarchy) (low : List Bool) : Type 0 where
@@ -25,6 +18,10 @@ pub record NeedsHold (F : Facts) (pt : PointsTo) (H : Hierarchy) (low : List Boo
 pub record SupersHold (F : Facts) (H : Hierarchy) (low : List Bool) : Type 0 where
   pub width : length low ≡ length H.order.live
   pub each : (r : ℕ) → r < length F.rows.items → bit low (place_of_row H r) ≡ false → first_below (length F.columns.items) (wrong_super F H r) ≡ None
+
+-- no site at a node outside a set meets a target with another outcome
+abbrev pub TestsHold : Facts → PointsTo → Hierarchy → List Bool → Type 0
+TestsHold F pt H low = (p t s : ℕ) → t < length F.rows.items → s < length F.sites.items → bit low (place_of_site F H s) ≡ false → wrong_outcome F pt H p t s ≡ None
 
 -- no site outside a set meets a target with another outcome
 pub record OutcomesHold (F : Facts) (pt : PointsTo) (H : Hierarchy) (sites : List Bool) : Type 0 where
@@ -40,3 +37,10 @@ pub record NamesHold (F : Facts) (H : Hierarchy) (low : List Bool) : Type 0 wher
 abbrev pub is_at_place : Facts → PointsTo → ℕ → ℕ → Bool
 is_at_place F pt p s = list_any (λ x. (x.place.at == p) && bit (row pt.points.items x.from) s) F.tests.items
     || list_any (λ x. is_element x.column && (x.place.at == p) && bit (row pt.points.items x.value) s) F.stores.items
+
+-- no need of a site, no super call of a row's method, no outcome of a site and no name is broken at a node outside a set
+pub record AllHold (F : Facts) (pt : PointsTo) (H : Hierarchy) (low : List Bool) : Type 0 where
+  pub needs : NeedsHold F pt H low
+  pub supers : SupersHold F H low
+  pub outcomes : TestsHold F pt H low
+  pub names : NamesHold F H low

@@ -79,7 +79,7 @@ pub use broken::{Broken, Nodes, Rule};
 pub use chains::{first_unchained, first_unchained_beyond};
 pub use clashes::{ClashPair, name_clashes};
 pub use index::{JoinIndex, join_index};
-pub use kept::keep_chained;
+pub use kept::{KnownNodes, keep_known};
 use names::first_misnamed;
 use outcomes::first_wrong_outcome;
 pub use places::Asked;

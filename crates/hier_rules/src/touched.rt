@@ -2,12 +2,11 @@
 
 ghost use Rattle.std.specs.Prelude.{◌≡◌, ℕ, ◌<◌, ◌==◌, ◌&&◌, ◌||◌, not, true, false, None, length, All, IfOk};
 ghost use Rattle.hier_rules.specs.Words.{bit, first_below, is_live, is_offered, IsObligationInput};
-ghost use Rattle.kaba_order.specs.Orders.{is_below_some, has_any};
 ghost use Rattle.std.specs.Bool.{OnFalse};
 ghost use Rattle.hier_rules.specs.Asked.{slots_of, is_other_body, is_super};
 ghost use Rattle.hier_rules.specs.Pairs.{IsPairsRow};
 ghost use Rattle.hier_rules.specs.Index.{is_needed, IsTestRow, IsIndexOf};
-ghost use Rattle.hier_rules.specs.Touched.{IsTouched, NeedsHold, SupersHold};
+ghost use Rattle.hier_rules.specs.Touched.{NeedsHold, SupersHold};
 ghost use Rattle.hier_rules.specs.Obligations.{has_nearer, wrong_need, first_wrong_need, wrong_super, first_wrong_super};
 
 use crate::bodies::{first_wrong_need_of, first_wrong_super_of, is_nearer};
@@ -18,56 +17,6 @@ use hier_model::site_at;
 use kaba_base::{NodeId, SiteId};
 use kaba_bits::{BitRow, row_at};
 use std::alloc::{AllocError, Global};
-
-/// Whether a set has some node of a list.
-#[tactic(auto, unfolding(kaba_order::specs::Orders::has_any))]
-pub fn has_some(row: &BitRow, nodes: &[NodeId]) -> bool
-    requires { All (λ s. s.0 < length row.now) nodes.now }
-    ensures { result ≡ has_any row.now nodes.now }
-{
-    for s in nodes {
-        if row.has(s.0) {
-            return true;
-        }
-    }
-    false
-}
-
-/// Whether a node is live, and at or below some node of a list.
-fn is_touched(asked: &Asked, roots: &[NodeId], n: u32) -> bool
-    requires asked { IsObligationInput asked.now }
-    requires roots { All (λ s. s.0 < length asked.now.hier.now.order.live) roots.now }
-    ensures { result ≡ (is_live asked.now.hier.now.order n && is_below_some asked.now.hier.now.order roots.now n) }
-{
-    is_live(asked.hier, n) && has_some(asked.hier.order().above(NodeId(n)), roots)
-}
-
-/// Adds a node, if it is so.
-fn add_touched(asked: &Asked, roots: &[NodeId], n: u32, low: &mut BitRow)
-    requires asked { IsObligationInput asked.now }
-    requires roots { All (λ s. s.0 < length asked.now.hier.now.order.live) roots.now }
-    requires node { n < length low.old }
-    ensures width { length low.new ≡ length low.old }
-    ensures added { (x : ℕ) → bit low.new x ≡ (bit low.old x ||
-        ((n == x) && (is_live asked.now.hier.now.order n && is_below_some asked.now.hier.now.order roots.now n))) }
-{
-    if is_touched(asked, roots, n) {
-        low.set(n);
-    }
-}
-
-/// The nodes at or below some node of a list. An error comes only for want of memory.
-pub fn touched(alloc: Global, asked: &Asked, roots: &[NodeId]) -> Result<BitRow, AllocError>
-    requires asked { IsObligationInput asked.now }
-    requires roots { All (λ s. s.0 < length asked.now.hier.now.order.live) roots.now }
-    ensures { IfOk result (IsTouched asked.now.hier.now.order roots.now) }
-{
-    let mut low = BitRow::new(alloc, node_count(asked.hier))?;
-    for n in 0..node_count(asked.hier) {
-        add_touched(asked, roots, n, &mut low);
-    }
-    Ok(low)
-}
 
 /// Whether one of the other bodies of the slot of `d` is nearer at a node.
 fn has_nearer_rival(asked: &Asked, rivals: &BitRow, n: NodeId, d: u32) -> bool

@@ -1,5 +1,5 @@
 -- What an attempt and a step come to.
-use Rattle.std.proofs.Common.{◌≡◌, ◌≢◌, ℕ, ◌+◌, ◌<◌, ◌==◌, ◌&&◌, not, Bool, true, false, cond, List, [], ◌∷◌, length, map, drop, get_or, Option, Some, None, Result, Ok, Err, All, refl, sym, ap, ◌∙◌, subst, arith}
+use Rattle.std.proofs.Common.{◌≡◌, ◌≢◌, ℕ, ◌+◌, ◌<◌, ◌==◌, ◌&&◌, not, Bool, true, false, cond, List, [], ◌∷◌, length, map, drop, get_or, Option, Some, None, Ok, Err, All, refl, sym, ap, ◌∙◌, subst, arith}
 use Rattle.std.proofs.lemmas.List.{drop_more}
 use Rattle.kaba_base.specs.declared.NodeId.{NodeId}
 use Rattle.kaba_order.specs.Orders.{is_le, is_live, IsPartialOrder}
@@ -15,7 +15,8 @@ use Rattle.hier_model.specs.declared.edits.ChangeFault.TheVariants.{UnknownNode,
 use Rattle.hier_model.proofs.MergedLemmas.{none_between}
 use Rattle.hier_model.proofs.EditedOrders.{least_among}
 use Rattle.hier_rules.specs.declared.broken.Broken.{Broken}
-use Rattle.hier_rules.specs.Chains.{AreChained, WereChained}
+use Rattle.hier_rules.specs.declared.kept.KnownNodes.{KnownNodes}
+use Rattle.hier_rules.specs.Chains.{AreKnown, WereKnown}
 use Rattle.hier_rules.specs.First.{first_of_edit}
 use Rattle.hier_rules.specs.Obligations.{first_unchained}
 use Rattle.hier_edit.specs.declared.ApplyFault.{ApplyFault}
@@ -25,7 +26,7 @@ use Rattle.hier_edit.specs.Applied.{outcome, unless_broken, applied}
 use Rattle.hier_tree.specs.Trees.{Try, conflict_of, MakeOne, PutUnder, changed_by, accepted_or, tried, first_accepted, last_try, IsEditOf, try_of}
 use Rattle.hier_tree.proofs.ConflictLemmas.{conflict_says, none_unknown, some_among}
 use Rattle.hier_tree.proofs.ReachedLemmas.{accepted, unless_ok, if_ok, is_ok}
-use Rattle.tree_merge.specs.Attempts.{unordered, nodes_of, Joins, AreApart, IsTryOf, IsOfTry, IsAccepted, IsFirst}
+use Rattle.tree_merge.specs.Attempts.{unordered, nodes_of, Joins, AreApart, IsTryOf, IsOfTry, IsAccepted}
 use Rattle.tree_merge.proofs.CountLemmas.{under_fewer, merged_fewer}
 
 module _ (F : Facts) (pt : PointsTo) where
@@ -118,25 +119,10 @@ module _ (F : Facts) (pt : PointsTo) where
       ap (λ l. first_accepted F pt H (map try_of l)) (drop_more tries k d lt)
       ∙ ap (λ r. accepted_or (try_of e) r (first_accepted F pt H (map try_of (drop (k + 1) tries)))) h
 
-  -- the first of some tries that is accepted was made
-  tried_at : (H : Hierarchy) (u t : Try) (rest : Option (Try × Hierarchy)) (New : Hierarchy) (r : Result Hierarchy ApplyFault) → tried F pt H u ≡ r
-      → accepted_or u r rest ≡ Some (t, New) → (rest ≡ Some (t, New) → tried F pt H t ≡ Ok New) → tried F pt H t ≡ Ok New
-  tried_at H u t rest New (Err x) e k after = after k
-  tried_at H u t rest New (Ok z) e k after =
-      let both : (u, z) ≡ (t, New) = cc k in subst (λ (p : Try × Hierarchy). tried F pt H p.0 ≡ Ok p.1) both e
-
-  was_tried : (H : Hierarchy) (ts : List Try) (t : Try) (New : Hierarchy) → first_accepted F pt H ts ≡ Some (t, New) → tried F pt H t ≡ Ok New
-  was_tried H [] t New h = absurd (cc h)
-  was_tried H (u ∷ ts) t New h = tried_at H u t (first_accepted F pt H ts) New (tried F pt H u) refl h (was_tried H ts t New)
-
-  pub were_chained : (H New : Hierarchy) → IsHierarchyOf F H → (tries : List Edit) (k : ℕ) → All (IsTryOf H) tries → IsFirst F pt H New tries k
-      → (chained : List Bool) → AreChained F H chained → (d : Edit)
-      → WereChained F New (get_or tries k d) chained
-  were_chained H New fits tries k all is chained before d =
-      let e = get_or tries k d in
-      let try = all k d is.below in
-      let made = accepted F pt (changed_by F H (try_of e)) New (was_tried H (map try_of tries) (try_of e) New (is.first d)) in
-      record { before = H; fits = fits; were = before; made = same_change H e try.is ∙ made.0 }
+  -- what was known before a try that is accepted
+  pub was_known : (H New : Hierarchy) → IsHierarchyOf F H → (e : Edit) → applied F pt H e ≡ Ok New → (known : KnownNodes) → AreKnown F H known
+      → WereKnown F New e known
+  was_known H New fits e h known were = record { before = H; fits = fits; were = were; made = (accepted F pt (changed F H e) New h).0 }
 
 -- the last of the tries from one on is the last of those from the next
 pub last_more : (tries : List Edit) (k : ℕ) (d : Edit) → k + 1 < length tries

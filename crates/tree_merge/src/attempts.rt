@@ -2,6 +2,7 @@
 
 ghost use Rattle.std.specs.Prelude.{◌≡◌, ◌<◌, length, All, IfOk, OnErr};
 ghost use Rattle.hier_rules.specs.Words.{IsHierarchyOf, MeetsEdit};
+ghost use Rattle.hier_rules.specs.Chains.{AreKnown};
 ghost use Rattle.hier_rules.specs.Index.{AreClashesOf};
 ghost use Rattle.hier_edit.specs.declared.ApplyFault.TheVariants as ApplyFault;
 ghost use Rattle.tree_merge.specs.Attempts.{IsTryInput, IsTryOf, IsOfTry, IsAttempt, IsTried};
@@ -9,7 +10,7 @@ ghost use Rattle.tree_merge.specs.Attempts.{IsTryInput, IsTryOf, IsOfTry, IsAtte
 use crate::given::Given;
 use hier_edit::{ApplyFault, JoinTests, join};
 use hier_model::{Edit, Hier};
-use hier_rules::Broken;
+use hier_rules::{Broken, KnownNodes, keep_known};
 use std::alloc::AllocError;
 
 /// What some tries come to.
@@ -35,15 +36,22 @@ fn broken_of(fault: ApplyFault) -> Result<Broken, AllocError>
     }
 }
 
-/// Makes an edit if it is accepted; else it answers what the edit breaks.
-fn attempt_one(given: &Given, hier: &mut Hier, edit: &Edit) -> Result<Option<Broken>, AllocError>
+/// Makes an edit if it is accepted; else it answers what the edit breaks. What is known of the nodes stays right.
+fn attempt_one(
+    given: &Given,
+    hier: &mut Hier,
+    edit: &Edit,
+    known: &mut KnownNodes,
+) -> Result<Option<Broken>, AllocError>
     requires given { IsTryInput given.now }
     requires hierarchy { IsHierarchyOf given.now.facts.now hier.old }
     requires meets { MeetsEdit given.now.facts.now given.now.sets.now hier.old }
     requires names { AreClashesOf given.now.facts.now hier.old.members given.now.clashes.now.items }
     requires edit { IsTryOf hier.old edit.now }
+    requires known { AreKnown given.now.facts.now hier.old known.old }
     ensures attempt { IfOk result (IsAttempt given.now.facts.now given.now.sets.now hier.old hier.new edit.now) }
     ensures kept { OnErr result (hier.new ≡ hier.old) }
+    ensures known { AreKnown given.now.facts.now hier.new known.new }
     ensures is { IsHierarchyOf given.now.facts.now hier.new }
     ensures members { hier.new.members ≡ hier.old.members }
 {
@@ -54,7 +62,10 @@ fn attempt_one(given: &Given, hier: &mut Hier, edit: &Edit) -> Result<Option<Bro
         clashes: given.clashes,
     };
     match join(given.alloc, hier, &tests, edit) {
-        Ok(()) => Ok(None),
+        Ok(low) => {
+            keep_known(hier, edit, &low, known);
+            Ok(None)
+        }
         Err(fault) => {
             let broken = broken_of(fault)?;
             Ok(Some(broken))
@@ -62,23 +73,30 @@ fn attempt_one(given: &Given, hier: &mut Hier, edit: &Edit) -> Result<Option<Bro
     }
 }
 
-/// Makes the first of some edits that is accepted. An error comes only for want of memory, and then
-/// nothing has changed.
-pub fn first_accepted(given: &Given, hier: &mut Hier, tries: &[Edit]) -> Result<Attempt, AllocError>
+/// Makes the first of some edits that is accepted. What is known of the nodes stays right. An error comes only for want of
+/// memory, and then the hierarchy has not changed.
+pub fn first_accepted(
+    given: &Given,
+    hier: &mut Hier,
+    tries: &[Edit],
+    known: &mut KnownNodes,
+) -> Result<Attempt, AllocError>
     requires given { IsTryInput given.now }
     requires hierarchy { IsHierarchyOf given.now.facts.now hier.old }
     requires meets { MeetsEdit given.now.facts.now given.now.sets.now hier.old }
     requires names { AreClashesOf given.now.facts.now hier.old.members given.now.clashes.now.items }
     requires some { 0 < length tries.now }
     requires tries { All (IsTryOf hier.old) tries.now }
+    requires known { AreKnown given.now.facts.now hier.old known.old }
     ensures tried { IfOk result (IsTried given.now.facts.now given.now.sets.now hier.old hier.new tries.now) }
     ensures kept { OnErr result (hier.new ≡ hier.old) }
+    ensures known { AreKnown given.now.facts.now hier.new known.new }
     ensures is { IsHierarchyOf given.now.facts.now hier.new }
     ensures members { hier.new.members ≡ hier.old.members }
 {
     let mut k = 0;
     'tries: loop {
-        match attempt_one(given, hier, &tries[k])? {
+        match attempt_one(given, hier, &tries[k], known)? {
             None => return Ok(Attempt::Accepted(k)),
             Some(broken) if k + 1 == tries.len() => return Ok(Attempt::Refused(broken)),
             Some(_) => k += 1,

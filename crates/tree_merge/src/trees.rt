@@ -1,7 +1,7 @@
 //! The tree of a hierarchy's class nodes.
 
 ghost use Rattle.std.specs.Prelude.{◌≡◌, None, IfErr, IfOk, OnOk};
-ghost use Rattle.hier_rules.specs.Chains.{AreChained};
+ghost use Rattle.hier_rules.specs.Chains.{AreKnown};
 ghost use Rattle.hier_rules.specs.Index.{IsIndexOf, AreClashesOf};
 ghost use Rattle.hier_rules.specs.Words.{InRange, AreSets, IsHierarchyOf, MeetsEdit, first_broken};
 ghost use Rattle.fact_model.specs.declared.sets.Table.{Table};
@@ -17,9 +17,8 @@ use crate::given::Given;
 use crate::steps::{TreeStep, Turn, step};
 use fact_model::{Facts, PointsTo};
 use hier_model::Hier;
-use hier_rules::{Asked, Broken, ClashPair, JoinIndex, join_index, name_clashes};
+use hier_rules::{Asked, Broken, ClashPair, JoinIndex, KnownNodes, join_index, name_clashes};
 use hier_tree::Conflict;
-use kaba_bits::BitRow;
 use std::alloc::{AllocError, Global};
 
 /// A conflict of which no try is accepted.
@@ -42,12 +41,12 @@ pub enum TreeFault {
     Memory,
 }
 
-/// What is found once for all steps, and the nodes that are known to be chained: none when they begin.
+/// What is found once for all steps, and what is known of the nodes: nothing when they begin.
 #[derive(Drop)]
 struct Prepared {
     index: JoinIndex,
     clashes: Vec<ClashPair>,
-    chained: BitRow,
+    known: KnownNodes,
 }
 
 /// The same of a hierarchy. An error comes only for want of memory.
@@ -62,7 +61,7 @@ fn prepare(
     requires hierarchy { IsHierarchyOf facts.now hier.now }
     ensures index { IfOk result (λ p. IsIndexOf facts.now sets.now p.index) }
     ensures clashes { IfOk result (λ p. AreClashesOf facts.now hier.now.members p.clashes.items) }
-    ensures chained { IfOk result (λ p. AreChained facts.now hier.now p.chained) }
+    ensures known { IfOk result (λ p. AreKnown facts.now hier.now p.known) }
 {
     let asked = Asked {
         facts,
@@ -72,7 +71,7 @@ fn prepare(
     Ok(Prepared {
         index: join_index(alloc, &asked)?,
         clashes: name_clashes(alloc, &asked)?,
-        chained: BitRow::new(alloc, hier.order().count())?,
+        known: KnownNodes::new(alloc, hier.order().count())?,
     })
 }
 
@@ -106,7 +105,7 @@ pub fn make_tree(
     let Prepared {
         index,
         clashes,
-        mut chained,
+        mut known,
     } = match prepare(alloc, hier, facts, sets) {
         Ok(prepared) => prepared,
         Err(_) => return Err(TreeFault::Memory),
@@ -120,7 +119,7 @@ pub fn make_tree(
     };
     let mut log = Vec::new(alloc);
     'steps: loop {
-        match step(&given, hier, &mut chained) {
+        match step(&given, hier, &mut known) {
             Ok(Turn::Done) => return Ok(log),
             Ok(Turn::Taken(step)) => match log.push(step) {
                 Ok(()) => {}

@@ -1,7 +1,33 @@
-use Rattle.std.proofs.Common.{◌≡◌, sym, subst}
+use Rattle.std.proofs.Common.{◌≡◌, ◌<◌, length, All, sym, ap, ◌∙◌, subst}
 use Rattle.std.specs.Prelude.{IfOk}
-use Rattle.hier_rules.proofs.JoinLemmas.{type_after, member_after}
+use Rattle.hier_model.specs.Places.{JoinsNodes, joined_nodes}
+use Rattle.hier_rules.proofs.JoinLemmas.{merge_local, put_local, type_after, member_after}
+use Rattle.hier_rules.proofs.LocalLemmas.{one_in}
 use Rattle.hier_rules.proofs.after.first_broken_after.Goals as goal
+
+pub first_after-requires-clause-join : goal.first_after-requires-clause-join
+first_after-requires-clause-join c = subst JoinsNodes (sym c.in-Merge.is) tt
+
+pub first_after-requires-clause-joined : goal.first_after-requires-clause-joined
+first_after-requires-clause-joined c = c.deref.ensures.value ∙ ap joined_nodes (sym c.in-Merge.is)
+
+pub first_after-requires-clause-nodes : goal.first_after-requires-clause-nodes
+first_after-requires-clause-nodes c =
+    let w = c.requires.after in
+    subst (All (λ s. s.0 < length c.args.asked.now.hier.now.order.live)) (sym c.deref.ensures.value)
+    (merge_local c.args.asked.now.facts.now w.before w.fits c.args.asked.now.hier.now c.args.edit.now w.made c.in-Merge.set c.in-Merge.is c.requires.some).1
+
+pub first_after-requires-in-Under-clause-join : goal.first_after-requires-in-Under-clause-join
+first_after-requires-in-Under-clause-join c = subst JoinsNodes (sym c.in-Under.is) tt
+
+pub first_after-requires-in-Under-clause-joined : goal.first_after-requires-in-Under-clause-joined
+first_after-requires-in-Under-clause-joined c = ap joined_nodes (sym c.in-Under.is)
+
+pub first_after-requires-in-Under-clause-nodes : goal.first_after-requires-in-Under-clause-nodes
+first_after-requires-in-Under-clause-nodes c =
+    let w = c.requires.after in
+    one_in c.in-Under.n
+    (put_local c.args.asked.now.facts.now w.before w.fits c.args.asked.now.hier.now c.args.edit.now w.made c.in-Under.n c.in-Under.field-1 c.in-Under.is).1
 
 pub returns-in-TypeName : goal.returns-in-TypeName
 returns-in-TypeName c =

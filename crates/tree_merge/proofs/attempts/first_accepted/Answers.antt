@@ -37,4 +37,5 @@ tries-preserved c =
       is = c.attempt_one.ensures.is;
       meets = subst (MeetsEdit F pt) (sym a.0) c.tries.invariant.meets;
       members = c.attempt_one.ensures.members ∙ c.tries.invariant.members;
+      known = c.attempt_one.ensures.known;
     }

@@ -1,5 +1,6 @@
 use Rattle.std.proofs.Common.{◌≡◌, ◌<◌, ◌-◌, length, map, drop}
 use Rattle.hier_model.specs.Hierarchies.{IsHierarchyOf}
+use Rattle.hier_rules.specs.Chains.{AreKnown}
 use Rattle.hier_rules.specs.First.{MeetsEdit}
 use Rattle.hier_tree.specs.Trees.{first_accepted, last_try, try_of}
 use Rattle.tree_merge.proofs.attempts.first_accepted.Given as goal
@@ -14,6 +15,7 @@ invariant-tries l = record {
   is : IsHierarchyOf l.given.facts.now l.hier;
   meets : MeetsEdit l.given.facts.now l.given.sets.now l.hier;
   members : l.hier.members ≡ l.initial.hier.members;
+  known : AreKnown l.given.facts.now l.hier l.known;
 }
 
 abbrev pub decreases-tries : goal.decreases-tries

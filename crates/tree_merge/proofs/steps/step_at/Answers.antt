@@ -1,9 +1,7 @@
 use Rattle.std.proofs.Common.{subst, sym}
-use Rattle.hier_model.specs.declared.edits.Edit.{Edit}
-use Rattle.hier_rules.specs.Chains.{WereChained}
 use Rattle.hier_tree.specs.declared.Conflict.{Conflict}
-use Rattle.tree_merge.specs.Attempts.{AreApart, IsTried, IsFirst, AreRefused}
-use Rattle.tree_merge.proofs.AttemptLemmas.{apart_of, were_chained}
+use Rattle.tree_merge.specs.Attempts.{AreApart, IsTried, AreRefused}
+use Rattle.tree_merge.proofs.AttemptLemmas.{apart_of}
 use Rattle.tree_merge.proofs.StepLemmas.{stuck_at}
 use Rattle.tree_merge.proofs.steps.step_at.Goals as goal
 
@@ -23,16 +21,3 @@ returns-clause-turn c =
     (subst (IsTried F pt H New c.deref.result.now) c.in-Refused.is c.in_ok-k.ensures.tried) in
     stuck_at F pt H New c.args.broken c.conflict_of-conflict.result T c.in-Refused.last
     c.conflict_of-conflict.ensures c.in_ok-tries.ensures.tries c.requires.conflict r
-
-pub keep_chained-requires-clause-chained : goal.keep_chained-requires-clause-chained
-keep_chained-requires-clause-chained c =
-    let F = c.args.given.now.facts.now in
-    let pt = c.args.given.now.sets.now in
-    let H = c.args.hier.now in
-    let New = c.first_accepted.new.hier in
-    let T = c.in_ok-tries.tries.items in
-    let is = subst (λ l. IsFirst F pt H New l c.in-Accepted.k) c.deref.ensures.value
-    (subst (IsTried F pt H New c.deref.result.now) c.in-Accepted.is c.in_ok-k.ensures.tried) in
-    subst (λ (e : Edit). WereChained F New e c.args.chained.now) (sym c.swap_remove-edit.ensures.value)
-    (were_chained F pt H New c.requires.hierarchy T c.in-Accepted.k c.in_ok-tries.ensures.edits is c.args.chained.now c.requires.chained
-    c.swap_remove-edit.result)

@@ -15,7 +15,7 @@ steps-init c =
       edits = none_yet c.new-log.result.items c.new-log.ensures.items;
       meets = c.requires.meets;
       is = c.requires.hierarchy;
-      chained = c.in-Ok.ensures.chained;
+      known = c.in-Ok.ensures.known;
       members = refl;
     }
 
@@ -65,7 +65,7 @@ steps-preserved c =
       edits = more_edits log more s c.in-Ok-push.ensures.items c.steps.invariant.edits is.edit;
       meets = is.meets;
       is = c.step.ensures.is;
-      chained = c.in-Ok-Taken.ensures.chained;
+      known = c.step.ensures.known;
       members = c.step.ensures.members ∙ c.steps.invariant.members;
     }
 

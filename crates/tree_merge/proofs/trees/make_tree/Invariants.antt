@@ -1,6 +1,6 @@
 use Rattle.std.proofs.Common.{◌≡◌}
 use Rattle.hier_model.specs.Hierarchies.{IsHierarchyOf}
-use Rattle.hier_rules.specs.Chains.{AreChained}
+use Rattle.hier_rules.specs.Chains.{AreKnown}
 use Rattle.hier_rules.specs.First.{MeetsEdit}
 use Rattle.hier_tree.specs.Trees.{Leads}
 use Rattle.tree_merge.specs.Attempts.{unordered}
@@ -13,7 +13,7 @@ invariant-steps l = record {
   edits : AreEdits l.log.items;
   meets : MeetsEdit l.facts l.sets l.hier;
   is : IsHierarchyOf l.facts l.hier;
-  chained : AreChained l.facts l.hier l.chained;
+  known : AreKnown l.facts l.hier l.known;
   members : l.hier.members ≡ l.initial.hier.members;
 }
 
