@@ -1,4 +1,4 @@
-"""Random programs of the language, for tools/compare-java."""
+"""Random programs of the language, for tools/compare-java and tools/compare-edits."""
 import random
 
 
@@ -25,6 +25,10 @@ class Class:
 
 class Program:
     """A random program that the rules of types accept. Every name is used once in it."""
+
+    # The least and the most that it has: classes, static methods of main's class, fields and methods of each class, and
+    # statements of main.
+    CLASSES, STATICS, FIELDS, METHODS, STATEMENTS = (2, 5), (1, 3), (1, 4), (1, 3), (6, 14)
 
     def __init__(self, seed, prefix):
         self.random = random.Random(seed)
@@ -64,9 +68,9 @@ class Program:
     # the whole text
 
     def text(self):
-        for n in range(self.random.randint(2, 5)):
+        for n in range(self.random.randint(*self.CLASSES)):
             self.declare(self.new_class(n))
-        for _ in range(self.random.randint(1, 3)):
+        for _ in range(self.random.randint(*self.STATICS)):
             self.statics[self.fresh("s")] = self.signature()
         lines = []
         for c in self.classes:
@@ -85,7 +89,7 @@ class Program:
         self.scope, self.in_main, self.left = [("args", "String[]")], True, 40
         lines.append("  static void main(String[] args) {")
         lines += self.main_start()
-        lines += self.statements(2, self.random.randint(6, 14))
+        lines += self.statements(2, self.random.randint(*self.STATEMENTS))
         return "\n".join(lines + ["  }", "}", ""])
 
     def new_class(self, number):
@@ -119,11 +123,11 @@ class Program:
 
     def declare(self, c):
         self.classes.append(c)
-        for _ in range(self.random.randint(1, 4)):
+        for _ in range(self.random.randint(*self.FIELDS)):
             name, kind = self.fresh("f"), self.some_type()
             c.fields[name] = kind
             c.own_fields.append((name, kind))
-        for _ in range(self.random.randint(1, 3)):
+        for _ in range(self.random.randint(*self.METHODS)):
             inherited = [m for m in c.parent.methods if m not in dict(c.own_methods)] if c.parent else []
             if inherited and self.chance(0.5):
                 name = self.pick(*inherited)
