@@ -31,12 +31,12 @@ def edit_shapes(families, cube):
     """A name, a program and a script of a size, the words around them, the sizes, and the seconds wanted of each."""
     bound = ["-c", "16384"]
     return [
-        ("families of six classes, their hierarchy", families, lambda n: "", ["edit"], (10, 20, 40, 100), (0.1, 0.3, 1, 5)),
-        ("the same with 200 merges and unders", families, lambda n: joined(200), ["edit"], (5, 10, 20, 40), (1, 2, 4, 8)),
+        ("families of six classes, their hierarchy", families, lambda n: "", ["edit", *bound], (10, 20, 40, 100), (0.1, 0.3, 1, 5)),
+        ("the same with 200 merges and unders", families, lambda n: joined(200), ["edit", *bound], (5, 10, 20, 40), (1, 2, 4, 8)),
         ("the same with 4,096 names of types", families, lambda n: named(4096), ["edit"], (1, 2, 5, 10), (2, 4, 10, 20)),
         ("the same with 4,096 merges and undos by turns", families, lambda n: undone(4096), ["edit"], (1, 2, 5, 10), (0.5, 1, 2, 5)),
         ("variables that each lack one field, their hierarchy", cube, lambda n: "", ["edit", *bound], (8, 10, 12, 14), (0.1, 0.1, 0.3, 3)),
-        ("families of six classes, written again", families, lambda n: "", ["regen"], (10, 20, 40, 100), (0.4, 1, 3, 10)),
+        ("families of six classes, written again", families, lambda n: "", ["regen", *bound], (10, 20, 40, 100), (0.4, 1, 3, 10)),
         ("a chain of classes with members, written again", chain_with_members, lambda n: "", ["regen"], (25, 50, 100, 200), (1, 2, 4, 8)),
         ("variables that each lack one field, written again", cube, lambda n: "", ["regen", *bound], (4, 6, 8, 10), (0.1, 1, 5, 60)),
     ]
